@@ -11,8 +11,8 @@ use Rattle.std.specs.declared.ops.Range.{Range}
 use Rattle.typst_parser.specs.Stretches.{AreJoined}
 use Rattle.typst_parser.specs.Tagged.{Tagged}
 use Rattle.typst_parser.specs.Tag.{Tag}
-use Rattle.typst_server.specs.Tokens.{ends_line, lines, stretch, stretches, token}
-use Rattle.typst_server.specs.declared.features.tokens.Token.{Token}
+use Rattle.typst_features.specs.Tokens.{ends_line, lines, stretch, stretches, token}
+use Rattle.typst_features.specs.declared.tokens.Token.{Token}
 use Rattle.typst_positions.specs.Columns.{column_of, measured, width}
 use Rattle.typst_positions.specs.Positions.{line_of, position_of}
 use Rattle.typst_positions.specs.Starts.{is_line_end, line_at, line_starts, starts_between, starts_line}

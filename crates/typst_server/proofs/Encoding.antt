@@ -1,7 +1,7 @@
 -- Numbers of tokens that grow token by token.
 use Rattle.std.proofs.Common.{◌≡◌, ℕ, ◌+◌, ◌<◌, Bool, true, false, List, ◌∷◌, ◌++◌, length, drop, get_or, Result, Ok, Err, IfOk, ap, sym, subst, ◌∙◌, append_assoc, add-one, drop-cons, if◌then◌else◌}
 use Rattle.std.specs.declared.ops.Range.{Range}
-use Rattle.typst_server.specs.declared.features.tokens.Token.{Token}
+use Rattle.typst_features.specs.declared.tokens.Token.{Token}
 use Rattle.typst_positions.specs.declared.columns.Encoding.{Encoding}
 use Rattle.typst_server.specs.Document.{Opened}
 use Rattle.typst_server.specs.Numbers.{IsAdded, Shown, encoded, five, shown, shown_in, touches}

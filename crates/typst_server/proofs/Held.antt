@@ -1,5 +1,5 @@
 -- What is known of documents, from a map to the next.
-use Rattle.std.proofs.Common.{◌≡◌, ℕ, List, [], ◌∷◌, map, Bool, true, false, cond, Option, None, Some, option_map, refl, sym, ap, subst, ◌∙◌}
+use Rattle.std.proofs.Common.{◌≡◌, ℕ, List, [], ◌∷◌, map, Bool, true, false, cond, Option, None, Some, option_map, option_and_then, refl, sym, ap, subst, ◌∙◌}
 use Rattle.std.proofs.lemmas.Map.Text.{btree_map_updates_text}
 use Rattle.std.proofs.lemmas.Slice.Eq.{bytes_eq-Decides}
 use Rattle.std.specs.BTreeMap.{BTreeMap, UpdatesBy, get_by_text}
@@ -11,6 +11,7 @@ use Rattle.std.specs.Prelude.{String}
 use Rattle.std.specs.String.{string_bytes, string_cmp}
 use Rattle.std.specs.declared.alloc.Global.{Global}
 use Rattle.typst_server.specs.Documents.{IsUnknown, known}
+use Rattle.typst_server.specs.Sent.{last_of}
 use Rattle.typst_server.specs.declared.documents.Held.{Held}
 use Rattle.typst_server.specs.declared.documents.Held.TheVariants.{Lost}
 
@@ -19,18 +20,27 @@ pub others-updated : (uri : List ℕ) (m n : BTreeMap (String Global) Held) (w :
     → option_map known (get_by_text n other) ≡ option_map known (get_by_text m other)
 others-updated uri m n w updates other apart = ap (λ h. option_map known h) (btree_map_updates_text uri m n w updates other ∙ ap (λ b. cond b w (get_by_text m other)) apart)
 
-same-by : (uri : List ℕ) (m n : BTreeMap (String Global) Held) (w : Held) → UpdatesBy string_cmp (λ k. slice_cmp nat_cmp uri (string_bytes k)) m n (Some w) → get_by_text m uri ≡ Some w → (other : List ℕ) (test : Bool)
-    → bytes_eq uri other ≡ test → get_by_text n other ≡ get_by_text m other
-same-by uri m n w updates was other true is =
-    btree_map_updates_text uri m n (Some w) updates other
-    ∙ ap (λ b. cond b (Some w) (get_by_text m other)) is
-    ∙ sym (subst (λ o. get_by_text m o ≡ Some w) ((bytes_eq-Decides uri other).0 is) was)
-same-by uri m n w updates was other false is = btree_map_updates_text uri m n (Some w) updates other ∙ ap (λ b. cond b (Some w) (get_by_text m other)) is
+known-by : (uri : List ℕ) (m n : BTreeMap (String Global) Held) (v w : Held) → UpdatesBy string_cmp (λ k. slice_cmp nat_cmp uri (string_bytes k)) m n (Some w) → get_by_text m uri ≡ Some v → known w ≡ known v
+    → (other : List ℕ) (test : Bool) → bytes_eq uri other ≡ test → option_map known (get_by_text n other) ≡ option_map known (get_by_text m other)
+known-by uri m n v w updates was same other true is =
+    ap (option_map known) (btree_map_updates_text uri m n (Some w) updates other ∙ ap (λ b. cond b (Some w) (get_by_text m other)) is)
+    ∙ ap (λ k. Some k) same
+    ∙ sym (ap (option_map known) (subst (λ o. get_by_text m o ≡ Some v) ((bytes_eq-Decides uri other).0 is) was))
+known-by uri m n v w updates was same other false is =
+    ap (option_map known) (btree_map_updates_text uri m n (Some w) updates other ∙ ap (λ b. cond b (Some w) (get_by_text m other)) is)
 
--- all stay where one is set to what it was
-pub same-updated : (uri : List ℕ) (m n : BTreeMap (String Global) Held) (w : Held) → UpdatesBy string_cmp (λ k. slice_cmp nat_cmp uri (string_bytes k)) m n (Some w) → get_by_text m uri ≡ Some w → (other : List ℕ)
-    → option_map known (get_by_text n other) ≡ option_map known (get_by_text m other)
-same-updated uri m n w updates was other = ap (λ h. option_map known h) (same-by uri m n w updates was other (bytes_eq uri other) refl)
+-- what is known stays where one is set of which the same is known
+pub known-updated : (uri : List ℕ) (m n : BTreeMap (String Global) Held) (v w : Held) → UpdatesBy string_cmp (λ k. slice_cmp nat_cmp uri (string_bytes k)) m n (Some w) → get_by_text m uri ≡ Some v → known w ≡ known v
+    → (other : List ℕ) → option_map known (get_by_text n other) ≡ option_map known (get_by_text m other)
+known-updated uri m n v w updates was same other = known-by uri m n v w updates was same other (bytes_eq uri other) refl
+
+-- one that is set is found, and others as they were
+pub is-updated : (uri : List ℕ) (m n : BTreeMap (String Global) Held) (w : Held) → UpdatesBy string_cmp (λ k. slice_cmp nat_cmp uri (string_bytes k)) m n (Some w) → get_by_text n uri ≡ Some w
+is-updated uri m n w updates = btree_map_updates_text uri m n (Some w) updates uri ∙ ap (λ b. cond b (Some w) (get_by_text m uri)) ((bytes_eq-Decides uri uri).1 refl)
+
+pub others-sent : (uri : List ℕ) (m n : BTreeMap (String Global) Held) (w : Option Held) → UpdatesBy string_cmp (λ k. slice_cmp nat_cmp uri (string_bytes k)) m n w → (other : List ℕ) → bytes_eq uri other ≡ false
+    → option_and_then last_of (get_by_text n other) ≡ option_and_then last_of (get_by_text m other)
+others-sent uri m n w updates other apart = ap (option_and_then last_of) (btree_map_updates_text uri m n w updates other ∙ ap (λ b. cond b w (get_by_text m other)) apart)
 
 -- what is lost is open
 pub inserted-lost : (uri : List ℕ) (key : String Global) (m n : BTreeMap (String Global) Held) → string_bytes key ≡ uri → UpdatesBy string_cmp (string_cmp key) m n (Some Lost) → option_map known (get_by_text n uri) ≡ Some None

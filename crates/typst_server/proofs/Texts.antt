@@ -3,6 +3,8 @@ use Rattle.std.proofs.Common.{◌≡◌, ℕ, ◌+◌, ◌<◌, ◌≤◌, List,
 use Rattle.std.proofs.lemmas.List.{drop_all}
 use Rattle.serde_json.specs.View.{items_view, view}
 use Rattle.serde_json.specs.declared.value.Value.{Value}
+use Rattle.typst_lines.specs.UnicodeTables.{unicode_classes}
+use Rattle.typst_parser.specs.Headline.{Headline}
 use Rattle.typst_positions.specs.declared.columns.Encoding.{Encoding}
 use Rattle.typst_protocol.specs.Parameters.{Edit, whole, ranged, edit}
 use Rattle.typst_server.specs.Document.{Opened, changed}
@@ -15,15 +17,16 @@ next-known encoding before text (ranged place new) h = ap (λ b. next encoding b
 
 -- a change of a document that is known
 pub keeps-known : (encoding : Encoding) (old new : Opened) (e : Edit) → new.source.text ≡ changed old.encoding old.source.text e → new.encoding ≡ old.encoding
+    → Headline unicode_classes new.source
     → Keeps encoding (λ text. next encoding text (Some e)) (Some (Some old)) (Some (Some new))
-keeps-known encoding old new e text same =
+keeps-known encoding old new e text same headline =
     λ before known.
-    (same ∙ known.0, next-known encoding before old.source.text e known.1 ∙ ap (λ n. Some (changed n old.source.text e)) (sym known.0) ∙ ap (λ t. Some t) (sym text))
+    (same ∙ known.0, next-known encoding before old.source.text e known.1 ∙ ap (λ n. Some (changed n old.source.text e)) (sym known.0) ∙ ap (λ t. Some t) (sym text), headline)
 
 -- a whole text of one that isn't
-pub keeps-lost : (encoding : Encoding) (text : List ℕ) (new : Opened) → new.source.text ≡ text → new.encoding ≡ encoding
+pub keeps-lost : (encoding : Encoding) (text : List ℕ) (new : Opened) → new.source.text ≡ text → new.encoding ≡ encoding → Headline unicode_classes new.source
     → Keeps encoding (λ before. next encoding before (Some (whole text))) (Some None) (Some (Some new))
-keeps-lost encoding text new is same = λ before known. (same, ap (λ t. Some t) (sym is))
+keeps-lost encoding text new is same headline = λ before known. (same, ap (λ t. Some t) (sym is), headline)
 
 -- one change after the other
 pub keeps-both : (encoding : Encoding) (f g : Option (List ℕ) → Option (List ℕ)) (a b c : Option (Option Opened)) → Keeps encoding f a b → Keeps encoding g b c → Keeps encoding (λ text. g (f text)) a c

@@ -5,21 +5,22 @@ use Rattle.std.proofs.lemmas.Grind.{flat_map-append}
 use Rattle.std.specs.Io.KnownBytes.{Appends}
 use Rattle.std.specs.List.{AllByRecursion}
 use Rattle.typst_protocol.proofs.Writing.{begins-after}
+use Rattle.typst_protocol.specs.Escapes.{mended}
 use Rattle.typst_protocol.specs.Stream.{Answers, AnswersAfter, Passes, Reads, Stream}
 use Rattle.typst_protocol.specs.declared.frames.reader.End.{End}
 use Rattle.typst_protocol.specs.declared.frames.reader.Frame.{Frame}
 use Rattle.typst_protocol.specs.declared.frames.reader.Frame.TheVariants.{Body, TooLong, OutOfMemory}
-use Rattle.typst_server.specs.Answers.{IsAnswer}
+use Rattle.typst_protocol.specs.declared.refusal.Unread.TheVariants as unread
+use Rattle.typst_server.specs.Sessions.{IsHandled, IsNew, LosesAll}
 use Rattle.typst_server.specs.Transcript.{AnswersFrame, AreAnswered, Ends, EndsBy, GoesOn, IsAnswered, IsFirst, IsNoExit, IsReason, IsStatus, Sends, Serves, Turns, WentOut, sent, transcript}
 use Rattle.typst_server.specs.declared.reply.Reply.{Reply}
 use Rattle.typst_server.specs.declared.reply.Reply.TheVariants as reply
-use Rattle.typst_server.specs.declared.server.Phase.{Phase}
-use Rattle.typst_server.specs.declared.server.Phase.TheVariants.{Fresh}
+use Rattle.typst_server.specs.declared.server.Server.{Server}
 use Rattle.typst_server.specs.declared.streams.Ended.{Ended}
 use Rattle.typst_server.specs.declared.streams.Ended.TheVariants as ended
 
 -- what was answered so far and went out whole, and what is left
-pub record SoFar (from to : Phase) (stream : List ℕ) (old new left : Option (List ℕ)) : Type 0 where
+pub record SoFar (from to : Server) (stream : List ℕ) (old new left : Option (List ℕ)) : Type 0 where
   pub answers : List Reply
   pub rest : List ℕ
   pub answered : AreAnswered from stream answers to rest
@@ -27,7 +28,7 @@ pub record SoFar (from to : Phase) (stream : List ℕ) (old new left : Option (L
   pub out : Appends old new (transcript answers)
   pub behind : left ≡ Some rest
 
-answered-append : (from mid to : Phase) (stream left rest : List ℕ) (xs ys : List Reply) → AreAnswered from stream xs mid left → AreAnswered mid left ys to rest → AreAnswered from stream (xs ++ ys) to rest
+answered-append : (from mid to : Server) (stream left rest : List ℕ) (xs ys : List Reply) → AreAnswered from stream xs mid left → AreAnswered mid left ys to rest → AreAnswered from stream (xs ++ ys) to rest
 answered-append from mid to stream left rest [] ys front back = subst (λ p. AreAnswered p stream ys to rest) front.0 (subst (λ s. AreAnswered mid s ys to rest) front.1 back)
 answered-append from mid to stream left rest (x ∷ xs) ys front back = (front.0, front.1, front.2, answered-append front.0 mid to front.1 left rest xs ys front.3 back)
 
@@ -59,11 +60,11 @@ reason-after rest xs ys ended.NotWritten on h = on-append xs ys on h
 reason-after rest xs ys ended.GaveUp on h = on-append xs ys on h
 
 -- nothing is answered before the first frame
-pub none-so_far : (phase : Phase) (stream : List ℕ) (left old : Option (List ℕ)) → left ≡ Some stream → SoFar phase phase stream old old left
-none-so_far phase stream left old h = record { answers = []; rest = stream; answered = (refl, refl); on = tt; out = Appends-nil old; behind = h }
+pub none-so_far : (server : Server) (stream : List ℕ) (left old : Option (List ℕ)) → left ≡ Some stream → SoFar server server stream old old left
+none-so_far server stream left old h = record { answers = []; rest = stream; answered = (refl, refl); on = tt; out = Appends-nil old; behind = h }
 
 -- what ends behind some replies ends
-pub ends-behind : (from mid to : Phase) (stream : List ℕ) (a b c left : Option (List ℕ)) (why : Ended) → SoFar from mid stream a b left → IfSome left (λ rest. Ends mid to rest b c why) → Ends from to stream a c why
+pub ends-behind : (from mid to : Server) (stream : List ℕ) (a b c left : Option (List ℕ)) (why : Ended) → SoFar from mid stream a b left → IfSome left (λ rest. Ends mid to rest b c why) → Ends from to stream a c why
 ends-behind from mid to stream a b c left why before h =
     let e : Ends mid to before.rest b c why = subst (λ l. IfSome l (λ rest. Ends mid to rest b c why)) before.behind h in
     record {
@@ -75,7 +76,7 @@ ends-behind from mid to stream a b c left why before h =
     }
 
 -- one more reply
-pub more-so_far : (from mid to : Phase) (stream : List ℕ) (a b c left next : Option (List ℕ)) → SoFar from mid stream a b left → IfSome left (λ rest. GoesOn mid to rest b c next) → SoFar from to stream a c next
+pub more-so_far : (from mid to : Server) (stream : List ℕ) (a b c left next : Option (List ℕ)) → SoFar from mid stream a b left → IfSome left (λ rest. GoesOn mid to rest b c next) → SoFar from to stream a c next
 more-so_far from mid to stream a b c left next before h =
     let g : GoesOn mid to before.rest b c next = subst (λ l. IfSome l (λ rest. GoesOn mid to rest b c next)) before.behind h in
     record {
@@ -90,22 +91,26 @@ more-so_far from mid to stream a b c left next before h =
     }
 
 -- what was answered when it is given up
-pub gives-up : (from to : Phase) (stream : List ℕ) (a b left : Option (List ℕ)) → SoFar from to stream a b left → Ends from to stream a b ended.GaveUp
+pub gives-up : (from to : Server) (stream : List ℕ) (a b left : Option (List ℕ)) → SoFar from to stream a b left → Ends from to stream a b ended.GaveUp
 gives-up from to stream a b left before = record { answers = before.answers; rest = before.rest; answered = before.answered; out = before.out; reason = before.on }
 
 -- the reply to a frame that was read is one to its body
-answered-of : (old new : Phase) (f : List ℕ × List ℕ) (what : Frame) (held : List ℕ) (left : Option (List ℕ)) (answer : Reply) → Passes f what held left → AnswersFrame old new what held answer → IsAnswered old new f.0 answer
-answered-of old new f Body held left answer p h = record { read = λ _. subst (λ body. IsAnswer old new body answer) p.1 h; too_long = λ long. absurd (omega (arith, p.0, long)) }
+unread-handled : (old new : Server) (body : List ℕ) (answer : Reply) → LosesAll old new unread.OutOfMemory answer → IsHandled old new body answer
+unread-handled old new body answer h =
+    subst (IsHandled old new body) (sym h.reply) (record { reply = (inl refl, h.standing); documents = h.lost })
+
+answered-of : (old new : Server) (f : List ℕ × List ℕ) (what : Frame) (held : List ℕ) (left : Option (List ℕ)) (answer : Reply) → Passes f what held left → AnswersFrame old new what held answer → IsAnswered old new f.0 answer
+answered-of old new f Body held left answer p h = record { read = λ _. subst (λ body. IsHandled old new (mended body) answer) p.1 h; too_long = λ long. absurd (omega (arith, p.0, long)) }
 answered-of old new f TooLong held left answer p h = record { read = λ short. absurd (omega (arith, p.0, short)); too_long = λ _. h }
 answered-of old new f OutOfMemory held left answer p h =
-    record { read = λ _. subst (IsAnswer old new f.0) (sym h.0) (inl refl, h.1); too_long = λ long. absurd (omega (arith, p.0, long)) }
+    record { read = λ _. unread-handled old new (mended f.0) answer h; too_long = λ long. absurd (omega (arith, p.0, long)) }
 
 left-of : (f : List ℕ × List ℕ) (what : Frame) (held : List ℕ) (left : Option (List ℕ)) → Passes f what held left → left ≡ Some f.1
 left-of f Body held left p = p.2
 left-of f TooLong held left p = p.1
 left-of f OutOfMemory held left p = p.1
 
-first-of : (old new : Phase) (stream held : List ℕ) (what : Frame) (left : Option (List ℕ)) (answer : Reply) → (read : Answers stream (Ok what) held left) → AnswersFrame old new what held answer → IsFirst old stream answer new read.0.1
+first-of : (old new : Server) (stream held : List ℕ) (what : Frame) (left : Option (List ℕ)) (answer : Reply) → (read : Answers stream (Ok what) held left) → AnswersFrame old new what held answer → IsFirst old stream answer new read.0.1
 first-of old new stream held what left answer read h = record { body = read.0.0; first = read.1; answered = answered-of old new read.0 what held left answer read.2 h }
 
 reason-by : (rest : List ℕ) (answer : Reply) (why : Ended) → EndsBy answer why → IsReason why rest (answer ∷ [])
@@ -114,7 +119,7 @@ reason-by rest answer (ended.Exit status) h = record { before = []; last = ap (�
 reason-by rest answer ended.NotWritten h = (h, tt)
 reason-by rest answer ended.GaveUp h = absurd h
 
-turn : (from to : Phase) (stream held : List ℕ) (what : Frame) (old new left : Option (List ℕ)) (answer : Reply) (result : Option Ended) → Answers stream (Ok what) held left
+turn : (from to : Server) (stream held : List ℕ) (what : Frame) (old new left : Option (List ℕ)) (answer : Reply) (result : Option Ended) → Answers stream (Ok what) held left
     → AnswersFrame from to what held answer → Sends answer old new result → Turns from to stream old new left result
 turn from to stream held what old new left answer None read h s =
     record { answer = answer; rest = read.0.1; first = first-of from to stream held what left answer read h; on = s.1; out = s.0; behind = left-of read.0 what held left read.2 }
@@ -132,44 +137,44 @@ pub read-on : (old new : Stream) (result : Result Frame End) (held : List ℕ) �
 read-on old new result held unended h = subst (λ end. AnswersAfter end old new result held) unended h
 
 -- a frame that was read, and what is done about it
-pub turns : (from to : Phase) (known left old new : Option (List ℕ)) (held : List ℕ) (what : Frame) (answer : Reply) (result : Option Ended) → IfSome known (λ stream. Answers stream (Ok what) held left)
+pub turns : (from to : Server) (known left old new : Option (List ℕ)) (held : List ℕ) (what : Frame) (answer : Reply) (result : Option Ended) → IfSome known (λ stream. Answers stream (Ok what) held left)
     → AnswersFrame from to what held answer → Sends answer old new result → IfSome known (λ stream. Turns from to stream old new left result)
 turns from to None left old new held what answer result read h s = tt
 turns from to (Some stream) left old new held what answer result read h s = turn from to stream held what old new left answer result read h s
 
 -- no frame was read
-pub turns-none : (phase : Phase) (known left old : Option (List ℕ)) (held : List ℕ) (end : End) → IfSome known (λ stream. Answers stream (Err end) held left)
-    → IfSome known (λ stream. Turns phase phase stream old old left (Some (ended.Input end)))
-turns-none phase None left old held end read = tt
-turns-none phase (Some stream) left old held end read =
+pub turns-none : (server : Server) (known left old : Option (List ℕ)) (held : List ℕ) (end : End) → IfSome known (λ stream. Answers stream (Err end) held left)
+    → IfSome known (λ stream. Turns server server stream old old left (Some (ended.Input end)))
+turns-none server None left old held end read = tt
+turns-none server (Some stream) left old held end read =
     record { answers = []; rest = stream; answered = (refl, refl); out = Appends-nil old; reason = (read, tt) }
 
 -- the same where the stream may not be known
-pub none-known : (phase : Phase) (known left old : Option (List ℕ)) → left ≡ known → IfSome known (λ stream. SoFar phase phase stream old old left)
-none-known phase None left old h = tt
-none-known phase (Some stream) left old h = none-so_far phase stream left old h
+pub none-known : (server : Server) (known left old : Option (List ℕ)) → left ≡ known → IfSome known (λ stream. SoFar server server stream old old left)
+none-known server None left old h = tt
+none-known server (Some stream) left old h = none-so_far server stream left old h
 
-pub more-known : (from mid to : Phase) (known a b c left next : Option (List ℕ)) → IfSome known (λ stream. SoFar from mid stream a b left) → IfSome left (λ rest. GoesOn mid to rest b c next)
+pub more-known : (from mid to : Server) (known a b c left next : Option (List ℕ)) → IfSome known (λ stream. SoFar from mid stream a b left) → IfSome left (λ rest. GoesOn mid to rest b c next)
     → IfSome known (λ stream. SoFar from to stream a c next)
 more-known from mid to None a b c left next before h = tt
 more-known from mid to (Some stream) a b c left next before h = more-so_far from mid to stream a b c left next before h
 
-pub ends-known : (from mid to : Phase) (known a b c left : Option (List ℕ)) (why : Ended) → IfSome known (λ stream. SoFar from mid stream a b left) → IfSome left (λ rest. Ends mid to rest b c why)
+pub ends-known : (from mid to : Server) (known a b c left : Option (List ℕ)) (why : Ended) → IfSome known (λ stream. SoFar from mid stream a b left) → IfSome left (λ rest. Ends mid to rest b c why)
     → IfSome known (λ stream. Ends from to stream a c why)
 ends-known from mid to None a b c left why before h = tt
 ends-known from mid to (Some stream) a b c left why before h = ends-behind from mid to stream a b c left why before h
 
-pub gives-up-known : (from to : Phase) (known a b left : Option (List ℕ)) → IfSome known (λ stream. SoFar from to stream a b left) → IfSome known (λ stream. Ends from to stream a b ended.GaveUp)
+pub gives-up-known : (from to : Server) (known a b left : Option (List ℕ)) → IfSome known (λ stream. SoFar from to stream a b left) → IfSome known (λ stream. Ends from to stream a b ended.GaveUp)
 gives-up-known from to None a b left before = tt
 gives-up-known from to (Some stream) a b left before = gives-up from to stream a b left before
 
 -- before the first frame it may be given up
-pub never-began : (phase : Phase) (known old : Option (List ℕ)) → IfSome known (λ stream. Ends phase phase stream old old ended.GaveUp)
-never-began phase None old = tt
-never-began phase (Some stream) old = record { answers = []; rest = stream; answered = (refl, refl); out = Appends-nil old; reason = tt }
+pub never-began : (server : Server) (known old : Option (List ℕ)) → IfSome known (λ stream. Ends server server stream old old ended.GaveUp)
+never-began server None old = tt
+never-began server (Some stream) old = record { answers = []; rest = stream; answered = (refl, refl); out = Appends-nil old; reason = tt }
 
--- the status by the end
-pub serves-known : (phase : Phase) (known old new : Option (List ℕ)) (why : Ended) (status : ℕ) → IfSome known (λ stream. Ends Fresh phase stream old new why) → IsStatus why phase status
+-- the status by the end, where that was new
+pub serves-known : (first last : Server) (known old new : Option (List ℕ)) (why : Ended) (status : ℕ) → IsNew first → IfSome known (λ stream. Ends first last stream old new why) → IsStatus why last.standing.phase status
     → IfSome known (λ stream. Serves stream old new status)
-serves-known phase None old new why status ends given = tt
-serves-known phase (Some stream) old new why status ends given = record { why = why; phase = phase; ends = ends; given = given }
+serves-known first last None old new why status fresh ends given = tt
+serves-known first last (Some stream) old new why status fresh ends given = record { why = why; first = first; last = last; fresh = fresh; ends = ends; given = given }

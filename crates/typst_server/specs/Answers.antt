@@ -6,6 +6,7 @@ use Rattle.serde_json.specs.Read.{read as read_text}
 use Rattle.serde_json.specs.Written.{compact_text}
 use Rattle.typst_protocol.specs.Messages.{IsUnread, IsUnreadBody, Said, asks, responds, said, tells, text_at}
 use Rattle.typst_protocol.specs.Methods.{events, methods, named}
+use Rattle.typst_protocol.specs.Parameters as parameters
 use Rattle.typst_protocol.specs.declared.message.Message.{Message}
 use Rattle.typst_protocol.specs.declared.message.Message.TheVariants as message
 use Rattle.typst_protocol.specs.declared.method.Event.{Event}
@@ -13,10 +14,13 @@ use Rattle.typst_protocol.specs.declared.method.Event.TheVariants as event
 use Rattle.typst_protocol.specs.declared.refusal.Unread.{Unread}
 use Rattle.typst_protocol.specs.declared.refusal.Unread.TheVariants as unread
 use Rattle.typst_server.specs.Phases.{Responds, allowed, status_of}
+use Rattle.typst_server.specs.Published.{SaysNews}
+use Rattle.typst_server.specs.Results.{Gives, Tells}
+use Rattle.typst_server.specs.declared.documents.Documents.{Documents}
 use Rattle.typst_server.specs.declared.reply.Reply.{Reply}
 use Rattle.typst_server.specs.declared.reply.Reply.TheVariants as reply
-use Rattle.typst_server.specs.declared.server.Phase.{Phase}
 use Rattle.typst_server.specs.declared.server.Phase.TheVariants.{Running}
+use Rattle.typst_server.specs.declared.server.Standing.{Standing}
 
 -- that memory is refused
 abbrev pub IsOfMemory : Unread → Type 0
@@ -26,23 +30,25 @@ IsOfMemory why = why ≡ unread.OutOfMemory
 abbrev pub told_by : List ℕ → Option Event
 told_by name = named events name
 
--- a request is answered by one response, unless memory is refused; nothing else is. Only a request moves the phase, and only `exit` ends
-abbrev pub IsReplyTo : Phase → Phase → Message → Reply → Type 0
-IsReplyTo old new (message.Request r) (reply.Response text) = Responds (allowed old (named methods r.method.now)) old new r.id (string_bytes text)
-IsReplyTo old new (message.Request r) (reply.Nameless why) = IsOfMemory why × (new ≡ old)
-IsReplyTo old new (message.Request r) _ = ⊥
-IsReplyTo old new (message.Notification n) (reply.Response text) = ⊥
-IsReplyTo old new (message.Notification n) (reply.Nameless why) = ⊥
-IsReplyTo old new (message.Notification n) (reply.Exit status) = (told_by n.method.now ≡ Some event.Exit) × (status ≡ status_of old) × (new ≡ old)
-IsReplyTo old new (message.Notification n) (reply.Notification text) = (old ≡ Running) × (new ≡ old)
-IsReplyTo old new (message.Notification n) reply.Nothing = new ≡ old
-IsReplyTo old new message.Response answer = (answer ≡ reply.Nothing) × (new ≡ old)
+-- a request is answered by one response, unless memory is refused; nothing else is. Only a request moves the server, and only `exit` ends
+abbrev pub IsReplyTo : Standing → Standing → Documents → Documents → Message → Reply → Type 0
+IsReplyTo old new before behind (message.Request r) (reply.Response text) =
+    Responds (allowed old (named methods r.method.now) (parameters.seen r.params)) old new r.id (string_bytes text)
+    × Tells (Gives old.phase (named methods r.method.now) (parameters.seen r.params) before) r.id (string_bytes text)
+IsReplyTo old new before behind (message.Request r) (reply.Nameless why) = IsOfMemory why × (new ≡ old)
+IsReplyTo old new before behind (message.Request r) _ = ⊥
+IsReplyTo old new before behind (message.Notification n) (reply.Response text) = ⊥
+IsReplyTo old new before behind (message.Notification n) (reply.Nameless why) = ⊥
+IsReplyTo old new before behind (message.Notification n) (reply.Exit status) = (told_by n.method.now ≡ Some event.Exit) × (status ≡ status_of old.phase) × (new ≡ old)
+IsReplyTo old new before behind (message.Notification n) (reply.Notification text) = (old.phase ≡ Running) × (new ≡ old) × SaysNews (parameters.seen n.params) behind (string_bytes text)
+IsReplyTo old new before behind (message.Notification n) reply.Nothing = new ≡ old
+IsReplyTo old new before behind message.Response answer = (answer ≡ reply.Nothing) × (new ≡ old)
 
 -- what a client does with a document is answered by a notification between `initialize` and `shutdown` alone, or by nothing
-abbrev pub TakesEvent : Phase → Phase → Reply → Type 0
-TakesEvent old new (reply.Notification text) = (old ≡ Running) × (new ≡ old)
-TakesEvent old new reply.Nothing = new ≡ old
-TakesEvent old new _ = ⊥
+abbrev pub TakesEvent : Standing → Standing → Option Data → Documents → Reply → Type 0
+TakesEvent old new params behind (reply.Notification text) = (old.phase ≡ Running) × (new ≡ old) × SaysNews params behind (string_bytes text)
+TakesEvent old new params behind reply.Nothing = new ≡ old
+TakesEvent old new params behind _ = ⊥
 
 -- a body is the JSON of a value that says this
 pub record Says (body : List ℕ) (what : Said → Type 0) : Type 0 where
@@ -63,13 +69,14 @@ IsNoMessage body why = IsUnreadBody body why ⊎ IsOfNone body why
 abbrev pub method_of : Data → Option (List ℕ)
 method_of value = text_at (codes "method") value
 
--- a body asks a request, and this is its response
-pub record IsAsked (old new : Phase) (body text : List ℕ) : Type 0 where
+-- a body asks a request, and this is its response: it goes where the request leads, and tells what may be answered of what is known
+pub record IsAsked (old new : Standing) (documents : Documents) (body text : List ℕ) : Type 0 where
   pub value : Data
   pub read : read_text body ≡ Some value
   pub id : Data
   pub asked : said value ≡ asks id
-  pub response : Responds (allowed old (option_and_then (named methods) (method_of value))) old new (compact_text id) text
+  pub response : Responds (allowed old (option_and_then (named methods) (method_of value)) (parameters.params value)) old new (compact_text id) text
+  pub answer : Tells (Gives old.phase (option_and_then (named methods) (method_of value)) (parameters.params value) documents) (compact_text id) text
 
 -- a body tells that all ends
 pub record IsExit (body : List ℕ) : Type 0 where
@@ -78,11 +85,18 @@ pub record IsExit (body : List ℕ) : Type 0 where
   pub told : said value ≡ tells
   pub exit : option_and_then told_by (method_of value) ≡ Some event.Exit
 
--- what may be done about a body, and the phase behind it: only a request has a response, with its identifier, and what is no
+-- a body tells something of a document, and this is said of it
+pub record IsNoticed (behind : Documents) (body text : List ℕ) : Type 0 where
+  pub value : Data
+  pub read : read_text body ≡ Some value
+  pub told : said value ≡ tells
+  pub news : SaysNews (parameters.params value) behind text
+
+-- what may be done about a body, and where the server stands behind it: only a request has a response, with its identifier, and what is no
 -- message has one without; where memory is refused anything may get the latter
-abbrev pub IsAnswer : Phase → Phase → List ℕ → Reply → Type 0
-IsAnswer old new body (reply.Response text) = IsAsked old new body (string_bytes text)
-IsAnswer old new body (reply.Nameless why) = (IsOfMemory why ⊎ IsNoMessage body why) × (new ≡ old)
-IsAnswer old new body (reply.Notification text) = Says body (λ what. what ≡ tells) × (old ≡ Running) × (new ≡ old)
-IsAnswer old new body reply.Nothing = Says body (λ what. (what ≡ tells) ⊎ (what ≡ responds)) × (new ≡ old)
-IsAnswer old new body (reply.Exit status) = IsExit body × (status ≡ status_of old) × (new ≡ old)
+abbrev pub IsAnswer : Standing → Standing → Documents → Documents → List ℕ → Reply → Type 0
+IsAnswer old new before behind body (reply.Response text) = IsAsked old new before body (string_bytes text)
+IsAnswer old new before behind body (reply.Nameless why) = (IsOfMemory why ⊎ IsNoMessage body why) × (new ≡ old)
+IsAnswer old new before behind body (reply.Notification text) = IsNoticed behind body (string_bytes text) × (old.phase ≡ Running) × (new ≡ old)
+IsAnswer old new before behind body reply.Nothing = Says body (λ what. (what ≡ tells) ⊎ (what ≡ responds)) × (new ≡ old)
+IsAnswer old new before behind body (reply.Exit status) = IsExit body × (status ≡ status_of old.phase) × (new ≡ old)

@@ -1,6 +1,7 @@
 -- What contracts see of an open document, and what changes make of its text.
-use Rattle.std.specs.Prelude.{◌≡◌, ℕ, min, max, true, List, ◌++◌, take, drop, refl}
+use Rattle.std.specs.Prelude.{◌≡◌, ℕ, min, max, true, List, ◌++◌, length, take, drop, refl}
 use Rattle.std.specs.Coded.{Coded, code_by, coded×}
+use Rattle.std.specs.declared.ops.Range.{Range}
 use Rattle.typst_lines.specs.UnicodeTables.{unicode_classes}
 use Rattle.typst_lines.specs.declared.by_unicode.UnicodeClasses.{UnicodeClasses}
 use Rattle.typst_lines.specs.contracts.by_unicode.UnicodeClasses.{the_row as classes_row}
@@ -16,6 +17,10 @@ use Rattle.typst_protocol.specs.Parameters.{Edit, whole, ranged}
 pub record Opened : Type 0 where
   pub source : Held UnicodeClasses
   pub encoding : Encoding
+
+-- all bytes of its text
+abbrev pub all_bytes : Opened → Range ℕ
+all_bytes document = record { start = 0; end = length document.source.text }
 
 -- a document is stored as the pair of these
 abbrev pub opened_code : Coded Opened

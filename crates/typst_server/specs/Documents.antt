@@ -3,6 +3,8 @@ use Rattle.std.specs.Prelude.{◌≡◌, ⊤, ℕ, List, false, Option, None, So
 use Rattle.std.specs.Str.{bytes_eq}
 use Rattle.std.specs.BTreeMap.{get_by_text}
 use Rattle.serde_json.specs.Data.{Items, no_items, item}
+use Rattle.typst_lines.specs.UnicodeTables.{unicode_classes}
+use Rattle.typst_parser.specs.Headline.{Headline}
 use Rattle.typst_positions.specs.declared.columns.Encoding.{Encoding}
 use Rattle.typst_protocol.specs.Parameters.{Edit, whole, ranged, edit}
 use Rattle.typst_protocol.specs.declared.refusal.Refusal.{Refusal}
@@ -14,7 +16,7 @@ use Rattle.typst_server.specs.declared.documents.Held.TheVariants.{Known, Lost}
 
 -- what is known of an open document
 abbrev pub known : Held → Option Opened
-known (Known document) = Some document
+known (Known document sent) = Some document
 known Lost = None
 
 -- what is known of the document with an address, where one is open
@@ -40,9 +42,10 @@ abbrev pub after : Encoding → Option (List ℕ) → Items → Option (List ℕ
 after encoding before no_items = before
 after encoding before (item value values) = after encoding (next encoding before (edit value)) values
 
--- what is known is this text, with its columns in this encoding
+-- what is known is this text, with its columns in this encoding and with its tree: by the headline the one that the written grammar gives
+-- to the whole text
 abbrev pub IsText : Encoding → Option (List ℕ) → Opened → Type 0
-IsText encoding text document = (document.encoding ≡ encoding) × (text ≡ Some document.source.text)
+IsText encoding text document = (document.encoding ≡ encoding) × (text ≡ Some document.source.text) × Headline unicode_classes document.source
 
 -- if anything is known of a document, it is this text
 abbrev pub Knows : Encoding → Option (Option Opened) → Option (List ℕ) → Type 0

@@ -6,11 +6,8 @@ pub mod Left
 pub mod Numbers
 pub mod Phases
 pub mod Places
+pub mod Published
+pub mod Results
+pub mod Sent
+pub mod Sessions
 pub mod Transcript
--- Features: what is shown of a tree.
-pub mod Bytes
-pub mod Problems
-pub mod Selections
-pub mod Around
-pub mod Tokens
-pub mod DataEdits

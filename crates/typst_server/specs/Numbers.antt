@@ -5,8 +5,8 @@ use Rattle.typst_parser.specs.Tree.{saturated}
 use Rattle.typst_parser.specs.Stretches as tagged
 use Rattle.typst_parser.specs.Tag.{Tag}
 use Rattle.typst_parser.specs.Tag.TheVariants as tag
-use Rattle.typst_server.specs.Tokens as tokens
-use Rattle.typst_server.specs.declared.features.tokens.Token.{Token}
+use Rattle.typst_features.specs.Tokens as tokens
+use Rattle.typst_features.specs.declared.tokens.Token.{Token}
 use Rattle.typst_positions.specs.Positions.{position_of}
 use Rattle.typst_positions.specs.declared.columns.Encoding.{Encoding}
 use Rattle.typst_server.specs.Document.{Opened}

@@ -1,22 +1,38 @@
 -- Where a session stands, and what may be asked there.
 use Rattle.std.specs.Prelude.{◌≡◌, ◌⊎◌, ℕ, List, Option, None, Some, Result, Ok, Err, MatchResult}
+use Rattle.serde_json.specs.Data.{Data}
 use Rattle.typst_protocol.specs.Bodies.{failure, success}
+use Rattle.typst_protocol.specs.Parameters as parameters
 use Rattle.typst_protocol.specs.declared.method.Method.{Method}
 use Rattle.typst_protocol.specs.declared.method.Method.TheVariants.{Initialize, Shutdown}
 use Rattle.typst_protocol.specs.declared.refusal.Refusal.{Refusal}
 use Rattle.typst_protocol.specs.declared.refusal.Refusal.TheVariants.{OutOfPlace, UnknownMethod, OutOfMemory, NotInitialized}
 use Rattle.typst_server.specs.declared.server.Phase.{Phase}
 use Rattle.typst_server.specs.declared.server.Phase.TheVariants.{Fresh, Running, ShutDown}
+use Rattle.typst_server.specs.declared.server.Standing.{Standing}
 
--- `initialize` comes first and once, and nothing is asked behind `shutdown`: where a request leads, or why it is refused
-abbrev pub allowed : Phase → Option Method → Result Phase Refusal
-allowed Fresh (Some Initialize) = Ok Running
-allowed Fresh _ = Err NotInitialized
-allowed Running None = Err UnknownMethod
-allowed Running (Some Initialize) = Err OutOfPlace
-allowed Running (Some Shutdown) = Ok ShutDown
-allowed Running (Some _) = Ok Running
-allowed ShutDown _ = Err OutOfPlace
+-- a session begins as the parameters of `initialize` ask for: columns are counted in the first encoding that they offer, in UTF-16 where
+-- they offer none
+abbrev pub begun : Option Data → Standing
+begun params = record { phase = Running; encoding = parameters.encoding params; takes_trees = parameters.takes_trees params }
+
+-- it ends, and nothing else changes
+abbrev pub shut : Standing → Standing
+shut now = record { phase = ShutDown; encoding = now.encoding; takes_trees = now.takes_trees }
+
+-- where a request leads from a phase, or why it is refused
+abbrev pub leads : Phase → Option Method → Option Data → Standing → Result Standing Refusal
+leads Fresh (Some Initialize) params now = Ok (begun params)
+leads Fresh _ params now = Err NotInitialized
+leads Running None params now = Err UnknownMethod
+leads Running (Some Initialize) params now = Err OutOfPlace
+leads Running (Some Shutdown) params now = Ok (shut now)
+leads Running (Some _) params now = Ok now
+leads ShutDown _ params now = Err OutOfPlace
+
+-- `initialize` comes first and once, and nothing is asked behind `shutdown`; all other requests leave the server where it stands
+abbrev pub allowed : Standing → Option Method → Option Data → Result Standing Refusal
+allowed now method params = leads now.phase method params now
 
 -- the status to end with: 0 behind `shutdown`, else 1
 abbrev pub status_of : Phase → ℕ
@@ -25,9 +41,9 @@ status_of Running = 1
 status_of ShutDown = 0
 
 -- a value goes where its request leads, and a refusal stays
-abbrev pub Follows : {T : Type 0} → Result Phase Refusal → Phase → Phase → Result T Refusal → Type 0
+abbrev pub Follows : {T : Type 0} → Result Standing Refusal → Standing → Standing → Result T Refusal → Type 0
 Follows (Err refusal) old new value = (value ≡ Err refusal) × (new ≡ old)
-Follows (Ok phase) old new value = MatchResult value (λ _. new ≡ phase) (λ _. new ≡ old)
+Follows (Ok standing) old new value = MatchResult value (λ _. new ≡ standing) (λ _. new ≡ old)
 
 -- a response with a result, which is its request's
 abbrev pub IsSuccess : List ℕ → List ℕ → Type 0
@@ -39,6 +55,6 @@ IsFailure id text = (refusal : Refusal) × (text ≡ failure id refusal)
 
 -- the response to a request, by where that leads: a result goes there, and an error stays. Where it leads nowhere it has the error that says
 -- why, or that memory was refused
-abbrev pub Responds : Result Phase Refusal → Phase → Phase → List ℕ → List ℕ → Type 0
+abbrev pub Responds : Result Standing Refusal → Standing → Standing → List ℕ → List ℕ → Type 0
 Responds (Err refusal) old new id text = ((text ≡ failure id refusal) ⊎ (text ≡ failure id OutOfMemory)) × (new ≡ old)
-Responds (Ok phase) old new id text = (IsSuccess id text × (new ≡ phase)) ⊎ (IsFailure id text × (new ≡ old))
+Responds (Ok standing) old new id text = (IsSuccess id text × (new ≡ standing)) ⊎ (IsFailure id text × (new ≡ old))

@@ -10,13 +10,14 @@ use Rattle.typst_protocol.specs.declared.frames.reader.End.TheVariants.{Clean}
 use Rattle.typst_protocol.specs.declared.frames.reader.Frame.{Frame}
 use Rattle.typst_protocol.specs.declared.frames.reader.Frame.TheVariants.{Body, TooLong, OutOfMemory}
 use Rattle.typst_protocol.specs.Bodies.{nameless}
+use Rattle.typst_protocol.specs.Escapes.{mended}
 use Rattle.typst_protocol.specs.declared.refusal.Unread.TheVariants as unread
-use Rattle.typst_server.specs.Answers.{IsAnswer}
 use Rattle.typst_server.specs.Phases.{status_of}
+use Rattle.typst_server.specs.Sessions.{IsHandled, IsNew, LosesAll}
 use Rattle.typst_server.specs.declared.reply.Reply.{Reply}
 use Rattle.typst_server.specs.declared.reply.Reply.TheVariants as reply
 use Rattle.typst_server.specs.declared.server.Phase.{Phase}
-use Rattle.typst_server.specs.declared.server.Phase.TheVariants.{Fresh}
+use Rattle.typst_server.specs.declared.server.Server.{Server}
 use Rattle.typst_server.specs.declared.streams.Ended.{Ended}
 use Rattle.typst_server.specs.declared.streams.Ended.TheVariants as ended
 
@@ -36,21 +37,21 @@ sent answer = option_map_or written (body_of answer) []
 abbrev pub transcript : List Reply → List ℕ
 transcript answers = flat_map sent answers
 
--- a body is answered as `IsAnswer` says; one that is too long isn't read, and is no message
-pub record IsAnswered (old new : Phase) (body : List ℕ) (answer : Reply) : Type 0 where
-  pub read : length body ≤ longest → IsAnswer old new body answer
-  pub too_long : longest < length body → (answer ≡ reply.Nameless unread.NotAMessage) × (new ≡ old)
+-- a body is answered as `IsHandled` says of it with U+FFFD for its lone surrogates; one that is too long isn't read, and is no message
+pub record IsAnswered (old new : Server) (body : List ℕ) (answer : Reply) : Type 0 where
+  pub read : length body ≤ longest → IsHandled old new (mended body) answer
+  pub too_long : longest < length body → LosesAll old new unread.NotAMessage answer
 
 -- a stream begins with a frame, and this is what is done about its body and stands behind it
-pub record IsFirst (old : Phase) (stream : List ℕ) (answer : Reply) (new : Phase) (rest : List ℕ) : Type 0 where
+pub record IsFirst (old : Server) (stream : List ℕ) (answer : Reply) (new : Server) (rest : List ℕ) : Type 0 where
   pub body : List ℕ
   pub first : frame stream ≡ Ok (body, rest)
   pub answered : IsAnswered old new body answer
 
--- from one phase to another the first frames of a stream have these replies, one each and in order, and this stands behind them
-abbrev pub AreAnswered : Phase → List ℕ → List Reply → Phase → List ℕ → Type 0
+-- from one state of the server to another the first frames of a stream have these replies, one each and in order, and this stands behind them
+abbrev pub AreAnswered : Server → List ℕ → List Reply → Server → List ℕ → Type 0
 AreAnswered old stream [] new rest = (new ≡ old) × (rest ≡ stream)
-AreAnswered old stream (answer ∷ answers) new rest = (phase : Phase) × (left : List ℕ) × IsFirst old stream answer phase left × AreAnswered phase left answers new rest
+AreAnswered old stream (answer ∷ answers) new rest = (mid : Server) × (left : List ℕ) × IsFirst old stream answer mid left × AreAnswered mid left answers new rest
 
 -- behind a reply there may be more
 abbrev pub IsNoExit : Reply → Type 0
@@ -77,8 +78,8 @@ WentOut (ended.Exit status) old new bytes = Appends old new bytes
 WentOut ended.NotWritten old new bytes = Begins old new bytes
 WentOut ended.GaveUp old new bytes = Appends old new bytes
 
--- what was answered to a stream from one phase to another, and went out before it ended so
-pub record Ends (from to : Phase) (stream : List ℕ) (old new : Option (List ℕ)) (why : Ended) : Type 0 where
+-- what was answered to a stream from one state of the server to another, and went out before it ended so
+pub record Ends (from to : Server) (stream : List ℕ) (old new : Option (List ℕ)) (why : Ended) : Type 0 where
   pub answers : List Reply
   pub rest : List ℕ
   pub answered : AreAnswered from stream answers to rest
@@ -91,21 +92,24 @@ IsStatus (ended.Input Clean) phase status = status ≡ status_of phase
 IsStatus (ended.Exit said) phase status = status ≡ said
 IsStatus _ phase status = status ≡ 1
 
--- what was answered to a stream and went out before this status was given
+-- what was answered to a stream, in a session that begins with no document open, and went out before this status was given. Behind each
+-- message nothing is known of a document, or it has the text that the edits of the protocol give, with its tree: `IsHandled` says so step by step
 pub record Serves (stream : List ℕ) (old new : Option (List ℕ)) (status : ℕ) : Type 0 where
   pub why : Ended
-  pub phase : Phase
-  pub ends : Ends Fresh phase stream old new why
-  pub given : IsStatus why phase status
+  pub first : Server
+  pub last : Server
+  pub fresh : IsNew first
+  pub ends : Ends first last stream old new why
+  pub given : IsStatus why last.standing.phase status
 
--- what may be done about a frame that was read: the body as `IsAnswer` says, if there is one
-abbrev pub AnswersFrame : Phase → Phase → Frame → List ℕ → Reply → Type 0
-AnswersFrame old new Body body answer = IsAnswer old new body answer
-AnswersFrame old new TooLong body answer = (answer ≡ reply.Nameless unread.NotAMessage) × (new ≡ old)
-AnswersFrame old new OutOfMemory body answer = (answer ≡ reply.Nameless unread.OutOfMemory) × (new ≡ old)
+-- what is done about a frame that was read: as `IsHandled` says of its body with U+FFFD for the lone surrogates, if there is one
+abbrev pub AnswersFrame : Server → Server → Frame → List ℕ → Reply → Type 0
+AnswersFrame old new Body body answer = IsHandled old new (mended body) answer
+AnswersFrame old new TooLong body answer = LosesAll old new unread.NotAMessage answer
+AnswersFrame old new OutOfMemory body answer = LosesAll old new unread.OutOfMemory answer
 
 -- a stream's first frame was answered, and this is left
-pub record GoesOn (from to : Phase) (stream : List ℕ) (old new left : Option (List ℕ)) : Type 0 where
+pub record GoesOn (from to : Server) (stream : List ℕ) (old new left : Option (List ℕ)) : Type 0 where
   pub answer : Reply
   pub rest : List ℕ
   pub first : IsFirst from stream answer to rest
@@ -114,7 +118,7 @@ pub record GoesOn (from to : Phase) (stream : List ℕ) (old new left : Option (
   pub behind : left ≡ Some rest
 
 -- one turn answers a frame, or ends
-abbrev pub Turns : Phase → Phase → List ℕ → Option (List ℕ) → Option (List ℕ) → Option (List ℕ) → Option Ended → Type 0
+abbrev pub Turns : Server → Server → List ℕ → Option (List ℕ) → Option (List ℕ) → Option (List ℕ) → Option Ended → Type 0
 Turns from to stream old new left None = GoesOn from to stream old new left
 Turns from to stream old new left (Some why) = Ends from to stream old new why
 

@@ -1,6 +1,8 @@
 //! What the server says of itself.
-ghost use Rattle.std.specs.Prelude.{◌≡◌};
+ghost use Rattle.std.specs.Prelude.{◌≡◌, IfOk, OnOk};
+ghost use Rattle.std.specs.String.{string_bytes};
 ghost use Rattle.typst_server.specs.Numbers as spec;
+ghost use Rattle.typst_server.specs.Results.{Grows, Names, encoding_name};
 
 use std::alloc::{AllocError, Global};
 use typst_parser::Tag;
@@ -38,16 +40,32 @@ pub fn type_of(tag: Tag) -> u32
     }
 }
 
-/// The answer to `initialize`.
-pub fn capabilities(alloc: Global, encoding: Encoding) -> Result<String, AllocError> {
-    let name = match encoding {
+/// The name of an encoding.
+fn name_of(encoding: Encoding) -> &'static str
+    ensures { result.now ≡ encoding_name encoding }
+{
+    match encoding {
         Encoding::Utf8 => "utf-8",
         Encoding::Utf16 => "utf-16",
-    };
-    let mut text = String::new(alloc);
-    text.push_str("{\"capabilities\":{\"positionEncoding\":\"")?;
-    text.push_str(name)?;
-    text.push_str("\",\"textDocumentSync\":{\"openClose\":true,\"change\":2},")?;
+    }
+}
+
+/// The answer to `initialize`, with the encoding in which columns are counted.
+pub fn capabilities(alloc: Global, encoding: Encoding) -> Result<String, AllocError>
+    ensures { IfOk result (λ text. Names encoding (string_bytes text)) }
+{
+    let mut text = String::from_str(alloc, "{\"capabilities\":{\"positionEncoding\":\"")?;
+    text.push_str(name_of(encoding))?;
+    text.push_str("\",")?;
+    push_providers(&mut text)?;
+    Ok(text)
+}
+
+/// Adds what the server can do, which no encoding changes.
+fn push_providers(text: &mut String) -> Result<(), AllocError>
+    ensures { OnOk result (Grows (string_bytes text.old) (string_bytes text.new)) }
+{
+    text.push_str("\"textDocumentSync\":{\"openClose\":true,\"change\":2},")?;
     text.push_str("\"documentSymbolProvider\":true,\"foldingRangeProvider\":true,")?;
     text.push_str("\"selectionRangeProvider\":true,\"definitionProvider\":true,")?;
     text.push_str("\"referencesProvider\":true,\"documentHighlightProvider\":true,")?;
@@ -55,5 +73,5 @@ pub fn capabilities(alloc: Global, encoding: Encoding) -> Result<String, AllocEr
     text.push_str(TYPES)?;
     text.push_str(",\"tokenModifiers\":[]},\"range\":true,\"full\":{\"delta\":true}}},")?;
     text.push_str("\"serverInfo\":{\"name\":\"typst_lsp\"}}")?;
-    Ok(text)
+    Ok(())
 }

@@ -1,52 +1,72 @@
 //! The errors and warnings of a document.
+ghost use Rattle.std.specs.Prelude.{◌≡◌, IfOk};
+ghost use Rattle.std.specs.String.{string_bytes};
+ghost use Rattle.typst_features.specs.Problems.{reported};
+ghost use Rattle.typst_server.specs.Published.{AreNone, AreProblemsOf, IsPublished, IsShownAt, full_message, severity_number};
 
 use crate::document::Document;
-use crate::features;
 use crate::walk::{Extents, is_line_end};
 use std::alloc::{AllocError, Global};
 use std::ops::Range;
 use typst_parser::{Diagnostic, Severity};
 use typst_protocol::values::{Problem, Problems};
-use typst_protocol::{Refusal, json_of};
 
-/// The parameters that publish the errors and warnings of a document, at a version of it.
-pub fn published(
+/// The errors and warnings of a document, at a version of it.
+pub fn problems_of<'a>(
     alloc: Global,
     document: &Document,
-    uri: &str,
+    uri: &'a str,
     version: Option<i64>,
-) -> Result<String, Refusal> {
+) -> Result<Problems<'a>, AllocError>
+    ensures { IfOk result (AreProblemsOf document.now uri.now version) }
+{
+    let found = typst_features::problems(alloc, document.root())?;
     let mut extents = Extents::new(document);
     let mut diagnostics = Vec::new(alloc);
-    for problem in &features::problems(alloc, document.root())? {
-        let bytes = widened(document.text(), problem.range.start, problem.range.end);
-        diagnostics.push(Problem {
-            range: extents.of(&bytes),
-            severity: number_of(problem.diagnostic.severity()),
-            source: "typst",
-            message: message_of(alloc, problem.diagnostic)?,
-        })?;
+    for problem in &found {
+        diagnostics.push(published(alloc, document.text(), &mut extents, problem)?)?;
     }
-    let problems = Problems {
+    Ok(Problems {
         uri,
         version,
         diagnostics,
-    };
-    json_of(alloc, &problems)
+    })
 }
 
-/// The parameters that take back the errors and warnings of a document.
-pub fn withdrawn(alloc: Global, uri: &str) -> Result<String, Refusal> {
-    let problems = Problems {
+/// None, as of a document that is closed.
+pub fn no_problems<'a>(alloc: Global, uri: &'a str) -> Problems<'a>
+    ensures { AreNone uri.now result }
+{
+    Problems {
         uri,
         version: None,
         diagnostics: Vec::new(alloc),
-    };
-    json_of(alloc, &problems)
+    }
+}
+
+/// An error or a warning as the protocol has it.
+fn published(
+    alloc: Global,
+    text: &str,
+    extents: &mut Extents<'_>,
+    problem: &typst_features::Problem<'_>,
+) -> Result<Problem, AllocError>
+    ensures published { IfOk result (IsPublished extents.old (reported problem.now)) }
+    ensures document { extents.new ≡ extents.old }
+{
+    let bytes = widened(text, problem.range.start, problem.range.end);
+    Ok(Problem {
+        range: extents.of(&bytes),
+        severity: number_of(problem.diagnostic.severity()),
+        source: "typst",
+        message: message_of(alloc, problem.diagnostic)?,
+    })
 }
 
 /// The protocol's number of a severity.
-fn number_of(severity: Severity) -> u8 {
+fn number_of(severity: Severity) -> u8
+    ensures { result ≡ severity_number severity }
+{
     match severity {
         Severity::Error => 1,
         Severity::Warning => 2,
@@ -54,7 +74,9 @@ fn number_of(severity: Severity) -> u8 {
 }
 
 /// The message of an error or a warning, with a line for each hint.
-fn message_of(alloc: Global, diagnostic: &Diagnostic) -> Result<String, AllocError> {
+fn message_of(alloc: Global, diagnostic: &Diagnostic) -> Result<String, AllocError>
+    ensures { IfOk result (λ text. string_bytes text ≡ full_message diagnostic.now) }
+{
     let mut text = String::from_str(alloc, diagnostic.message())?;
     for hint in diagnostic.hints() {
         text.push_str("\nhint: ")?;
@@ -65,7 +87,9 @@ fn message_of(alloc: Global, diagnostic: &Diagnostic) -> Result<String, AllocErr
 
 /// Some bytes, and where they are none the character behind them: the one before them at the end of a
 /// line, and none on an empty line.
-fn widened(text: &str, start: usize, end: usize) -> Range<usize> {
+fn widened(text: &str, start: usize, end: usize) -> Range<usize>
+    ensures { IsShownAt (record { start = start; end = end }) result }
+{
     if start < end {
         return start..end;
     }

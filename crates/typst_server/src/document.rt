@@ -6,8 +6,8 @@ ghost use Rattle.typst_parser.specs.Headline.{Headline, edited};
 ghost use Rattle.typst_positions.specs.Positions.{byte_at, position_of};
 ghost use Rattle.typst_protocol.specs.Parameters.{edit_in};
 ghost use Rattle.typst_server.specs.Document as spec;
+ghost use Rattle.typst_server.specs.Document.{all_bytes};
 
-use crate::tokens::Sent;
 use std::alloc::Global;
 use std::marker::Model;
 use std::ops::Range;
@@ -22,7 +22,6 @@ pub struct Document {
     source: Source<UnicodeClasses>,
     positions: Positions,
     encoding: Encoding,
-    sent: Option<Sent>,
 }
 
 impl Model for Document {
@@ -47,6 +46,7 @@ impl Document {
     pub fn new(alloc: Global, text: &str, encoding: Encoding) -> Result<Document, Refusal>
         ensures text { IfOk result (λ document. document.source.text ≡ text.now) }
         ensures encoding { IfOk result (λ document. document.encoding ≡ encoding) }
+        ensures headline { IfOk result (λ document. Headline unicode_classes document.source) }
     {
         let positions = Positions::new(alloc, text)?;
         let text = String::from_str(alloc, text)?;
@@ -55,7 +55,6 @@ impl Document {
             source,
             positions,
             encoding,
-            sent: None,
         })
     }
 
@@ -85,6 +84,7 @@ impl Document {
     pub fn changed(self, alloc: Global, change: Change<'_>) -> Result<Document, Refusal>
         ensures text { IfOk result (λ document. document.source.text ≡ spec.changed self.encoding self.source.text (edit_in change.entry)) }
         ensures encoding { IfOk result (λ document. document.encoding ≡ self.encoding) }
+        ensures headline { IfOk result (λ document. Headline unicode_classes document.source) }
     {
         match change {
             Change::Whole(text) => self.replaced(alloc, text),
@@ -104,12 +104,12 @@ impl Document {
     fn replaced(self, alloc: Global, text: &str) -> Result<Document, Refusal>
         ensures text { IfOk result (λ document. document.source.text ≡ text.now) }
         ensures encoding { IfOk result (λ document. document.encoding ≡ self.encoding) }
+        ensures headline { IfOk result (λ document. Headline unicode_classes document.source) }
     {
         let Document {
             mut source,
             positions: _,
             encoding,
-            sent,
         } = self;
         let positions = Positions::new(alloc, text)?;
         source.replace(text).map_err(refused)?;
@@ -117,7 +117,6 @@ impl Document {
             source,
             positions,
             encoding,
-            sent,
         })
     }
 
@@ -128,12 +127,12 @@ impl Document {
         requires ordered { replace.start ≤ replace.end }
         ensures text { IfOk result (λ document. document.source.text ≡ edited self.source.text replace with.now) }
         ensures encoding { IfOk result (λ document. document.encoding ≡ self.encoding) }
+        ensures headline { IfOk result (λ document. Headline unicode_classes document.source) }
     {
         let Document {
             mut source,
             mut positions,
             encoding,
-            sent,
         } = self;
         let Range { start, end } = replace;
         source.edit(start..end, with).map_err(refused)?;
@@ -142,7 +141,6 @@ impl Document {
             source,
             positions,
             encoding,
-            sent,
         })
     }
 
@@ -169,24 +167,14 @@ impl Document {
     }
 
     /// All bytes of the text.
-    pub fn whole(&self) -> Range<usize> {
+    pub fn whole(&self) -> Range<usize>
+        ensures { result ≡ all_bytes self.now }
+    {
         0..self.text().len()
     }
 
     /// The text of some bytes, empty where they don't begin and end between characters.
     pub fn text_at(&self, bytes: &Range<usize>) -> &str {
         self.text().get(bytes.start..bytes.end).unwrap_or("")
-    }
-
-    /// The tokens that were sent last, if that was under this name.
-    pub fn sent_as(&self, name: &str) -> Option<&Sent> {
-        self.sent.as_ref().filter(|sent| sent.name() == name)
-    }
-
-    /// Keeps tokens as those that were sent last.
-    pub fn keep(&mut self, sent: Sent)
-        ensures { self.new ≡ self.old }
-    {
-        self.sent = Some(sent);
     }
 }

@@ -1,7 +1,9 @@
 //! The documents that are open.
-ghost use Rattle.std.specs.Prelude.{◌≡◌, ℕ, IfOk, List, MatchResult, None, OnErr, Some};
+ghost use Rattle.std.specs.Prelude.{◌≡◌, ℕ, false, option_map, IfOk, List, MatchResult, None, OnErr, Some};
+ghost use Rattle.std.specs.Str.{bytes_eq};
 ghost use Rattle.serde_json.specs.View.{items_view, view};
 ghost use Rattle.typst_protocol.specs.Parameters.{edit, edit_in};
+ghost use Rattle.typst_server.specs.Sent.{IsKept, MayDrop, if_named, last_of, sent_of};
 ghost use Rattle.typst_server.specs.Documents.{IsMissing, IsUnknown, Keeps, KeepsOthers, Knows, after, found, known, next};
 
 use crate::document::Document;
@@ -16,8 +18,8 @@ use typst_protocol::{Change, Refusal};
 /// What is known of an open document.
 #[derive(Drop)]
 pub enum Held {
-    /// Its text.
-    Known(Document),
+    /// Its text, and the tokens that were sent last.
+    Known(Document, Option<Sent>),
     /// Nothing, since a change of it was refused.
     Lost,
 }
@@ -45,7 +47,7 @@ impl Documents {
         ensures { MatchResult result (λ document. found uri.now self.now ≡ Some (Some document.now)) (IsMissing (found uri.now self.now)) }
     {
         match self.held.get(uri) {
-            Some(Held::Known(document)) => Ok(document),
+            Some(Held::Known(document, _)) => Ok(document),
             Some(Held::Lost) => Err(Refusal::LostDocument),
             None => Err(Refusal::BadParameters),
         }
@@ -98,9 +100,18 @@ impl Documents {
         }
     }
 
+    /// The tokens that were sent last of a document, if that was under this name.
+    pub fn sent_as(&self, uri: &str, name: &str) -> Option<&Sent>
+        ensures { option_map (λ sent. sent.now) result ≡ if_named name.now (sent_of uri.now self.now) }
+    {
+        self.held.get(uri)?.sent_as(name)
+    }
+
     /// Keeps tokens of a document as those that were sent last.
     pub fn keep(&mut self, uri: &str, sent: Sent)
-        ensures { (other : List ℕ) → found other self.new ≡ found other self.old }
+        ensures known { (other : List ℕ) → found other self.new ≡ found other self.old }
+        ensures sent { IsKept (found uri.now self.old) sent (sent_of uri.now self.new) }
+        ensures others { (other : List ℕ) → bytes_eq uri.now other ≡ false → sent_of other self.new ≡ sent_of other self.old }
     {
         if let Some(held) = self.held.get_mut(uri) {
             held.keep(sent);
@@ -141,38 +152,56 @@ impl Documents {
 }
 
 impl Held {
+    /// The tokens that were sent last, if that was under this name.
+    fn sent_as(&self, name: &str) -> Option<&Sent>
+        ensures { option_map (λ sent. sent.now) result ≡ if_named name.now (last_of self.now) }
+    {
+        let Held::Known(_, sent) = self else {
+            return None;
+        };
+        let sent = sent.as_ref()?;
+        if sent.name() == name {
+            Some(sent)
+        } else {
+            None
+        }
+    }
+
     /// Keeps tokens as those that were sent last.
     fn keep(&mut self, sent: Sent)
-        ensures { self.new ≡ self.old }
+        ensures known { known self.new ≡ known self.old }
+        ensures sent { IsKept (Some (known self.old)) sent (last_of self.new) }
     {
-        if let Held::Known(document) = self {
-            document.keep(sent);
+        if let Held::Known(_, last) = self {
+            *last = Some(sent);
         }
     }
 
     /// What is known after a change: nothing where it is refused, or changes a text that isn't known.
     fn changed(self, alloc: Global, change: Change<'_>, encoding: Encoding) -> Held
-        ensures { Keeps encoding (λ text. next encoding text (Some (edit_in change.entry))) (Some (known self)) (Some (known result)) }
+        ensures known { Keeps encoding (λ text. next encoding text (Some (edit_in change.entry))) (Some (known self)) (Some (known result)) }
+        ensures sent { MayDrop (last_of self) (last_of result) }
     {
         match self.after(alloc, change, encoding) {
-            Ok(document) => Held::Known(document),
+            Ok((document, sent)) => Held::Known(document, sent),
             Err(_) => Held::Lost,
         }
     }
 
-    /// The document after a change.
+    /// The document after a change, with the tokens that were sent last.
     fn after(
         self,
         alloc: Global,
         change: Change<'_>,
         encoding: Encoding,
-    ) -> Result<Document, Refusal>
-        ensures { IfOk result (λ document. Keeps encoding (λ text. next encoding text (Some (edit_in change.entry))) (Some (known self)) (Some (Some document))) }
+    ) -> Result<(Document, Option<Sent>), Refusal>
+        ensures known { IfOk result (λ kept. Keeps encoding (λ text. next encoding text (Some (edit_in change.entry))) (Some (known self)) (Some (Some kept.0))) }
+        ensures sent { IfOk result (λ kept. kept.1 ≡ last_of self) }
     {
         match self {
-            Held::Known(document) => document.changed(alloc, change),
+            Held::Known(document, sent) => Ok((document.changed(alloc, change)?, sent)),
             Held::Lost => match change {
-                Change::Whole(text) => Document::new(alloc, text, encoding),
+                Change::Whole(text) => Ok((Document::new(alloc, text, encoding)?, None)),
                 Change::Ranged(_, _) => Err(Refusal::LostDocument),
             },
         }

@@ -8,7 +8,6 @@ mod capabilities;
 mod diagnostics;
 mod document;
 mod documents;
-pub mod features;
 mod outline;
 mod reply;
 mod requests;

@@ -1,10 +1,9 @@
 //! The outline of a document.
 
 use crate::document::Document;
-use crate::features;
-use crate::features::SymbolKind;
 use crate::walk::Extents;
 use std::alloc::{AllocError, Global};
+use typst_features::SymbolKind;
 use typst_protocol::values::{FlatSymbol, Location, Symbol};
 use typst_protocol::{Refusal, json_of};
 
@@ -21,7 +20,7 @@ pub fn symbols(
     uri: &str,
     as_tree: bool,
 ) -> Result<String, Refusal> {
-    let found = features::symbols(alloc, document.root())?;
+    let found = typst_features::symbols(alloc, document.root())?;
     if as_tree {
         json_of(alloc, &tree_of(alloc, document, &found)?)
     } else {
@@ -33,7 +32,7 @@ fn list_of<'a>(
     alloc: Global,
     document: &'a Document,
     uri: &'a str,
-    found: &[features::Symbol],
+    found: &[typst_features::Symbol],
 ) -> Result<Vec<FlatSymbol<'a>>, AllocError> {
     let mut extents = Extents::new(document);
     let mut written = Vec::new(alloc);
@@ -51,7 +50,7 @@ fn list_of<'a>(
 fn tree_of<'a>(
     alloc: Global,
     document: &'a Document,
-    found: &[features::Symbol],
+    found: &[typst_features::Symbol],
 ) -> Result<Vec<Symbol<'a>>, AllocError> {
     let (mut ranges, mut names) = (Extents::new(document), Extents::new(document));
     let mut outline = Outline {
@@ -73,7 +72,7 @@ fn tree_of<'a>(
 }
 
 /// The name of a symbol, which is never empty.
-fn name_of<'a>(document: &'a Document, symbol: &features::Symbol) -> &'a str {
+fn name_of<'a>(document: &'a Document, symbol: &typst_features::Symbol) -> &'a str {
     let name = document.text_at(&symbol.name).trim();
     if name.is_empty() { NO_NAME } else { name }
 }

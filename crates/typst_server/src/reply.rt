@@ -5,7 +5,7 @@ ghost use Rattle.typst_server.specs.Transcript.{body_of};
 use typst_protocol::Unread;
 
 /// What the server does about a message.
-#[derive(Debug, Drop)]
+#[derive(Drop)]
 pub enum Reply {
     /// Nothing.
     Nothing,

@@ -1,10 +1,9 @@
 //! Requests about a document.
 
 use crate::document::Document;
-use crate::features;
-use crate::features::{FoldKind, Mention, MentionKind};
 use crate::walk::Extents;
 use std::alloc::{AllocError, Global};
+use typst_features::{FoldKind, Mention, MentionKind};
 use typst_protocol::params::position_of;
 use typst_protocol::values::{Folding, Highlight, Location, Selection};
 use typst_protocol::{Params, Refusal, json_of};
@@ -13,7 +12,7 @@ use typst_protocol::{Params, Refusal, json_of};
 pub fn foldings(alloc: Global, document: &Document) -> Result<String, Refusal> {
     let mut extents = Extents::new(document);
     let mut written = Vec::new(alloc);
-    for fold in &features::foldings(alloc, document.root())? {
+    for fold in &typst_features::foldings(alloc, document.root())? {
         let extent = extents.of(&fold.range);
         if extent.start.line == extent.end.line {
             continue;
@@ -51,7 +50,7 @@ pub fn selections(
 fn selection_at(alloc: Global, document: &Document, byte: usize) -> Result<Selection, AllocError> {
     let mut extents = Extents::new(document);
     let mut around: Option<Box<Selection>> = None;
-    let mut ranges = features::selections(alloc, document.root(), byte)?;
+    let mut ranges = typst_features::selections(alloc, document.root(), byte)?;
     ranges.reverse();
     for range in &ranges {
         let selection = Selection {
@@ -77,7 +76,7 @@ pub fn definition(
     params: Params<'_>,
 ) -> Result<String, Refusal> {
     let byte = document.byte_of(params.position()?);
-    let found = features::definitions(alloc, document.root(), byte)?;
+    let found = typst_features::definitions(alloc, document.root(), byte)?;
     locations(alloc, document, uri, &found)
 }
 
@@ -90,7 +89,7 @@ pub fn references(
 ) -> Result<String, Refusal> {
     let byte = document.byte_of(params.position()?);
     let with_labels = params.includes_label();
-    let mut found = features::highlights(alloc, document.root(), byte)?;
+    let mut found = typst_features::highlights(alloc, document.root(), byte)?;
     found.retain(|mention| with_labels || mention.kind == MentionKind::Reference);
     locations(alloc, document, uri, &found)
 }
@@ -121,7 +120,7 @@ pub fn highlights(
     let byte = document.byte_of(params.position()?);
     let mut extents = Extents::new(document);
     let mut written = Vec::new(alloc);
-    for mention in &features::highlights(alloc, document.root(), byte)? {
+    for mention in &typst_features::highlights(alloc, document.root(), byte)? {
         written.push(Highlight {
             range: extents.of(&mention.range),
         })?;

@@ -1,5 +1,5 @@
 //! The server: what it holds between messages, and what it answers to each.
-ghost use Rattle.std.specs.Prelude.{◌≡◌, MatchResult, Some};
+ghost use Rattle.std.specs.Prelude.{◌≡◌, ◌+◌, ◌%◌, ◌^◌, codes, IfOk, MatchResult, Some};
 ghost use Rattle.std.specs.String.{string_bytes};
 ghost use Rattle.typst_protocol.specs.Methods.{methods, named};
 ghost use Rattle.typst_protocol.specs.declared.message.Message.TheVariants as message;
@@ -7,12 +7,17 @@ ghost use Rattle.typst_server.specs.Answers.{IsAnswer, IsReplyTo, TakesEvent};
 ghost use Rattle.typst_protocol.specs.Parameters as parameters;
 ghost use Rattle.typst_protocol.specs.declared.method.Event.TheVariants as event;
 ghost use Rattle.typst_server.specs.Left.{AreSame, AreUnknown, IsDone, IsKnownAfter, IsKnownBy, IsTaken, IsTold};
-ghost use Rattle.typst_server.specs.Phases.{Follows, Responds, allowed, status_of};
+ghost use Rattle.typst_server.specs.Phases.{Follows, Responds, allowed, begun, leads, shut, status_of};
+ghost use Rattle.typst_server.specs.Results.{Gives, IsAbout, Names, Tells, asked_of, said_of};
+ghost use Rattle.typst_server.specs.Documents.{found};
+ghost use Rattle.typst_server.specs.Published.{IsNews, SaysNews};
+ghost use Rattle.typst_server.specs.Sent.{HasSent, sent_of};
+ghost use Rattle.typst_server.specs.Sessions.{IsNew};
 ghost use Rattle.typst_server.specs.declared.reply.Reply.TheVariants as reply;
 ghost use Rattle.typst_server.specs.declared.server.Phase.TheVariants as phase;
 
 use crate::capabilities::capabilities;
-use crate::diagnostics::{published, withdrawn};
+use crate::diagnostics::{no_problems, problems_of};
 use crate::document::Document;
 use crate::documents::Documents;
 use crate::reply::Reply;
@@ -20,15 +25,15 @@ use crate::{outline, requests, tokens};
 use std::alloc::{AllocError, Global};
 use typst_positions::Encoding;
 use typst_protocol::{
-    Event, Id, Message, Method, Notification, Params, Refusal, Request, Unread, failure,
+    Event, Id, Message, Method, Notification, Params, Refusal, Request, Unread, failure, json_of,
     notification, read_json, success,
 };
 
 /// The method of the notifications that the server sends.
 const PUBLISH: &str = "textDocument/publishDiagnostics";
 
-/// Where a session stands.
-#[derive(Debug, Clone, Copy, PartialEq, Eq)]
+/// How far a session has come.
+#[derive(Clone, Copy)]
 enum Phase {
     /// `initialize` hasn't come yet.
     Fresh,
@@ -38,39 +43,48 @@ enum Phase {
     ShutDown,
 }
 
+/// Where a session stands, and what the client has asked for.
+#[derive(Clone, Copy)]
+struct Standing {
+    phase: Phase,
+    /// In what columns are counted.
+    encoding: Encoding,
+    /// Whether the client takes an outline as a tree.
+    takes_trees: bool,
+}
+
 /// A session with a client.
 #[derive(Drop)]
 pub struct Server {
     alloc: Global,
-    phase: Phase,
-    encoding: Encoding,
-    /// Whether the client takes an outline as a tree.
-    takes_trees: bool,
+    standing: Standing,
     documents: Documents,
-    /// The name under which the next tokens are sent.
-    next_name: u64,
+    /// The number under which the next tokens are sent.
+    next_number: u64,
 }
 
 impl Server {
     /// A session that hasn't begun.
     pub fn new(alloc: Global) -> Server
-        ensures { result.phase ≡ phase.Fresh }
+        ensures { IsNew result }
     {
         Server {
             alloc,
-            phase: Phase::Fresh,
-            encoding: Encoding::Utf16,
-            takes_trees: false,
+            standing: Standing {
+                phase: Phase::Fresh,
+                encoding: Encoding::Utf16,
+                takes_trees: false,
+            },
             documents: Documents::new(alloc),
-            next_name: 1,
+            next_number: 1,
         }
     }
 
     /// The status to end with, now that nothing more comes: 0 after `shutdown`, else 1.
     pub fn status(&self) -> u8
-        ensures { result ≡ status_of self.now.phase }
+        ensures { result ≡ status_of self.now.standing.phase }
     {
-        match self.phase {
+        match self.standing.phase {
             Phase::ShutDown => 0,
             _ => 1,
         }
@@ -79,8 +93,8 @@ impl Server {
     /// What is to be done about the body of a frame.
     #[tactic(auto, using(crate::proofs::Answered::answered, crate::proofs::Answered::known_after, crate::proofs::Answered::unread_body, crate::proofs::Answered::unread_value))]
     pub fn answer(&mut self, body: &[u8]) -> Reply
-        ensures answer { IsAnswer self.old.phase self.new.phase body.now result }
-        ensures documents { IsKnownAfter self.old.phase self.old.encoding body.now self.old.documents self.new.documents result }
+        ensures answer { IsAnswer self.old.standing self.new.standing self.old.documents self.new.documents body.now result }
+        ensures documents { IsKnownAfter self.old.standing.phase self.old.standing.encoding body.now self.old.documents self.new.documents result }
     {
         match read_json(self.alloc, body) {
             Ok(value) => match Message::of(self.alloc, &value) {
@@ -95,7 +109,7 @@ impl Server {
     /// any document, so none is known any more.
     pub fn answer_unread(&mut self, unread: Unread) -> Reply
         ensures reply { result ≡ reply.Nameless unread }
-        ensures phase { self.new.phase ≡ self.old.phase }
+        ensures standing { self.new.standing ≡ self.old.standing }
         ensures lost { AreUnknown self.new.documents }
     {
         self.documents.lose_all();
@@ -103,8 +117,8 @@ impl Server {
     }
 
     fn answer_message(&mut self, message: Message<'_>) -> Reply
-        ensures reply { IsReplyTo self.old.phase self.new.phase message.entry result }
-        ensures documents { IsKnownBy message.entry self.old.phase self.old.encoding self.old.documents self.new.documents result }
+        ensures reply { IsReplyTo self.old.standing self.new.standing self.old.documents self.new.documents message.entry result }
+        ensures documents { IsKnownBy message.entry self.old.standing.phase self.old.standing.encoding self.old.documents self.new.documents result }
     {
         match message {
             Message::Request(request) => self.answer_request(request),
@@ -114,8 +128,8 @@ impl Server {
     }
 
     fn answer_request(&mut self, request: Request<'_>) -> Reply
-        ensures reply { IsReplyTo self.old.phase self.new.phase (message.Request request.entry) result }
-        ensures documents { IsKnownBy (message.Request request.entry) self.old.phase self.old.encoding self.old.documents self.new.documents result }
+        ensures reply { IsReplyTo self.old.standing self.new.standing self.old.documents self.new.documents (message.Request request.entry) result }
+        ensures documents { IsKnownBy (message.Request request.entry) self.old.standing.phase self.old.standing.encoding self.old.documents self.new.documents result }
     {
         let Request { id, method, params } = request;
         // Made first, so that it is at hand where memory lacks later.
@@ -128,12 +142,13 @@ impl Server {
         }
     }
 
-    /// The response to a request. Where memory for it is refused, the phase is as before.
+    /// The response to a request. Where memory for it is refused, the server stands where it did.
     fn respond(&mut self, id: &Id, method: &str, params: Params<'_>) -> Result<String, AllocError>
-        ensures response { MatchResult result (λ text. Responds (allowed self.old.phase (named methods method.now)) self.old.phase self.new.phase id.now (string_bytes text)) (λ _. self.new.phase ≡ self.old.phase) }
+        ensures response { MatchResult result (λ text. Responds (allowed self.old.standing (named methods method.now) (parameters.seen params.entry)) self.old.standing self.new.standing id.now (string_bytes text)) (λ _. self.new.standing ≡ self.old.standing) }
+        ensures answer { IfOk result (λ text. Tells (Gives self.old.standing.phase (named methods method.now) (parameters.seen params.entry) self.old.documents) id.now (string_bytes text)) }
         ensures documents { AreSame self.old.documents self.new.documents }
     {
-        let before = self.phase;
+        let before = self.standing;
         let value = match self.value_for(method, params) {
             Ok(value) => value,
             Err(refusal) => return failure(self.alloc, id, refusal),
@@ -141,7 +156,7 @@ impl Server {
         match success(self.alloc, id, value.as_str()) {
             Ok(text) => Ok(text),
             Err(error) => {
-                self.phase = before;
+                self.standing = before;
                 Err(error)
             }
         }
@@ -149,11 +164,12 @@ impl Server {
 
     /// The value that answers a request, as JSON.
     fn value_for(&mut self, method: &str, params: Params<'_>) -> Result<String, Refusal>
-        ensures phase { Follows (allowed self.old.phase (named methods method.now)) self.old.phase self.new.phase result }
+        ensures standing { Follows (allowed self.old.standing (named methods method.now) (parameters.seen params.entry)) self.old.standing self.new.standing result }
+        ensures answer { Gives self.old.standing.phase (named methods method.now) (parameters.seen params.entry) self.old.documents (said_of result) }
         ensures documents { AreSame self.old.documents self.new.documents }
     {
         let method = Method::of(method);
-        match self.phase {
+        match self.standing.phase {
             Phase::Fresh => self.begin(method, params),
             Phase::Running => self.ask(method, params),
             Phase::ShutDown => Err(Refusal::OutOfPlace),
@@ -162,8 +178,9 @@ impl Server {
 
     /// The value that answers the first request.
     fn begin(&mut self, method: Option<Method>, params: Params<'_>) -> Result<String, Refusal>
-        requires { self.old.phase ≡ phase.Fresh }
-        ensures phase { Follows (allowed phase.Fresh method) self.old.phase self.new.phase result }
+        requires { self.old.standing.phase ≡ phase.Fresh }
+        ensures standing { Follows (leads phase.Fresh method (parameters.seen params.entry) self.old.standing) self.old.standing self.new.standing result }
+        ensures answer { Gives phase.Fresh method (parameters.seen params.entry) self.old.documents (said_of result) }
         ensures documents { AreSame self.old.documents self.new.documents }
     {
         match method {
@@ -177,8 +194,9 @@ impl Server {
 
     /// The value that answers a request between `initialize` and `shutdown`.
     fn ask(&mut self, method: Option<Method>, params: Params<'_>) -> Result<String, Refusal>
-        requires { self.old.phase ≡ phase.Running }
-        ensures phase { Follows (allowed phase.Running method) self.old.phase self.new.phase result }
+        requires { self.old.standing.phase ≡ phase.Running }
+        ensures standing { Follows (leads phase.Running method (parameters.seen params.entry) self.old.standing) self.old.standing self.new.standing result }
+        ensures answer { Gives phase.Running method (parameters.seen params.entry) self.old.documents (said_of result) }
         ensures documents { AreSame self.old.documents self.new.documents }
     {
         match method {
@@ -192,50 +210,63 @@ impl Server {
     }
 
     fn initialize(&mut self, params: Params<'_>) -> Result<String, Refusal>
-        ensures phase { MatchResult result (λ _. self.new.phase ≡ phase.Running) (λ _. self.new.phase ≡ self.old.phase) }
+        ensures standing { MatchResult result (λ _. self.new.standing ≡ begun (parameters.seen params.entry)) (λ _. self.new.standing ≡ self.old.standing) }
+        ensures names { IfOk (said_of result) (Names (parameters.encoding (parameters.seen params.entry))) }
         ensures documents { AreSame self.old.documents self.new.documents }
     {
         let encoding = params.encoding();
         let text = capabilities(self.alloc, encoding)?;
-        self.encoding = encoding;
-        self.takes_trees = params.takes_trees();
-        self.phase = Phase::Running;
+        self.standing = Standing {
+            phase: Phase::Running,
+            encoding,
+            takes_trees: params.takes_trees(),
+        };
         Ok(text)
     }
 
     fn shut_down(&mut self) -> Result<String, Refusal>
-        ensures phase { MatchResult result (λ _. self.new.phase ≡ phase.ShutDown) (λ _. self.new.phase ≡ self.old.phase) }
+        ensures standing { MatchResult result (λ _. self.new.standing ≡ shut self.old.standing) (λ _. self.new.standing ≡ self.old.standing) }
+        ensures nothing { IfOk (said_of result) (λ value. value ≡ codes "null") }
         ensures documents { AreSame self.old.documents self.new.documents }
     {
         let value = String::from_str(self.alloc, "null")?;
-        self.phase = Phase::ShutDown;
+        self.standing.phase = Phase::ShutDown;
         Ok(value)
     }
 
     /// The value that answers a request about a document.
     fn ask_document(&mut self, method: Method, params: Params<'_>) -> Result<String, Refusal>
-        ensures phase { self.new.phase ≡ self.old.phase }
+        ensures standing { self.new.standing ≡ self.old.standing }
+        ensures answer { IsAbout (asked_of (parameters.uri (parameters.seen params.entry)) self.old.documents) (said_of result) }
         ensures documents { AreSame self.old.documents self.new.documents }
     {
         let uri = params.uri()?;
+        let known = self.documents.get(uri)?;
         match method {
             Method::TokensFull => self.fresh_tokens(uri, None),
             Method::TokensDelta => self.fresh_tokens(uri, Some(params.previous_tokens()?)),
-            _ => self.look_at(self.documents.get(uri)?, uri, method, params),
+            _ => self.look_at(known, uri, method, params),
         }
     }
 
     /// All tokens of a document, which are kept: as changes where `previous` names the ones that were sent
     /// last.
     fn fresh_tokens(&mut self, uri: &str, previous: Option<&str>) -> Result<String, Refusal>
-        ensures phase { self.new.phase ≡ self.old.phase }
+        ensures standing { self.new.standing ≡ self.old.standing }
         ensures documents { AreSame self.old.documents self.new.documents }
+        ensures sent { IfOk result (λ _. HasSent (found uri.now self.old.documents) self.old.next_number (sent_of uri.now self.new.documents)) }
+        ensures next { MatchResult result (λ _. self.new.next_number ≡ (self.old.next_number + 1) % 2 ^ 64) (λ _. self.new.next_number ≡ self.old.next_number) }
     {
         let document = self.documents.get(uri)?;
-        let fresh = tokens::answer(self.alloc, document, self.next_name, previous)?;
-        self.next_name = self.next_name.wrapping_add(1);
-        self.documents.keep(uri, fresh.sent);
-        Ok(fresh.text)
+        let sent = tokens::fresh(self.alloc, document, self.next_number)?;
+        let last = match previous {
+            Some(name) => self.documents.sent_as(uri, name),
+            None => None,
+        };
+        let text = tokens::tell(self.alloc, &sent, last)?.text(self.alloc)?;
+        self.next_number = self.next_number.wrapping_add(1);
+        self.documents.keep(uri, sent);
+        Ok(text)
     }
 
     /// The value that answers a request that only looks at a document.
@@ -249,7 +280,7 @@ impl Server {
         let alloc = self.alloc;
         match method {
             Method::TokensRange => tokens::range(alloc, document, params),
-            Method::Symbols => outline::symbols(alloc, document, uri, self.takes_trees),
+            Method::Symbols => outline::symbols(alloc, document, uri, self.standing.takes_trees),
             Method::Foldings => requests::foldings(alloc, document),
             Method::Selections => requests::selections(alloc, document, params),
             Method::Definition => requests::definition(alloc, document, uri, params),
@@ -260,8 +291,8 @@ impl Server {
     }
 
     fn take_notification(&mut self, notification: Notification<'_>) -> Reply
-        ensures reply { IsReplyTo self.old.phase self.new.phase (message.Notification notification.entry) result }
-        ensures documents { IsKnownBy (message.Notification notification.entry) self.old.phase self.old.encoding self.old.documents self.new.documents result }
+        ensures reply { IsReplyTo self.old.standing self.new.standing self.old.documents self.new.documents (message.Notification notification.entry) result }
+        ensures documents { IsKnownBy (message.Notification notification.entry) self.old.standing.phase self.old.standing.encoding self.old.documents self.new.documents result }
     {
         let Notification { method, params } = notification;
         match Event::of(method) {
@@ -275,12 +306,12 @@ impl Server {
 
     /// What is to be done about what the client does with a document.
     fn take_event(&mut self, event: Event, params: Params<'_>) -> Reply
-        ensures reply { TakesEvent self.old.phase self.new.phase result }
-        ensures documents { IsTold self.old.phase self.old.encoding (Some event) (parameters.seen params.entry) self.old.documents self.new.documents }
+        ensures reply { TakesEvent self.old.standing self.new.standing (parameters.seen params.entry) self.new.documents result }
+        ensures documents { IsTold self.old.standing.phase self.old.standing.encoding (Some event) (parameters.seen params.entry) self.old.documents self.new.documents }
     {
-        if self.phase != Phase::Running {
+        let Phase::Running = self.standing.phase else {
             return Reply::Nothing;
-        }
+        };
         let told = match event {
             Event::Opened => self.opened(params),
             Event::Changed => self.changed(params),
@@ -294,43 +325,49 @@ impl Server {
     }
 
     fn opened(&mut self, params: Params<'_>) -> Result<String, Refusal>
-        ensures phase { self.new.phase ≡ self.old.phase }
-        ensures documents { IsTaken self.old.encoding (Some event.Opened) (parameters.seen params.entry) self.old.documents self.new.documents }
+        ensures standing { self.new.standing ≡ self.old.standing }
+        ensures documents { IsTaken self.old.standing.encoding (Some event.Opened) (parameters.seen params.entry) self.old.documents self.new.documents }
+        ensures news { IfOk result (λ text. SaysNews (parameters.seen params.entry) self.new.documents (string_bytes text)) }
     {
         let uri = params.uri()?;
         match params.text() {
-            Ok(text) => self.documents.open(uri, text, self.encoding)?,
+            Ok(text) => self.documents.open(uri, text, self.standing.encoding)?,
             Err(_) => self.documents.lose(uri),
         }
         self.publish(uri, params.version())
     }
 
     fn changed(&mut self, params: Params<'_>) -> Result<String, Refusal>
-        ensures phase { self.new.phase ≡ self.old.phase }
-        ensures documents { IsTaken self.old.encoding (Some event.Changed) (parameters.seen params.entry) self.old.documents self.new.documents }
+        ensures standing { self.new.standing ≡ self.old.standing }
+        ensures documents { IsTaken self.old.standing.encoding (Some event.Changed) (parameters.seen params.entry) self.old.documents self.new.documents }
+        ensures news { IfOk result (λ text. SaysNews (parameters.seen params.entry) self.new.documents (string_bytes text)) }
     {
         let uri = params.uri()?;
         match params.changes() {
-            Some(changes) => self.documents.change(uri, changes, self.encoding),
+            Some(changes) => self.documents.change(uri, changes, self.standing.encoding),
             None => self.documents.lose(uri),
         }
         self.publish(uri, params.version())
     }
 
     /// The notification of the errors and warnings of a document, at a version of it.
-    fn publish(&self, uri: &str, version: Option<i64>) -> Result<String, Refusal> {
+    fn publish(&self, uri: &str, version: Option<i64>) -> Result<String, Refusal>
+        ensures { IfOk result (λ text. IsNews (found uri.now self.now.documents) uri.now version (string_bytes text)) }
+    {
         let document = self.documents.get(uri)?;
-        let problems = published(self.alloc, document, uri, version)?;
-        Ok(notification(self.alloc, PUBLISH, problems.as_str())?)
+        let problems = problems_of(self.alloc, document, uri, version)?;
+        let params = json_of(self.alloc, &problems)?;
+        Ok(notification(self.alloc, PUBLISH, params.as_str())?)
     }
 
     fn closed(&mut self, params: Params<'_>) -> Result<String, Refusal>
-        ensures phase { self.new.phase ≡ self.old.phase }
-        ensures documents { IsTaken self.old.encoding (Some event.Closed) (parameters.seen params.entry) self.old.documents self.new.documents }
+        ensures standing { self.new.standing ≡ self.old.standing }
+        ensures documents { IsTaken self.old.standing.encoding (Some event.Closed) (parameters.seen params.entry) self.old.documents self.new.documents }
+        ensures news { IfOk result (λ text. SaysNews (parameters.seen params.entry) self.new.documents (string_bytes text)) }
     {
         let uri = params.uri()?;
         self.documents.close(uri)?;
-        let problems = withdrawn(self.alloc, uri)?;
-        Ok(notification(self.alloc, PUBLISH, problems.as_str())?)
+        let params = json_of(self.alloc, &no_problems(self.alloc, uri))?;
+        Ok(notification(self.alloc, PUBLISH, params.as_str())?)
     }
 }

@@ -6,11 +6,11 @@ use crate::reply::Reply;
 use crate::server::Server;
 use std::alloc::Global;
 use std::io::{Read, Write};
-use typst_protocol::Unread;
 use typst_protocol::frames::{End, Frame, FrameReader, write_frame};
+use typst_protocol::{Unread, mend};
 
 /// Why no more messages are answered.
-#[derive(Debug, Clone, Copy, PartialEq, Eq)]
+#[derive(Drop)]
 pub(crate) enum Ended {
     /// The input gives no more frames.
     Input(End),
@@ -41,7 +41,7 @@ fn answer_all<R: Read + Drop, W: Write>(
     input: R,
     output: &mut W,
 ) -> Ended
-    ensures { IfSome (R.remaining input) (λ stream. Ends server.old.phase server.new.phase stream (W.contents output.old) (W.contents output.new) result) }
+    ensures { IfSome (R.remaining input) (λ stream. Ends server.old server.new stream (W.contents output.old) (W.contents output.new) result) }
 {
     let Ok(mut frames) = FrameReader::new(alloc, input) else {
         return Ended::GaveUp;
@@ -64,22 +64,25 @@ fn answer_next<R: Read + Drop, W: Write>(
 ) -> Option<Ended>
     requires { frames.old.end ≡ None }
     ensures open { IfNone result (frames.new.end ≡ None) }
-    ensures turn { IfSome frames.old.left (λ stream. Turns server.old.phase server.new.phase stream (W.contents output.old) (W.contents output.new) frames.new.left result) }
+    ensures turn { IfSome frames.old.left (λ stream. Turns server.old server.new stream (W.contents output.old) (W.contents output.new) frames.new.left result) }
 {
     let frame = match frames.read_frame(body) {
         Ok(frame) => frame,
         Err(end) => return Some(Ended::Input(end)),
     };
-    let reply = answer_frame(server, frame, body.as_slice());
+    let reply = answer_frame(server, frame, body.as_mut_slice());
     send(&reply, output)
 }
 
-/// What is to be done about a frame that was read.
-fn answer_frame(server: &mut Server, frame: Frame, body: &[u8]) -> Reply
-    ensures { AnswersFrame server.old.phase server.new.phase frame body.now result }
+/// What is to be done about a frame that was read. Its body is mended before it is answered.
+fn answer_frame(server: &mut Server, frame: Frame, body: &mut [u8]) -> Reply
+    ensures { AnswersFrame server.old server.new frame body.old result }
 {
     match frame {
-        Frame::Body => server.answer(body),
+        Frame::Body => {
+            mend(body);
+            server.answer(body)
+        }
         Frame::TooLong => server.answer_unread(Unread::NotAMessage),
         Frame::OutOfMemory => server.answer_unread(Unread::OutOfMemory),
     }

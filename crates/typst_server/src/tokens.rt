@@ -1,14 +1,16 @@
 //! The tokens of a document: what of it is shown how.
-ghost use Rattle.std.specs.Prelude.{◌≡◌, ◌^◌, ◌<◌, [], length, IfOk, OnOk};
+ghost use Rattle.std.specs.Prelude.{◌≡◌, ◌^◌, ◌<◌, [], length, IfOk, OnOk, option_map};
+ghost use Rattle.std.specs.String.{string_bytes};
 ghost use Rattle.typst_server.specs.Numbers as spec;
+ghost use Rattle.typst_server.specs.Sent.{AreAll, IsSentAs, Leads, TellsOf, made_by};
 ghost use Rattle.typst_server.specs.Numbers.{IsAdded, all_shown, clipped, decoded, encoded, shown, shown_in};
 
 use crate::capabilities::type_of;
 use crate::document::Document;
-use crate::features::{Token, edit_between, token_stretches};
 use crate::walk::Walk;
 use std::alloc::{AllocError, Global};
 use std::ops::Range;
+use typst_features::{Token, edit_between, token_stretches};
 use typst_parser::tag_stretches;
 use typst_protocol::values::{Place, TokenChanges, TokenEdit, Tokens};
 use typst_protocol::{Params, Refusal, json_of};
@@ -22,7 +24,9 @@ pub struct Sent {
 
 impl Sent {
     /// The name that they were sent under.
-    pub fn name(&self) -> &str {
+    pub fn name(&self) -> &str
+        ensures { result.now ≡ string_bytes self.now.name }
+    {
         self.name.as_str()
     }
 }
@@ -129,57 +133,87 @@ fn number(count: usize) -> u32
     u32::try_from(count).unwrap_or(u32::MAX)
 }
 
-/// An answer, and the tokens that are sent with it.
-#[derive(Drop)]
-pub struct Told {
-    /// The answer, as JSON.
-    pub text: String,
-    /// The tokens.
-    pub sent: Sent,
-}
-
-/// All tokens of a document, under a name: as changes where `previous` names the ones that were sent last.
-pub fn answer(
-    alloc: Global,
-    document: &Document,
-    name: u64,
-    previous: Option<&str>,
-) -> Result<Told, Refusal> {
-    let sent = Sent {
-        name: format!(in alloc; "{name}")?,
+/// The tokens of a document, to be sent under a number.
+pub fn fresh(alloc: Global, document: &Document, number: u64) -> Result<Sent, AllocError>
+    ensures { IfOk result (IsSentAs document.now number) }
+{
+    Ok(Sent {
+        name: format!(in alloc; "{number}")?,
         data: numbers_of(alloc, document, &document.whole())?,
-    };
-    let last = previous.and_then(|previous| document.sent_as(previous));
-    let text = match last {
-        Some(last) => changes_text(alloc, last, &sent)?,
-        None => whole_text(alloc, &sent)?,
-    };
-    Ok(Told { text, sent })
+    })
 }
 
-fn whole_text(alloc: Global, sent: &Sent) -> Result<String, Refusal> {
-    let tokens = Tokens {
+/// What is told of tokens.
+#[derive(Drop)]
+pub enum Told<'a> {
+    /// All.
+    All(Tokens<'a>),
+    /// What has changed since others were sent.
+    Changes(TokenChanges<'a>),
+}
+
+impl Told<'_> {
+    /// The answer that tells it, as JSON.
+    pub fn text(&self, alloc: Global) -> Result<String, Refusal> {
+        match self {
+            Told::All(tokens) => json_of(alloc, tokens),
+            Told::Changes(changes) => json_of(alloc, changes),
+        }
+    }
+}
+
+/// What is told of tokens that are sent: what has changed where the client has others, and else all.
+pub fn tell<'a>(alloc: Global, sent: &'a Sent, last: Option<&Sent>) -> Result<Told<'a>, AllocError>
+    ensures { IfOk result (TellsOf (option_map (λ sent. sent.now) last.entry) sent.now) }
+{
+    match last {
+        Some(last) => Ok(Told::Changes(changes_between(alloc, last, sent)?)),
+        None => Ok(Told::All(all_of(sent))),
+    }
+}
+
+/// All tokens, with the name of them.
+fn all_of(sent: &Sent) -> Tokens<'_>
+    ensures { AreAll result sent.now }
+{
+    Tokens {
         result_id: Some(sent.name()),
         data: sent.data.as_slice(),
-    };
-    json_of(alloc, &tokens)
+    }
 }
 
-fn changes_text(alloc: Global, last: &Sent, sent: &Sent) -> Result<String, Refusal> {
-    let (old, new) = (last.data.as_slice(), sent.data.as_slice());
-    let mut edits = Vec::new(alloc);
-    if let Some(edit) = edit_between(old, new) {
-        edits.push(TokenEdit {
-            start: edit.start,
-            delete_count: edit.removed,
-            data: new.get(edit.inserted).unwrap_or(&[]),
-        })?;
-    }
-    let changes = TokenChanges {
+/// What changes from the tokens that were sent last to those that are sent now.
+fn changes_between<'a>(
+    alloc: Global,
+    last: &Sent,
+    sent: &'a Sent,
+) -> Result<TokenChanges<'a>, AllocError>
+    ensures { IfOk result (λ changes. Leads last.now.data.items changes sent.now) }
+{
+    Ok(TokenChanges {
         result_id: sent.name(),
-        edits,
+        edits: edits_between(alloc, last.data.as_slice(), sent.data.as_slice())?,
+    })
+}
+
+/// The edits that make new numbers of old ones: one where they differ.
+fn edits_between<'a>(
+    alloc: Global,
+    old: &[u32],
+    new: &'a [u32],
+) -> Result<Vec<TokenEdit<'a>>, AllocError>
+    ensures { IfOk result (λ edits. made_by edits.items old.now ≡ new.now) }
+{
+    let mut edits = Vec::new(alloc);
+    let Some(edit) = edit_between(old, new) else {
+        return Ok(edits);
     };
-    json_of(alloc, &changes)
+    edits.push(TokenEdit {
+        start: edit.start,
+        delete_count: edit.removed,
+        data: &new[edit.inserted.start..edit.inserted.end],
+    })?;
+    Ok(edits)
 }
 
 /// The tokens between two positions.

@@ -5,13 +5,13 @@ use Rattle.typst_server.specs.Transcript.{GoesOn, Turns}
 
 pub returns-in-Some : goal.returns-in-Some
 returns-in-Some g c =
-    ends-known c.args.server.now.phase c.loop-turn.server.phase c.answer_next.new.server.phase (g.R.Read.remaining c.args.input) (g.W.Write.contents c.args.output.now) (g.W.Write.contents c.loop-turn.output)
+    ends-known c.args.server.now c.loop-turn.server c.answer_next.new.server (g.R.Read.remaining c.args.input) (g.W.Write.contents c.args.output.now) (g.W.Write.contents c.loop-turn.output)
     (g.W.Write.contents c.answer_next.new.output) c.loop-turn.frames.left c.in-Some.ended c.loop-turn.invariant.known c.in-Some.ensures.turn
 
 pub loop-turn-preserved : goal.loop-turn-preserved
 loop-turn-preserved g c =
-    let mid = c.loop-turn.server.phase in
-    let to = c.answer_next.new.server.phase in
+    let mid = c.loop-turn.server in
+    let to = c.answer_next.new.server in
     let before = g.W.Write.contents c.loop-turn.output in
     let behind = g.W.Write.contents c.answer_next.new.output in
     let left = c.loop-turn.frames.left in
@@ -21,5 +21,5 @@ loop-turn-preserved g c =
     subst (λ result. IfSome left (λ rest. Turns mid to rest before behind next result)) c.in_default-answer_next.is c.answer_next.ensures.turn in
     record {
       unended = unended;
-      known = more-known c.args.server.now.phase mid to (g.R.Read.remaining c.args.input) (g.W.Write.contents c.args.output.now) before behind left next c.loop-turn.invariant.known turn;
+      known = more-known c.args.server.now mid to (g.R.Read.remaining c.args.input) (g.W.Write.contents c.args.output.now) before behind left next c.loop-turn.invariant.known turn;
     }

@@ -1,6 +1,6 @@
 use Rattle.std.proofs.Common.{◌≡◌, ap, subst, ◌∙◌}
 use Rattle.std.specs.Str.{IsUtf8}
-use Rattle.typst_server.specs.Tokens.{stretches}
+use Rattle.typst_features.specs.Tokens.{stretches}
 use Rattle.typst_parser.specs.Stretches as tagged
 use Rattle.typst_server.proofs.Decoding.{tokens-back}
 use Rattle.typst_server.proofs.Encoding.{if-ok}

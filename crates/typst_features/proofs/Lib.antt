@@ -1,0 +1,4 @@
+pub mod DataEditsMade
+pub mod SelectedNodes
+pub mod TokenLines
+pub mod VisitedProblems

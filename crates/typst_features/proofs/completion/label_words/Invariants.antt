@@ -1,0 +1,5 @@
+use Rattle.std.proofs.Common.{length}
+use Rattle.typst_features.proofs.completion.label_words.Given as goal
+
+abbrev pub decreases-loop-walk : goal.decreases-loop-walk
+decreases-loop-walk l = length l.walk

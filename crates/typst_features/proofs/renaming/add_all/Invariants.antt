@@ -1,0 +1,7 @@
+use Rattle.std.proofs.Common.{◌≡◌, ◌++◌, drop}
+use Rattle.std.specs.Prelude.{map}
+use Rattle.typst_features.specs.Renames.{put, put_for}
+use Rattle.typst_features.proofs.renaming.add_all.Given as goal
+
+abbrev pub invariant-loop-occurrence : goal.invariant-loop-occurrence
+invariant-loop-occurrence l = map put l.renamed.items ++ map put_for (drop l.occurrence-index l.occurrences) ≡ map put l.fn.renamed.items ++ map put_for l.occurrences

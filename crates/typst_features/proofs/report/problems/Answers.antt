@@ -1,0 +1,5 @@
+use Rattle.typst_features.proofs.VisitedProblems.{of_walk}
+use Rattle.typst_features.proofs.report.problems.Goals as goal
+
+pub loop-walk-init : goal.loop-walk-init
+loop-walk-init c = rw (c.new-found.ensures.items, c.preorder-walk.ensures.walk) (of_walk c.args.root.now)

@@ -1,0 +1,158 @@
+//! Definitions, uses and renames of labels and of names that are bound.
+
+ghost use Rattle.std.specs.Prelude.{◌≡◌, ◌++◌, OnOk, map};
+ghost use Rattle.typst_features.specs.Renames as spec;
+
+use crate::naming::{Mention, MentionKind, mention_at, mentions};
+use std::alloc::{AllocError, Global};
+use std::ops::Range;
+use typst_names::{Occurrence, OccurrenceKind, binding_of, name_at, names, uses_of};
+use typst_tree::SyntaxNode;
+
+/// A label or a name that stands at a byte, and where it is defined and used.
+#[derive(Debug, PartialEq, Eq, Drop)]
+pub struct Named {
+    /// The bytes of the name alone.
+    pub range: Range<usize>,
+    /// Where it is defined and used: of a label its labels in markup, and the references to it and its labels in
+    /// code, in order; of a name its binding, and behind it the uses that mean it, in order.
+    pub occurrences: Vec<Occurrence>,
+}
+
+/// Where a rename puts the new name.
+#[derive(Debug, PartialEq, Eq, Drop)]
+pub struct Renamed {
+    /// The bytes that give way.
+    pub range: Range<usize>,
+    /// What is put before the new name: `as` where an item of an import gets a name of its own.
+    pub before: &'static str,
+}
+
+/// The label or the name that holds a byte, or else the one that ends there. There is none where it isn't known
+/// in this text what a name means.
+pub fn named_at(
+    alloc: Global,
+    root: &SyntaxNode,
+    text: &str,
+    byte: usize,
+) -> Result<Option<Named>, AllocError> {
+    match mention_at(root, byte) {
+        Some(mention) => label_named(alloc, root, &mention),
+        None => name_named(alloc, root, text, byte),
+    }
+}
+
+/// A label or a reference with all of its name.
+fn label_named(
+    alloc: Global,
+    root: &SyntaxNode,
+    mention: &Mention<'_>,
+) -> Result<Option<Named>, AllocError> {
+    let mut occurrences = Vec::new(alloc);
+    for other in &mentions(alloc, root, mention.name)? {
+        occurrences.push(Occurrence {
+            kind: kind_of(other),
+            range: other.name_range(),
+        })?;
+    }
+    Ok(Some(Named {
+        range: mention.name_range(),
+        occurrences,
+    }))
+}
+
+fn kind_of(mention: &Mention<'_>) -> OccurrenceKind {
+    match mention.kind {
+        MentionKind::Label => OccurrenceKind::Definition,
+        MentionKind::Reference => OccurrenceKind::Use,
+    }
+}
+
+/// A name that is bound, with its uses.
+fn name_named(
+    alloc: Global,
+    root: &SyntaxNode,
+    text: &str,
+    byte: usize,
+) -> Result<Option<Named>, AllocError> {
+    let names = names(alloc, root)?;
+    let Some(index) = name_at(&names, byte) else {
+        return Ok(None);
+    };
+    let Some(binding) = binding_of(text, &names, index) else {
+        return Ok(None);
+    };
+    let occurrences = uses_of(alloc, text, &names, binding)?;
+    match names.get(index) {
+        Some(name) => Ok(Some(Named {
+            range: name.range.start..name.range.end,
+            occurrences,
+        })),
+        None => Ok(None),
+    }
+}
+
+impl Named {
+    ghost use Rattle.std.specs.Prelude.{◌≡◌, IfOk, map};
+    ghost use Rattle.typst_features.specs.Renames as spec;
+
+    /// Whether it can be renamed: it is defined in this text.
+    pub fn is_renamable(&self) -> bool
+        ensures { result ≡ spec.any_bound self.now.occurrences.items }
+    {
+        for occurrence in &self.occurrences {
+            if is_bound(occurrence.kind) {
+                return true;
+            }
+        }
+        false
+    }
+
+    /// Where a rename puts the new name, and nowhere where it can't be renamed.
+    pub fn renamed(&self, alloc: Global) -> Result<Vec<Renamed>, AllocError>
+        ensures { IfOk result (λ renamed. map spec.put renamed.items ≡ spec.renames self.now.occurrences.items) }
+    {
+        let mut renamed = Vec::new(alloc);
+        if self.is_renamable() {
+            add_all(&mut renamed, &self.occurrences)?;
+        }
+        Ok(renamed)
+    }
+}
+
+/// Adds where the new name is put for each of some names.
+fn add_all(renamed: &mut Vec<Renamed>, occurrences: &[Occurrence]) -> Result<(), AllocError>
+    ensures { OnOk result (map spec.put renamed.new.items ≡ map spec.put renamed.old.items ++ map spec.put_for occurrences.now) }
+{
+    for occurrence in occurrences {
+        renamed.push(renamed_at(occurrence))?;
+    }
+    Ok(())
+}
+
+/// Whether a name is defined or bound there.
+fn is_bound(kind: OccurrenceKind) -> bool
+    ensures { result ≡ spec.is_bound kind }
+{
+    match kind {
+        OccurrenceKind::Use => false,
+        _ => true,
+    }
+}
+
+/// Where the new name is put for a name. An item of an import keeps its name in the other file.
+fn renamed_at(occurrence: &Occurrence) -> Renamed
+    ensures { spec.put result ≡ spec.put_for occurrence.now }
+{
+    let Range { start, end } = occurrence.range;
+    match occurrence.kind {
+        OccurrenceKind::Item => Renamed {
+            range: end..end,
+            before: " as ",
+        },
+        _ => Renamed {
+            range: start..end,
+            before: "",
+        },
+    }
+}

@@ -1,0 +1,3 @@
+pub mod HoldingNodes
+pub mod LeftNames
+pub mod UsesFound

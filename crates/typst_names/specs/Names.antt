@@ -1,0 +1,39 @@
+-- The names of a tree, by the table of scopes.
+use Rattle.std.specs.Prelude.{ℕ, Bool, true, false, List, [], ◌∷◌, ◌++◌, Option, None, Some, if◌then◌else◌}
+use Rattle.std.specs.declared.ops.Range.{Range}
+use Rattle.typst_tree.specs.Tree.{Forest, none, more, Tree}
+use Rattle.typst_names.specs.Bytes as bytes
+use Rattle.typst_names.specs.Scopes.{base, behind, first, opens, says, second, third}
+use Rattle.typst_names.specs.declared.parts.NameKind.{NameKind}
+use Rattle.typst_names.specs.declared.parts.Part.{Part}
+use Rattle.typst_names.specs.declared.parts.Part.TheVariants as part
+use Rattle.typst_names.specs.declared.scopes.Name.{Name}
+
+-- no tree is left
+abbrev pub is_end : Forest → Bool
+is_end none = true
+is_end (more h ks r) = false
+
+-- a name with its bytes, if it is one, and the byte up to which its scope goes
+abbrev pub named : Option NameKind → Range ℕ → ℕ → List Name
+named None r u = []
+named (Some n) r u = record { kind = n; range = r; until = u } ∷ []
+
+-- where the scope of a part ends, of a node that ends at byte e in a scope that ends at byte u
+abbrev pub held : Part → ℕ → ℕ → ℕ
+held p u e = if opens p then e else u
+
+-- the names of trees side by side from byte a on, which are taken as this part of a scope that ends at byte u, in the order in which they
+-- come to hold: of a node its own, then those of the up to three parts below it
+abbrev pub names_in : Part → ℕ → ℕ → Forest → List Name
+names_in p u a none = []
+names_in p u a (more h ks r) =
+    let b : Part = base p in
+    let e : ℕ = bytes.behind a h ks in
+    let below : Part → List Name = λ q. names_in q (held q u e) (bytes.inner a h) ks in
+    named (says b h.kind (is_end r)) (bytes.range a h ks) u
+    ++ (below (first b h.kind) ++ (below (second b h.kind) ++ (below (third b h.kind) ++ names_in (behind p h.kind) u e r)))
+
+-- the names of a tree
+abbrev pub names : Tree → List Name
+names t = names_in part.Value (bytes.behind 0 t.head t.kids) 0 (more t.head t.kids none)

@@ -1,0 +1,16 @@
+//! The names of a syntax tree: what binds and uses them, up to where that holds, and what each means.
+//!
+//! [`names`] gives the names of a tree by the table of scopes (specs/Scopes.antt), [`binding_of`] the binding
+//! that one of them means, [`uses_of`] the uses that mean a binding. [`Placed`] is a node with the byte at which
+//! it begins. Positions are in bytes of the tree's text.
+#![tactic(auto)]
+
+mod bindings;
+mod parts;
+mod places;
+mod scopes;
+
+pub use bindings::{Occurrence, OccurrenceKind, binding_of, name_at, uses_of, word_of};
+pub use parts::NameKind;
+pub use places::Placed;
+pub use scopes::{Name, names};

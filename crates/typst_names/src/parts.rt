@@ -1,0 +1,323 @@
+//! How the children of a node are taken where names are looked for.
+
+ghost use Rattle.std.specs.Prelude.{◌≡◌};
+ghost use Rattle.typst_names.specs.Scopes as spec;
+
+use typst_kinds::SyntaxKind;
+
+/// What a name does.
+#[derive(Debug, Clone, Copy, PartialEq, Eq)]
+pub enum NameKind {
+    /// It is used.
+    Use,
+    /// It is bound.
+    Binding,
+    /// It is bound as an item of an import, by its name in the other file.
+    Item,
+    /// The star of an import, which binds names that no one knows here.
+    Any,
+}
+
+/// How the children of a node are taken, from one of them on up to one that changes it.
+#[derive(Debug, Clone, Copy, PartialEq, Eq)]
+pub enum Part {
+    /// Names are used.
+    Value,
+    /// The same in a block, up to whose end holds what is bound in it.
+    Block,
+    /// The same of a field access, up to its dot.
+    Field,
+    /// The same of an import, up to what it binds.
+    Source,
+    /// The same of one child that is no trivia.
+    Once,
+    /// Names are bound.
+    Pattern,
+    /// The same of a `let`, up to the equals sign.
+    Bound,
+    /// The same of a parameter with a default, up to the colon.
+    Key,
+    /// The same of a loop, up to `in`. Behind what it goes over comes its body.
+    Loop,
+    /// The same of an import, up to the colon.
+    Alias,
+    /// The parameters of a function are bound.
+    Parameters,
+    /// A function's own name is bound, up to its parameters.
+    OwnName,
+    /// A function with its parameters, and behind the arrow or the equals sign its body.
+    Function,
+    /// A function, of which the defaults of its parameters count.
+    Defaults,
+    /// Parameters, of which the defaults count.
+    DefaultValues,
+    /// A `let`: a function that it binds, or the value behind the equals sign.
+    Init,
+    /// A value behind a colon.
+    Pair,
+    /// A pattern behind a colon.
+    PatternPair,
+    /// What a loop goes over, behind `in`.
+    Iterable,
+    /// A value behind the next child that is no trivia.
+    Passed,
+    /// What an import binds, behind the colon.
+    Imported,
+    /// The items of an import.
+    Items,
+    /// The path of an item, which is bound by its last name.
+    Path,
+    /// An item with a new name behind `as`.
+    Renamed,
+    /// Nothing counts.
+    Nothing,
+}
+
+impl Part {
+    /// The same part, wherever it ends.
+    pub fn base(self) -> Part
+        ensures { result ≡ spec.base self }
+    {
+        match self {
+            Part::Block => Part::Value,
+            Part::Field => Part::Value,
+            Part::Source => Part::Value,
+            Part::Once => Part::Value,
+            Part::Bound => Part::Pattern,
+            Part::Key => Part::Pattern,
+            Part::Loop => Part::Pattern,
+            Part::Alias => Part::Pattern,
+            _ => self,
+        }
+    }
+
+    /// Whether what is bound in a part holds up to the end of its node.
+    pub fn opens(self) -> bool
+        ensures { result ≡ spec.opens self }
+    {
+        match self {
+            Part::Block => true,
+            Part::Function => true,
+            Part::Loop => true,
+            _ => false,
+        }
+    }
+
+    /// How the children behind one of this kind are taken.
+    pub fn behind(self, kind: SyntaxKind) -> Part
+        ensures { result ≡ spec.behind self kind }
+    {
+        match self {
+            Part::Field => self.up_to(SyntaxKind::Dot, Part::Nothing, kind),
+            Part::Init => self.up_to(SyntaxKind::Eq, Part::Value, kind),
+            Part::Bound => self.up_to(SyntaxKind::Eq, Part::Nothing, kind),
+            Part::Pair => self.up_to(SyntaxKind::Colon, Part::Value, kind),
+            Part::PatternPair => self.up_to(SyntaxKind::Colon, Part::Pattern, kind),
+            Part::Key => self.up_to(SyntaxKind::Colon, Part::Nothing, kind),
+            Part::OwnName => self.up_to(SyntaxKind::Params, Part::Nothing, kind),
+            Part::Defaults => self.up_to(SyntaxKind::Params, Part::Nothing, kind),
+            Part::Iterable => self.up_to(SyntaxKind::In, Part::Once, kind),
+            Part::Loop => self.up_to(SyntaxKind::In, Part::Passed, kind),
+            Part::Alias => self.up_to(SyntaxKind::Colon, Part::Imported, kind),
+            Part::Renamed => self.up_to(SyntaxKind::As, Part::Pattern, kind),
+            Part::Once => self.up_to_one(Part::Nothing, kind),
+            Part::Passed => self.up_to_one(Part::Value, kind),
+            Part::Function => behind_function(kind),
+            Part::Source => behind_source(kind),
+            _ => self,
+        }
+    }
+
+    /// This part, and behind a mark another one.
+    fn up_to(self, mark: SyntaxKind, next: Part, kind: SyntaxKind) -> Part
+        ensures { result ≡ spec.up_to mark next self kind }
+    {
+        if kind.same(mark) { next } else { self }
+    }
+
+    /// This part, and behind what is no trivia another one.
+    fn up_to_one(self, next: Part, kind: SyntaxKind) -> Part
+        ensures { result ≡ spec.up_to_one next self kind }
+    {
+        if kind.is_trivia() { self } else { next }
+    }
+
+    /// What a name or a star does, which is told by its kind and by whether it is the last child.
+    pub fn says(self, kind: SyntaxKind, is_last: bool) -> Option<NameKind>
+        ensures { result ≡ spec.says self kind is_last }
+    {
+        match self {
+            Part::Value => used(kind),
+            Part::Pattern => told(SyntaxKind::Ident, NameKind::Binding, kind),
+            Part::Parameters => told(SyntaxKind::Ident, NameKind::Binding, kind),
+            Part::OwnName => told(SyntaxKind::Ident, NameKind::Binding, kind),
+            Part::Imported => told(SyntaxKind::Star, NameKind::Any, kind),
+            Part::Path => last_name(kind, is_last),
+            _ => None,
+        }
+    }
+
+    /// How the children of a child of this kind are taken first.
+    pub fn first(self, kind: SyntaxKind) -> Part
+        ensures { result ≡ spec.first self kind }
+    {
+        match self {
+            Part::Value => first_of_value(kind),
+            Part::Pattern => below_pattern(Part::PatternPair, kind),
+            Part::Parameters => below_pattern(Part::Key, kind),
+            Part::DefaultValues => only(SyntaxKind::Named, Part::Pair, kind),
+            Part::Defaults => only(SyntaxKind::Params, Part::DefaultValues, kind),
+            Part::Function => only(SyntaxKind::Params, Part::Parameters, kind),
+            Part::Init => only(SyntaxKind::Closure, Part::Defaults, kind),
+            Part::Imported => only(SyntaxKind::ImportItems, Part::Items, kind),
+            Part::Items => below_items(kind),
+            _ => Part::Nothing,
+        }
+    }
+
+    /// How they are taken then.
+    pub fn second(self, kind: SyntaxKind) -> Part
+        ensures { result ≡ spec.second self kind }
+    {
+        match self {
+            Part::Value => second_of_value(kind),
+            Part::Init => only(SyntaxKind::Closure, Part::OwnName, kind),
+            _ => Part::Nothing,
+        }
+    }
+
+    /// How they are taken last.
+    pub fn third(self, kind: SyntaxKind) -> Part
+        ensures { result ≡ spec.third self kind }
+    {
+        match self {
+            Part::Value => only(SyntaxKind::Closure, Part::Function, kind),
+            Part::Init => only(SyntaxKind::Closure, Part::Function, kind),
+            _ => Part::Nothing,
+        }
+    }
+
+    /// Whether nothing counts.
+    pub fn is_nothing(self) -> bool
+        ensures { result ≡ spec.is_nothing self }
+    {
+        match self {
+            Part::Nothing => true,
+            _ => false,
+        }
+    }
+}
+
+/// A function up to its body.
+fn behind_function(kind: SyntaxKind) -> Part
+    ensures { result ≡ spec.behind_function kind }
+{
+    if kind.same(SyntaxKind::Arrow) {
+        return Part::Value;
+    }
+    Part::Function.up_to(SyntaxKind::Eq, Part::Value, kind)
+}
+
+/// An import up to what it binds.
+fn behind_source(kind: SyntaxKind) -> Part
+    ensures { result ≡ spec.behind_source kind }
+{
+    if kind.same(SyntaxKind::As) {
+        return Part::Alias;
+    }
+    Part::Source.up_to(SyntaxKind::Colon, Part::Imported, kind)
+}
+
+/// What a node of the wanted kind does. Others do nothing.
+fn told(wanted: SyntaxKind, does: NameKind, kind: SyntaxKind) -> Option<NameKind>
+    ensures { result ≡ spec.told wanted does kind }
+{
+    if kind.same(wanted) { Some(does) } else { None }
+}
+
+/// A name that is used, in code or in a formula.
+fn used(kind: SyntaxKind) -> Option<NameKind>
+    ensures { result ≡ spec.used kind }
+{
+    if kind.same(SyntaxKind::Ident) {
+        return Some(NameKind::Use);
+    }
+    told(SyntaxKind::MathIdent, NameKind::Use, kind)
+}
+
+/// The last name of a path.
+fn last_name(kind: SyntaxKind, is_last: bool) -> Option<NameKind>
+    ensures { result ≡ spec.last_name kind is_last }
+{
+    if is_last {
+        told(SyntaxKind::Ident, NameKind::Item, kind)
+    } else {
+        None
+    }
+}
+
+/// A part below a node of the wanted kind alone.
+fn only(wanted: SyntaxKind, part: Part, kind: SyntaxKind) -> Part
+    ensures { result ≡ spec.only wanted part kind }
+{
+    if kind.same(wanted) {
+        part
+    } else {
+        Part::Nothing
+    }
+}
+
+/// What is first below a value.
+fn first_of_value(kind: SyntaxKind) -> Part
+    ensures { result ≡ spec.first_of_value kind }
+{
+    match kind {
+        SyntaxKind::LetBinding => Part::Init,
+        SyntaxKind::Closure => Part::Defaults,
+        SyntaxKind::ForLoop => Part::Iterable,
+        SyntaxKind::ModuleImport => Part::Source,
+        SyntaxKind::FieldAccess => Part::Field,
+        SyntaxKind::MathFieldAccess => Part::Field,
+        SyntaxKind::Named => Part::Pair,
+        SyntaxKind::CodeBlock => Part::Block,
+        SyntaxKind::ContentBlock => Part::Block,
+        SyntaxKind::Contextual => Part::Block,
+        _ => Part::Value,
+    }
+}
+
+/// What comes then below a value.
+fn second_of_value(kind: SyntaxKind) -> Part
+    ensures { result ≡ spec.second_of_value kind }
+{
+    match kind {
+        SyntaxKind::LetBinding => Part::Bound,
+        SyntaxKind::Closure => Part::OwnName,
+        SyntaxKind::ForLoop => Part::Loop,
+        _ => Part::Nothing,
+    }
+}
+
+/// What is below a pattern, where this is below a pair.
+fn below_pattern(pair: Part, kind: SyntaxKind) -> Part
+    ensures { result ≡ spec.below_pattern pair kind }
+{
+    match kind {
+        SyntaxKind::Destructuring => Part::Pattern,
+        SyntaxKind::Parenthesized => Part::Pattern,
+        SyntaxKind::Spread => Part::Pattern,
+        SyntaxKind::Named => pair,
+        _ => Part::Nothing,
+    }
+}
+
+/// What is below an item of an import.
+fn below_items(kind: SyntaxKind) -> Part
+    ensures { result ≡ spec.below_items kind }
+{
+    match kind {
+        SyntaxKind::ImportItemPath => Part::Path,
+        SyntaxKind::RenamedImportItem => Part::Renamed,
+        _ => Part::Nothing,
+    }
+}

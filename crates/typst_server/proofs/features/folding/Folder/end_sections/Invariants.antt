@@ -1,5 +1,0 @@
-use Rattle.std.proofs.Common.{vec_len}
-use Rattle.typst_server.proofs.features.folding.Folder.end_sections.Given as goal
-
-abbrev pub decreases-loop-start : goal.decreases-loop-start
-decreases-loop-start l = vec_len l.self.sections.open

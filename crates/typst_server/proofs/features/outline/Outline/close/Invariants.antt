@@ -1,5 +1,0 @@
-use Rattle.std.proofs.Common.{vec_len}
-use Rattle.typst_server.proofs.features.outline.Outline.close.Given as goal
-
-abbrev pub decreases-loop-index : goal.decreases-loop-index
-decreases-loop-index l = vec_len l.self.sections.open

@@ -1,5 +1,0 @@
-use Rattle.std.proofs.Common.{length}
-use Rattle.typst_server.proofs.features.outline.symbols.Given as goal
-
-abbrev pub decreases-loop-walk : goal.decreases-loop-walk
-decreases-loop-walk l = length l.walk

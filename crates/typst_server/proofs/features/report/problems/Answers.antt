@@ -1,5 +1,0 @@
-use Rattle.typst_server.proofs.VisitedProblems.{of_walk}
-use Rattle.typst_server.proofs.features.report.problems.Goals as goal
-
-pub loop-walk-init : goal.loop-walk-init
-loop-walk-init c = rw (c.new-found.ensures.items, c.preorder-walk.ensures.walk) (of_walk c.args.root.now)

@@ -1,0 +1,73 @@
+-- What is answered to a request.
+use Rattle.std.specs.Prelude.{◌≡◌, ⊤, ◌⊎◌, ℕ, List, ◌++◌, codes, Option, None, Some, Result, Ok, Err, IfOk, String}
+use Rattle.std.specs.String.{string_bytes}
+use Rattle.std.specs.declared.alloc.Global.{Global}
+use Rattle.serde_json.specs.Data.{Data}
+use Rattle.typst_positions.specs.declared.columns.Encoding.{Encoding}
+use Rattle.typst_positions.specs.declared.columns.Encoding.TheVariants.{Utf8, Utf16}
+use Rattle.typst_protocol.specs.Bodies.{failure, success}
+use Rattle.typst_protocol.specs.Parameters as parameters
+use Rattle.typst_protocol.specs.declared.method.Method.{Method}
+use Rattle.typst_protocol.specs.declared.method.Method.TheVariants.{Initialize, Shutdown}
+use Rattle.typst_protocol.specs.declared.refusal.Refusal.{Refusal}
+use Rattle.typst_protocol.specs.declared.refusal.Refusal.TheVariants.{BadParameters, LostDocument, OutOfMemory}
+use Rattle.typst_server.specs.Document.{Opened}
+use Rattle.typst_server.specs.Documents.{found}
+use Rattle.typst_server.specs.declared.documents.Documents.{Documents}
+use Rattle.typst_server.specs.declared.server.Phase.{Phase}
+use Rattle.typst_server.specs.declared.server.Phase.TheVariants.{Fresh, Running}
+
+-- an answer is a value, as JSON, or a refusal
+abbrev pub Answer : Type 0
+Answer = Result (List ℕ) Refusal
+
+-- the same of one of the code
+abbrev pub said_of : Result (String Global) Refusal → Answer
+said_of (Ok text) = Ok (string_bytes text)
+said_of (Err why) = Err why
+
+-- the name of an encoding
+abbrev pub encoding_name : Encoding → List ℕ
+encoding_name Utf8 = codes "utf-8"
+encoding_name Utf16 = codes "utf-16"
+
+-- what the server says of itself begins with the encoding in which columns are counted
+pub record Names (encoding : Encoding) (value : List ℕ) : Type 0 where
+  pub rest : List ℕ
+  pub begins : value ≡ codes "{\"capabilities\":{\"positionEncoding\":\"" ++ encoding_name encoding ++ codes "\"," ++ rest
+
+-- a text has more behind it
+pub record Grows (old new : List ℕ) : Type 0 where
+  pub more : List ℕ
+  pub grown : new ≡ old ++ more
+
+-- what is known of the document that parameters name, where they name one that is open
+abbrev pub asked_of : Option (List ℕ) → Documents → Option (Option Opened)
+asked_of None documents = None
+asked_of (Some uri) documents = found uri documents
+
+-- only of a document that is known there is a value: where none is open, and where its text isn't known, the answer is the refusal that says so
+abbrev pub IsAbout : Option (Option Opened) → Answer → Type 0
+IsAbout None answer = answer ≡ Err BadParameters
+IsAbout (Some None) answer = answer ≡ Err LostDocument
+IsAbout (Some (Some document)) answer = ⊤
+
+-- WHAT A REQUEST THAT IS ALLOWED IS ANSWERED: `initialize` with the encoding that its parameters ask for, `shutdown` with nothing, each
+-- other one by what is known of its document
+abbrev pub Gives : Phase → Option Method → Option Data → Documents → Answer → Type 0
+Gives Fresh (Some Initialize) params documents answer = IfOk answer (Names (parameters.encoding params))
+Gives Running (Some Initialize) params documents answer = ⊤
+Gives Running (Some Shutdown) params documents answer = IfOk answer (λ value. value ≡ codes "null")
+Gives Running (Some method) params documents answer = IsAbout (asked_of (parameters.uri params) documents) answer
+Gives _ _ params documents answer = ⊤
+
+-- the response that tells an answer
+abbrev pub response_of : List ℕ → Answer → List ℕ
+response_of id (Ok value) = success id value
+response_of id (Err why) = failure id why
+
+-- a response tells such an answer, or that memory is refused
+pub record Tells (given : Answer → Type 0) (id text : List ℕ) : Type 0 where
+  pub answer : Answer
+  pub told : text ≡ response_of id answer
+  pub meant : given answer ⊎ (answer ≡ Err OutOfMemory)
