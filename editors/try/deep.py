@@ -1,14 +1,23 @@
 #!/usr/bin/env python3
-"""Tries texts whose trees are deep: deep.py FOLDER LINKS KIB [CHAIN..]
+"""Tries texts whose trees are deep: deep.py [--times] FOLDER LINKS KIB [CHAIN..]
 
 FOLDER holds the programs, as FOLDER/NAME/out/NAME. Of each chain, a text of so many links of one
 kind, typst_syn prints lines and HTML; typst_check checks it in each format and makes a page;
-typst_workloads edits it in the middle; a server opens it, gets a keystroke at the front, in the
-middle and at the end, is asked all that it answers, and closes it: all with a machine stack of KIB
-kibibytes. Each has to end as it does for a chain of 600 links. Up to 10,000 links there is what
-prints a tree, too, whose size grows by the square: typst_check and typst_syn, also after an edit at
-the three places. A line says what ended otherwise, and the last one how many runs agreed.
+typst_probe gives a source of it a keystroke at the front, in the middle and at the end, takes each
+back, and compares what the source holds with what is made anew; a server opens it, gets the same
+keystrokes, is asked all that it answers, and closes it: all with a machine stack of KIB kibibytes.
+Each has to end as it does for a chain of 600 links, and what typst_probe counts has to grow from
+there on as from 600 links to 601. A line says what ended otherwise, and the last one how many runs
+agreed.
+
+Up to 10,000 links there is what prints a tree, too: typst_check and typst_syn, also after an edit at
+the three places. Its indentation grows by the square of the links: of 1,000,000 it would fill all
+memory, so edits of long chains are never given to typst_syn.
+
+With --times each run is made of LINKS links and of four times as many. A line has how many times as
+long each took, the shortest of three, and the last one how many took at most six times as long.
 """
+import argparse
 import os
 import re
 import resource
@@ -38,7 +47,9 @@ CHAINS = {
 SHORT = 600
 MOST_PRINTED = 10_000
 SECONDS = 600
-FORMATS = (["--format", "short"], ["--format", "ndjson"], ["--format", "github"], ["--page"])
+# How many times as many links a run is timed with, and how many times as long it may take.
+MORE, MOST_TIMES = 4, 6
+FORMATS = (*(["--format", name] for name in ("short", "ndjson", "github", "sarif")), ["--page"])
 NAME = {"textDocument": {"uri": "file:///a"}}
 
 
@@ -127,13 +138,25 @@ def kinds_of(answers: bytes):
     return kinds
 
 
+def numbers_of(printed: bytes):
+    """What is printed, without its numbers, and these."""
+    return re.sub(rb"\d+", b"N", printed), [int(number) for number in re.findall(rb"\d+", printed)]
+
+
+def grown(tried, chain: str, links: int):
+    """What typst_probe has to print of a chain, by what it prints of two short ones, and the numbers there."""
+    ends = [tried.run("typst_probe", ["chain"], f"{chain} {many}".encode())[1] for many in (SHORT, SHORT + 1)]
+    (printed, first), (_, second) = map(numbers_of, ends)
+    return printed, [one + (other - one) * (links - SHORT) for one, other in zip(first, second)]
+
+
 def runs(chain: str, links: int, path: str):
     """The runs of a chain: a name, a program, its words, its input, and how its output is compared."""
     text = text_of(chain, links).encode()
     some = lambda output: bool(output)
     yield "lines", "typst_syn", ["lines"], text, some
     yield "html", "typst_syn", ["html"], text, some
-    yield "an edit in the middle", "typst_workloads", ["edit", "1"], text, some
+    yield "keystrokes", "typst_probe", ["chain"], f"{chain} {links}".encode(), numbers_of
     for words in FORMATS:
         yield " ".join(words), "typst_check", [*words, path], b"", some
     if links <= MOST_PRINTED:
@@ -144,30 +167,57 @@ def runs(chain: str, links: int, path: str):
     yield "dialogue", "typst_lsp", [], dialogue(chain, links), kinds_of
 
 
-def main(folder: str, links: int, kib: int, chains) -> int:
-    tried, agreed, count = Tried(folder, kib * 1024), 0, 0
+def ended_runs(tried, chain: str, links: int, path: str, times: int = 1):
+    """Of each run of a chain by its name: how it ended, how many bytes it printed, and its shortest seconds."""
+    with open(path, "w") as file:
+        file.write(text_of(chain, links))
+    for name, program, words, sent, compared in runs(chain, links, path):
+        made = [tried.run(program, words, sent) for _ in range(times)]
+        status, output, _ = made[0]
+        ended = (status, compared(output) if status in (0, 1) else None)
+        yield name, ended, len(output), min(seconds for _, _, seconds in made)
+
+
+def hold(tried, chain: str, links: int, path: str):
+    """Compares the runs of a chain with those of a short one: how many there are, and how many agree."""
+    wanted = {name: ended for name, ended, _, _ in ended_runs(tried, chain, SHORT, path)}
+    wanted["keystrokes"] = (0, grown(tried, chain, links))
+    agree = []
+    for name, ended, size, seconds in ended_runs(tried, chain, links, path):
+        agree.append(ended == wanted[name] and ended[0] in (0, 1))
+        if not agree[-1]:
+            print(f"{chain}, {name}: status {ended[0]}, {size} bytes, {seconds:.1f} s", flush=True)
+    return len(agree), sum(agree)
+
+
+def measure(tried, chain: str, links: int, path: str):
+    """Times the runs of a chain and of a longer one: how many there are, and how many take not much longer."""
+    took = lambda many: {name: seconds for name, _, _, seconds in ended_runs(tried, chain, many, path, 3)}
+    short, long = took(links), took(links * MORE)
+    ratios = {name: long[name] / seconds for name, seconds in short.items() if name in long}
+    print(f"{chain}: " + ", ".join(f"{name} {ratio:.1f}" for name, ratio in ratios.items()), flush=True)
+    return len(ratios), sum(ratio <= MOST_TIMES for ratio in ratios.values())
+
+
+def main() -> int:
+    layout = argparse.RawDescriptionHelpFormatter
+    parser = argparse.ArgumentParser("deep.py", description=__doc__, formatter_class=layout)
+    parser.add_argument("--times", action="store_true")
+    parser.add_argument("folder", metavar="FOLDER")
+    parser.add_argument("links", type=int, metavar="LINKS")
+    parser.add_argument("kib", type=int, metavar="KIB")
+    parser.add_argument("chains", nargs="*", metavar="CHAIN")
+    words = parser.parse_args()
+    tried, agreed, count = Tried(words.folder, words.kib * 1024), 0, 0
     with tempfile.TemporaryDirectory() as room:
-        for chain in chains or CHAINS:
-            wanted = {}
-            for many in (SHORT, links):
-                path = f"{room}/chain.typ"
-                with open(path, "w") as file:
-                    file.write(text_of(chain, many))
-                for name, program, words, sent, compared in runs(chain, many, path):
-                    status, output, seconds = tried.run(program, words, sent)
-                    ended = (status, compared(output) if status in (0, 1) else None)
-                    if many == SHORT:
-                        wanted[name] = ended
-                        continue
-                    count += 1
-                    agreed += ended == wanted[name]
-                    if ended != wanted[name]:
-                        print(f"{chain}, {name}: status {status}, {len(output)} bytes, {seconds:.1f} s", flush=True)
-    print(f"{agreed} of {count} runs with {links} links and {kib} KiB agree")
+        for chain in words.chains or CHAINS:
+            path = f"{room}/chain.typ"
+            made, well = (measure if words.times else hold)(tried, chain, words.links, path)
+            count, agreed = count + made, agreed + well
+    said = "take at most six times as long with four times the links" if words.times else "agree"
+    print(f"{agreed} of {count} runs with {words.links} links and {words.kib} KiB {said}")
     return 0 if agreed == count else 1
 
 
 if __name__ == "__main__":
-    if len(sys.argv) < 4:
-        sys.exit(__doc__)
-    sys.exit(main(sys.argv[1], int(sys.argv[2]), int(sys.argv[3]), sys.argv[4:]))
+    sys.exit(main())

@@ -17,6 +17,8 @@ use Rattle.typst_probe.specs.declared.word.edit_word.EditWord.{EditWord}
 use Rattle.typst_probe.specs.declared.word.edit_word.EditWord.TheVariants as edit_word
 use Rattle.typst_probe.specs.declared.word.program_word.ProgramWord.{ProgramWord}
 use Rattle.typst_probe.specs.declared.word.program_word.ProgramWord.TheVariants as program_word
+use Rattle.typst_probe.specs.declared.word.feature_word.FeatureWord.{FeatureWord}
+use Rattle.typst_probe.specs.declared.word.feature_word.FeatureWord.TheVariants as feature_word
 
 -- the word that a name stands for, of those for what is printed
 abbrev pub printed_word_named : List ℕ → Option PrintedWord
@@ -40,7 +42,8 @@ read_word_named name =
     else (if bytes_eq name (codes "tokens-narrow") then Some read_word.TokensNarrow
     else (if bytes_eq name (codes "tokens-code") then Some read_word.TokensCode
     else (if bytes_eq name (codes "tokens-math") then Some read_word.TokensMath
-    else None))))))))
+    else (if bytes_eq name (codes "look") then Some read_word.Look
+    else None)))))))))
 
 -- the word that a name stands for, of those for what a tree tells
 abbrev pub tree_word_named : List ℕ → Option TreeWord
@@ -56,7 +59,10 @@ tree_word_named name =
     else (if bytes_eq name (codes "size") then Some tree_word.Size
     else (if bytes_eq name (codes "asked") then Some tree_word.Asked
     else (if bytes_eq name (codes "again") then Some tree_word.Again
-    else None))))))))))
+    else (if bytes_eq name (codes "leaves") then Some tree_word.Leaves
+    else (if bytes_eq name (codes "kinds") then Some tree_word.Kinds
+    else (if bytes_eq name (codes "tag-list") then Some tree_word.TagList
+    else None)))))))))))))
 
 -- the word that a name stands for, of those for what edits answer
 abbrev pub edit_word_named : List ℕ → Option EditWord
@@ -71,7 +77,9 @@ edit_word_named name =
     else (if bytes_eq name (codes "everywhere") then Some edit_word.Everywhere
     else (if bytes_eq name (codes "everywhere-in-turn") then Some edit_word.EverywhereInTurn
     else (if bytes_eq name (codes "everywhere-at") then Some edit_word.EverywhereAt
-    else None)))))))))
+    else (if bytes_eq name (codes "edit-lines") then Some edit_word.EditLines
+    else (if bytes_eq name (codes "chain") then Some edit_word.Chain
+    else None)))))))))))
 
 -- the word that a name stands for, of those for what programs answer
 abbrev pub program_word_named : List ℕ → Option ProgramWord
@@ -88,7 +96,22 @@ program_word_named name =
     else (if bytes_eq name (codes "session") then Some program_word.Session
     else (if bytes_eq name (codes "session-cut") then Some program_word.SessionCut
     else (if bytes_eq name (codes "session-refused") then Some program_word.SessionRefused
-    else None)))))))))))
+    else (if bytes_eq name (codes "run") then Some program_word.Run
+    else (if bytes_eq name (codes "call") then Some program_word.Call
+    else None)))))))))))))
+
+-- the word that a name stands for, of those for what a language server tells beside
+abbrev pub feature_word_named : List ℕ → Option FeatureWord
+feature_word_named name =
+    if bytes_eq name (codes "expansions") then Some feature_word.Expansions
+    else (if bytes_eq name (codes "names") then Some feature_word.Names
+    else (if bytes_eq name (codes "occurrences") then Some feature_word.Occurrences
+    else (if bytes_eq name (codes "shown-problems") then Some feature_word.ShownProblems
+    else (if bytes_eq name (codes "quick-fixes") then Some feature_word.QuickFixes
+    else (if bytes_eq name (codes "document-links") then Some feature_word.DocumentLinks
+    else (if bytes_eq name (codes "hover") then Some feature_word.Hover
+    else (if bytes_eq name (codes "completions") then Some feature_word.Completions
+    else None)))))))
 
 -- the first word that there is
 abbrev pub first_word : Option Word → Option Word → Option Word
@@ -102,7 +125,8 @@ word_named name =
     (first_word (option_map word.Read (read_word_named name))
     (first_word (option_map word.Tree (tree_word_named name))
     (first_word (option_map word.Edit (edit_word_named name))
-    (option_map word.Program (program_word_named name)))))
+    (first_word (option_map word.Program (program_word_named name))
+    (option_map word.Feature (feature_word_named name))))))
 
 -- all that a word for what is printed answers about a text
 abbrev pub printed_as : PrintedWord → List ℕ → List ℕ
@@ -119,3 +143,4 @@ printed_by (word.Read _) text = None
 printed_by (word.Tree _) text = None
 printed_by (word.Edit _) text = None
 printed_by (word.Program _) text = None
+printed_by (word.Feature _) text = None

@@ -6,7 +6,7 @@ use crate::spans;
 use std::alloc::{AllocError, Global};
 use std::ops::Range;
 use typst_cli::tree::print_node;
-use typst_cli::{Classes, Source, SourceError, UnicodeClasses};
+use typst_cli::{Classes, Lines, Source, SourceError, UnicodeClasses};
 
 /// A text to be put in the place of a range of bytes.
 #[derive(Clone, Copy)]
@@ -88,6 +88,19 @@ impl<'a> Edit<'a> {
             Err(SourceError::OutOfMemory) => Err(AllocError),
             Err(SourceError::SpanNumbers) => Ok(Made::Fault("out of span numbers")),
         }
+    }
+
+    /// Edits lines. Gives false, and leaves them, where the range isn't one of their text.
+    pub fn make_of_lines(self, lines: &mut Lines<String>) -> Result<bool, AllocError> {
+        let text = lines.text();
+        if self.start > self.end
+            || !text.is_char_boundary(self.start)
+            || !text.is_char_boundary(self.end)
+        {
+            return Ok(false);
+        }
+        lines.edit(self.start..self.end, self.with)?;
+        Ok(true)
     }
 
     /// The edit as a line names it.

@@ -29,8 +29,8 @@ pub fn answer(alloc: Global, text: &str) -> Result<String, AllocError> {
     tallied(alloc, text, all.as_slice(), others.as_slice(), false)
 }
 
-/// The same, where each place has the next of the insertions and not all of them: for texts in which
-/// an edit takes long.
+/// The same, where two of three places have three insertions, the next ones, and not all of them: for texts in
+/// which an edit takes long.
 pub fn answer_in_turn(alloc: Global, text: &str) -> Result<String, AllocError> {
     let all = edits_in_turn(alloc, text)?;
     let others = past_ascii(alloc, all.as_slice())?;
@@ -101,8 +101,8 @@ fn insert(edits: &mut Vec<Edit<'static>>, at: usize) -> Result<(), AllocError> {
     Ok(())
 }
 
-/// The edits of a text: at each place the next of the insertions, and the character behind it taken
-/// out.
+/// The edits of a text: at every third place each of the insertions, at the others the next three, and the
+/// character behind it taken out.
 fn edits_in_turn(alloc: Global, text: &str) -> Result<Vec<Edit<'static>>, AllocError> {
     let mut edits = Vec::new(alloc);
     let mut place = 0usize;
@@ -116,10 +116,13 @@ fn edits_in_turn(alloc: Global, text: &str) -> Result<Vec<Edit<'static>>, AllocE
     Ok(edits)
 }
 
-/// Adds the edit that puts an insertion in at a byte, that of the place's number.
+/// Adds the edits that put something in at a byte, which is the place of this number.
 fn insert_next(edits: &mut Vec<Edit<'static>>, at: usize, place: usize) -> Result<(), AllocError> {
-    if let Some(with) = INSERTIONS.get(place % 21) {
-        edits.push(Edit::new(at, at, with))?;
+    if place % 3 == 0 {
+        return insert(edits, at);
+    }
+    for with in INSERTIONS.iter().skip(place % 7 * 3).take(3) {
+        edits.push(Edit::new(at, at, *with))?;
     }
     Ok(())
 }
@@ -270,7 +273,7 @@ impl<'a, C: Classes + Copy + Drop> Trial<'a, C> {
 }
 
 /// What isn't as it has to be after an edit.
-fn fault_of_edit<C: Classes>(
+pub fn fault_of_edit<C: Classes>(
     alloc: Global,
     source: &mut Source<C>,
     edit: Edit<'_>,

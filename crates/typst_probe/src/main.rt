@@ -2,18 +2,27 @@
 #![tactic(auto)]
 
 mod answers;
+mod bound;
 mod calls;
 mod candidates;
+mod chain;
 mod checks;
 mod draws;
+mod edit_lines;
 mod edits;
 mod escapes;
 mod everywhere;
 mod exchange;
 mod in_a_row;
+mod library_call;
 mod links;
+mod looks;
 mod modes;
+mod names;
 mod notes;
+mod offered;
+mod one_call;
+mod one_run;
 mod reading;
 mod refused;
 mod row;
@@ -22,8 +31,10 @@ mod sessions;
 mod shown;
 mod spans;
 mod stretches;
+mod subject;
 mod tagged;
 mod tags;
+mod telling;
 mod tokens;
 mod whole;
 mod word;
@@ -39,10 +50,12 @@ use word::Word;
 const USAGE: &str =
     "usage: typst_probe rows FILE.. | tree | tree-wide | tree-narrow | tree-code | tree-math | tree-math-wide |
     tree-math-narrow | tokens | tokens-wide | tokens-narrow | tokens-code | tokens-math | lines | link |
-    stretches | notes | tags | tagged | html | spans | depths | size | asked | again | edit | edit-wide |
-    edit-narrow | edit-spans | edits | in-a-row | calls | runs | check | candidates | candidates START END |
-    edit-spans START END TEXT | everywhere | everywhere-in-turn | everywhere-at | outline | foldings |
-    selections | mentions | problems | semantic-tokens | deltas | session | session-cut | session-refused";
+    look | stretches | notes | tags | tagged | html | spans | depths | size | asked | again | leaves | kinds |
+    tag-list | edit | edit-wide | edit-narrow | edit-spans | edits | edit-lines | in-a-row | calls | runs | run |
+    call | chain | check | candidates | candidates START END | edit-spans START END TEXT | everywhere |
+    everywhere-in-turn | everywhere-at | outline | foldings | selections | mentions | problems |
+    semantic-tokens | deltas | session | session-cut | session-refused | expansions | names | occurrences |
+    shown-problems | quick-fixes | document-links | hover | completions";
 
 /// `rows FILE..` compares all rows of the files, and any other word answers about the text on
 /// standard input. Ends with status 1 where a row disagrees or something fails, and with status 2

@@ -1,9 +1,9 @@
-//! The words `depths`, `size`, `asked` and `again`. The first line of a row's text is the mode in which the
+//! The words `depths`, `leaves`, `size`, `asked` and `again`. The first line of a row's text is the mode in which the
 //! text behind it is read: `markup`, `code` or `math`.
 
 use std::alloc::{AllocError, Global};
 use std::cell::Cell;
-use typst_cli::tree::print_errors;
+use typst_cli::tree::{print_errors, variant_name};
 use typst_cli::{
     Classes, SyntaxMode, SyntaxNode, UnicodeClasses, parse, parse_code, parse_math, parse_noted,
 };
@@ -97,6 +97,70 @@ fn print_leaf(printed: &mut String, leaf: &SyntaxNode, steps: usize) -> Result<(
     write!(printed, "{steps} {text:?}")?;
     print_errors(printed, leaf.diagnostics())?;
     printed.push_str("\n")
+}
+
+/// The leaves of the tree, a line for each, and one for several in a row that are alike: how many they are,
+/// their kind, their text, and the messages of their errors.
+pub fn leaves(alloc: Global, text: &str) -> Result<String, AllocError> {
+    let root = Moded::of(text).tree(alloc, &UnicodeClasses)?;
+    let mut alike = Alike {
+        printed: String::new(alloc),
+        line: String::new(alloc),
+        count: 0,
+    };
+    let mut walk = root.preorder(alloc);
+    for _ in 0..root.descendants() {
+        if let Some(visit) = walk.next()? {
+            alike.take(alloc, visit.node)?;
+        }
+    }
+    alike.end()?;
+    Ok(alike.printed)
+}
+
+/// Leaves in a row that are alike.
+#[derive(Drop)]
+struct Alike {
+    /// The lines of the leaves before them.
+    printed: String,
+    /// Their line, but for the count.
+    line: String,
+    count: usize,
+}
+
+impl Alike {
+    /// Takes the next node, which counts where it is a leaf.
+    fn take(&mut self, alloc: Global, node: &SyntaxNode) -> Result<(), AllocError> {
+        if node.is_inner() {
+            return Ok(());
+        }
+        let line = line_of_leaf(alloc, node)?;
+        if line.as_str() != self.line.as_str() {
+            self.end()?;
+            self.line = line;
+            self.count = 0;
+        }
+        self.count = self.count.saturating_add(1);
+        Ok(())
+    }
+
+    /// Prints their line, where there are any.
+    fn end(&mut self) -> Result<(), AllocError> {
+        let count = self.count;
+        if count == 0 {
+            return Ok(());
+        }
+        let line = self.line.as_str();
+        writeln!(&mut self.printed, "{count} {line}")
+    }
+}
+
+/// The line of a leaf: its kind, its text, and the messages of its errors.
+fn line_of_leaf(alloc: Global, leaf: &SyntaxNode) -> Result<String, AllocError> {
+    let (name, text) = (variant_name(leaf.kind()), leaf.leaf_text());
+    let mut line = format!(in alloc; "{name} {text:?}")?;
+    print_errors(&mut line, leaf.diagnostics())?;
+    Ok(line)
 }
 
 /// How many nodes the tree of the whole text has.

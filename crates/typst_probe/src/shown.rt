@@ -4,7 +4,7 @@
 use std::alloc::{AllocError, Global};
 use std::ops::Range;
 use typst_cli::{Severity, SyntaxNode, UnicodeClasses, parse, tag_stretches};
-use typst_server::features::{
+use typst_features::{
     FoldKind, Mention, MentionKind, SymbolKind, definitions, edit_between, foldings, highlights,
     problems, references, selections, symbols, token_stretches,
 };
@@ -31,7 +31,7 @@ fn symbol_name(kind: SymbolKind) -> &'static str {
     }
 }
 
-/// The foldings of a text: a line for each with its kind and its range.
+/// The foldings of a text: a line for each with its kind, its range, and whether it is closed.
 pub fn folds(alloc: Global, text: &str) -> Result<String, AllocError> {
     let root = parse(alloc, text, &UnicodeClasses)?;
     let mut shown = String::new(alloc);
@@ -41,7 +41,8 @@ pub fn folds(alloc: Global, text: &str) -> Result<String, AllocError> {
             FoldKind::Comment => "comment",
         };
         let (start, end) = (fold.range.start, fold.range.end);
-        writeln!(shown, "{kind} {start}..{end}")?;
+        let closed = if fold.is_closed { " closed" } else { "" };
+        writeln!(shown, "{kind} {start}..{end}{closed}")?;
     }
     Ok(shown)
 }

@@ -74,7 +74,7 @@ pub fn are_same<C: Classes>(
 }
 
 /// Whether the nodes of two trees have the same spans.
-fn are_alike(alloc: Global, one: &SyntaxNode, other: &SyntaxNode) -> Result<bool, AllocError> {
+pub fn are_alike(alloc: Global, one: &SyntaxNode, other: &SyntaxNode) -> Result<bool, AllocError> {
     let ones = nodes(alloc, one)?;
     let others = nodes(alloc, other)?;
     Ok(have_same_spans(ones.as_slice(), others.as_slice()))
@@ -94,7 +94,7 @@ fn have_same_spans(ones: &[&SyntaxNode], others: &[&SyntaxNode]) -> bool {
 }
 
 /// Whether two tables of lines are the same.
-fn are_same_lines(one: &Lines<String>, other: &Lines<String>) -> bool {
+pub fn are_same_lines(one: &Lines<String>, other: &Lines<String>) -> bool {
     for i in 0..other.len_lines() {
         if one.line(i) != other.line(i) {
             return false;

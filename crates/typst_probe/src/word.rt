@@ -1,6 +1,7 @@
 //! The words that name what can be asked about a text.
 
 mod edit_word;
+mod feature_word;
 mod printed_word;
 mod program_word;
 mod read_word;
@@ -10,6 +11,7 @@ ghost use Rattle.std.specs.Prelude.{◌≡◌, IfOk, IfSome, string_bytes};
 ghost use Rattle.typst_probe.specs.Words.{printed_by, word_named};
 
 use crate::word::edit_word::EditWord;
+use crate::word::feature_word::FeatureWord;
 use crate::word::printed_word::PrintedWord;
 use crate::word::program_word::ProgramWord;
 use crate::word::read_word::ReadWord;
@@ -29,6 +31,8 @@ pub enum Word {
     Edit(EditWord),
     /// What programs answer, and what a language server shows.
     Program(ProgramWord),
+    /// What a language server tells of it beside.
+    Feature(FeatureWord),
 }
 
 impl Word {
@@ -48,8 +52,11 @@ impl Word {
         if let Some(word) = EditWord::from_name(name) {
             return Some(Word::Edit(word));
         }
-        match ProgramWord::from_name(name) {
-            Some(word) => Some(Word::Program(word)),
+        if let Some(word) = ProgramWord::from_name(name) {
+            return Some(Word::Program(word));
+        }
+        match FeatureWord::from_name(name) {
+            Some(word) => Some(Word::Feature(word)),
             None => None,
         }
     }
@@ -64,6 +71,7 @@ impl Word {
             Word::Tree(word) => word.answer(alloc, text),
             Word::Edit(word) => word.answer(alloc, text),
             Word::Program(word) => word.answer(alloc, text),
+            Word::Feature(word) => word.answer(alloc, text),
         }
     }
 }

@@ -3,7 +3,7 @@
 ghost use Rattle.std.specs.Prelude.{◌≡◌};
 ghost use Rattle.typst_probe.specs.Words.{edit_word_named};
 
-use crate::{answers, calls, edits, everywhere, in_a_row};
+use crate::{answers, calls, chain, edit_lines, edits, everywhere, in_a_row};
 use std::alloc::{AllocError, Global};
 use typst_cli::UnicodeClasses;
 use typst_tests::{Narrow, Wide};
@@ -31,6 +31,10 @@ pub enum EditWord {
     EverywhereInTurn,
     /// Edits of a text at some of its places.
     EverywhereAt,
+    /// The lines of a text after an edit.
+    EditLines,
+    /// A chain of links, and edits of it.
+    Chain,
 }
 
 impl EditWord {
@@ -49,6 +53,8 @@ impl EditWord {
             "everywhere" => Some(EditWord::Everywhere),
             "everywhere-in-turn" => Some(EditWord::EverywhereInTurn),
             "everywhere-at" => Some(EditWord::EverywhereAt),
+            "edit-lines" => Some(EditWord::EditLines),
+            "chain" => Some(EditWord::Chain),
             _ => None,
         }
     }
@@ -66,6 +72,8 @@ impl EditWord {
             EditWord::Everywhere => everywhere::answer(alloc, text),
             EditWord::EverywhereInTurn => everywhere::answer_in_turn(alloc, text),
             EditWord::EverywhereAt => everywhere::answer_at(alloc, text),
+            EditWord::EditLines => edit_lines::answer(alloc, text),
+            EditWord::Chain => chain::answer(alloc, text),
         }
     }
 }

@@ -1,9 +1,9 @@
-//! What programs answer about a text, and what a language server shows of it.
+//! What programs and calls answer about a text, and what a language server shows of it.
 
 ghost use Rattle.std.specs.Prelude.{◌≡◌};
 ghost use Rattle.typst_probe.specs.Words.{program_word_named};
 
-use crate::{checks, refused, runs, sessions, shown};
+use crate::{checks, one_call, one_run, refused, runs, sessions, shown};
 use std::alloc::{AllocError, Global};
 
 /// What programs answer.
@@ -33,6 +33,10 @@ pub enum ProgramWord {
     SessionCut,
     /// How a session of the language server goes on where memory is refused.
     SessionRefused,
+    /// A run of the program with words.
+    Run,
+    /// One call of the library.
+    Call,
 }
 
 impl ProgramWord {
@@ -53,6 +57,8 @@ impl ProgramWord {
             "session" => Some(ProgramWord::Session),
             "session-cut" => Some(ProgramWord::SessionCut),
             "session-refused" => Some(ProgramWord::SessionRefused),
+            "run" => Some(ProgramWord::Run),
+            "call" => Some(ProgramWord::Call),
             _ => None,
         }
     }
@@ -72,6 +78,8 @@ impl ProgramWord {
             ProgramWord::Session => sessions::answer(alloc, text),
             ProgramWord::SessionCut => sessions::cut_answer(alloc, text),
             ProgramWord::SessionRefused => refused::answer(alloc, text),
+            ProgramWord::Run => one_run::answer(alloc, text),
+            ProgramWord::Call => one_call::answer(alloc, text),
         }
     }
 }

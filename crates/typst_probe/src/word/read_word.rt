@@ -3,7 +3,7 @@
 ghost use Rattle.std.specs.Prelude.{◌≡◌};
 ghost use Rattle.typst_probe.specs.Words.{read_word_named};
 
-use crate::tokens;
+use crate::{looks, tokens};
 use std::alloc::{AllocError, Global};
 use typst_cli::{SyntaxMode, UnicodeClasses, tree};
 use typst_tests::{Narrow, Wide};
@@ -29,6 +29,8 @@ pub enum ReadWord {
     TokensCode,
     /// The tokens of the text as a formula.
     TokensMath,
+    /// What is looked at for each token of the text as markup.
+    Look,
 }
 
 impl ReadWord {
@@ -46,6 +48,7 @@ impl ReadWord {
             "tokens-narrow" => Some(ReadWord::TokensNarrow),
             "tokens-code" => Some(ReadWord::TokensCode),
             "tokens-math" => Some(ReadWord::TokensMath),
+            "look" => Some(ReadWord::Look),
             _ => None,
         }
     }
@@ -62,6 +65,7 @@ impl ReadWord {
             ReadWord::TokensNarrow => tokens::answer(alloc, text, SyntaxMode::Markup, &Narrow),
             ReadWord::TokensCode => tokens::answer(alloc, text, SyntaxMode::Code, &UnicodeClasses),
             ReadWord::TokensMath => tokens::answer(alloc, text, SyntaxMode::Math, &UnicodeClasses),
+            ReadWord::Look => looks::answer(alloc, text),
         }
     }
 }

@@ -1,9 +1,9 @@
-//! What the tree of a text tells, or a part of the text.
+//! What the tree of a text tells, or a part of the text; and what names trees know.
 
 ghost use Rattle.std.specs.Prelude.{◌≡◌};
 ghost use Rattle.typst_probe.specs.Words.{tree_word_named};
 
-use crate::{candidates, links, modes, notes, spans, stretches, tagged, tags};
+use crate::{candidates, links, modes, names, notes, spans, stretches, tagged, tags};
 use std::alloc::{AllocError, Global};
 
 /// What a tree tells.
@@ -31,6 +31,12 @@ pub enum TreeWord {
     Asked,
     /// Whether a text in a mode is read alike each time.
     Again,
+    /// The leaves of the tree of a text in a mode.
+    Leaves,
+    /// The names of all kinds of nodes.
+    Kinds,
+    /// All tags, with their names elsewhere.
+    TagList,
 }
 
 impl TreeWord {
@@ -50,6 +56,9 @@ impl TreeWord {
             "size" => Some(TreeWord::Size),
             "asked" => Some(TreeWord::Asked),
             "again" => Some(TreeWord::Again),
+            "leaves" => Some(TreeWord::Leaves),
+            "kinds" => Some(TreeWord::Kinds),
+            "tag-list" => Some(TreeWord::TagList),
             _ => None,
         }
     }
@@ -68,6 +77,9 @@ impl TreeWord {
             TreeWord::Size => modes::size(alloc, text),
             TreeWord::Asked => modes::asked(alloc, text),
             TreeWord::Again => modes::again(alloc, text),
+            TreeWord::Leaves => modes::leaves(alloc, text),
+            TreeWord::Kinds => names::kinds(alloc),
+            TreeWord::TagList => names::tags(alloc),
         }
     }
 }

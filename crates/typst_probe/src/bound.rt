@@ -1,0 +1,97 @@
+//! Names with their bindings and uses: the words `names` and `occurrences`.
+
+use std::alloc::{AllocError, Global};
+use std::ops::Range;
+use typst_cli::{SyntaxNode, UnicodeClasses, parse};
+use typst_features::{Name, NameKind, Named, OccurrenceKind, binding_of, named_at, names};
+
+/// The names of a text: a line for each with what it does, its range and, where that is known, the range of the
+/// binding that it means.
+pub fn meanings(alloc: Global, text: &str) -> Result<String, AllocError> {
+    let root = parse(alloc, text, &UnicodeClasses)?;
+    let names = names(alloc, &root)?;
+    let mut shown = String::new(alloc);
+    for index in 0..names.len() {
+        show_meaning(&mut shown, text, &names, index)?;
+    }
+    Ok(shown)
+}
+
+/// Shows the line of a name.
+fn show_meaning(
+    shown: &mut String,
+    text: &str,
+    names: &[Name],
+    index: usize,
+) -> Result<(), AllocError> {
+    let Some(name) = names.get(index) else {
+        return Ok(());
+    };
+    let Range { start, end } = name.range;
+    let word = text.get(start..end).unwrap_or("?");
+    let kind = match name.kind {
+        NameKind::Use => "use",
+        NameKind::Binding => "binding",
+        NameKind::Item => "item",
+        NameKind::Any => "any",
+    };
+    write!(shown, "{kind} {word} {start}..{end}")?;
+    if name.kind != NameKind::Use {
+        let until = name.until;
+        return writeln!(shown, " up to {until}");
+    }
+    match binding_of(text, names, index).and_then(|binding| names.get(binding)) {
+        Some(binding) => {
+            let Range { start, end } = binding.range;
+            writeln!(shown, " of {start}..{end}")
+        }
+        None => writeln!(shown, " of what isn't known"),
+    }
+}
+
+/// What is named at bytes of a text, which the first line names: a line for each byte, with the range of the name
+/// and all its occurrences, and whether it can be renamed.
+pub fn occurring(alloc: Global, text: &str) -> Result<String, AllocError> {
+    let (bytes, text) = text.split_once('\n').unwrap_or((text, ""));
+    let root = parse(alloc, text, &UnicodeClasses)?;
+    let mut shown = String::new(alloc);
+    for byte in bytes.split(' ') {
+        write!(shown, "{byte}:")?;
+        show_named(alloc, &mut shown, &root, text, byte.parse().unwrap_or(0))?;
+    }
+    Ok(shown)
+}
+
+/// Shows the rest of the line of a byte.
+fn show_named(
+    alloc: Global,
+    shown: &mut String,
+    root: &SyntaxNode,
+    text: &str,
+    byte: usize,
+) -> Result<(), AllocError> {
+    let Some(named) = named_at(alloc, root, text, byte)? else {
+        return shown.push_str(" nothing\n");
+    };
+    let Range { start, end } = named.range;
+    write!(shown, " {start}..{end}")?;
+    for occurrence in &named.occurrences {
+        let kind = match occurrence.kind {
+            OccurrenceKind::Definition => "definition",
+            OccurrenceKind::Item => "item",
+            OccurrenceKind::Use => "use",
+        };
+        let Range { start, end } = occurrence.range;
+        write!(shown, " {kind} {start}..{end}")?;
+    }
+    show_renamed(alloc, shown, &named)
+}
+
+/// Shows where a rename puts the new name.
+fn show_renamed(alloc: Global, shown: &mut String, named: &Named) -> Result<(), AllocError> {
+    for renamed in &named.renamed(alloc)? {
+        let (start, end, before) = (renamed.range.start, renamed.range.end, renamed.before);
+        write!(shown, ", put {start}..{end}{before}")?;
+    }
+    shown.push_str("\n")
+}

@@ -1,0 +1,79 @@
+//! The word `call`.
+
+use crate::library_call::{Call, call_named};
+use crate::subject::Subject;
+use std::alloc::{AllocError, Global};
+
+/// Whether a call is as it has to be. The text is its name and the number from which the edits are drawn that
+/// come before it; `start` makes no call. A call that is refused memory has to change nothing, and is made again;
+/// then it has to answer and leave what it does of a twin, and so does an edit behind it.
+pub fn answer(alloc: Global, text: &str) -> Result<String, AllocError> {
+    let Some((call, first)) = call_of(text) else {
+        return String::from_str(alloc, "no call\n");
+    };
+    let mut subject = Subject::new(alloc, first)?;
+    let mut twin = Subject::new(alloc, first)?;
+    match call {
+        Call::Start => String::from_str(alloc, "right\n"),
+        call => called(alloc, &mut subject, &mut twin, call),
+    }
+}
+
+/// The call and the number that a text names.
+fn call_of(text: &str) -> Option<(Call, u32)> {
+    let (name, first) = text.trim_end().split_once(' ')?;
+    Some((call_named(name)?, first.parse().ok()?))
+}
+
+/// Makes a call of a subject and its twin.
+fn called(
+    alloc: Global,
+    subject: &mut Subject,
+    twin: &mut Subject,
+    call: Call,
+) -> Result<String, AllocError> {
+    let mut printed = String::new(alloc);
+    let answer = match subject.take(alloc, call) {
+        Ok(answer) => answer,
+        Err(AllocError) => {
+            print_refused(alloc, &mut printed, subject, twin)?;
+            subject.take(alloc, call)?
+        }
+    };
+    let told = if answer == twin.take(alloc, call)? {
+        standing(alloc, subject, twin)?
+    } else {
+        "another answer"
+    };
+    writeln!(printed, "{told}")?;
+    Ok(printed)
+}
+
+/// Prints that a call was refused, and whether its subject isn't as before.
+fn print_refused(
+    alloc: Global,
+    printed: &mut String,
+    subject: &Subject,
+    twin: &Subject,
+) -> Result<(), AllocError> {
+    printed.push_str("refused\n")?;
+    if subject.is_same(alloc, twin)? {
+        return Ok(());
+    }
+    printed.push_str("changed\n")
+}
+
+/// How a subject stands beside its twin behind a call, and behind an edit more.
+fn standing(
+    alloc: Global,
+    subject: &mut Subject,
+    twin: &mut Subject,
+) -> Result<&'static str, AllocError> {
+    if !subject.is_same(alloc, twin)? {
+        return Ok("another subject");
+    }
+    if subject.edit()? != twin.edit()? || !subject.is_same(alloc, twin)? {
+        return Ok("another next edit");
+    }
+    Ok(subject.fault(alloc)?.unwrap_or("right"))
+}

@@ -1,0 +1,322 @@
+//! What calls of the library are made of.
+
+use crate::draws::{Draws, boundary};
+use crate::edits::{Edit, Made};
+use crate::library_call::{Call, Change, LinesCall, Reading, SourceCall, Telling, TreeCall};
+use crate::telling;
+use crate::whole::{Wanted, are_alike, are_same, are_same_lines, fault};
+use std::alloc::{AllocError, Global};
+use std::ops::Range;
+use typst_cli::{
+    Lines, Source, SourceError, SubRange, SyntaxKind, SyntaxNode, UnicodeClasses, link_prefix,
+    parse, parse_code, parse_math, parse_noted, tag_stretches,
+};
+use typst_highlight::highlight_html;
+use typst_lexer::raw_node;
+use typst_lines::split_newlines;
+
+/// What is edited before a call is made.
+const TEXT: &str =
+    "= A <b>\n*c* _d_ `e` @b é\n- f\n#let g(h) = { h + 1 }\n#g(2)[i $j^2/k$]\n/* l */ m\n";
+
+/// What edits before a call put in.
+const PIECES: [&str; 8] = ["a", "*", "#b", "[", "]", "\n", "é ", ""];
+
+/// How many edits there are.
+const EDITS: usize = 50;
+
+/// A text that is too long to stand in a node.
+const LONG: &str = "a text that is too long to stand in a node or in what it says";
+
+/// What a call answers: two numbers.
+type Answer = Result<Range<usize>, AllocError>;
+
+/// What calls are made of.
+#[derive(Drop)]
+pub struct Subject {
+    /// A source behind edits.
+    source: Source<UnicodeClasses>,
+    /// Its lines.
+    lines: Lines<String>,
+    /// Its tree, with a warning.
+    tree: SyntaxNode,
+    /// Another text.
+    other: String,
+    /// What was made of the tree.
+    made: String,
+}
+
+/// What came of a call of a source, whose numbers don't run out.
+fn unless_refused<T>(answer: Result<T, SourceError>) -> Result<T, AllocError> {
+    match answer {
+        Ok(made) => Ok(made),
+        Err(_) => Err(AllocError),
+    }
+}
+
+/// A source of a text that is of no file.
+fn detached(alloc: Global, text: &str) -> Result<Source<UnicodeClasses>, AllocError> {
+    let text = String::from_str(alloc, text)?;
+    unless_refused(Source::detached(alloc, text, UnicodeClasses))
+}
+
+/// A source behind edits that are drawn from a number.
+fn edited_source(alloc: Global, first: u32) -> Result<Source<UnicodeClasses>, AllocError> {
+    let mut source = detached(alloc, TEXT)?;
+    let mut draws = Draws::new(first);
+    for _ in 0..EDITS {
+        edit_drawn(&mut source, &mut draws)?;
+    }
+    Ok(source)
+}
+
+/// Makes the next edit that is drawn.
+fn edit_drawn(source: &mut Source<UnicodeClasses>, draws: &mut Draws) -> Result<Made, AllocError> {
+    let text = source.text();
+    let (start, end) = draws.range(text, 0, text.len(), 3);
+    let piece = draws.below(PIECES.len());
+    let with = PIECES.get(piece).copied().unwrap_or("");
+    Edit::new(start, end, with).make(source)
+}
+
+/// The edit that puts something in in the middle of a text.
+fn middle_edit(text: &str) -> Edit<'static> {
+    let at = boundary(text, text.len() / 2);
+    Edit::new(at, at, "_x*")
+}
+
+/// The tree of a text, beside which its notes were made.
+fn noted_tree(alloc: Global, text: &str) -> Result<SyntaxNode, AllocError> {
+    let noted = parse_noted(alloc, text, &UnicodeClasses)?;
+    Ok(noted.tree)
+}
+
+/// How many nodes the walk through a tree comes to.
+fn walked(alloc: Global, tree: &SyntaxNode) -> Result<usize, AllocError> {
+    let mut walk = tree.preorder(alloc);
+    let mut count = 0usize;
+    for _ in 0..tree.descendants() {
+        if walk.next()?.is_some() {
+            count = count.saturating_add(1);
+        }
+    }
+    Ok(count)
+}
+
+/// The first child of a tree that has children.
+fn first_inner(tree: &SyntaxNode) -> usize {
+    for (at, child) in tree.children().iter().enumerate() {
+        if !child.children().is_empty() {
+            return at;
+        }
+    }
+    0
+}
+
+/// Replaces the first child of a child of a tree by a leaf.
+fn replace_below(alloc: Global, tree: &mut SyntaxNode) -> Result<(), AllocError> {
+    let mut nodes = Vec::new(alloc);
+    nodes.push(SyntaxNode::leaf(alloc, SyntaxKind::Text, LONG)?)?;
+    let inner = first_inner(tree);
+    replace_first(tree, &[inner], nodes)
+}
+
+/// Replaces the first child of the node at a path, where there is one.
+fn replace_first(
+    tree: &mut SyntaxNode,
+    path: &[usize],
+    nodes: Vec<SyntaxNode>,
+) -> Result<(), AllocError> {
+    if tree.reaches(path, 0, 1) {
+        unless_refused(tree.replace_at(path, 0..1, nodes))
+    } else {
+        Ok(())
+    }
+}
+
+/// Changes a tree.
+fn changed(alloc: Global, tree: &mut SyntaxNode, change: Change) -> Result<(), AllocError> {
+    match change {
+        Change::ConvertToError => tree.convert_to_error(LONG),
+        Change::Expected => tree.expected(LONG),
+        Change::Unexpected => tree.unexpected(),
+        Change::Warn => tree.warn(LONG),
+        Change::Hint => tree.hint(LONG),
+        Change::WarnAt => match SubRange::new(0, 1) {
+            Some(range) => tree.warn_at(range, LONG),
+            None => Ok(()),
+        },
+        Change::HintAt => match SubRange::new(0, 1) {
+            Some(range) => tree.hint_at(range, LONG),
+            None => Ok(()),
+        },
+        Change::ReplaceAt => replace_below(alloc, tree),
+    }
+}
+
+impl Subject {
+    /// What stands behind edits that are drawn from a number.
+    pub fn new(alloc: Global, first: u32) -> Result<Subject, AllocError> {
+        let source = edited_source(alloc, first)?;
+        let lines = source.lines().try_clone()?;
+        let mut tree = source.root().try_clone()?;
+        tree.warn("first")?;
+        let other = middle_edit(source.text()).applied(alloc, source.text())?;
+        Ok(Subject {
+            source,
+            lines,
+            tree,
+            other: other.unwrap_or(String::new(alloc)),
+            made: String::new(alloc),
+        })
+    }
+
+    /// Makes a call.
+    pub fn take(&mut self, alloc: Global, call: Call) -> Answer {
+        match call {
+            Call::Start | Call::Nothing => Ok(0..0),
+            Call::Source(call) => self.call_of_source(alloc, call),
+            Call::Lines(call) => self.call_of_lines(alloc, call),
+            Call::Tree(call) => {
+                self.tree = self.made_tree(alloc, call)?;
+                Ok(0..self.tree.descendants())
+            }
+            Call::Change(change) => {
+                changed(alloc, &mut self.tree, change)?;
+                Ok(0..self.tree.descendants())
+            }
+            Call::Read(reading) => self.call_of_reading(alloc, reading),
+            Call::Tell(telling) => Ok(0..self.told(telling)),
+        }
+    }
+
+    /// Edits the source.
+    pub fn edit(&mut self) -> Result<Made, AllocError> {
+        let edit = middle_edit(self.source.text());
+        edit.make(&mut self.source)
+    }
+
+    /// A call that makes or changes a source.
+    fn call_of_source(&mut self, alloc: Global, call: SourceCall) -> Answer {
+        match call {
+            SourceCall::Edit => match self.edit()? {
+                Made::Read(read) => return Ok(read),
+                Made::Fault(_) => {}
+            },
+            SourceCall::Replace => {
+                let read = self.source.replace(self.other.as_str());
+                return unless_refused(read);
+            }
+            SourceCall::TryClone => self.source = self.source.try_clone()?,
+            SourceCall::New => self.source = self.made_source(alloc)?,
+            SourceCall::Detached => self.source = detached(alloc, self.other.as_str())?,
+            SourceCall::WithRoot => self.source = self.source_with_root(alloc)?,
+        }
+        Ok(0..self.source.text().len())
+    }
+
+    /// A source of the other text, in the same file.
+    fn made_source(&self, alloc: Global) -> Result<Source<UnicodeClasses>, AllocError> {
+        let text = String::from_str(alloc, self.other.as_str())?;
+        unless_refused(Source::new(alloc, self.source.id(), text, UnicodeClasses))
+    }
+
+    /// A source of the other text with the tree.
+    fn source_with_root(&self, alloc: Global) -> Result<Source<UnicodeClasses>, AllocError> {
+        let root = self.tree.try_clone()?;
+        let text = String::from_str(alloc, self.other.as_str())?;
+        Source::with_root(alloc, self.source.id(), text, root, UnicodeClasses)
+    }
+
+    /// A call that makes or changes lines.
+    fn call_of_lines(&mut self, alloc: Global, call: LinesCall) -> Answer {
+        match call {
+            LinesCall::New => {
+                let text = String::from_str(alloc, self.other.as_str())?;
+                self.lines = Lines::new(alloc, text)?;
+            }
+            LinesCall::TryClone => self.lines = self.lines.try_clone()?,
+            LinesCall::Edit => {
+                let edit = middle_edit(self.lines.text());
+                edit.make_of_lines(&mut self.lines)?;
+            }
+            LinesCall::Replace => {
+                self.lines.replace(self.other.as_str())?;
+            }
+        }
+        Ok(0..self.lines.len_lines())
+    }
+
+    /// A tree of the other text, or another one.
+    fn made_tree(&self, alloc: Global, call: TreeCall) -> Result<SyntaxNode, AllocError> {
+        let text = self.other.as_str();
+        match call {
+            TreeCall::Parse => parse(alloc, text, &UnicodeClasses),
+            TreeCall::ParseCode => parse_code(alloc, text, &UnicodeClasses),
+            TreeCall::ParseMath => parse_math(alloc, text, &UnicodeClasses),
+            TreeCall::ParseNoted => noted_tree(alloc, text),
+            TreeCall::RawNode => raw_node(alloc, "```a\n  b\n   c\n  ```"),
+            TreeCall::Leaf => SyntaxNode::leaf(alloc, SyntaxKind::Text, LONG),
+            TreeCall::Error => SyntaxNode::error(alloc, LONG, LONG),
+            TreeCall::TryClone => self.tree.try_clone(),
+        }
+    }
+
+    /// A call that makes something of the tree, or of a text.
+    fn call_of_reading(&mut self, alloc: Global, reading: Reading) -> Answer {
+        let count = match reading {
+            Reading::Preorder => walked(alloc, &self.tree)?,
+            Reading::Html => {
+                self.made = highlight_html(alloc, &self.tree)?;
+                self.made.len()
+            }
+            Reading::Stretches => tag_stretches(alloc, &self.tree)?.len(),
+            Reading::Newlines => split_newlines(alloc, self.other.as_str())?.len(),
+            Reading::Link => link_prefix(alloc, "https://a.b/(c)[d](e")?.0.len(),
+        };
+        Ok(0..count)
+    }
+
+    /// What calls tell that take no memory.
+    fn told(&mut self, telling: Telling) -> usize {
+        match telling {
+            Telling::EqualText => self.refuses_equal_text(),
+            Telling::Lines => telling::of_lines(&self.lines, self.other.as_str()),
+            Telling::Source => telling::of_source(&self.source),
+            Telling::Leaves => telling::of_leaves(&self.tree),
+            Telling::Nodes => telling::of_nodes(&self.tree, self.source.root()),
+            Telling::Changes => telling::of_changes(&mut self.tree),
+            Telling::Remarks => telling::of_remarks(&self.tree),
+            Telling::Kinds => telling::of_kinds(),
+            Telling::Tags => telling::of_tags(),
+            Telling::Spans => telling::of_spans(),
+            Telling::Characters => telling::of_characters(self.other.as_str()),
+        }
+    }
+
+    /// 1 where the source or the lines refuse the text that they have, or say that it changes them.
+    fn refuses_equal_text(&mut self) -> usize {
+        let refuses_source = !matches!(self.source.replace(self.lines.text()), Ok(_));
+        let refuses_lines = !matches!(self.lines.replace(self.source.text()), Ok(false));
+        usize::from(refuses_source || refuses_lines)
+    }
+
+    /// Whether another one has the same text, lines and trees, spans too, and what was made is the same.
+    pub fn is_same(&self, alloc: Global, other: &Subject) -> Result<bool, AllocError> {
+        let is_made = self.made.as_str() == other.made.as_str()
+            && self.lines.text() == other.lines.text()
+            && are_same_lines(&self.lines, &other.lines)
+            && self.tree.spanless_eq(&other.tree);
+        Ok(
+            is_made
+                && are_alike(alloc, &self.tree, &other.tree)?
+                && are_same(alloc, &self.source, &other.source)?,
+        )
+    }
+
+    /// What of the source isn't as its text asks for.
+    pub fn fault(&self, alloc: Global) -> Result<Option<&'static str>, AllocError> {
+        let wanted = Wanted::of(alloc, self.source.text(), &UnicodeClasses)?;
+        fault(alloc, &self.source, &wanted, true)
+    }
+}
