@@ -81,7 +81,7 @@ enum {
 enum {
     /* The end of the text, or of the part of it that may be read. */
     TYPST_KIND_END = 0,
-    /* Text that is no syntax. */
+    /* Text that isn't syntax. */
     TYPST_KIND_ERROR = 1,
     /* `#!` at the text's start, up to the line's end. */
     TYPST_KIND_SHEBANG = 2,
@@ -161,7 +161,7 @@ enum {
     TYPST_KIND_MATH_ARGS = 39,
     /* Math between matching delimiters. */
     TYPST_KIND_MATH_DELIMITED = 40,
-    /* A base with what stands above and below it: `a_1^2`. */
+    /* A base with what is above and below it: `a_1^2`. */
     TYPST_KIND_MATH_ATTACH = 41,
     /* `'''` in math. */
     TYPST_KIND_MATH_PRIMES = 42,

@@ -5,17 +5,19 @@ use Rattle.typst_candidates.specs.declared.anchor.Anchor.{Anchor}
 use Rattle.typst_candidates.specs.Cursors.{inside_behind, token_at}
 use Rattle.typst_candidates.specs.Entries.{end_of}
 
--- in how many blocks of a run what comes behind some entries stands, unless the run's own block ends among them
+-- in how many blocks of a run one is after some entries, unless the run's own block ends among them
 abbrev pub inside_of : ℕ → List Entry → Option ℕ
 inside_of inside [] = Some inside
 inside_of inside (e ∷ es) = elim (inside_behind e.tag inside) as (λ _. Option ℕ) [ None ↦ None | Some further ↦ inside_of further es ]
 
--- the looks of some entries, behind a token that begins at a byte, end at another one or before it
+-- the looks of some entries, after a token that begins at a byte, end at another one or before it
 abbrev pub AllLooksEnd : ℕ → ℕ → List Entry → Type 0
 AllLooksEnd at start [] = Unit {0}
 AllLooksEnd at start (e ∷ es) = (token_at start e + e.forth ≤ at) × AllLooksEnd at (token_at start e) es
 
--- An anchor of entries stands in no block of the run that begins behind the first of them; where it is, where that run's block is, and how far the looks before it go is told.
+-- An anchor of entries is in no block of the run that begins after the first of them. It says where
+-- it is, where the token before that run's block begins, and where at the latest the looks before
+-- it end.
 pub record IsAnchor (es : List Entry) (a : Anchor) : Type 0 where
   pub within : a.number ≤ length es
   pub start : a.start ≡ end_of 0 (take a.number es)

@@ -1,4 +1,4 @@
--- What of a tree an edit may read anew: blocks that cover the replaced bytes, and pieces around them, in order.
+-- What of a tree an edit may read again: blocks that cover the replaced bytes, and pieces around them, in order.
 use Rattle.std.specs.Prelude.{ℕ, zero, suc, ◌+◌, ◌-◌, ◌*◌, max, min, Bool, true, false, not, ◌||◌, ◌&&◌, ◌==◌, nat_lt, nat_le, if◌then◌else◌, List, [], ◌∷◌, ◌++◌, length, Option, Some, None}
 use Rattle.typst_kinds.specs.Kinds.{same, is_trivia, is_error, is_block}
 use Rattle.typst_kinds.specs.declared.kind.SyntaxKind.{SyntaxKind}
@@ -9,35 +9,36 @@ use Rattle.typst_candidates.specs.Units.{top_cuts, cuts_in}
 
 -- ---- children with their bytes
 
+-- a child of a node, and the bytes where it begins and ends
 pub record Child : Type 0 where
   pub start : ℕ
   pub end : ℕ
   pub node : Tree
 
--- trees that stand side by side from a byte on
+-- trees side by side from a byte on, as children
 abbrev pub laid : ℕ → List Tree → List Child
 laid at [] = []
 laid at (t ∷ ts) = record { start = at; end = at + length (text_of t); node = t } ∷ laid (at + length (text_of t)) ts
 
--- how many of the first begin before a byte
+-- how many of the first children begin before a byte
 abbrev pub begun : ℕ → List Child → ℕ
 begun b [] = 0
 begun b (c ∷ cs) = if nat_lt c.start b then suc (begun b cs) else 0
 
--- how many of the first end at a byte or before it
+-- how many of the first children end at a byte or before it
 abbrev pub ended : ℕ → List Child → ℕ
 ended b [] = 0
 ended b (c ∷ cs) = if nat_le c.end b then suc (ended b cs) else 0
 
--- the last that begins before the replaced bytes, else the first
+-- the index of the last child that begins before the replaced bytes, else of the first
 abbrev pub first_near : ℕ → List Child → ℕ
 first_near rs cs = begun rs cs - 1
 
--- one past the first that ends after the replaced bytes, else one past the last
+-- the index after the first child that ends after the replaced bytes, else after the last
 abbrev pub end_near : ℕ → List Child → ℕ
 end_near re cs = min (suc (ended re cs)) (length cs)
 
--- ---- which children may stand at the ends of a stretch
+-- ---- which children may be at the ends of a stretch
 
 -- a text of one character, a slash or a colon
 abbrev pub is_sign : List ℕ → Bool
@@ -45,18 +46,21 @@ is_sign [] = false
 is_sign (c ∷ []) = c == 47 || c == 58
 is_sign (c ∷ d ∷ cs) = false
 
--- trivia, errors, semicolons, and leaves that are a slash or a colon cling to what stands before them
+-- trivia, errors, semicolons, and leaves that are a slash or a colon cling to what is before them
 abbrev pub clings : Tree → Bool
 clings t = is_trivia t.head.kind || (is_error t.head.kind || (same kind.Semicolon t.head.kind || (not t.head.is_inner && is_sign t.head.text)))
 
+-- a hash
 abbrev pub is_hash : Tree → Bool
 is_hash t = same kind.Hash t.head.kind
 
+-- a byte is one of some
 abbrev pub is_among : ℕ → List ℕ → Bool
 is_among b [] = false
 is_among b (c ∷ cs) = b == c || is_among b cs
 
--- it is the first of its piece, where it isn't the first child of all; what is empty belongs to the piece before
+-- a child begins a piece that isn't the run's first: it begins where a piece does, and isn't empty.
+-- What is empty belongs to the piece before
 abbrev pub leads : List ℕ → Child → Bool
 leads cuts c = nat_lt c.start c.end && is_among c.start cuts
 
@@ -66,56 +70,62 @@ child_at [] n = None
 child_at (c ∷ cs) zero = Some c
 child_at (c ∷ cs) (suc n) = child_at cs n
 
--- something holds of the child of an index
+-- the child of an index passes a test; none passes where there is no child
 abbrev pub holds_at : (Child → Bool) → List Child → ℕ → Bool
 holds_at f [] n = false
 holds_at f (c ∷ cs) zero = f c
 holds_at f (c ∷ cs) (suc n) = holds_at f cs n
 
--- from an index back to the nearest of which something doesn't hold, else to the first
+-- from an index back to the nearest that fails a test, else to the first
 abbrev pub back_past : (ℕ → Bool) → ℕ → ℕ
 back_past f zero = 0
 back_past f (suc n) = if f (suc n) then back_past f n else suc n
 
--- from an index on to the nearest of which something doesn't hold, among so many
+-- from an index on to the nearest that fails a test, over so many at most
 abbrev pub on_past : (ℕ → Bool) → ℕ → ℕ → ℕ
 on_past f zero n = n
 on_past f (suc limit) n = if f n then on_past f limit (suc n) else n
 
 -- ---- stretches of a run's children
 
+-- the children of a run from one index to another
 pub record Stretch : Type 0 where
   pub from : ℕ
   pub to : ℕ
 
--- the index, or that of the hash directly before it
+-- the index of the hash directly before a child, if there is one, else the child's own
 abbrev pub with_hash : List Child → ℕ → ℕ
 with_hash cs n = if nat_lt 0 n && holds_at (λ c. is_hash c.node) cs (n - 1) then n - 1 else n
 
--- where the stretch around i..j with x more children on each side begins: at least two more, back past those that cling, with the hash directly before, and from the first of a piece
+-- where the stretch around i..j with x more children on each side begins: x back, but two at least;
+-- then back past children that cling, to a hash directly before, and to the first child of a piece
 abbrev pub from_of : List ℕ → List Child → ℕ → ℕ → ℕ
 from_of cuts cs i x =
     back_past (holds_at (λ c. not (leads cuts c)) cs) (with_hash cs (back_past (holds_at (λ c. clings c.node) cs) (i - max x 2)))
 
--- where it ends: past those that cling, and behind a whole piece
+-- where that stretch ends: x on, then past children that cling, up to the first child of a piece
 abbrev pub to_of : List ℕ → List Child → ℕ → ℕ → ℕ
 to_of cuts cs j x =
     on_past (holds_at (λ c. clings c.node || not (leads cuts c)) cs) (length cs - min (j + x) (length cs)) (min (j + x) (length cs))
 
+-- the stretch around the children i..j with x more on each side, as whole pieces
 abbrev pub around : List ℕ → List Child → ℕ → ℕ → ℕ → Stretch
 around cuts cs i j x = record { from = from_of cuts cs i x; to = to_of cuts cs j x }
 
+-- the stretch has all children
 abbrev pub is_all : List Child → Stretch → Bool
 is_all cs s = s.from == 0 && s.to == length cs
 
--- those with x more children, and twice as many each time, until all are taken; so many tries as there are children always do
+-- the stretches with x more children on each side, and twice as many each time, until all are
+-- taken. One try more than there are children is always enough
 abbrev pub stretches : List ℕ → List Child → ℕ → ℕ → ℕ → ℕ → List Stretch
 stretches cuts cs i j zero x = []
 stretches cuts cs i j (suc tries) x = around cuts cs i j x ∷ (if is_all cs (around cuts cs i j x) then [] else stretches cuts cs i j tries (2 * x))
 
 -- ---- candidates
 
--- the children from..to of the node at the end of a path, which are the bytes start..end: a block alone, or pieces of a run
+-- the children from..to of the node at the end of a path, which are the bytes start..end: a block
+-- alone, or pieces of a run
 pub record Candidate : Type 0 where
   pub is_block : Bool
   pub path : List ℕ
@@ -124,38 +134,43 @@ pub record Candidate : Type 0 where
   pub start : ℕ
   pub end : ℕ
 
--- where the child of an index begins, and where the last one ends
+-- the byte where the child of an index begins, or where the last one ends
 abbrev pub begins : ℕ → List Tree → ℕ → ℕ
 begins at [] n = at
 begins at (t ∷ ts) zero = at
 begins at (t ∷ ts) (suc n) = begins (at + length (text_of t)) ts n
 
--- children of a node that stand from a byte on, as a candidate
+-- the children from..to of a node whose children begin at a byte, as a candidate
 abbrev pub of_children : Bool → List ℕ → ℕ → List Tree → ℕ → ℕ → Candidate
 of_children is_block path at ts from to = record { is_block = is_block; path = path; from = from; to = to; start = begins at ts from; end = begins at ts to }
 
+-- stretches of a run's children, as candidates
 abbrev pub of_stretches : List ℕ → ℕ → List Tree → List Stretch → List Candidate
 of_stretches path at ts [] = []
 of_stretches path at ts (s ∷ ss) = of_children false path at ts s.from s.to ∷ of_stretches path at ts ss
 
--- those of a run's children, around the replaced bytes
+-- the candidates of a run: stretches of its children around the replaced bytes rs..re, by where its
+-- pieces begin. What isn't a run has none
 abbrev pub of_run : ℕ → ℕ → List ℕ → ℕ → List Tree → Option (List ℕ) → List Candidate
 of_run rs re path at ts None = []
 of_run rs re path at ts (Some cuts) = let cs = laid at ts in of_stretches path at ts (stretches cuts cs (first_near rs cs) (end_near re cs) (suc (length ts)) 1)
 
--- the child i, alone near the replaced bytes, is an inner node that begins before them and ends after them
+-- child i is alone near the replaced bytes, is an inner node, begins before them and ends after
+-- them
 abbrev pub covers : ℕ → ℕ → List Child → ℕ → Child → Bool
 covers rs re cs i c = (end_near re cs == suc i) && (nat_lt c.start rs && (nat_lt re c.end && c.node.head.is_inner))
 
--- a child of a node that begins at a byte is a run where it is the markup of a content block
+-- where the pieces of a child begin, if it is a run: the markup of the content block that begins at
+-- a byte
 abbrev pub run_in : List Note → ℕ → SyntaxKind → SyntaxKind → Option (List ℕ)
 run_in ns at parent child = if same kind.ContentBlock parent && same kind.Markup child then cuts_in at ns else None
 
--- a child as a candidate, where it is a block
+-- a child as a candidate, if it is a block
 abbrev pub of_block : List ℕ → ℕ → List Tree → ℕ → SyntaxKind → List Candidate
 of_block path at ts i k = if is_block k then of_children true path at ts i (suc i) ∷ [] else []
 
--- at the one of an index of some trees side by side: those of its child that covers the replaced bytes, then that child if it is a block, then those of its own run
+-- the candidates at the tree of an index among some side by side: those at its child that covers
+-- the replaced bytes, then that child if it is a block, then those of the tree's own run
 unfoldable pub candidates_at : List Note → ℕ → ℕ → List ℕ → Option (List ℕ) → ℕ → ℕ → Forest → List Candidate
 candidates_at ns rs re path run index at none = []
 candidates_at ns rs re path run (suc index) at (more h ks r) = candidates_at ns rs re path run index (at + length (h.text ++ joined ks)) r
@@ -172,6 +187,6 @@ candidates_at ns rs re path run zero at (more h ks r) =
     ])
     ++ of_run rs re path inside (trees ks) run
 
--- those of replacing the bytes rs..re of a text, by its tree and its notes
+-- THE CANDIDATES of replacing the bytes rs..re of a text, in order, by its tree and its notes
 abbrev pub candidates : List Note → ℕ → ℕ → Tree → List Candidate
 candidates ns rs re t = candidates_at ns rs re [] (top_cuts ns) 0 0 (forest (t ∷ []))

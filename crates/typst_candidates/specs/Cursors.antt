@@ -10,29 +10,35 @@ use Rattle.typst_candidates.specs.declared.entry.Tag.TheVariants as tag
 use Rattle.typst_candidates.specs.Entries.{end_of}
 use Rattle.typst_candidates.specs.Units.{behind_first, is_content}
 
+-- a place among entries
 pub record Place : Type 0 where
   pub entries : List Entry
-  -- how many of them stand before it
+  -- how many of the entries are before it
   pub number : ℕ
 
--- where the token of the entry before a place begins
+-- where the token of the entry before a place begins, or 0 before the first
 abbrev pub start_at : Place → ℕ
 start_at p = end_of 0 (take p.number p.entries)
 
+-- the entry after a place
 abbrev pub entry_behind : Place → Option Entry
 entry_behind p = slice_get p.entries p.number
 
+-- the place after the entry that follows, if there is one
 abbrev pub behind : Option Entry → Place → Place
 behind None p = p
 behind (Some e) p = record p { number = suc p.number }
 
+-- the last of the first n entries
 abbrev pub last_of : ℕ → List Entry → Option Entry
 last_of zero es = None
 last_of (suc n) es = slice_get es n
 
+-- the entry before a place
 abbrev pub entry_before : Place → Option Entry
 entry_before p = last_of p.number p.entries
 
+-- the place before the entry that precedes it
 abbrev pub before : Place → Place
 before p = record p { number = p.number - 1 }
 
@@ -40,19 +46,21 @@ before p = record p { number = p.number - 1 }
 abbrev pub block_len : ℕ
 block_len = 16
 
--- the looks of some entries go fewer than 2^10 bytes forth, and fewer than 2^4 back
+-- the looks of some entries go fewer than 2^10 bytes forth and fewer than 2^4 bytes back
 abbrev pub AreNear : List Entry → Type 0
 AreNear [] = Unit {0}
 AreNear (e ∷ es) = (e.forth < 2 ^ 10) × (e.back < 2 ^ 4) × AreNear es
 
--- a place behind the entries of a block, which take up so many bytes
+-- `new` is after the `block_len` entries that follow `old`. They take up `span` bytes, and their
+-- looks do not go far
 pub record PassesBlock (old new : Place) (span : ℕ) : Type 0 where
   pub within : old.number + block_len ≤ length old.entries
   pub new_is : new ≡ record old { number = old.number + block_len }
   pub span_is : (start : ℕ) → end_of start (take block_len (drop old.number old.entries)) ≡ start + span
   pub near : AreNear (take block_len (drop old.number old.entries))
 
--- a place before the entries of a block, whose looks all begin behind a byte, but for those of its first entry, which begin so far back
+-- `new` is before a block of entries that ends at `old`. Their looks all begin after the byte `at`,
+-- except those of the first entry, which begin `back` bytes back
 pub record PassesBack (at : ℕ) (old new : Place) (back : ℕ) : Type 0 where
   pub span : ℕ
   pub passes : PassesBlock new old span
@@ -63,46 +71,50 @@ pub record PassesBack (at : ℕ) (old new : Place) (back : ℕ) : Type 0 where
 
 -- ---- the pieces of one run
 
+-- a piece begins at an entry, or its run ends
 abbrev pub is_piece : Tag → Bool
 is_piece (tag.Piece at_start) = true
 is_piece (tag.Opens block m) = false
 is_piece tag.Closes = false
 
--- a place behind an entry at which a piece begins
+-- `new` is after the entry that follows `old`, and a piece begins at that entry
 pub record PassesPiece (old new : Place) : Type 0 where
   pub entry : Entry
   pub entry_is : entry_behind old ≡ Some entry
   pub leads : is_piece entry.tag ≡ true
   pub new_is : new ≡ record old { number = suc old.number }
 
+-- one less, or nothing for 0
 abbrev pub one_less : ℕ → Option ℕ
 one_less zero = None
 one_less (suc n) = Some n
 
--- a piece of a run itself begins where no block of the run is open
+-- a piece of the run itself begins at an entry, since no block of the run is open there
 abbrev pub leads : Tag → ℕ → Bool
 leads t inside = is_piece t && inside == 0
 
--- in how many blocks of a run what comes behind an entry stands, unless the run's own block ends there
+-- in how many blocks of a run one is after an entry, unless the run's own block ends there
 abbrev pub inside_behind : Tag → ℕ → Option ℕ
 inside_behind (tag.Piece at_start) inside = Some inside
 inside_behind (tag.Opens block m) inside = Some (suc inside)
 inside_behind tag.Closes inside = one_less inside
 
--- in how many blocks of a run what comes before an entry stands, unless the run's own block begins there
+-- in how many blocks of a run one is before an entry, unless the run's own block begins there
 abbrev pub inside_before : Tag → ℕ → Option ℕ
 inside_before (tag.Piece at_start) inside = Some inside
 inside_before (tag.Opens block m) inside = one_less inside
 inside_before tag.Closes inside = Some (suc inside)
 
--- how many entries stand before the first of some at which a piece of a run begins, in so many blocks of which they begin
+-- the number of the first of some entries at which a piece of the run itself begins. The first of
+-- them has the number `number`, and `inside` blocks of the run are open before it
 abbrev pub first_piece : ℕ → ℕ → List Entry → Option ℕ
 first_piece inside number [] = None
 first_piece inside number (e ∷ es) =
     if leads e.tag inside then Some number
     else elim (inside_behind e.tag inside) as (λ _. Option ℕ) [ None ↦ None | Some further ↦ first_piece further (suc number) es ]
 
--- the same of the last of so many first ones, in so many blocks of the run behind them
+-- the number of the last of the first n entries at which a piece of the run itself begins. After
+-- them `inside` blocks of the run are open
 abbrev pub last_piece : ℕ → List Entry → ℕ → Option ℕ
 last_piece inside es zero = None
 last_piece inside es (suc n) = elim (slice_get es n) as (λ _. Option ℕ) [
@@ -111,16 +123,17 @@ last_piece inside es (suc n) = elim (slice_get es n) as (λ _. Option ℕ) [
       else elim (inside_before e.tag inside) as (λ _. Option ℕ) [ None ↦ None | Some further ↦ last_piece further es n ]
 ]
 
--- a place among the same entries
+-- the place before the entry of a number, if there is one
 abbrev pub placed : Place → Option ℕ → Option Place
 placed p None = None
 placed p (Some n) = Some (record p { number = n })
 
--- where the token of an entry begins, behind one that begins at a byte
+-- where the token of an entry begins, after a token that begins at a byte
 abbrev pub token_at : ℕ → Entry → ℕ
 token_at start e = (start + e.step) + e.gap
 
--- where the pieces of a run begin, by the entries behind a token that begins at a byte, in so many blocks of the run
+-- where the pieces of a run begin, in bytes, by the entries after a token that begins at `start`,
+-- where `inside` blocks of the run are open
 abbrev pub pieces_of : ℕ → ℕ → List Entry → List ℕ
 pieces_of inside start [] = []
 pieces_of inside start (e ∷ es) =
@@ -133,21 +146,25 @@ opens_content (tag.Piece at_start) = false
 opens_content (tag.Opens block m) = is_content block
 opens_content tag.Closes = false
 
--- where the pieces begin of the run of the content block that begins at a byte, but for the first
+-- where the pieces begin of the run of the content block at byte `at`, except the first
 abbrev pub pieces_in : ℕ → ℕ → List Entry → Option (List ℕ)
 pieces_in at start [] = None
 pieces_in at start (e ∷ es) = if opens_content e.tag && token_at start e == at then behind_first (pieces_of 0 (token_at start e) es) else pieces_in at (token_at start e) es
 
--- a child of a node that begins at a byte is a run where it is the markup of a content block
+-- where the pieces of a child begin, if it is a run: the markup of the content block that begins at
+-- a byte
 abbrev pub piece_run : List Entry → ℕ → SyntaxKind → SyntaxKind → Option (List ℕ)
 piece_run es at parent child = if same kind.ContentBlock parent && same kind.Markup child then pieces_in at 0 es else None
 
--- the number of the first of some entries at which the block ends that stands around them, in so many blocks of which they begin
+-- the number of the first of some entries at which the block around them ends, where `inside`
+-- blocks in it are open before them
 abbrev pub closing_of : ℕ → ℕ → List Entry → Option ℕ
 closing_of inside number [] = None
 closing_of inside number (e ∷ es) = elim (inside_behind e.tag inside) as (λ _. Option ℕ) [ None ↦ Some number | Some further ↦ closing_of further (suc number) es ]
 
--- the number of the first piece of a run whose token begins at a byte, by the entries behind a token that begins at another one, in so many blocks of the run
+-- the number of the first entry at which a piece of the run itself begins whose token is at byte
+-- `at`, by the entries after a token that begins at `start`, where `inside` blocks of the run are
+-- open
 abbrev pub piece_of : ℕ → ℕ → ℕ → ℕ → List Entry → Option ℕ
 piece_of at inside start number [] = None
 piece_of at inside start number (e ∷ es) =

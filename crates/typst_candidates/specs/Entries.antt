@@ -1,4 +1,4 @@
--- The notes of a reading by what stands between each and the one before it: the units by which an edit is decided.
+-- The notes of a reading by what is between each and the one before it: the units by which an edit is decided.
 use Rattle.std.specs.Prelude.{ℕ, suc, ◌+◌, ◌-◌, nat_le, nat_lt, max, Bool, if◌then◌else◌, List, [], ◌∷◌, ◌++◌, take, drop, Some, None}
 use Rattle.typst_language.specs.declared.calls.Mark.{Mark}
 use Rattle.typst_language.specs.declared.calls.Mark.TheVariants as mark
@@ -9,23 +9,24 @@ use Rattle.typst_candidates.specs.declared.entry.Entry.{Entry}
 use Rattle.typst_candidates.specs.declared.entry.Tag.{Tag}
 use Rattle.typst_candidates.specs.declared.entry.Tag.TheVariants as tag
 
--- what begins or ends, and of a block how its first token is read
+-- what begins or ends at a note, and of a block the mode in which its first token is read
 abbrev pub tag_of : Mark → State → Tag
 tag_of (mark.Piece at_start brackets) s = tag.Piece at_start
 tag_of (mark.Opens block) s = tag.Opens block s.held.mode
 tag_of mark.Closes s = tag.Closes
 
--- the brackets that are open behind a piece, or the levels that are left in a block
+-- the brackets that are open after a piece, or the levels that are left in a block
 abbrev pub count_of : Mark → ℕ → ℕ
 count_of (mark.Piece at_start brackets) levels = brackets
 count_of (mark.Opens block) levels = levels
 count_of mark.Closes levels = 0
 
--- how far before the token at a byte looks begin that begin at such a number, which counts the mark before the text
+-- how far before the token at byte `start` looks begin whose least is `least`, which counts the
+-- mark before the text
 abbrev pub back_of : ℕ → ℕ → ℕ
 back_of start least = suc start - least
 
--- a note behind one whose token begins at a byte
+-- the entry of a note, after a note whose token begins at a byte
 abbrev pub entry_of : ℕ → Note → Entry
 entry_of start n = record {
   tag = tag_of n.mark n.state;
@@ -36,10 +37,12 @@ entry_of start n = record {
   count = count_of n.mark n.levels;
 }
 
--- the end of a block at a byte, behind a token that begins at another, with such looks since then
+-- the entry of a block's end at byte `end`, after a token that begins at `start`, where the looks
+-- since then have this reach and this least
 abbrev pub block_end : ℕ → ℕ → ℕ → ℕ → Entry
 block_end start end reach least = record { tag = tag.Closes; step = end - start; gap = 0; forth = reach - end; back = back_of start least; count = 0 }
 
+-- the entries of some notes, after a note whose token begins at a byte
 abbrev pub entries_by : ℕ → List Note → List Entry
 entries_by start [] = []
 entries_by start (n ∷ ns) = entry_of start n ∷ entries_by n.start ns
@@ -49,11 +52,13 @@ abbrev pub last_start : ℕ → List Note → ℕ
 last_start start [] = start
 last_start start (n ∷ ns) = last_start n.start ns
 
+-- the units of a text: its entries, and
 pub record Units : Type 0 where
   pub entries : List Entry
-  -- how far before the last token the looks behind the last note begin
+  -- how far before the last token the looks after the last note begin
   pub back : ℕ
 
+-- the units of a text with these notes, where the looks after the last one have this least
 abbrev pub units_by : List Note → ℕ → Units
 units_by ns least = record { entries = entries_by 0 ns; back = back_of (last_start 0 ns) least }
 
@@ -61,29 +66,31 @@ units_by ns least = record { entries = entries_by 0 ns; back = back_of (last_sta
 abbrev pub units_of : Log → Units
 units_of h = units_by (elim h.notes as (λ _. List Note) [ None ↦ [] | Some ns ↦ ns ]) h.least
 
--- with a part in place of the entries behind one up to another
+-- the units with a part in place of the entries after the one numbered `from` up to the one
+-- numbered `to`
 abbrev pub spliced : ℕ → ℕ → List Entry → Units → Units
 spliced from to part u = record u { entries = take (suc from) u.entries ++ (part ++ drop (suc to) u.entries) }
 
--- ---- where they stand
+-- ---- where they are
 
--- where the token of the last of some entries begins, behind one that begins at a byte
+-- where the token of the last of some entries begins, after a token that begins at a byte
 abbrev pub end_of : ℕ → List Entry → ℕ
 end_of start [] = start
 end_of start (e ∷ es) = end_of ((start + e.step) + e.gap) es
 
 -- ---- the test of looks
 
--- how many of the first stand at a byte or before it with all looks up to them
+-- how many of the first entries there are whose looks all end at the byte `at` or before it
 abbrev pub front_of : ℕ → ℕ → List Entry → ℕ
 front_of at start [] = 0
 front_of at start (e ∷ es) = let here = (start + e.step) + e.gap in if nat_le (here + e.forth) at then suc (front_of at here es) else 0
 
--- looks that begin so far before a token begin behind a byte
+-- looks that begin so far before the token at `start` begin after the byte `at`
 abbrev pub is_behind : ℕ → ℕ → ℕ → Bool
 is_behind at start back = nat_lt at (suc start - back)
 
--- how many of the first have looks behind them that begin at a byte or before it: from the one with that number on all looks behind begin behind the byte
+-- how many of the first entries have looks after them that begin at the byte `at` or before it:
+-- after the entry with that number all looks begin after the byte
 abbrev pub rear_of : ℕ → ℕ → ℕ → List Entry → ℕ → ℕ
 rear_of at start count [] back = if is_behind at start back then 0 else count
 rear_of at start count (e ∷ es) back = max (if is_behind at start e.back then 0 else count) (rear_of at ((start + e.step) + e.gap) (suc count) es back)

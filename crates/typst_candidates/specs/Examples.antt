@@ -11,7 +11,7 @@ use Rattle.typst_language.specs.declared.reading.AtNewline.TheVariants as at_new
 use Rattle.typst_tree.specs.Tree.{Tree, forest, leaf_of, inner_of, error_of}
 use Rattle.typst_candidates.specs.Candidates.{Candidate, candidates}
 
--- a note of what begins or ends at a byte, with so many levels left
+-- a note of what begins or ends at byte b, with so many levels left
 abbrev pub noted : Mark → ℕ → ℕ → Note
 noted m levels b = let reading : Reading = record { mode = mode.Markup; at_newline = at_newline.Continue } in record {
   mark = m;
@@ -27,26 +27,32 @@ noted m levels b = let reading : Reading = record { mode = mode.Markup; at_newli
 abbrev pub pieces : ℕ → List ℕ → List Note
 pieces levels bytes = map (λ b. noted (mark.Piece false 0) levels b) bytes
 
+-- the bytes from one to another
 pub record Range : Type 0 where
   pub start : ℕ
   pub end : ℕ
 
+-- the bytes a..b
 abbrev pub bytes : ℕ → ℕ → Range
 bytes a b = record { start = a; end = b }
 
--- the bytes of each candidate in a text of these nodes
+-- the bytes of each candidate of replacing rs..re, in a text of these nodes
 abbrev pub ranges : List Note → ℕ → ℕ → List Tree → List Range
 ranges ns rs re ts = map (λ (c : Candidate). bytes c.start c.end) (candidates ns rs re (inner_of kind.Markup (forest ts)))
 
+-- the node of `~`
 abbrev pub tilde : Tree
 tilde = leaf_of kind.Shorthand (codes "~")
 
+-- the node of a text
 abbrev pub text : List ℕ → Tree
 text s = leaf_of kind.Text s
 
+-- the node of `[BC]`
 abbrev pub content : Tree
 content = inner_of kind.ContentBlock (forest (leaf_of kind.LeftBracket (codes "[") ∷ inner_of kind.Markup (forest (text (codes "BC") ∷ [])) ∷ leaf_of kind.RightBracket (codes "]") ∷ []))
 
+-- the candidates of some edits, each of a text and the replaced bytes
 pub record Examples : Type 0 where
   -- `abc~def~gh~`, 5..6
   pub words : ranges (pieces 256 (0 ∷ 3 ∷ 4 ∷ 7 ∷ 8 ∷ 10 ∷ 11 ∷ [])) 5 6 (text (codes "abc") ∷ tilde ∷ text (codes "def") ∷ tilde ∷ text (codes "gh") ∷ tilde ∷ []) ≡ bytes 0 8 ∷ bytes 0 10 ∷ bytes 0 11 ∷ []

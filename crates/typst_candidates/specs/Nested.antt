@@ -1,4 +1,4 @@
--- How the notes of a reading stand in each other.
+-- How the notes of a reading are nested.
 use Rattle.std.specs.Prelude.{◌≡◌, ℕ, ◌+◌, ◌<◌, Bool, List, [], ◌∷◌, ◌++◌, length, Some}
 use Rattle.typst_language.specs.declared.calls.Block.{Block}
 use Rattle.typst_language.specs.declared.calls.Mark.TheVariants as mark
@@ -9,7 +9,8 @@ use Rattle.typst_candidates.specs.Entries.{entries_by}
 use Rattle.typst_candidates.specs.Records.{IsRising}
 use Rattle.typst_candidates.specs.Units.{behind_first, top_cuts, cuts_in}
 
--- Notes where so many levels are left: those of pieces say as many, and blocks say fewer, each with the notes in it up to the one where it ends.
+-- Notes where so many levels are left: a piece's note says as many, and a block's says fewer, with
+-- the notes in the block up to the one where it ends.
 pub data Nested : ℕ → List Note → Type 0 where
   none : (levels : ℕ) → Nested levels []
   piece : (levels : ℕ) (n : Note) (ns : List Note) (line : Bool) (brackets : ℕ) → n.mark ≡ mark.Piece line brackets → n.levels ≡ levels → Nested levels ns → Nested levels (n ∷ ns)
@@ -22,14 +23,16 @@ pub record Written (es : List Entry) (ns : List Note) : Type 0 where
   pub nested : Nested 256 ns
   pub rising : IsRising 0 ns
 
--- In nested notes the pieces that say all levels are those that stand in no block, and those of the block that begins at a byte stand in no block of it.
+-- In nested notes, the pieces read with all levels left are those that are in no block.
 abbrev pub TopRunLaw : Type 0
 TopRunLaw = (ns : List Note) → Nested 256 ns → IsRising 0 ns → behind_first (pieces_of 0 0 (entries_by 0 ns)) ≡ top_cuts ns
 
+-- In nested notes, the pieces read with a content block's levels are those of its own run: in it,
+-- and in no block of it.
 abbrev pub InnerRunLaw : Type 0
 InnerRunLaw = (levels at : ℕ) (ns : List Note) → Nested levels ns → IsRising 0 ns → pieces_in at 0 (entries_by 0 ns) ≡ cuts_in at ns
 
--- A block ends with the first note behind those nested in it.
+-- A block ends with the first note after those nested in it.
 abbrev pub ClosingLaw : Type 0
 ClosingLaw = (levels number start : ℕ) (inner : List Note) (c : Note) (later : List Note) → Nested levels inner → c.mark ≡ mark.Closes
     → closing_of 0 number (entries_by start (inner ++ c ∷ later)) ≡ Some (number + length inner)

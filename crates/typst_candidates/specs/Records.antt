@@ -7,17 +7,19 @@ use Rattle.typst_candidates.specs.declared.entry.Tag.TheVariants as tag
 use Rattle.typst_candidates.specs.Packed.{Space}
 use Rattle.typst_candidates.specs.Entries.{Units, back_of, entries_by, last_start, front_of, rear_of}
 
--- the units, and what they take
+-- the units that records keep, and what they take
 pub record Kept : Type 0 where
   pub units : Units
   pub space : Space
 
+-- a block begins at an entry
 abbrev pub is_opening : Tag → Bool
 is_opening (tag.Piece at_start) = false
 is_opening (tag.Opens block m) = true
 is_opening tag.Closes = false
 
--- the number of the first entry at which a block begins whose token begins at a byte, where the first of these has such a number
+-- the number of the first entry at which a block begins whose token is at byte `at`, by entries
+-- after a token that begins at `start`, of which the first has this number
 abbrev pub opening_of : ℕ → ℕ → ℕ → List Entry → Option ℕ
 opening_of at start number [] = None
 opening_of at start number (e ∷ es) =
@@ -31,7 +33,8 @@ AllFit (n ∷ ns) = (n.start < 2 ^ 64 - 1) × AllFit ns
 
 -- ---- what the numbers decide
 
--- each note stands where the token of the one before it begins, or behind that, and its token there or behind
+-- each note's place is where the token of the note before begins, or later, and its own token is
+-- there or later
 abbrev pub IsRising : ℕ → List Note → Type 0
 IsRising start [] = Unit {0}
 IsRising start (n ∷ ns) = (start ≤ n.before) × (n.before ≤ n.start) × IsRising n.start ns
@@ -41,17 +44,19 @@ abbrev pub AllEnd : ℕ → List Note → Type 0
 AllEnd at [] = Unit {0}
 AllEnd at (n ∷ ns) = (n.reach ≤ at) × AllEnd at ns
 
--- all looks before some notes, and those behind the last, begin behind a byte
+-- all looks before some notes, and those after the last, begin after a byte
 abbrev pub AllBegin : ℕ → List Note → ℕ → Type 0
 AllBegin at [] least = at < least
 AllBegin at (n ∷ ns) least = (at < n.least) × AllBegin at ns least
 
--- The law of the front: of notes whose last token begins at a byte or before it the looks end there or before it exactly where that last one is among the first that the records count.
+-- The law of the front: where the token of a note begins at a byte or before it, the looks up to
+-- that note end there or before exactly if the note is among the first that `front_of` counts.
 abbrev pub FrontLaw : Type 0
 FrontLaw = (ns more : List Note) (n : Note) (at : ℕ) → IsRising 0 (ns ++ n ∷ more) → n.start ≤ at
     → length ns < front_of at 0 (entries_by 0 (ns ++ n ∷ more)) ↔ AllEnd at (ns ++ n ∷ [])
 
--- The law of the rear: behind a note whose token begins at a byte or behind it all looks begin behind the byte exactly where the records count no more than the notes before it.
+-- The law of the rear: where the token of a note begins at a byte or after it, the looks after that
+-- note begin after the byte exactly if `rear_of` counts no more notes than those before it.
 abbrev pub RearLaw : Type 0
 RearLaw = (ns more : List Note) (n : Note) (at least : ℕ) → IsRising 0 (ns ++ n ∷ more) → at ≤ n.start
     → rear_of at 0 0 (entries_by 0 (ns ++ n ∷ more)) (back_of (last_start 0 (ns ++ n ∷ more)) least) ≤ length ns ↔ AllBegin at more least

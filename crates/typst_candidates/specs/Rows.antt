@@ -1,4 +1,4 @@
--- Places between the children of a node (of private clauses).
+-- Places between the children of a node (for private clauses).
 use Rattle.std.specs.Prelude.{◌≡◌, ℕ, ◌+◌, ◌-◌, ◌^◌, ◌<◌, ◌≤◌, Option, Some, None, List, [], ◌∷◌, ◌++◌, length, take, filter, ◌==◌, ◌&&◌, Bool, nat_lt, nat_le, suc, if◌then◌else◌}
 use Rattle.typst_language.specs.declared.calls.Note.{Note}
 use Rattle.typst_tree.specs.Tree.{Tree, forest, trees}
@@ -15,31 +15,31 @@ use Rattle.typst_candidates.specs.Candidates.{Candidate, Stretch, laid, child_at
 use Rattle.typst_candidates.specs.Cursors.{pieces_in, pieces_of}
 use Rattle.typst_candidates.specs.Units.{behind_first}
 
--- so many children stand before the place, which is this byte
+-- a place between children: so many are before it, and it is at this byte
 pub record IsEdge (at : ℕ) (ts : List Tree) (e : Edge) : Type 0 where
   pub within : e.index ≤ length ts
   pub byte : e.byte ≡ begins at ts e.index
 
--- where the last child ends can be counted
+-- where the last child ends is a number of the machine
 abbrev pub Fits : ℕ → List Tree → Type 0
 Fits at ts = begins at ts (length ts) < 2 ^ 64
 
--- the children near the bytes rs..re
+-- the place before the first and the one after the last of the children near the bytes rs..re
 pub record IsNear (at : ℕ) (ts : List Tree) (rs re : ℕ) (near : Near) : Type 0 where
   pub first : near.first.index ≡ first_near rs (laid at ts)
   pub end : near.end.index ≡ end_near re (laid at ts)
   pub first_edge : IsEdge at ts near.first
   pub end_edge : IsEdge at ts near.end
 
--- a stretch by its children alone
+-- a stretch by the indices of its children
 abbrev pub indices : row.Stretch → Stretch
 indices s = record { from = s.from.index; to = s.to.index }
 
--- where the pieces of a run begin within its window, but for its first
+-- where the pieces of a run begin within a window, as they were found
 abbrev pub bytes_of : Cuts → List ℕ
 bytes_of c = c.starts.items
 
--- the bytes of a window among some
+-- those of some bytes that are in a window
 abbrev pub within : Window → List ℕ → List ℕ
 within w bs = filter (λ b. nat_le w.from b && nat_le b w.to) bs
 
@@ -47,25 +47,29 @@ within w bs = filter (λ b. nat_le w.from b && nat_le b w.to) bs
 abbrev pub IsWhole : Window → Type 0
 IsWhole w = (w.from ≡ 0) × (w.to ≡ 2 ^ 64 - 1)
 
--- what is found of where the pieces of a run begin is what lies within a window
+-- where the pieces of a run were found to begin is where they do, within a window; nothing is found
+-- where there is no run
 abbrev pub IsRun : Window → Option (List ℕ) → Option Cuts → Type 0
 IsRun w all None = all ≡ None
 IsRun w all (Some cuts) = (bs : List ℕ) × (all ≡ Some bs) × (cuts.window ≡ w) × (bytes_of cuts ≡ within w bs)
 
--- where the pieces of a run begin, but for the first
+-- where the pieces of the text's own run begin, or those of the content block's at a byte, except
+-- the first
 abbrev pub pieces_at : List Entry → RunAt → Option (List ℕ)
 pieces_at es run.Text = behind_first (pieces_of 0 0 es)
 pieces_at es (run.Block at) = pieces_in at 0 es
 
--- a candidate whose path is the front of another
+-- a candidate, whose path is as much of another path as its depth says
 abbrev pub spelled : List ℕ → found.Candidate → Candidate
 spelled path c = record { is_block = c.is_block; path = take c.depth path; from = c.from; to = c.to; start = c.start; end = c.end }
 
--- the first of the children near the bytes rs..re is alone there, begins before them and ends after them, and may be an inner node
+-- the first of the children near the bytes rs..re is alone there, begins before them and ends after
+-- them, and may be an inner node
 abbrev pub is_covered : ℕ → ℕ → Near → Bool → Bool
 is_covered rs re near is_inner = (near.end.index == suc near.first.index) && (nat_lt near.first.byte rs && (nat_lt re near.end.byte && is_inner))
 
--- at a node that begins at a byte: those of its child that covers the replaced bytes, then that child if it is a block
+-- the candidates at a node that begins at a byte: those at its child that covers the replaced
+-- bytes, then that child if it is a block
 abbrev pub below : List Note → ℕ → ℕ → List ℕ → ℕ → Tree → List Candidate
 below ns rs re path at t =
     let inside = at + length t.head.text in

@@ -1,4 +1,4 @@
--- What may be read anew at the runs and blocks around the replaced bytes (of private clauses).
+-- What may be read again at the runs and blocks around the replaced bytes (for private clauses).
 use Rattle.std.specs.Prelude.{ℕ, ◌+◌, suc, true, Option, Some, None, List, [], ◌∷◌, ◌++◌, length, take, slice_get, if◌then◌else◌}
 use Rattle.typst_tree.specs.Tree.{Tree, trees}
 use Rattle.typst_candidates.specs.declared.entry.Entry.{Entry}
@@ -12,17 +12,18 @@ use Rattle.typst_candidates.specs.Rows.{is_covered, pieces_at}
 abbrev pub inside : Stop → ℕ
 inside s = s.at + length s.node.now.head.text
 
+-- the children of a stop's node
 abbrev pub kids : Stop → List Tree
 kids s = trees s.node.now.kids
 
--- the child that covers the bytes rs..re
+-- the child of a stop that covers the bytes rs..re
 abbrev pub covering : ℕ → ℕ → Stop → Option Tree
 covering rs re s = elim (slice_get (kids s) s.near.first.index) as (λ _. Option Tree) [
   | None ↦ None
   | Some t ↦ if is_covered rs re s.near t.head.is_inner then Some t else None
 ]
 
--- the children near the replaced bytes as a block
+-- the children near the replaced bytes, as a candidate that is a block
 abbrev pub block_of : List ℕ → Stop → Candidate
 block_of path s = of_children true (take s.depth path) (inside s) (kids s) s.near.first.index s.near.end.index
 
@@ -36,7 +37,8 @@ abbrev pub found_in : List Entry → List ℕ → Enclosing → List Candidate
 found_in es path (enclosing.Block s) = block_of path s ∷ []
 found_in es path (enclosing.Run s run) = run_of path s (pieces_at es run)
 
--- those of several, each of which stands around the ones that follow it, from the innermost out
+-- the candidates of several runs and blocks, each of which is around those that follow it, from the
+-- innermost out
 abbrev pub found_in_all : List Entry → List ℕ → List Enclosing → List Candidate
 found_in_all es path [] = []
 found_in_all es path (e ∷ inner) = found_in_all es path inner ++ found_in es path e

@@ -6,12 +6,13 @@ use Rattle.typst_language.specs.declared.calls.Mark.{Mark}
 use Rattle.typst_language.specs.declared.calls.Mark.TheVariants as mark
 use Rattle.typst_language.specs.declared.calls.Note.{Note}
 
--- a piece begins, or its run ends
+-- a piece begins at a note, or its run ends
 abbrev pub is_piece : Mark → Bool
 is_piece (mark.Piece line brackets) = true
 is_piece (mark.Opens b) = false
 is_piece mark.Closes = false
 
+-- a block is one of content
 abbrev pub is_content : Block → Bool
 is_content block.Code = false
 is_content block.Content = true
@@ -38,16 +39,17 @@ abbrev pub up_to_end : ℕ → List Note → List Note
 up_to_end levels [] = []
 up_to_end levels (n ∷ ns) = if is_closing n.mark && n.levels == levels then [] else n ∷ up_to_end levels ns
 
--- where the pieces of a run begin, but for its first; a markup without any is no run
+-- where the pieces of a run begin, except its first; a markup without any isn't a run
 abbrev pub behind_first : List ℕ → Option (List ℕ)
 behind_first [] = None
 behind_first (s ∷ ss) = Some ss
 
--- those of the text's own run, which is read with all levels left
+-- where the pieces of the text's own run begin, which are read with all levels left, except its
+-- first
 abbrev pub top_cuts : List Note → Option (List ℕ)
 top_cuts ns = behind_first (starts 256 ns)
 
--- those of the run of the content block that begins at a byte
+-- where the pieces begin of the run of the content block at byte `at`, except its first
 abbrev pub cuts_in : ℕ → List Note → Option (List ℕ)
 cuts_in at [] = None
 cuts_in at (n ∷ ns) = if opens_content n.mark && n.start == at then behind_first (starts n.levels (up_to_end n.levels ns)) else cuts_in at ns

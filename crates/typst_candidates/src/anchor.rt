@@ -16,35 +16,37 @@ use crate::entry::Tag;
 use crate::records::Records;
 use typst_language::Block;
 
-/// A place among the entries that stands in no block of its run: of the text's own, or of that of a block. One is kept
+/// A place among the entries that is in no block of its run: of the text's own, or of that of a block. One is kept
 /// a while before the last edit, since the next one is mostly near: what it asks for is looked up from there on, and
 /// not from the first entry.
 #[derive(Debug, Clone, Copy, PartialEq, Eq)]
 pub(crate) struct Anchor {
-    /// How many entries stand before it,
+    /// How many entries are before the anchor.
     pub number: usize,
-    /// where the token of the last of them begins, in bytes, or 0,
+    /// Where the token of the last of these begins, in bytes, or 0.
     pub start: usize,
-    /// where the looks of all of them end, or behind that,
+    /// Where the looks of all of these end, or after that.
     pub reach: usize,
-    /// behind how many entries its run begins: behind none the text's own, else behind the one that opens a block,
+    /// How many entries come before the run of the anchor: none before the text's own, else all up to the one that
+    /// opens its block.
     pub first: usize,
-    /// and where the token of the entry before that one begins, in bytes, or 0.
+    /// Where the token of the entry before the one that opens its block begins, in bytes, or 0.
     pub outer: usize,
 }
 
-/// So many bytes before an edit an anchor is put: most candidates begin behind it.
+/// How many bytes before an edit an anchor is put: most candidates begin after it.
 const BEFORE: usize = 1 << 10;
 
-/// An anchor is put into a block only where no place before the block is so near to the edit: it is no longer of use
-/// once an edit stands outside.
+/// An anchor is put into a block only if no place before the block is so near to the edit: it is of no use any
+/// more once an edit is outside the block.
 const FAR: usize = 1 << 12;
 
-/// It goes into so many blocks at most, one in the other, since the entries of each are gone through once more.
+/// How many blocks, one in the other, an anchor is put into at most, since the entries of each are gone through
+/// once more.
 const MOST_BLOCKS: usize = 4;
 
 impl Anchor {
-    /// The one before all entries.
+    /// The anchor before all entries.
     pub(crate) fn first() -> Anchor
         ensures { (es : List Entry) → IsAnchor es result }
     {
@@ -57,7 +59,7 @@ impl Anchor {
         }
     }
 
-    /// The same, where it stands before the entries behind the one of a number, else the first.
+    /// This anchor, if it is before the entries after the one with this number, else the first.
     pub(crate) fn upto(self, number: usize) -> Anchor
         ensures { (es fs : List Entry) → IsAnchor es self → take (number + 1) fs ≡ take (number + 1) es → number < length fs → IsAnchor fs result }
     {
@@ -70,8 +72,8 @@ impl Anchor {
 }
 
 impl Records {
-    /// Puts the anchor a while before the byte `at`; the units stay. Goes through the entries from where it stands up
-    /// to the byte, or from the first where it stands behind that or the byte isn't in its run.
+    /// Puts the anchor a while before the byte `at`; the units stay. Goes through the entries from where it is up
+    /// to the byte, or from the first if it is after the byte or the byte isn't in its run.
     pub fn go_near(&mut self, at: usize)
         requires { end_of 0 self.old.units.entries < 2 ^ 64 }
         ensures { self.new ≡ self.old }
@@ -85,7 +87,7 @@ impl Records {
         self.tally_at(self.anchor.number);
     }
 
-    /// The last anchor at the window's first byte or before it, in the run of the one that is kept, where that stands
+    /// The last anchor at the window's first byte or before it: in the run of the one that is kept, if that one is
     /// there and the window's last byte is in the run, or else in the text's own.
     fn outer_anchor(&self, window: Window) -> Anchor
         requires { end_of 0 self.now.units.entries < 2 ^ 64 }
@@ -102,8 +104,8 @@ impl Records {
         }
     }
 
-    /// The same from one on, in the innermost content block that the window's last byte is in, of the outermost blocks
-    /// that begin far before it.
+    /// The last anchor at the window's first byte or before it, from `outer` on: in the innermost content block
+    /// that the window's last byte is in, of the outermost blocks that begin far before it.
     fn inner_anchor(&self, outer: Anchor, window: Window) -> Anchor
         requires places { end_of 0 self.now.units.entries < 2 ^ 64 }
         requires outer { IsAnchor self.now.units.entries outer }
@@ -129,7 +131,7 @@ impl Records {
         found
     }
 
-    /// Which block begins behind an anchor, and the anchor at the begin of its run, if that is at the byte `before` or
+    /// Which block begins after an anchor, and the anchor at the begin of its run, if that is at the byte `before` or
     /// before it.
     fn into_block(&self, outer: Anchor, before: usize) -> Option<(Block, Anchor)>
         requires places { end_of 0 self.now.units.entries < 2 ^ 64 }
@@ -158,7 +160,7 @@ impl Records {
         Some((block, begin))
     }
 
-    /// The last anchor of a run at the window's first byte or before it, from one on; nothing where the run ends at
+    /// The last anchor of a run at the window's first byte or before it, from one on; `None` if the run ends at
     /// the window's last byte or before it.
     fn last_anchor(&self, from: Anchor, window: Window) -> Option<Anchor>
         requires places { end_of 0 self.now.units.entries < 2 ^ 64 }
@@ -194,8 +196,8 @@ impl Records {
         }
     }
 
-    /// From which place on the entries are gone through that stand, with all looks before them, at the byte `at` or
-    /// before it, and how far before the byte that place is: the anchor's, or the first.
+    /// From which place on `front` has to go through the entries, and how far before the byte `at` that place is:
+    /// the anchor's, or the first.
     pub(crate) fn front_place(&self, at: usize) -> (Walk<'_>, usize)
         ensures entries { result.0.entries ≡ self.now.units.entries }
         ensures within { result.1 ≤ at }
@@ -213,8 +215,8 @@ impl Records {
         (self.walk(), at)
     }
 
-    /// The same of entries at which a block begins whose token begins at the byte; where the anchor stands in that very
-    /// block, the place before the block.
+    /// From which place on `opening` has to go through the entries, and how far before the byte `at` that place
+    /// is; if the anchor is in the block that begins at the byte, the place before that block.
     pub(crate) fn opening_place(&self, at: usize) -> (Walk<'_>, usize)
         ensures entries { result.0.entries ≡ self.now.units.entries }
         ensures within { result.1 ≤ at }
@@ -236,8 +238,8 @@ impl Records {
         (self.walk(), at)
     }
 
-    /// A place before the first piece of a run whose token begins at byte `at`: the anchor's, where it stands in that
-    /// run and before the byte, else the one behind the first `first` entries, behind which the run begins.
+    /// A place before the first piece of a run whose token begins at byte `at`: the anchor's, if it is in that run
+    /// and before the byte, else the one after the first `first` entries, after which the run begins.
     pub fn run_place(&self, first: usize, at: usize) -> Cursor<'_>
         requires first { first ≤ length self.now.units.entries }
         requires places { end_of 0 self.now.units.entries < 2 ^ 64 }
@@ -250,9 +252,9 @@ impl Records {
         self.cursor_at(first)
     }
 
-    /// A place behind which the same pieces begin of the run behind the first `first` entries, as far as they begin at
-    /// the byte `from` or behind it: the anchor's, where it stands in that run, before the byte and behind the place,
-    /// else the place.
+    /// A place after which the pieces of a run begin that begin after `place`, as far as they begin at the byte
+    /// `from` or after it. The run begins after the first `first` entries. It is the anchor's place, if that is in
+    /// the run, before the byte and after `place`, else `place`.
     pub(crate) fn later_place<'a>(
         &'a self,
         first: usize,

@@ -17,7 +17,7 @@ use std::alloc::{AllocError, Global};
 use typst_kinds::SyntaxKind;
 use typst_tree::SyntaxNode;
 
-/// Children of a node that an edit may read anew: a block alone, or pieces of a run.
+/// Children of a node that an edit may read again: a block alone, or pieces of a run.
 #[derive(Debug, Clone, Copy, PartialEq, Eq)]
 pub struct Candidate {
     /// Whether it is a block.
@@ -26,7 +26,7 @@ pub struct Candidate {
     pub depth: usize,
     /// The first of the children.
     pub from: usize,
-    /// The child behind the last of them.
+    /// The child after the last of them.
     pub to: usize,
     /// The byte at which the first begins.
     pub start: usize,
@@ -34,15 +34,15 @@ pub struct Candidate {
     pub end: usize,
 }
 
-/// The candidates of an edit.
+/// The first candidates of an edit.
 #[derive(Drop)]
 pub struct Candidates {
-    /// Which child each step down is. A candidate's own path is the front of it that is as long as
-    /// its depth.
+    /// The index of the child at each step down. A candidate's own path is as much of it, from the front, as its
+    /// depth says.
     pub path: Vec<usize>,
     /// The candidates, in order.
     pub items: Vec<Candidate>,
-    /// How many of the first were asked for in the end. Where there are fewer, these are all.
+    /// How many of the first were asked for in the end. If there are fewer, these are all.
     pub most: usize,
 }
 
@@ -120,9 +120,9 @@ fn push_run<'t>(
     Ok(())
 }
 
-/// Adds the first `room` of a run: the pieces with 1, 2, 4, .. more children on each side, until all are
-/// taken, or up to the first that reach out of the window in which the run's pieces were looked up. Answers how
-/// many were asked for in the end.
+/// Adds the first `room` candidates of a run: the pieces with 1, 2, 4, .. more children on each side, until all
+/// are taken, or up to the first that reach out of the window in which the run's pieces were looked up. Answers
+/// how many were asked for in the end.
 fn add_pieces(
     found: &mut Vec<Candidate>,
     row: &Row<'_>,
@@ -174,7 +174,7 @@ impl Search<'_> {
         }
     }
 
-    /// The child that covers the replaced bytes.
+    /// The child of a stop that covers the replaced bytes.
     fn covering<'t>(&self, stop: Stop<'t>) -> Option<&'t SyntaxNode>
         ensures none { result ≡ None → covering self.now.start self.now.end stop.entry ≡ None }
         ensures some { IfSome result (λ child. covering self.now.start self.now.end stop.entry ≡ Some child.now) }
@@ -187,7 +187,8 @@ impl Search<'_> {
     }
 
     /// The runs and blocks around the replaced bytes below a stop, each before those in it. The steps down to the
-    /// deepest node are added to the stop's path. Any other node on the way, as a link of a chain, takes only its step.
+    /// deepest node are added to the stop's path. Any other node on the way, as a link of a chain, takes only its
+    /// step.
     fn below<'t>(
         &self,
         alloc: Global,
@@ -235,7 +236,7 @@ impl Search<'_> {
         }
     }
 
-    /// Adds those of a run, as many as there is room for, which is some.
+    /// Adds the candidates of a run, as many as there is room for, which is one at least.
     fn add_run(
         &self,
         alloc: Global,
@@ -260,8 +261,8 @@ impl Search<'_> {
         Ok(())
     }
 
-    /// Adds those of a block or a run, as many as there is room for. A run's pieces are looked up only where there is
-    /// some.
+    /// Adds the candidates of a block or a run, as many as there is room for. A run's pieces are looked up only if
+    /// there is room.
     fn add(&self, alloc: Global, around: Enclosing<'_>, found: &mut Found) -> Result<(), AllocError>
         requires places { end_of 0 self.now.records.now.units.entries < 2 ^ 64 }
         requires room { length found.old.items.items ≤ found.old.most }
@@ -281,7 +282,7 @@ impl Search<'_> {
         }
     }
 
-    /// The first of several runs and blocks, of which each stands before those in it.
+    /// The first candidates of several runs and blocks, each of which is before those in it.
     fn found_in_all(
         &self,
         alloc: Global,
@@ -299,7 +300,8 @@ impl Search<'_> {
         Ok(found)
     }
 
-    /// The first of a text. The steps down to the deepest node that covers the replaced bytes are added to the path.
+    /// The first candidates of a text. The steps down to the deepest node that covers the replaced bytes are added
+    /// to the path.
     fn candidates(
         &self,
         alloc: Global,

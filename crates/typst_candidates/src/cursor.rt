@@ -43,8 +43,8 @@ impl Records {
         }
     }
 
-    /// The place behind so many entries. Adds up the words of these, but for the place before the block that the anchor
-    /// stands in.
+    /// The place after so many entries. Adds up the words of these, unless it is the place before the block that
+    /// the anchor is in, which is kept.
     pub fn cursor_at(&self, number: usize) -> Cursor<'_>
         requires within { number ≤ length self.now.units.entries }
         requires fits { end_of 0 self.now.units.entries < 2 ^ 64 }
@@ -75,7 +75,7 @@ impl Records {
         }
     }
 
-    /// The place behind the last entry, whose token begins at the byte `last`, or 0 where there is none.
+    /// The place after the last entry, whose token begins at the byte `last`, or 0 if there is none.
     pub fn cursor_at_end(&self, last: usize) -> Cursor<'_>
         requires { last ≡ end_of 0 self.now.units.entries }
         ensures { result ≡ record { entries = self.now.units.entries; number = length self.now.units.entries } }
@@ -88,7 +88,7 @@ impl Records {
 }
 
 impl<'a> Cursor<'a> {
-    /// The same place.
+    /// A copy of the place.
     pub fn copy(&self) -> Cursor<'a>
         ensures place { result ≡ self.now }
         ensures fits { result.number < 2 ^ 64 }
@@ -99,7 +99,7 @@ impl<'a> Cursor<'a> {
         }
     }
 
-    /// How many entries stand before it.
+    /// How many entries are before the place.
     pub fn number(&self) -> usize
         ensures { result ≡ self.now.number }
     {
@@ -113,7 +113,7 @@ impl<'a> Cursor<'a> {
         self.start
     }
 
-    /// The entry behind it, behind which it goes; nothing where there is none.
+    /// The entry after the place, which moves past it; `None` after the last.
     #[inline]
     pub fn next(&mut self) -> Option<Entry>
         ensures entry { result ≡ spec.entry_behind self.old }
@@ -125,8 +125,9 @@ impl<'a> Cursor<'a> {
         Some(entry)
     }
 
-    /// Passes over the entry behind it, if a word holds it and a piece begins at it, and answers whether it did.
-    /// Nearly all entries are such, so what goes through a run passes these by it, and only the others by `next`.
+    /// Passes over the entry after the place, if a word holds it and a piece begins at it, and answers whether it
+    /// did. Nearly all entries are such, so what goes through a run passes them this way, and only the others by
+    /// `next`.
     #[inline]
     pub(crate) fn pass_piece(&mut self) -> bool
         ensures { MatchBool result (spec.PassesPiece self.old self.new) (self.new ≡ self.old) }
@@ -138,14 +139,14 @@ impl<'a> Cursor<'a> {
         true
     }
 
-    /// How many entries stand behind it.
+    /// How many entries are after the place.
     pub(crate) fn left(&self) -> usize
         ensures { result ≡ length self.now.entries - self.now.number }
     {
         self.walk.left()
     }
 
-    /// The entry before it, before which it goes; nothing where there is none.
+    /// The entry before the place, which moves back over it; `None` before the first.
     #[inline]
     pub fn back(&mut self) -> Option<Entry>
         ensures entry { result ≡ spec.entry_before self.old }
@@ -156,9 +157,9 @@ impl<'a> Cursor<'a> {
         Some(entry)
     }
 
-    /// Passes over a block of entries before it, if all looks behind its first entry's begin more than so many
-    /// bytes behind the byte `at`; answers how far back those of its first entry begin. Else nothing changes, and
-    /// it is asked only so many steps later again.
+    /// Passes back over a block of entries before the place, if all looks after its first entry's begin more than
+    /// so many bytes after the byte `at`; answers how far back those of its first entry begin. Else nothing
+    /// changes, and it is asked again only so many steps later.
     #[inline]
     pub(crate) fn pass_far_back(&mut self, steps: &mut usize, at: usize) -> Option<usize>
         ensures { MatchOption result (self.new ≡ self.old) (λ back. spec.PassesBack at self.old self.new back) }
@@ -177,8 +178,8 @@ impl<'a> Cursor<'a> {
         Some(first.back)
     }
 
-    /// The place before the first piece behind it of the run that it stands in. Goes through the entries up to
-    /// there; what stands in a block of the run is passed over. Nothing where the run has none.
+    /// The place before the next piece of the run that it is in. Goes through the entries up to there; what is in
+    /// a block of the run is passed over. `None` if the run has no more pieces.
     pub fn piece_behind(&self) -> Option<Cursor<'a>>
         ensures { result ≡ spec.placed self.now (spec.first_piece 0 self.now.number (drop self.now.number self.now.entries)) }
     {
@@ -194,7 +195,8 @@ impl<'a> Cursor<'a> {
         }
     }
 
-    /// The place before the last piece before it of the run that it stands in, in the same way.
+    /// The place before the last piece of its run that is before it. Goes back through the entries to there; what
+    /// is in a block of the run is passed over. `None` if there is none.
     pub fn piece_before(&self) -> Option<Cursor<'a>>
         ensures { result ≡ spec.placed self.now (spec.last_piece 0 self.now.entries self.now.number) }
     {
@@ -210,14 +212,14 @@ impl<'a> Cursor<'a> {
     }
 }
 
-/// Whether a piece of a run itself begins, in so many blocks of the run.
+/// Whether a piece of the run itself begins at an entry with this tag, where so many blocks of the run are open.
 pub(crate) fn leads(tag: Tag, inside: usize) -> bool
     ensures { result ≡ spec.leads tag inside }
 {
     matches!(tag, Tag::Piece(_)) && inside == 0
 }
 
-/// In how many blocks of a run what comes behind an entry stands, unless the run's own block ends there.
+/// In how many blocks of a run one is after an entry, unless the run's own block ends there.
 pub(crate) fn inside_behind(tag: Tag, inside: usize) -> Option<usize>
     requires { inside + 1 < 2 ^ 64 }
     ensures { result ≡ spec.inside_behind tag inside }
@@ -229,7 +231,7 @@ pub(crate) fn inside_behind(tag: Tag, inside: usize) -> Option<usize>
     }
 }
 
-/// In how many blocks of a run what comes before an entry stands, unless the run's own block begins there.
+/// In how many blocks of a run one is before an entry, unless the run's own block begins there.
 fn inside_before(tag: Tag, inside: usize) -> Option<usize>
     requires { inside + 1 < 2 ^ 64 }
     ensures { result ≡ spec.inside_before tag inside }

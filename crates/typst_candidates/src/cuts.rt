@@ -10,7 +10,7 @@ pub struct Window {
     pub to: usize,
 }
 
-/// Where the pieces of a run begin within a window, in bytes, but for the run's first. At the last of the pieces
+/// Where the pieces of a run begin within a window, in bytes, except the run's first. At the last of these bytes
 /// the run ends.
 #[derive(Drop)]
 pub struct Cuts {
@@ -23,8 +23,8 @@ impl Cuts {
     ghost use Rattle.typst_candidates.specs.Candidates.{is_among};
     ghost use Rattle.typst_candidates.specs.Rows.{bytes_of};
 
-    /// Whether a piece that isn't the run's first begins at the byte, which is one of the window's. Goes by halves, since each child
-    /// near an edit asks, and the bytes rise.
+    /// Whether a piece that isn't the run's first begins at the byte, which is one of the window's. A binary
+    /// search, since each child near an edit asks.
     pub fn has(&self, byte: usize) -> bool
         ensures { result ≡ is_among byte (bytes_of self.now) }
     {

@@ -13,9 +13,9 @@ use typst_tree::SyntaxNode;
 /// Which run a node is.
 #[derive(Debug, Clone, Copy, PartialEq, Eq)]
 pub(crate) enum RunAt {
-    /// The text's own,
+    /// The text's own run.
     Text,
-    /// or that of the content block which begins at this byte.
+    /// The run of the content block that begins at this byte.
     Block(usize),
 }
 
@@ -23,11 +23,11 @@ pub(crate) enum RunAt {
 #[derive(Clone, Copy)]
 pub(crate) struct Stop<'a> {
     pub node: &'a SyntaxNode,
-    /// The byte at which it begins,
+    /// The byte at which the node begins.
     pub at: usize,
-    /// those of its children that are near the replaced bytes,
+    /// Those of the node's children that are near the replaced bytes.
     pub near: Near,
-    /// and how many steps from the root lead to it.
+    /// How many steps from the root lead to the node.
     pub depth: usize,
     ghost fits: { at + length (text_of node.now) < 2 ^ 64 },
     ghost first: { IsEdge (at + length node.now.head.text) (trees node.now.kids) near.first },
@@ -35,17 +35,16 @@ pub(crate) struct Stop<'a> {
     ghost order: { near.first.index ≤ near.end.index },
 }
 
-/// A run or a block that stands around the replaced bytes.
+/// A run or a block that is around the replaced bytes.
 #[derive(Clone, Copy)]
 pub(crate) enum Enclosing<'a> {
-    /// The child that covers the replaced bytes, a block,
+    /// A block: the child that covers the replaced bytes.
     Block(Stop<'a>),
-    /// or all children, a run.
+    /// A run: all children of the node.
     Run(Stop<'a>, RunAt),
 }
 
-/// The run that a child is, of a node which begins at byte `at`: the block's, where it is the markup of a
-/// content block.
+/// The run that a child is of a node which begins at byte `at`: the content block's, if the child is its markup.
 pub(crate) fn run_of_child(parent: SyntaxKind, child: SyntaxKind, at: usize) -> Option<RunAt>
     ensures { (es : List Entry) → option_and_then (pieces_at es) result ≡ piece_run es at parent child }
 {

@@ -19,8 +19,8 @@ pub(crate) struct Entries {
     tally: Tally,
 }
 
-/// How many entries stand beside so many words. It is kept for one place, so that walks which begin there or behind
-/// count only on.
+/// How many entries are beside so many words. It is kept for one place, so that walks which begin there or after
+/// it go on counting from there.
 #[derive(Clone, Copy)]
 struct Tally {
     number: usize,
@@ -28,7 +28,7 @@ struct Tally {
 }
 
 impl Tally {
-    /// That of no words.
+    /// The tally of no words.
     fn first() -> Tally
         ensures tally { (ps : List Packed) → IsTally ps result }
         ensures first { result.number ≡ 0 }
@@ -39,7 +39,7 @@ impl Tally {
         }
     }
 
-    /// The same, where it is of no more than so many words, else that of none.
+    /// This tally, if it is of no more than `number` words, else that of none.
     fn upto(self, number: usize) -> Tally
         ensures same { (ps qs : List Packed) → IsTally ps self → take number qs ≡ take number ps → number ≤ length qs → IsTally qs result }
         ensures upto { result.number ≤ number }
@@ -76,14 +76,14 @@ impl Entries {
         }
     }
 
-    /// How many there are.
+    /// How many entries there are.
     pub(crate) fn count(&self) -> usize
         ensures { result ≡ length self.now.entries }
     {
         self.words.len()
     }
 
-    /// One more. Where there is no memory for it nothing changes.
+    /// Adds an entry at the end. If there is no memory for it, nothing changes.
     pub(crate) fn push(&mut self, entry: Entry) -> Result<(), AllocError>
         ensures ok { OnOk result (self.new.entries ≡ self.old.entries ++ entry ∷ []) }
         ensures err { OnErr result (self.new.entries ≡ self.old.entries) }
@@ -95,7 +95,7 @@ impl Entries {
         Ok(())
     }
 
-    /// One more, beside the words.
+    /// Adds an entry at the end, beside the words. If there is no memory for it, nothing changes.
     fn push_wide(&mut self, entry: Entry) -> Result<(), AllocError>
         ensures ok { OnOk result (self.new.entries ≡ self.old.entries ++ entry ∷ []) }
         ensures err { OnErr result (self.new.entries ≡ self.old.entries) }
@@ -124,7 +124,7 @@ impl Entries {
         Ok(())
     }
 
-    /// The same once more.
+    /// A copy of the entries.
     pub(crate) fn try_clone(&self, alloc: Global) -> Result<Entries, AllocError>
         ensures { IfOk result (λ e. e.entries ≡ self.now.entries) }
     {
@@ -139,8 +139,8 @@ impl Entries {
         })
     }
 
-    /// Puts a part in place of the entries behind the one numbered `from` up to the one numbered `to`, and
-    /// answers how many bytes lay between the tokens of these two, counted round the machine's numbers.
+    /// Puts a part in place of the entries after the one numbered `from` up to the one numbered `to`, and
+    /// answers how many bytes lay between the tokens of these two, modulo 2^64.
     /// It takes no memory, since room was made before.
     pub(crate) fn put(&mut self, part: &Entries, from: usize, to: usize) -> usize
         requires order { from ≤ to }
@@ -159,7 +159,7 @@ impl Entries {
         gone
     }
 
-    /// The place before the first.
+    /// The place before the first entry.
     pub(crate) fn walk(&self) -> Walk<'_>
         ensures { result ≡ record { entries = self.now.entries; number = 0 } }
     {
@@ -171,7 +171,7 @@ impl Entries {
         }
     }
 
-    /// The place behind so many. Goes through the words before it, but for those of the tally.
+    /// The place after so many entries. Goes through the words before it, except those of the tally.
     pub(crate) fn walk_at(&self, number: usize) -> Walk<'_>
         requires { number ≤ length self.now.entries }
         ensures { result ≡ record { entries = self.now.entries; number = number } }
@@ -184,7 +184,7 @@ impl Entries {
         }
     }
 
-    /// Keeps the tally of so many words.
+    /// Keeps the tally of the first so many words.
     pub(crate) fn tally_at(&mut self, number: usize)
         requires { number ≤ length self.old.entries }
         ensures { self.new ≡ self.old }
@@ -193,7 +193,7 @@ impl Entries {
         self.tally = Tally { number, passed };
     }
 
-    /// The place behind the last.
+    /// The place after the last entry.
     pub(crate) fn walk_at_end(&self) -> Walk<'_>
         ensures { result ≡ record { entries = self.now.entries; number = length self.now.entries } }
     {
@@ -206,13 +206,14 @@ impl Entries {
     }
 }
 
-/// So many words are passed over at once, where what is looked for can't be among them. Of more words one is more
-/// often such that they can't be passed over.
+/// How many words are passed over at once, if what is looked for can't be among them. The more they are, the more
+/// often one of them can't be passed over.
 pub(crate) const BLOCK: usize = 16;
 
-/// The looks of an entry that a word holds go fewer bytes forth, and fewer back.
+/// The looks of an entry that a word holds go fewer bytes forth than this.
 pub(crate) const FARTHEST_FORTH: usize = 1 << 10;
 
+/// The looks of an entry that a word holds go fewer bytes back than this.
 pub(crate) const FARTHEST_BACK: usize = 1 << 4;
 
 /// A place between two entries.
@@ -220,9 +221,9 @@ pub(crate) const FARTHEST_BACK: usize = 1 << 4;
 pub(crate) struct Walk<'a> {
     words: &'a [Packed],
     wide: &'a [Entry],
-    /// How many words stand before it,
+    /// How many words are before the place.
     number: usize,
-    /// and how many entries beside these.
+    /// How many entries beside the words are before the place.
     passed: usize,
 }
 
@@ -239,7 +240,7 @@ impl<'a> Model for Walk<'a> {
 }
 
 impl<'a> Walk<'a> {
-    /// The same place.
+    /// A copy of the place.
     pub(crate) fn copy(&self) -> Walk<'a>
         ensures place { result ≡ self.now }
         ensures fits { result.number < 2 ^ 64 }
@@ -261,8 +262,8 @@ impl<'a> Walk<'a> {
         spans(&self.words[..self.number]) + lengths(&self.wide[..self.passed])
     }
 
-    /// Passes over a block of words behind it, if all of them hold entries and take up fewer bytes than `most`;
-    /// answers how many these are. Else nothing changes.
+    /// Passes over a block of words after the place, if all of them hold entries and take up fewer bytes than
+    /// `most`; answers how many these are. Else nothing changes.
     #[inline]
     pub(crate) fn pass_block(&mut self, most: usize) -> Option<usize>
         ensures none { result ≡ None → self.new ≡ self.old }
@@ -279,7 +280,8 @@ impl<'a> Walk<'a> {
         Some(span)
     }
 
-    /// Passes over a block of words before it in the same way.
+    /// Passes back over a block of words before the place, if all of them hold entries and take up fewer bytes
+    /// than `most`; answers how many these are. Else nothing changes.
     #[inline]
     pub(crate) fn pass_block_back(&mut self, most: usize) -> Option<usize>
         ensures none { result ≡ None → self.new ≡ self.old }
@@ -294,7 +296,7 @@ impl<'a> Walk<'a> {
         Some(span)
     }
 
-    /// How many entries stand before it.
+    /// How many entries are before the place.
     #[inline]
     pub(crate) fn number(&self) -> usize
         ensures number { result ≡ self.now.number }
@@ -303,7 +305,7 @@ impl<'a> Walk<'a> {
         self.number
     }
 
-    /// The entry behind it, behind which it goes; nothing where there is none.
+    /// The entry after the place, which moves past it; `None` after the last.
     #[inline]
     pub(crate) fn next(&mut self) -> Option<Entry>
         ensures entry { result ≡ entry_behind self.old }
@@ -320,8 +322,8 @@ impl<'a> Walk<'a> {
         Some(entry)
     }
 
-    /// Passes over the entry behind it, if a word holds it and a piece begins at it; answers how many bytes it
-    /// takes up. Else nothing changes. Reads no more of the word than these two facts.
+    /// Passes over the entry after the place, if a word holds it and a piece begins at it; answers how many bytes
+    /// it takes up. Else nothing changes. Reads no more of the word than these two facts.
     #[inline]
     pub(crate) fn pass_piece(&mut self) -> Option<usize>
         ensures { MatchOption result (self.new ≡ self.old) (λ span. (p : PassesPiece self.old self.new) × (span ≡ p.entry.step + p.entry.gap)) }
@@ -334,14 +336,14 @@ impl<'a> Walk<'a> {
         Some(word.span() as usize)
     }
 
-    /// How many entries stand behind it.
+    /// How many entries are after the place.
     pub(crate) fn left(&self) -> usize
         ensures { result ≡ length self.now.entries - self.now.number }
     {
         self.words.len() - self.number
     }
 
-    /// The entry before it, before which it goes; nothing where there is none.
+    /// The entry before the place, which moves back over it; `None` before the first.
     #[inline]
     pub(crate) fn back(&mut self) -> Option<Entry>
         ensures entry { result ≡ entry_before self.old }
@@ -365,8 +367,8 @@ fn wide_at(wide: &[Entry], number: usize) -> Entry
     wide[number]
 }
 
-/// How many entries stand beside so many words. Goes through those behind the tally's, where it is of fewer, or else
-/// through all.
+/// How many entries are beside the first so many words. Goes through those after the tally's, if it is of fewer,
+/// or else through all.
 fn passed_at(words: &[Packed], tally: Tally, number: usize) -> usize
     requires tally { IsTally words.now tally }
     requires within { number ≤ length words.now }
@@ -376,7 +378,7 @@ fn passed_at(words: &[Packed], tally: Tally, number: usize) -> usize
     from.passed + beside(&words[from.number..number])
 }
 
-/// How many entries stand beside some words. Adds up a block after the other.
+/// How many entries are beside some words. Adds up one block after the other.
 fn beside(words: &[Packed]) -> usize
     ensures { result ≡ wides words.now }
 {
@@ -390,8 +392,8 @@ fn beside(words: &[Packed]) -> usize
     count
 }
 
-/// The same of the words of a block. It adds in 32 bits, as the machine adds twice as many of these at once as of
-/// 64; they hold the sum, since each word counts one at most.
+/// How many entries are beside the words of a block. It adds in 32 bits, as the machine adds twice as many of
+/// these at once as of 64; they hold the sum, since each word counts one at most.
 #[inline]
 fn block_beside(words: &[Packed]) -> u32
     requires { length words.now ≤ block_len }
@@ -416,8 +418,8 @@ fn block_span(words: &[Packed]) -> Option<usize>
     Some(block_spans(words) as usize)
 }
 
-/// How many bytes lie between the tokens of the entries that some words hold and the tokens before these, counted
-/// round the machine's numbers. Adds up a block after the other.
+/// How many bytes lie between the tokens of the entries that some words hold and the tokens before these, modulo
+/// 2^64. Adds up one block after the other.
 fn spans(words: &[Packed]) -> usize
     ensures { result ≡ spans words.now % 2 ^ 64 }
 {
@@ -431,8 +433,8 @@ fn spans(words: &[Packed]) -> usize
     sum
 }
 
-/// The same of the words of a block. It adds in 32 bits, as `block_beside` does; they hold the sum, since no word
-/// takes up 2^9 bytes.
+/// How many bytes lie between the tokens of the entries that the words of a block hold and the tokens before
+/// these. It adds in 32 bits, as `block_beside` does; they hold the sum, since no word takes up 2^9 bytes.
 #[inline]
 fn block_spans(words: &[Packed]) -> u32
     requires { length words.now ≤ block_len }
@@ -445,7 +447,7 @@ fn block_spans(words: &[Packed]) -> u32
     sum
 }
 
-/// The same of entries beside the words.
+/// How many bytes lie between the tokens of entries beside the words and the tokens before these, modulo 2^64.
 fn lengths(entries: &[Entry]) -> usize
     ensures { result ≡ lengths entries.now % 2 ^ 64 }
 {
@@ -456,9 +458,9 @@ fn lengths(entries: &[Entry]) -> usize
     sum
 }
 
-/// Puts a part in place of the items from the one numbered `from` up to the one numbered `to`, for which there
-/// is room. Where as many come as go, as at nearly every keystroke, it writes over them; the rotations that make
-/// place for more or fewer go through all items behind.
+/// Puts a part in place of the items from the one numbered `from` up to the one numbered `to`, for which there is
+/// room. If as many come as go, as at nearly every keystroke, it writes over them; the rotations that make
+/// place for more or fewer go through all items after them.
 fn replace<T: Copy>(items: &mut Vec<T>, from: usize, to: usize, part: &[T])
     requires order { from ≤ to }
     requires within { to ≤ length items.old.items }
@@ -480,7 +482,7 @@ fn replace<T: Copy>(items: &mut Vec<T>, from: usize, to: usize, part: &[T])
     items.truncate(count + more - gone);
 }
 
-/// Brings the last so many items to the place `at`.
+/// Brings the last `count` items to the place `at`, before the others from there on.
 fn bring_forward<T>(items: &mut [T], at: usize, count: usize)
     requires { at + count ≤ length items.old }
     ensures { let rest = drop at items.old in items.new ≡ take at items.old ++ (drop (length rest - count) rest ++ take (length rest - count) rest) }
@@ -488,7 +490,7 @@ fn bring_forward<T>(items: &mut [T], at: usize, count: usize)
     items[at..].rotate_right(count);
 }
 
-/// Brings so many items from the place `at` to the end.
+/// Brings `count` items from the place `at` to the end.
 fn bring_back<T>(items: &mut [T], at: usize, count: usize)
     requires { at + count ≤ length items.old }
     ensures { let rest = drop at items.old in items.new ≡ take at items.old ++ (drop count rest ++ take count rest) }

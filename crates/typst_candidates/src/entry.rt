@@ -1,4 +1,4 @@
-//! One unit's begin or end, by what stands between it and the one before it.
+//! One unit's begin or end, by what is between it and the one before it.
 
 ghost use Rattle.std.specs.Prelude.{◌≡◌, ◌-◌, ◌^◌, ◌<◌};
 ghost use Rattle.typst_candidates.specs.Entries as spec;
@@ -17,26 +17,26 @@ pub enum Tag {
     Closes,
 }
 
-/// A note of a reading by what stands between it and the note before it, in bytes. An edit changes
-/// the entries of its own part alone, since no place of the text stands in one.
+/// A note of a reading by what is between it and the note before it, in bytes. An edit changes
+/// the entries of its own part alone, since no place of the text is in one.
 #[derive(Debug, Clone, Copy, PartialEq, Eq)]
 pub struct Entry {
     /// What begins or ends.
     pub tag: Tag,
-    /// How far it stands behind the token of the note before it,
+    /// How far the note is after the token of the one before it.
     pub step: usize,
-    /// and how long the trivia between it and its own token are.
+    /// How long the trivia between it and its own token are.
     pub gap: usize,
-    /// How far the looks since the note before it go past the start of its token,
+    /// How far the looks since the note before it go past the start of its token.
     pub forth: usize,
-    /// and how far before the token of the note before it they begin.
+    /// How far before the token of the note before it these looks begin.
     pub back: usize,
-    /// The brackets that are open behind a piece, the levels that are left in a block, or nothing.
+    /// The brackets that are open after a piece, the levels that are left in a block, or nothing.
     pub count: usize,
 }
 
 impl Entry {
-    /// That of a note behind one whose token begins at the byte `start`.
+    /// The entry of a note, after a note whose token begins at the byte `start`.
     pub fn new(start: usize, note: &Note) -> Entry
         requires { start < 2 ^ 64 - 1 }
         ensures { result ≡ spec.entry_of start note.now }
@@ -53,7 +53,7 @@ impl Entry {
 }
 
 impl Entry {
-    /// That of a block's end at the byte `end`, behind a note whose token begins at the byte `start`, where
+    /// The entry of a block's end at the byte `end`, after a note whose token begins at the byte `start`, where
     /// the looks since that note end at `reach` and begin at `least`.
     pub(crate) fn of_block_end(start: usize, end: usize, reach: usize, least: usize) -> Entry
         requires { start < 2 ^ 64 - 1 }

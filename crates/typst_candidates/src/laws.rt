@@ -5,14 +5,14 @@ ghost use Rattle.typst_candidates.specs.Nested.{ClosingLaw, InnerRunLaw, TopRunL
 ghost use Rattle.typst_candidates.specs.RecordExamples.{RecordExamples};
 ghost use Rattle.typst_candidates.specs.Records.{FrontLaw, RearLaw};
 
-/// What edits of short texts may read anew, in order.
+/// What edits of short texts may read again, in order.
 pub fn candidates_of_texts()
     ensures { Examples }
 {}
 
 /// Two numbers decide what an edit asks of the looks around a part, from one note to another: how many of the
-/// first notes stand with their looks before the replaced bytes, and from which one on all looks begin
-/// behind them.
+/// first notes are with their looks before the replaced bytes, and from which one on all looks begin
+/// after them.
 pub fn looks_law()
     ensures front { FrontLaw }
     ensures rear { RearLaw }

@@ -1,4 +1,4 @@
-//! What of a tree an edit may read anew: blocks that cover the replaced bytes, and pieces around
+//! What of a tree an edit may read again: blocks that cover the replaced bytes, and pieces around
 //! them, in order; and the units of a text, by which it is decided.
 //!
 //! [`find_candidates`] gives as many of the first candidates as are asked for. Who needs them one after the

@@ -14,7 +14,7 @@ pub(crate) struct Packed {
     word: u32,
 }
 
-/// How many bits the parts of an entry take behind those of its tag, from the lowest on; what is left holds
+/// How many bits the parts of an entry take after those of its tag, from the lowest on; what is left holds
 /// its count.
 #[derive(Clone, Copy)]
 struct Widths {
@@ -41,7 +41,7 @@ impl Packed {
         Packed { word: 15 }
     }
 
-    /// The word that holds an entry, where one does.
+    /// The word that holds an entry, if one can.
     pub(crate) fn pack(entry: Entry) -> Option<Packed>
         ensures { IfSome result (λ p. spec.entry_in p ≡ Some entry) }
     {
@@ -55,7 +55,7 @@ impl Packed {
         Some(Packed { word })
     }
 
-    /// The entry that the word holds, where it holds one.
+    /// The entry that the word holds, if it holds one.
     #[inline]
     pub(crate) fn entry(self) -> Option<Entry>
         ensures { result ≡ spec.entry_in self }
@@ -77,7 +77,7 @@ impl Packed {
         })
     }
 
-    /// How many entries beside the words the word stands for: one, where it holds none itself.
+    /// How many entries beside the words the word stands for: one, if it holds none itself.
     #[inline]
     pub(crate) fn beside(self) -> u32
         ensures { result ≡ spec.beside (spec.entry_in self) }
@@ -89,7 +89,7 @@ impl Packed {
         }
     }
 
-    /// How many bytes lie between the token before the entry and its own, or none, where the word holds none.
+    /// How many bytes lie between the token before an entry and its own, or 0 if the word holds no entry.
     #[inline]
     pub(crate) fn span(self) -> u32
         ensures value { result ≡ spec.span (spec.entry_in self) }
@@ -114,7 +114,7 @@ impl Packed {
     }
 }
 
-/// A number whose lowest bits, so many of them, are `low`, and whose others are `high`, where both fit.
+/// The number whose lowest `width` bits are `low`, and whose others are `high`, if both fit.
 #[inline]
 fn joined(low: usize, width: u32, high: u32) -> Option<u32>
     requires { width < 32 }
@@ -126,7 +126,7 @@ fn joined(low: usize, width: u32, high: u32) -> Option<u32>
     word_of(((high as usize) << width) | low)
 }
 
-/// The number as a word, where it fits.
+/// The number as a word, if it fits.
 #[inline]
 fn word_of(number: usize) -> Option<u32>
     ensures { IfSome result (λ word. word ≡ number) }
@@ -134,7 +134,7 @@ fn word_of(number: usize) -> Option<u32>
     u32::try_from(number).ok()
 }
 
-/// The lowest bits of a number, so many of them, and the others.
+/// The lowest `width` bits of a number, and the others.
 #[inline]
 fn split(both: u32, width: u32) -> (usize, u32)
     requires { width < 32 }
@@ -145,8 +145,8 @@ fn split(both: u32, width: u32) -> (usize, u32)
     (low as usize, both >> width)
 }
 
-/// A block's count is the levels that are left in it, a few less than the limit of depth, and trivia seldom
-/// stand before it; the count of a piece is nearly always 0.
+/// The widths of the parts of an entry with this tag. A block's count is the levels that are left in it, a few
+/// less than the limit of depth, and trivia are seldom before it; the count of a piece is nearly always 0.
 #[inline]
 fn widths_of(tag: Tag) -> Widths
     ensures widths { result ≡ spec.widths tag }

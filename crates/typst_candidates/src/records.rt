@@ -14,15 +14,15 @@ use std::alloc::{AllocError, Global};
 use std::marker::Model;
 use typst_language::Note;
 
-/// The units of a text: an entry for each note of its reading, in order, and where the looks behind the
-/// last note begin. Nothing of it depends on where in a text an entry stands, so an edit exchanges the
+/// The units of a text: an entry for each note of its reading, in order, and where the looks after the
+/// last note begin. Nothing of it depends on where in a text an entry is, so an edit exchanges the
 /// entries of its own part alone.
 #[derive(Drop)]
 pub struct Records {
     entries: Entries,
-    /// How far before the token of the last note the looks behind it begin.
+    /// How far before the token of the last note the looks after it begin.
     back: usize,
-    /// Where the token of the last note begins, counted round the machine's numbers. It is kept, since an edit
+    /// Where the token of the last note begins, modulo 2^64. It is kept, since an edit
     /// that adds up all entries for it costs as much as all else.
     last: usize,
     pub(crate) anchor: Anchor,
@@ -42,7 +42,7 @@ impl Model for Records {
 }
 
 impl Records {
-    /// Those of nothing.
+    /// The units of a text without notes.
     pub fn new(alloc: Global) -> Records
         ensures { result.units ≡ record { entries = []; back = 0 } }
     {
@@ -54,8 +54,8 @@ impl Records {
         }
     }
 
-    /// Those of a reading with these notes, behind the last of which the looks begin at `least`, which
-    /// counts the mark before the text.
+    /// The units of a reading with these notes, after the last of which the looks begin at `least`, which counts
+    /// the mark before the text.
     pub fn of_notes(alloc: Global, notes: &[Note], least: usize) -> Result<Records, AllocError>
         requires { AllFit notes.now }
         ensures { IfOk result (λ r. r.units ≡ units_by notes.now least) }
@@ -66,8 +66,8 @@ impl Records {
         Ok(records)
     }
 
-    /// One note more, behind one whose token begins at the byte `start`. Where there is no memory for it
-    /// nothing changes.
+    /// Adds a note after one whose token begins at the byte `start`. If there is no memory for it, nothing
+    /// changes.
     pub fn add(&mut self, start: usize, note: &Note) -> Result<(), AllocError>
         requires { start < 2 ^ 64 - 1 }
         ensures ok { OnOk result (self.new.units ≡ record self.old.units { entries = self.old.units.entries ++ entry_of start note.now ∷ [] }) }
@@ -76,7 +76,7 @@ impl Records {
         self.push(Entry::new(start, note))
     }
 
-    /// One entry more. Where there is no memory for it nothing changes.
+    /// Adds an entry at the end. If there is no memory for it, nothing changes.
     fn push(&mut self, entry: Entry) -> Result<(), AllocError>
         ensures ok { OnOk result (self.new.units ≡ record self.old.units { entries = self.old.units.entries ++ entry ∷ [] }) }
         ensures err { OnErr result (self.new.units ≡ self.old.units) }
@@ -86,8 +86,8 @@ impl Records {
         Ok(())
     }
 
-    /// These notes more, behind one whose token begins at the byte `start`; answers where the token of the
-    /// last of them begins.
+    /// Adds notes after one whose token begins at the byte `start`; answers where the token of the last of them
+    /// begins.
     pub fn add_all(&mut self, start: usize, notes: &[Note]) -> Result<usize, AllocError>
         requires first { start < 2 ^ 64 - 1 }
         requires fits { AllFit notes.now }
@@ -104,9 +104,8 @@ impl Records {
         Ok(start)
     }
 
-    /// The end of a block more, which ends at the byte `end`, behind a note whose token begins at the byte
-    /// `start`, where the looks since that note end at `reach` and begin at `least`. Where there is no memory
-    /// for it nothing changes.
+    /// Adds the end of a block at the byte `end`, after a note whose token begins at the byte `start`, where the
+    /// looks since that note end at `reach` and begin at `least`. If there is no memory for it, nothing changes.
     pub fn add_end(
         &mut self,
         start: usize,
@@ -121,7 +120,8 @@ impl Records {
         self.push(Entry::of_block_end(start, end, reach, least))
     }
 
-    /// The last note's token begins at the byte `start`, and the looks behind it at `least`.
+    /// Says how the units end: the last note's token begins at the byte `start`, and the looks after it at
+    /// `least`.
     pub fn end(&mut self, start: usize, least: usize)
         requires { start < 2 ^ 64 - 1 }
         ensures { self.new ≡ record self.old { units = record self.old.units { back = back_of start least } } }
@@ -136,8 +136,8 @@ impl Records {
         self.entries.count()
     }
 
-    /// Where the last note's token begins, in bytes, or 0 where there is none; nothing where that is no number
-    /// of the machine. Goes through all entries.
+    /// Where the last note's token begins, in bytes, or 0 if there is none; `None` if that isn't a number of the
+    /// machine. Goes through all entries.
     pub fn last(&self) -> Option<usize>
         ensures some { IfSome result (λ at. at ≡ end_of 0 self.now.units.entries) }
         ensures none { result ≡ None → 2 ^ 64 ≤ end_of 0 self.now.units.entries }
@@ -150,7 +150,8 @@ impl Records {
         Some(at)
     }
 
-    /// The same where the places of the text are numbers of the machine. It is kept: nothing is added up.
+    /// Where the last note's token begins, in bytes, or 0 if there is none, where the places of the text are
+    /// numbers of the machine. It is kept: nothing is added up.
     pub fn last_token(&self) -> usize
         requires { end_of 0 self.now.units.entries < 2 ^ 64 }
         ensures { result ≡ end_of 0 self.now.units.entries }
@@ -165,7 +166,7 @@ impl Records {
         self.entries.walk()
     }
 
-    /// The place behind so many entries. Goes through the words of these.
+    /// The place after so many entries. Goes through the words of these.
     pub(crate) fn walk_at(&self, number: usize) -> Walk<'_>
         requires { number ≤ length self.now.units.entries }
         ensures { result ≡ record { entries = self.now.units.entries; number = number } }
@@ -173,7 +174,8 @@ impl Records {
         self.entries.walk_at(number)
     }
 
-    /// Keeps the tally of so many words, so that walks which begin there or behind count only on.
+    /// Keeps the tally of the first so many words, so that walks which begin there or after it go on counting from
+    /// there.
     pub(crate) fn tally_at(&mut self, number: usize)
         requires { number ≤ length self.old.units.entries }
         ensures { self.new ≡ self.old }
@@ -181,14 +183,14 @@ impl Records {
         self.entries.tally_at(number);
     }
 
-    /// The place behind the last entry.
+    /// The place after the last entry.
     pub(crate) fn walk_at_end(&self) -> Walk<'_>
         ensures { result ≡ record { entries = self.now.units.entries; number = length self.now.units.entries } }
     {
         self.entries.walk_at_end()
     }
 
-    /// The same once more.
+    /// A copy of the units.
     pub fn try_clone(&self, alloc: Global) -> Result<Records, AllocError>
         ensures { IfOk result (λ r. r.units ≡ self.now.units) }
     {
@@ -200,8 +202,8 @@ impl Records {
         })
     }
 
-    /// How many of the first notes stand, with all looks before them, at the byte `at` or before it. Goes
-    /// through these and one more, from the anchor on where that serves.
+    /// How many of the first notes are, with all looks before them, at the byte `at` or before it. Goes through
+    /// these and one more, from the anchor on if all before it are among them.
     pub fn front(&self, at: usize) -> usize
         ensures { result ≡ front_of at 0 self.now.units.entries }
     {
@@ -230,9 +232,9 @@ impl Records {
         }
     }
 
-    /// From which note on all looks behind it begin behind the byte `at`, where the last note's token
-    /// begins at the byte `last`; the number of notes where there is none. Goes through these notes,
-    /// from the last one, and one more.
+    /// From which note on all looks after it begin after the byte `at`, where the last note's token begins at the
+    /// byte `last`; the number of notes if there is none. Goes back through these notes, from the last one, and
+    /// one more.
     pub fn rear(&self, at: usize, last: usize) -> usize
         requires { last ≡ end_of 0 self.now.units.entries }
         ensures { result ≡ rear_of at 0 0 self.now.units.entries self.now.units.back }
@@ -283,7 +285,7 @@ impl Records {
         Ok(())
     }
 
-    /// Puts a part in place of the entries behind the one numbered `from` up to the one numbered `to`.
+    /// Puts a part in place of the entries after the one numbered `from` up to the one numbered `to`.
     /// It takes no memory, since room was made before.
     pub fn put(&mut self, part: &Records, from: usize, to: usize)
         requires order { from ≤ to }
@@ -309,8 +311,8 @@ pub fn fit(notes: &[Note]) -> bool
     true
 }
 
-/// Passes over a block behind the place, if it takes up fewer bytes than `most`, and answers how many these are.
-/// Where it doesn't, it is asked only so many steps later again.
+/// Passes over a block of entries after the place, if it takes up fewer bytes than `most`, and answers how many
+/// these are. If it doesn't, it is asked again only so many steps later.
 #[inline]
 fn pass_far(place: &mut Walk<'_>, steps: &mut usize, most: usize) -> Option<usize>
     ensures { MatchOption result (place.new ≡ place.old) (λ span. PassesBlock place.old place.new span × span < most) }
@@ -326,7 +328,7 @@ fn pass_far(place: &mut Walk<'_>, steps: &mut usize, most: usize) -> Option<usiz
     Some(span)
 }
 
-/// What is left of so many bytes behind the token of the entry.
+/// What is left of `left` bytes after the token of the entry, or `None` if that is further.
 #[inline]
 fn left_behind(left: usize, entry: &Entry) -> Option<usize>
     ensures some { (rest : ℕ) → result ≡ Some rest → left ≡ (rest + entry.now.step) + entry.now.gap }
@@ -335,7 +337,7 @@ fn left_behind(left: usize, entry: &Entry) -> Option<usize>
     left.checked_sub(entry.step)?.checked_sub(entry.gap)
 }
 
-/// Whether looks that begin so far before the token at the byte `start` begin behind the byte `at`.
+/// Whether looks that begin so far before the token at the byte `start` begin after the byte `at`.
 #[inline]
 fn is_behind(at: usize, start: usize, back: usize) -> bool
     ensures { result ≡ spec.is_behind at start back }
@@ -343,14 +345,14 @@ fn is_behind(at: usize, start: usize, back: usize) -> bool
     at <= start && back <= start - at
 }
 
-/// Whether a block begins.
+/// Whether a block begins at an entry with this tag.
 fn is_opening(tag: Tag) -> bool
     ensures { result ≡ is_opening tag }
 {
     matches!(tag, Tag::Opens(_, _))
 }
 
-/// Whether a block begins at the byte that so many bytes stand before.
+/// Whether a block begins at an entry with this tag, and no bytes are left up to the byte that is looked for.
 fn opens_at(tag: Tag, left: usize) -> bool
     ensures { result ≡ (is_opening tag && left == 0) }
 {

@@ -1,4 +1,4 @@
-//! Children that stand side by side, and the stretches of them around an edit.
+//! Children that are side by side, and the stretches of them around an edit.
 
 ghost use Rattle.std.specs.Prelude.{◌≡◌, ◌+◌, ◌-◌, ◌<◌, ◌≤◌, ◌^◌, ◌||◌, ◌&&◌, nat_le, not, min, length};
 ghost use Rattle.typst_tree.specs.Tree.{trees, text_of};
@@ -9,7 +9,7 @@ use crate::{Cuts, Window};
 use typst_kinds::SyntaxKind;
 use typst_tree::SyntaxNode;
 
-/// A place between children: how many stand before it, and its byte.
+/// A place between children: how many are before it, and its byte.
 #[derive(Debug, Clone, Copy, PartialEq, Eq)]
 pub struct Edge {
     pub index: usize,
@@ -17,7 +17,7 @@ pub struct Edge {
 }
 
 /// The children near an edit: from the last that begins before it, up to the first that ends
-/// behind it.
+/// after it.
 #[derive(Debug, Clone, Copy, PartialEq, Eq)]
 pub struct Near {
     pub first: Edge,
@@ -64,8 +64,8 @@ impl Stretch {
     }
 }
 
-/// Whether what stands at the end of a stretch is never alone there: trivia, errors, semicolons,
-/// and leaves that are a slash or a colon.
+/// Whether the node clings to what is before it, and so is never alone at the end of a stretch: trivia, errors,
+/// semicolons, and leaves that are a slash or a colon.
 fn clings(node: &SyntaxNode) -> bool
     ensures { result ≡ clings node.now }
 {
@@ -76,7 +76,7 @@ fn clings(node: &SyntaxNode) -> bool
     !node.is_inner() && is_sign(node.leaf_text())
 }
 
-/// Whether it is a hash.
+/// Whether the node is a hash.
 fn is_hash(node: &SyntaxNode) -> bool
     ensures { result ≡ is_hash node.now }
 {
@@ -130,7 +130,7 @@ impl<'a> Row<'a> {
         }
     }
 
-    /// The place behind all children.
+    /// The place after all children.
     fn rear(&self) -> Edge
         requires { Fits self.now.at self.now.kids.now }
         ensures index { result.index ≡ length self.now.kids.now }
@@ -142,7 +142,7 @@ impl<'a> Row<'a> {
         }
     }
 
-    /// The place behind the child that the place stands before.
+    /// The place after the next child.
     fn behind(&self, edge: Edge) -> Edge
         requires fits { Fits self.now.at self.now.kids.now }
         requires edge { IsEdge self.now.at self.now.kids.now edge }
@@ -156,7 +156,7 @@ impl<'a> Row<'a> {
         }
     }
 
-    /// The place before the child that the place stands behind.
+    /// The place before the last child before it.
     fn before(&self, edge: Edge) -> Edge
         requires fits { Fits self.now.at self.now.kids.now }
         requires edge { IsEdge self.now.at self.now.kids.now edge }
@@ -185,7 +185,7 @@ impl<'a> Row<'a> {
         }
     }
 
-    /// The same, from the first child on.
+    /// The last child that begins before the byte, else the first. Goes from the first child on.
     fn on_to_begun(&self, byte: usize) -> Edge
         requires { Fits self.now.at self.now.kids.now }
         ensures index { result.index ≡ first_near byte (laid self.now.at self.now.kids.now) }
@@ -201,7 +201,7 @@ impl<'a> Row<'a> {
         last
     }
 
-    /// The same, from the last child back.
+    /// The last child that begins before the byte, else the first. Goes back from the last child.
     fn back_to_begun(&self, byte: usize) -> Edge
         requires { Fits self.now.at self.now.kids.now }
         ensures index { result.index ≡ first_near byte (laid self.now.at self.now.kids.now) }
@@ -218,7 +218,7 @@ impl<'a> Row<'a> {
         edge
     }
 
-    /// The place behind the first child that ends after the byte, else behind the last. Children
+    /// The place after the first child that ends after the byte, else after the last. Children
     /// before `from` end at the byte or before it.
     fn first_ended(&self, from: Edge, byte: usize) -> Edge
         requires fits { Fits self.now.at self.now.kids.now }
@@ -264,7 +264,7 @@ impl<'a> Row<'a> {
         edge
     }
 
-    /// The place `count` children on the right, or behind all.
+    /// The place `count` children on the right, or after all.
     fn on_by(&self, from: Edge, count: usize) -> Edge
         requires fits { Fits self.now.at self.now.kids.now }
         requires edge { IsEdge self.now.at self.now.kids.now from }
@@ -288,7 +288,7 @@ impl<'a> Row<'a> {
         clings(&self.kids[index])
     }
 
-    /// Back past children that cling to what stands before them.
+    /// The place back past children that cling to what is before them.
     fn back_past_clinging(&self, from: Edge) -> Edge
         requires fits { Fits self.now.at self.now.kids.now }
         requires edge { IsEdge self.now.at self.now.kids.now from }
@@ -315,7 +315,7 @@ impl<'a> Row<'a> {
         is_hash(&self.kids[index])
     }
 
-    /// The place before the hash that it stands directly behind, else the place itself.
+    /// The place before the hash directly before it, else the place itself.
     fn with_hash(&self, from: Edge) -> Edge
         requires fits { Fits self.now.at self.now.kids.now }
         requires edge { IsEdge self.now.at self.now.kids.now from }
@@ -328,7 +328,7 @@ impl<'a> Row<'a> {
         from
     }
 
-    /// Whether the place stands before a child that isn't the first of a piece.
+    /// Whether the place is before a child that isn't the first of a piece.
     fn is_within_piece(&self, cuts: &Cuts, edge: Edge) -> bool
         requires { IsEdge self.now.at self.now.kids.now edge }
         ensures { result ≡ holds_at (λ c. not (leads (bytes_of cuts.now) c)) (laid self.now.at self.now.kids.now) edge.index }
@@ -339,7 +339,7 @@ impl<'a> Row<'a> {
         !leads(cuts, edge.byte, &self.kids[edge.index])
     }
 
-    /// Back to the first child of its piece.
+    /// The place back before the first child of its piece.
     fn back_to_piece(&self, cuts: &Cuts, from: Edge) -> Edge
         requires fits { Fits self.now.at self.now.kids.now }
         requires edge { IsEdge self.now.at self.now.kids.now from }
@@ -356,7 +356,7 @@ impl<'a> Row<'a> {
         edge
     }
 
-    /// Whether the place stands before a child that clings or isn't the first of a piece.
+    /// Whether the place is before a child that clings or isn't the first of a piece.
     fn goes_on(&self, cuts: &Cuts, edge: Edge) -> bool
         requires { IsEdge self.now.at self.now.kids.now edge }
         ensures { result ≡ holds_at (λ c. clings c.node || not (leads (bytes_of cuts.now) c)) (laid self.now.at self.now.kids.now) edge.index }
@@ -368,7 +368,7 @@ impl<'a> Row<'a> {
         clings(kid) || !leads(cuts, edge.byte, kid)
     }
 
-    /// On past children that cling, up to the first child of a piece or behind all.
+    /// The place on past children that cling, up to the first child of a piece or after all.
     fn on_to_piece(&self, cuts: &Cuts, from: Edge) -> Edge
         requires fits { Fits self.now.at self.now.kids.now }
         requires edge { IsEdge self.now.at self.now.kids.now from }

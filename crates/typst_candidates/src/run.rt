@@ -15,7 +15,7 @@ use std::alloc::{AllocError, Global};
 use typst_language::Block;
 
 impl<'a> Cursor<'a> {
-    /// Where the pieces behind the place begin, in bytes, of the run that it stands in, within a window. Goes through
+    /// Where the pieces after the place begin, in bytes, of the run that it is in, within a window. Goes through
     /// the entries up to the window's end.
     fn starts(&self, alloc: Global, window: Window) -> Result<Vec<usize>, AllocError>
         ensures { IfOk result (λ bytes. bytes.items ≡ within window (spec.pieces_of 0 (spec.start_at self.now) (drop self.now.number self.now.entries))) }
@@ -40,7 +40,7 @@ impl<'a> Cursor<'a> {
 }
 
 impl Records {
-    /// The text's own run within a window. Goes through the entries from the anchor on, where that stands in the run, or
+    /// The text's own run within a window. Goes through the entries from the anchor on, if that is in the run, or
     /// else from the first, up to the window's end.
     pub fn top_run(&self, alloc: Global, window: Window) -> Result<Option<Cuts>, AllocError>
         requires { end_of 0 self.now.units.entries < 2 ^ 64 }
@@ -49,8 +49,8 @@ impl Records {
         self.run_behind(alloc, &self.cursor(), window)
     }
 
-    /// The run that begins behind a place, within a window, if a piece of it begins there. Goes through the entries in
-    /// the same way.
+    /// The run that begins after a place, within a window, if a piece of it begins there. Goes through the entries
+    /// up to the window's end.
     fn run_behind(
         &self,
         alloc: Global,
@@ -70,10 +70,10 @@ impl Records {
         Ok(Some(Cuts { starts, window }))
     }
 
-    /// The run of the content block that begins at byte `at`, within a window; `None` where no block or no piece of it is
-    /// noted, as at the limit of depth. Passes over the entries up to the block, many at a time, and goes through
-    /// those of the block from the anchor on, where that stands in its run, or else from its begin, up to the window's
-    /// end.
+    /// The run of the content block that begins at byte `at`, within a window; `None` if no block or no piece of
+    /// it is noted, as at the limit of depth. Passes over the entries up to the block, many at a time, and goes
+    /// through those of the block from the anchor on, if that is in its run, or else from its begin, up to the
+    /// window's end.
     pub fn run_in(
         &self,
         alloc: Global,
@@ -95,8 +95,8 @@ impl Records {
         Ok(None)
     }
 
-    /// The number of the entry at which the block ends that stands around the entries from the one of
-    /// this number on. Goes through the entries up to there.
+    /// The number of the entry at which the block ends that the entries from `from` on are in. Goes through the
+    /// entries up to there.
     pub fn closing(&self, from: usize) -> Option<usize>
         requires within { from ≤ length self.now.units.entries }
         requires fits { end_of 0 self.now.units.entries < 2 ^ 64 }
@@ -129,7 +129,7 @@ impl Records {
 }
 
 impl<'a> Cursor<'a> {
-    /// The place before the first piece behind it, of the run that it stands in, whose token begins at byte
+    /// The place before the first piece after it, of the run that it is in, whose token begins at byte
     /// `at`. Goes through the entries up to there.
     pub fn piece_from(&self, at: usize) -> Option<Cursor<'a>>
         ensures { result ≡ spec.placed self.now (spec.piece_of at 0 (spec.start_at self.now) self.now.number (drop self.now.number self.now.entries)) }
@@ -158,8 +158,8 @@ fn pass_pieces(place: &mut Walk<'_>)
     while let Some(_) = place.pass_piece() {}
 }
 
-/// Passes over entries at which pieces of the run itself begin, up to one whose token begins at byte `at`. In a block
-/// of the run there are none.
+/// Passes over entries at which pieces of the run itself begin, up to one whose token begins at byte `at`. While a
+/// block of the run is open, none of its entries begins such a piece.
 fn pass_other_pieces(place: &mut Cursor<'_>, inside: usize, at: usize)
     ensures entries { place.new.entries ≡ place.old.entries }
     ensures on { place.old.number ≤ place.new.number }
@@ -185,8 +185,8 @@ fn begins_piece(at: usize, tag: Tag, inside: usize, start: usize) -> bool
     leads(tag, inside) && start == at
 }
 
-/// Adds the byte of an entry's token, where a piece of a run itself begins in so many blocks of the run, at the byte
-/// `from` or behind it.
+/// Adds the byte of an entry's token, if a piece of the run itself begins there, in so many blocks of the run, at
+/// the byte `from` or after it.
 fn add_piece(
     starts: &mut Vec<usize>,
     tag: Tag,
@@ -209,7 +209,7 @@ fn begins_content(at: usize, tag: Tag, start: usize) -> bool
     opens_content(tag) && start == at
 }
 
-/// Whether a content block begins.
+/// Whether a content block begins at an entry with this tag.
 fn opens_content(tag: Tag) -> bool
     ensures { result ≡ spec.opens_content tag }
 {

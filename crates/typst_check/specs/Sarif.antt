@@ -22,7 +22,7 @@ list_member name items = key name ∷ begin_array ∷ (items ++ end_array ∷ []
 abbrev pub object_item : List Token → List Token
 object_item members = begin_object ∷ (members ++ end_object ∷ [])
 
--- the lines and columns of a region, whose end is the place behind it
+-- the lines and columns of a region, whose end is the place after it
 abbrev pub region_members : Region → List Token
 region_members r =
     count_member (codes "startLine") r.start_line ++ (count_member (codes "startColumn") r.start_column ++ (count_member (codes "endLine") r.end_line ++ count_member (codes "endColumn") r.end_column))
@@ -43,7 +43,7 @@ message_member text = object_member (codes "message") (text_member (codes "text"
 abbrev pub hint_text : Json → List ℕ
 hint_text hint = unwrap_or (as_str hint) []
 
--- a hint as a related location: it stands at the place of what it belongs to
+-- a hint as a related location: it is at the place of what it belongs to
 abbrev pub hint_item : List ℕ → Region → List ℕ → List Token
 hint_item uri r text = object_item (place_member uri r ++ message_member text)
 
@@ -52,16 +52,17 @@ abbrev pub hint_items : List ℕ → Region → List Json → List Token
 hint_items uri r [] = []
 hint_items uri r (h ∷ hs) = hint_item uri r (hint_text h) ++ hint_items uri r hs
 
--- an error or a warning of a file, by a rule: how grave it is, what it says and where it stands
+-- the members of an error or a warning of a file, by a rule: how grave it is, what it says and
+-- where it is
 abbrev pub told_members : List ℕ → List ℕ → Told → List Token
 told_members uri rule t =
     text_member (codes "ruleId") rule ++ (text_member (codes "level") t.severity.now ++ (message_member t.message.now ++ list_member (codes "locations") (object_item (place_member uri t.region))))
 
--- a result: what is told, and then its hints
+-- a result: a finding, and then its hints
 abbrev pub result_item : List ℕ → List ℕ → Told → List Json → List Token
 result_item uri rule t hs = object_item (told_members uri rule t ++ list_member (codes "relatedLocations") (hint_items uri t.region hs))
 
--- A RESULT of the file of that address: what a line of `ndjson` tells, with its hints, by some rule
+-- A RESULT of the file of that address: what a line of `ndjson` says, with its hints, by some rule
 pub record IsResult (uri : List ℕ) (line : Json) (result : List Token) : Type 0 where
   pub told : Told
   pub read : IsToldBy line told
@@ -70,13 +71,13 @@ pub record IsResult (uri : List ℕ) (line : Json) (result : List Token) : Type 
   pub rule : List ℕ
   pub is : result ≡ result_item uri rule told hints
 
--- tokens with a result behind them
+-- tokens with a result after them
 pub record WritesResult (uri : List ℕ) (line : Json) (old new : List Token) : Type 0 where
   pub result : List Token
   pub is : IsResult uri line result
   pub appended : new ≡ old ++ result
 
--- bytes with a result behind them
+-- bytes with a result after them
 pub record AppendsResult (uri : List ℕ) (line : Json) (old new : List ℕ) : Type 0 where
   pub result : List Token
   pub is : IsResult uri line result

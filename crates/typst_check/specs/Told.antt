@@ -1,4 +1,4 @@
--- What a line of `ndjson`, read as JSON, tells of an error or a warning.
+-- What a line of `ndjson`, read as JSON, says of an error or a warning.
 use Rattle.std.specs.Prelude.{◌≡◌, ℕ, List, Option, Some, codes, option_and_then}
 use Rattle.std.specs.Str.Parse.{digits_value, without_leading_plus}
 use Rattle.json.specs.Find.{as_number, as_str, get}
@@ -6,11 +6,11 @@ use Rattle.json.specs.Json.{Json}
 use Rattle.typst_check.specs.declared.sarif.told.Region.{Region}
 use Rattle.typst_check.specs.declared.sarif.told.Told.{Told}
 
--- the text of that name
+-- the text of that name in an object
 abbrev pub text_of : List ℕ → Json → Option (List ℕ)
 text_of name line = option_and_then as_str (get name line)
 
--- the number that the digits of that name write
+-- the number that the digits of that name write, in an object
 pub record IsNumberOf (name : List ℕ) (place : Json) (n : ℕ) : Type 0 where
   pub digits : List ℕ
   pub written : option_and_then as_number (get name place) ≡ Some digits
@@ -29,7 +29,7 @@ pub record IsRegionOf (line : Json) (r : Region) : Type 0 where
   pub end_line : IsNumberIn (codes "end") (codes "line") line r.end_line
   pub end_column : IsNumberIn (codes "end") (codes "utf16_column") line r.end_column
 
--- how grave it is, what it says, and where
+-- a line says how grave a finding is, what it says, and where it is
 pub record IsToldBy (line : Json) (t : Told) : Type 0 where
   pub severity : text_of (codes "severity") line ≡ Some t.severity.now
   pub message : text_of (codes "message") line ≡ Some t.message.now

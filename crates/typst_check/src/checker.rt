@@ -24,7 +24,7 @@ pub struct Checker<'r> {
     alloc: Global,
     options: Options,
     input_name: &'r str,
-    /// The log that is printed, where what is found is printed as one.
+    /// The log that is printed, if what is found is printed as one.
     log: Option<Log>,
     tally: Tally,
     status: u8,
@@ -34,6 +34,7 @@ pub struct Checker<'r> {
 type Below = (String, bool);
 
 impl<'r> Checker<'r> {
+    /// A run for a request, in which nothing was checked yet.
     pub fn new(rt: &'r HostRuntime, alloc: Global, request: &Request<'r>) -> Checker<'r> {
         Checker {
             rt,
@@ -46,7 +47,7 @@ impl<'r> Checker<'r> {
         }
     }
 
-    /// Prints what stands before all that is found, and gives the status: 0, or 2 where it can't be printed.
+    /// Prints what comes before all findings, and gives the status: 0, or 2 if it can't be printed.
     pub fn begin(&mut self) -> u8 {
         let (mut output, mut errors) = (self.rt.stdout(), self.rt.stderr());
         match &self.log {
@@ -91,12 +92,12 @@ impl<'r> Checker<'r> {
         Ok(())
     }
 
-    /// Tells of a name that isn't UTF-8.
+    /// Reports a name that isn't UTF-8.
     pub fn tell_odd(&mut self, name: &str) {
         self.tell(name, Fault::OddName);
     }
 
-    /// Prints what stands behind all that was found, sums it up, and gives the status.
+    /// Prints what comes after all findings, sums them up, and gives the status.
     pub fn finish(mut self) -> u8 {
         if !self.tally.is_unheard {
             self.end_log();
@@ -250,7 +251,7 @@ fn read_whole<R: Read>(alloc: Global, input: &mut R) -> io::Result<Vec<u8>> {
     Ok(bytes)
 }
 
-/// The path of an entry, and whether it is that of a folder. A link to a folder is none.
+/// The path of an entry, and whether it is that of a folder. A link to a folder isn't one.
 fn below_of(alloc: Global, entry: io::Result<DirEntry>) -> io::Result<Below> {
     let entry = entry?;
     let is_folder = entry.file_type()?.is_dir();

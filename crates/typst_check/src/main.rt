@@ -12,8 +12,8 @@ use crate::words::{Word, words_of};
 use std::alloc::Global;
 use std::process::ExitCode;
 
-/// Ends with status 0 where no file fails, with 1 where one does, and with 2 for other words and where a
-/// file can't be read. The other files are still checked.
+/// Ends with status 0 if no file fails, with 1 if one does, and with 2 for other words and if a file can't be
+/// read. The other files are still checked.
 fn main(rt: HostRuntime) -> ExitCode {
     match run(&rt, rt.alloc()) {
         Ok(status) => ExitCode::from(status),

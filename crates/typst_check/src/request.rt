@@ -74,7 +74,7 @@ impl<'a> Request<'a> {
 }
 
 /// The format of a name; a log is made of the lines of another. Whether the output is a terminal isn't known, so
-/// there are colours only where they are asked for.
+/// there are colours only if they are asked for.
 fn format_named(name: Option<&str>, color: bool) -> Format {
     match name {
         Some("ndjson" | "sarif") => Format::Ndjson,

@@ -22,7 +22,7 @@ use typst_cli::streams::deliver;
 use typst_cli::tally::Tally;
 use uri::uri_of;
 
-/// The name by which faults of what belongs to no file are told.
+/// The name under which faults are reported of what belongs to no file.
 const OUTPUT: &str = "standard output";
 
 /// What ends a log of files that were all checked.
@@ -51,7 +51,7 @@ impl Log {
         }
     }
 
-    /// Prints what stands before the results, and gives the status: 0, or 2 where it can't be printed.
+    /// Prints what comes before the results, and gives the status: 0, or 2 if it can't be printed.
     pub fn begin<W: Write, E: Write>(
         &self,
         output: &mut W,
@@ -92,8 +92,8 @@ impl Log {
         status.max(printed)
     }
 
-    /// Prints what stands behind the results, where all files were checked or one wasn't, and gives the status as
-    /// `begin` does.
+    /// Prints what comes after the results, by whether all files were checked, and gives the status as `begin`
+    /// does.
     pub fn end<W: Write, E: Write>(
         &self,
         is_whole: bool,
@@ -145,12 +145,12 @@ impl Log {
     }
 }
 
-/// What stands before a result.
+/// What comes before a result.
 fn separator(is_first: bool) -> &'static [u8] {
     if is_first { b"\n" } else { b",\n" }
 }
 
-/// The results with one more behind them, of the file of that address.
+/// The results with one more after them, of the file of that address.
 fn push_result(results: Vec<u8>, uri: &str, line: &Value) -> Result<Vec<u8>, Error>
     ensures { IfOk result (λ new. AppendsResult uri.now (value_view line.now) results.items new.items) }
 {
@@ -167,8 +167,8 @@ fn fault_of(error: Error) -> Fault {
     }
 }
 
-/// Prints a part of the log, and gives the status: 0, or 2 with a line on `errors`. Where nobody reads the
-/// output any more the tally says so, and there is no line.
+/// Prints a part of the log, and gives the status: 0, or 2 with a line on `errors`. If nobody reads the output any
+/// more the tally says so, and there is no line.
 fn print<W: Write, E: Write>(
     alloc: Global,
     name: &str,

@@ -14,7 +14,7 @@ pub data Asked : Type 0 where
   about : Command → Asked
   edits : Range ℕ → List ℕ → Asked
 
--- the number that one or more decimal digits write, where it fits 64 bits
+-- the number that one or more decimal digits write, if it fits 64 bits
 abbrev pub number_named : List ℕ → Option ℕ
 number_named word =
     if nat_lt 0 (length word) && all_ascii_digits word && nat_lt (digits_value 10 word) (2 ^ 64) then Some (digits_value 10 word) else None
@@ -36,10 +36,11 @@ asked_by (word ∷ []) = option_map about (command_named word)
 asked_by (word ∷ start ∷ end ∷ with_text ∷ []) = edit_named word start end with_text
 asked_by _ = None
 
--- what a request of the code asks for
+-- the range of an edit of the code
 abbrev pub range_in : Edit → Range ℕ
 range_in e = range_from e.start e.end
 
+-- what a request of the code asks for
 abbrev pub asked_in : code.Request → Asked
 asked_in (request.About command) = about command
 asked_in (request.Edits edit) = edits (range_in edit) edit.with_text.now

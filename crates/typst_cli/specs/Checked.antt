@@ -20,30 +20,31 @@ use Rattle.typst_cli.specs.Tally.{with_file}
 use Rattle.typst_cli.specs.Told.{Told, error_count, fails, first, told}
 use Rattle.typst_cli.specs.TreeLines.{tree_lines}
 
--- errors and warnings of a file of that name in each format
+-- the findings of a file of that name, in each format
 abbrev pub formatted : Format → List ℕ → List Placed → List ℕ
 formatted (format.Short color) name placed = short_lines color name placed
 formatted format.Ndjson name placed = ndjson.lines name placed
 formatted format.Github name placed = github.commands name placed
 
--- what is told of a text, printed in a format with its places
+-- the findings of a text, printed in a format with their places
 pub record PrintsTold (f : Format) (name text : List ℕ) (all : List Told) (printed : List ℕ) : Type 0 where
   pub placed : List Placed
   pub places : ArePlaced text all placed
   pub shown : printed ≡ formatted f name placed
 
--- what a form prints about a text of that tree, of which this is shown; of a page nothing is said
+-- what a form prints about a text with that tree, if these findings are shown; of a page nothing is
+-- said
 abbrev pub PrintsShown : Form → List ℕ → List ℕ → List Told → Tree → List ℕ → Type 0
 PrintsShown (form.Findings f) name text shown root printed = PrintsTold f name text shown printed
 PrintsShown form.Tree name text shown root printed = printed ≡ tree_lines root
 PrintsShown form.Page name text shown root printed = ⊤
 PrintsShown form.Nothing name text shown root printed = printed ≡ []
 
--- what a form prints about a text of that tree, of which all that is told is shown
+-- what a form prints about a text with that tree, with all its findings
 abbrev pub Prints : Form → List ℕ → List ℕ → Tree → List ℕ → Type 0
 Prints f name text root printed = PrintsShown f name text (told root) root printed
 
--- what a form prints about a text of that tree, of which so much is shown at most
+-- what a form prints about a text with that tree, with so many of its findings at most
 abbrev pub PrintsUpTo : Form → Option ℕ → List ℕ → List ℕ → Tree → List ℕ → Type 0
 PrintsUpTo f most name text root printed = PrintsShown f name text (first most (told root)) root printed
 
@@ -54,11 +55,11 @@ pub record IsChecked (o : Options) (name text : List ℕ) (failing : Bool) (old 
   pub prints : PrintsUpTo o.form o.most name text (tree unicode_classes (chars text)) printed
   pub appended : Appends old new printed
 
--- how many errors a text has, and how much is told of it together
+-- how many errors a text has, and how many findings
 pub record IsCounted (text : List ℕ) (counts : Counts) : Type 0 where
   pub errors : counts.errors ≡ error_count (told (tree unicode_classes (chars text)))
   pub findings : counts.findings ≡ length (told (tree unicode_classes (chars text)))
 
--- one more file, of that text
+-- a tally with one more file, of that text
 abbrev pub tallied : Tally → List ℕ → Tally
 tallied t text = with_file t (error_count (told (tree unicode_classes (chars text)))) (length (told (tree unicode_classes (chars text))))

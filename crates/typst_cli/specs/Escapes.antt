@@ -26,18 +26,18 @@ in_html c =
     if c == 39 then Some (codes "&#39;") else
     if c == 34 then Some (codes "&quot;") else None
 
--- what stands for a character
+-- what is written in place of a character, by what its text becomes a part of
 abbrev pub instead : Target → ℕ → Option (List ℕ)
 instead target.Line c = if is_newline c then Some (codes " ") else None
 instead target.Message c = in_message c
 instead target.Property c = in_property c
 instead target.Html c = in_html c
 
--- a character as bytes
+-- a character as bytes, by what its text becomes a part of
 abbrev pub escaped_char : Target → ℕ → List ℕ
 escaped_char t c = unwrap_or (instead t c) (encode_utf8 c)
 
--- characters as bytes
+-- characters as bytes, by what their text becomes a part of
 abbrev pub escaped : Target → List ℕ → List ℕ
 escaped t [] = []
 escaped t (c ∷ cs) = escaped_char t c ++ escaped t cs

@@ -1,4 +1,4 @@
--- What the program says where it fails, and what it leaves.
+-- What the program says if it fails, and what it leaves.
 use Rattle.std.specs.Prelude.{◌≡◌, ◌≢◌, ◌⊎◌, ⊤, ℕ, List, take, codes, Option, None, Some, IsSome, IfSome}
 use Rattle.std.specs.Io.KnownBytes.{Appends, Keeps}
 use Rattle.std.specs.IoError.{error_kind}
@@ -19,12 +19,12 @@ use Rattle.typst_cli.specs.declared.failure.Failure.TheVariants.{Usage, NotRead,
 use Rattle.typst_cli.specs.declared.streams.Unread.{Unread}
 use Rattle.typst_cli.specs.declared.streams.Unread.TheVariants as unread
 
--- the exit status
+-- the exit status for a failure
 abbrev pub status_of : Failure → ℕ
 status_of Usage = 2
 status_of _ = 1
 
--- the line on standard error
+-- the line on standard error for a failure
 abbrev pub line_of : Failure → List ℕ
 line_of Usage = codes "usage: typst_syn lines | tree | html | edit START END TEXT\n"
 line_of NotRead = codes "read failed\n"
@@ -44,14 +44,15 @@ LacksNumbers range with_text text =
     (numbered_in (Some 1) (tree unicode_classes (chars text)) ≡ None)
     ⊎ (numbered_in (Some 1) (tree unicode_classes (chars (edited text range with_text))) ≡ None)
 
--- why a text has no answer: memory was refused or, of an edit, the range isn't one of the text, or it is one and numbers lack
+-- why a text has no answer: memory was refused or, of an edit, the range isn't one of the text, or
+-- it is one and there are too few numbers
 abbrev pub IsAnswerFault : Failure → Asked → List ℕ → Type 0
 IsAnswerFault OutOfMemory asked text = ⊤
 IsAnswerFault BadRange (edits range with_text) text = ¬ (IsRange range text)
 IsAnswerFault OutOfSpanNumbers (edits range with_text) text = IsRange range text × LacksNumbers range with_text text
 IsAnswerFault _ asked text = ⊥
 
--- what a failure tells of what is asked and of the input
+-- what a failure says of what is asked and of the input
 abbrev pub TellsOf : Failure → Asked → Option (List ℕ) → Type 0
 TellsOf Usage asked input = ⊥
 TellsOf NotUtf8 asked input = IfSome input (λ bytes. ¬ (IsUtf8 bytes))
@@ -59,7 +60,7 @@ TellsOf BadRange asked input = IfSome input (λ text. IsUtf8 text × IsAnswerFau
 TellsOf OutOfSpanNumbers asked input = IfSome input (λ text. IsUtf8 text × IsAnswerFault OutOfSpanNumbers asked text)
 TellsOf _ asked input = ⊤
 
--- what a failure tells of the words and of the input
+-- what a failure says of the words and of the input
 abbrev pub Tells : Failure → Option Asked → Option (List ℕ) → Type 0
 Tells failure None input = failure ≡ Usage
 Tells failure (Some asked) input = TellsOf failure asked input
@@ -80,12 +81,12 @@ abbrev pub IsFinalRead : Unread → Type 0
 IsFinalRead (unread.Failed e) = IsFinal e
 IsFinalRead unread.OutOfMemory = ⊤
 
--- what is told where not all of the input is at hand
+-- the failure if not all of the input was read
 abbrev pub failure_of : Unread → Failure
 failure_of (unread.Failed e) = NotRead
 failure_of unread.OutOfMemory = OutOfMemory
 
--- what an error of a source is told as
+-- the failure for an error of a source
 abbrev pub failure_from : SourceError → Failure
 failure_from source_error.OutOfMemory = OutOfMemory
 failure_from source_error.SpanNumbers = OutOfSpanNumbers
@@ -104,7 +105,7 @@ abbrev pub Leaves : Option Asked → Option (List ℕ) → Option (List ℕ) →
 Leaves None input old new = Keeps old new
 Leaves (Some asked) input old new = IfSome input (λ text. Keeps old new ⊎ ((answer : List ℕ) × Prints asked text answer × Begins old new answer))
 
--- what a failure tells holds, and only a failed write leaves anything in the output
+-- what a failure says holds, and only a failed write leaves anything in the output
 pub record IsFault (failure : Failure) (asked : Option Asked) (input old new : Option (List ℕ)) : Type 0 where
   pub tells : Tells failure asked input
   pub kept : failure ≢ NotWritten → Keeps old new

@@ -18,18 +18,18 @@ abbrev pub range_part : Place → Place → List ℕ
 range_part start end =
     codes ",line=" ++ (decimal start.line ++ (codes ",endLine=" ++ (decimal end.line ++ (codes ",col=" ++ (decimal start.column ++ (codes ",endColumn=" ++ (decimal end.column ++ codes "::")))))))
 
--- each hint behind a line feed
+-- each hint, after a line feed
 abbrev pub hint_parts : List Hint → List ℕ
 hint_parts [] = []
 hint_parts (h ∷ hs) = codes "%0Ahint: " ++ (escaped target.Message (chars h.message) ++ hint_parts hs)
 
--- the command of an error or a warning, a line
+-- the command of a finding, which is a line
 abbrev pub command : List ℕ → Placed → List ℕ
 command name p =
     let d = p.told.diagnostic in
     file_part (severity_word d.severity) name ++ (range_part p.start p.end ++ (escaped target.Message (chars d.message) ++ (hint_parts d.hints ++ codes "\n")))
 
--- the commands of all
+-- the commands of all findings
 abbrev pub commands : List ℕ → List Placed → List ℕ
 commands name [] = []
 commands name (p ∷ ps) = command name p ++ commands name ps

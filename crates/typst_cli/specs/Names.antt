@@ -1,4 +1,4 @@
--- Names of files that stand in a list.
+-- Names of files that are in a list.
 use Rattle.std.specs.Prelude.{ℕ, ◌==◌, Bool, true, false, List, [], ◌∷◌, ◌++◌, if◌then◌else◌}
 use Rattle.std.specs.List.{list_any}
 
@@ -6,12 +6,12 @@ use Rattle.std.specs.List.{list_any}
 abbrev pub end_of_names : List ℕ → ℕ
 end_of_names list = if list_any (λ b. b == 0) list then 0 else 10
 
--- a name, and none of no bytes
+-- a name, unless it has no bytes
 abbrev pub named : List ℕ → List (List ℕ)
 named [] = []
 named (b ∷ bs) = (b ∷ bs) ∷ []
 
--- the names in bytes, of which the first has begun
+-- the names in bytes, where the first name has begun with these
 abbrev pub names_from : ℕ → List ℕ → List ℕ → List (List ℕ)
 names_from end begun [] = named begun
 names_from end begun (b ∷ bs) = if b == end then named begun ++ names_from end [] bs else names_from end (begun ++ b ∷ []) bs

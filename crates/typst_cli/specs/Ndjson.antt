@@ -42,7 +42,7 @@ place_member name p = key name ∷ begin_object ∷ (numbers p ++ end_object ∷
 abbrev pub places_members : Place → Place → List Token
 places_members start end = place_member (codes "start") start ++ place_member (codes "end") end
 
--- what an error or a warning in a file of that name tells
+-- the members of what an error or a warning in a file of that name says
 abbrev pub told_members : List ℕ → Diagnostic → List Token
 told_members name d =
     text_member (codes "file") name ++ (text_member (codes "severity") (severity_word d.severity) ++ (text_member (codes "message") d.message ++ hints_member d.hints))
@@ -51,7 +51,7 @@ told_members name d =
 abbrev pub finding : List ℕ → Placed → List Token
 finding name p = begin_object ∷ (told_members name p.told.diagnostic ++ (places_members p.start p.end ++ end_object ∷ []))
 
--- the lines of all
+-- the lines of all findings
 abbrev pub lines : List ℕ → List Placed → List ℕ
 lines name [] = []
 lines name (p ∷ ps) = line (finding name p) ++ lines name ps

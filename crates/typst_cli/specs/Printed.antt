@@ -19,7 +19,7 @@ abbrev pub row : ℕ → Line → List ℕ
 row number line =
     decimal number ++ (codes " " ++ (decimal line.byte_idx ++ (codes " " ++ (decimal line.utf16_idx ++ codes "\n"))))
 
--- the rows of lines, numbered on from a number
+-- the rows of lines, numbered from a number on
 abbrev pub rows : ℕ → List Line → List ℕ
 rows number [] = []
 rows number (line ∷ lines) = row number line ++ rows (number + 1) lines

@@ -1,4 +1,4 @@
--- What is printed about a text.
+-- What is printed about a text, or about an edit of it.
 use Rattle.std.specs.Prelude.{◌≡◌, ◌≤◌, ℕ, List, ◌++◌, length, codes, true, Some}
 use Rattle.std.specs.Str.{IsCharBoundary, chars}
 use Rattle.std.specs.Fmt.{decimal}
@@ -23,24 +23,25 @@ pub record IsRange (range : Range ℕ) (text : List ℕ) : Type 0 where
 abbrev pub range_line : Range ℕ → List ℕ
 range_line range = decimal range.start ++ (codes ".." ++ (decimal range.end ++ codes "\n"))
 
--- such a line, and then the tree of a text
+-- a line with the ends of a range, and then the tree of a text
 abbrev pub edit_printed : Range ℕ → List ℕ → List ℕ
 edit_printed parsed text = range_line parsed ++ tree_printed unicode_classes text
 
--- a source that is made of a whole text, as `detached` makes it: with records, and the text's tree is numbered in file 1
+-- a source that is made of a whole text, as `detached` makes it: with records, and the text's tree
+-- is numbered in file 1
 pub record IsMadeOf (text : List ℕ) (source : Held UnicodeClasses) : Type 0 where
   pub text_is : source.text ≡ text
   pub root_is : numbered_in (Some 1) (tree unicode_classes (chars source.text)) ≡ Some source.root
   pub recorded : source.has_records ≡ true
 
--- the range that an edit parses anew: the one that `Source::edit` answers for a source made of the whole text
+-- the range that an edit parses again: the one that `Source::edit` answers for a source made of the whole text
 pub record IsParsedAnew (range : Range ℕ) (with_text text : List ℕ) (parsed : Range ℕ) : Type 0 where
   pub before : Held UnicodeClasses
   pub after : Held UnicodeClasses
   pub made : IsMadeOf text before
   pub answer : Answers unicode_classes before after range with_text parsed
 
--- what an edit prints: the range of the new text that it parses anew, and the new text's tree
+-- what an edit prints: the range of the new text that it parses again, and the new text's tree
 pub record PrintsEdit (range : Range ℕ) (with_text text answer : List ℕ) : Type 0 where
   pub fits : IsRange range text
   pub parsed : Range ℕ

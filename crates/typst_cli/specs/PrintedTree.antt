@@ -1,4 +1,5 @@
--- A tree as it is printed: a line for each node, two spaces deeper than its parent's, and below it a line for each warning and each hint.
+-- A tree as it is printed: a line for each node, two spaces deeper than its parent's, and below it
+-- a line for each warning and each hint.
 use Rattle.std.specs.Prelude.{ℕ, ◌+◌, List, [], ◌∷◌, ◌++◌, length, codes, encode_utf8, if◌then◌else◌}
 use Rattle.std.specs.Str.{chars}
 use Rattle.std.specs.Fmt.{decimal}
@@ -21,7 +22,7 @@ spaced (c ∷ cs) = encode_utf8 (if is_newline c then 32 else c) ++ spaced cs
 abbrev pub one_line : List ℕ → List ℕ
 one_line message = spaced (chars message)
 
--- the message of an error behind a space, and nothing for a warning
+-- the message of an error after a space, and nothing for a warning
 abbrev pub error_of : Severity → List ℕ → List ℕ
 error_of severity.Error message = 32 ∷ one_line message
 error_of severity.Warning message = []
@@ -50,7 +51,7 @@ abbrev pub hints : List ℕ → List Hint → List ℕ
 hints indent [] = []
 hints indent (h ∷ hs) = remark indent (codes "hint") h.message ++ hints indent hs
 
--- a line for each warning, and for each hint behind its error or warning
+-- a line for each warning, and for each hint after its error or warning
 abbrev pub remarks : List ℕ → List Diagnostic → List ℕ
 remarks indent [] = []
 remarks indent (d ∷ ds) = warning indent d.severity d.message ++ (hints indent d.hints ++ remarks indent ds)
@@ -63,14 +64,14 @@ deeper indent = indent ++ codes "  "
 abbrev pub head_lines : List ℕ → ℕ → ℕ → Head → List ℕ
 head_lines indent start end h = own_line indent start end h ++ remarks (deeper indent) h.diagnostics
 
--- the lines of nodes that follow one another from a byte on, each with what stands below it
+-- the lines of nodes that follow one another from a byte on, each with what is below it
 abbrev pub lines : List ℕ → ℕ → Forest → List ℕ
 lines indent start none = []
 lines indent start (more h ks r) =
     let end : ℕ = start + length (h.text ++ joined ks) in
     head_lines indent start end h ++ (lines (deeper indent) start ks ++ lines indent end r)
 
--- the lines of one node from a byte on, with what stands below it
+-- the lines of one node from a byte on, with what is below it
 abbrev pub node_lines : List ℕ → ℕ → Tree → List ℕ
 node_lines indent start t = head_lines indent start (start + length (text_of t)) t.head ++ lines (deeper indent) start t.kids
 
@@ -78,10 +79,10 @@ node_lines indent start t = head_lines indent start (start + length (text_of t))
 abbrev pub tree_printed : CharClasses → List ℕ → List ℕ
 tree_printed k text = node_lines [] 0 (tree k (chars text))
 
--- the same of a text of code
+-- the tree of a text of code, by some classes of characters, as it is printed
 abbrev pub code_tree_printed : CharClasses → List ℕ → List ℕ
 code_tree_printed k text = node_lines [] 0 (tree_code k (chars text))
 
--- the same of the text of a formula
+-- the tree of the text of a formula, by some classes of characters, as it is printed
 abbrev pub math_tree_printed : CharClasses → List ℕ → List ℕ
 math_tree_printed k text = node_lines [] 0 (tree_math k (chars text))

@@ -13,23 +13,24 @@ use Rattle.typst_cli.specs.Escapes.{escaped}
 use Rattle.typst_cli.specs.Placed.{Placed}
 use Rattle.typst_cli.specs.Told.{severity_word}
 
+-- the paint of the word for how grave a finding is
 abbrev pub paint_of : Severity → Paint
 paint_of severity.Error = paint.Error
 paint_of severity.Warning = paint.Warning
 
--- the code of terminals behind its escape character: bold, and bold in red, yellow and cyan
+-- the code of terminals after its escape character: bold, and bold in red, yellow and cyan
 abbrev pub code : Paint → List ℕ
 code paint.Place = codes "[1m"
 code paint.Error = codes "[1;31m"
 code paint.Warning = codes "[1;33m"
 code paint.Hint = codes "[1;36m"
 
--- what begins a paint, where there are colours
+-- what begins a paint, if there are colours
 abbrev pub begin : Bool → Paint → List ℕ
 begin true p = 27 ∷ code p
 begin false p = []
 
--- what ends any paint, where there are colours
+-- what ends any paint, if there are colours
 abbrev pub finish : Bool → List ℕ
 finish true = 27 ∷ codes "[0m"
 finish false = []
@@ -58,7 +59,7 @@ short_line color name p =
     let d = p.told.diagnostic in
     place_part color name p.start ++ (word_part color (paint_of d.severity) (severity_word d.severity) ++ (message_part d.message ++ hint_lines color d.hints))
 
--- the lines of all
+-- the lines of all findings
 abbrev pub short_lines : Bool → List ℕ → List Placed → List ℕ
 short_lines color name [] = []
 short_lines color name (p ∷ ps) = short_line color name p ++ short_lines color name ps

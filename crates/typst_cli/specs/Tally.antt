@@ -4,12 +4,12 @@ use Rattle.std.specs.Fmt.{decimal}
 use Rattle.typst_parser.specs.Tree.{saturated}
 use Rattle.typst_cli.specs.declared.tally.Tally.{Tally}
 
--- one more file, of so many errors, and of so many errors and warnings together
+-- a tally with one more file, of so many errors, and of so many errors and warnings together
 abbrev pub with_file : Tally → ℕ → ℕ → Tally
 with_file t errors findings =
     record t { files = saturated (t.files + 1); errors = saturated (t.errors + errors); warnings = saturated (t.warnings + (findings - errors)) }
 
--- what stands behind a word for so many
+-- the ending of a word for so many
 abbrev pub plural : ℕ → List ℕ
 plural n = if n == 1 then [] else codes "s"
 

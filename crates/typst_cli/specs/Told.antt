@@ -1,4 +1,4 @@
--- What is told of a text: its errors and warnings.
+-- The findings of a text: its errors and warnings.
 use Rattle.std.specs.Prelude.{ℕ, ◌+◌, List, [], ◌∷◌, ◌++◌, Bool, true, false, ◌||◌, ◌&&◌, nat_lt, Option, None, Some, length, take, codes, min, max, if◌then◌else◌}
 use Rattle.std.specs.Str.{chars}
 use Rattle.typst_parser.specs.Severity.{Severity}
@@ -9,58 +9,60 @@ use Rattle.typst_parser.specs.UnicodeTables.{unicode_classes}
 use Rattle.typst_parser.specs.Grammar.{tree}
 use Rattle.typst_parser.specs.Tree.{Forest, none, more, Tree, joined, saturated}
 
--- an error or a warning, and the bytes that it is about
+-- a finding: an error or a warning, and the bytes that it is about
 pub record Told : Type 0 where
   pub diagnostic : Diagnostic
   pub start : ℕ
   pub end : ℕ
 
--- where what is told of a node of the bytes a to b begins: with the node, or with the part of it that it is about
+-- where a finding about a node of the bytes a to b begins: with the node, or with the part of it
+-- that it is about
 abbrev pub from_byte : ℕ → ℕ → Option Bytes → ℕ
 from_byte a b None = a
 from_byte a b (Some part) = min (saturated (a + part.start)) b
 
--- where it ends
+-- where a finding about a node of the bytes a to b ends
 abbrev pub to_byte : ℕ → ℕ → Option Bytes → ℕ
 to_byte a b None = b
 to_byte a b (Some part) = max (min (saturated (a + part.end)) b) (from_byte a b (Some part))
 
--- what is told of a node of the bytes a to b
+-- the findings about a node of the bytes a to b
 abbrev pub told_of : ℕ → ℕ → List Diagnostic → List Told
 told_of a b [] = []
 told_of a b (d ∷ ds) = record { diagnostic = d; start = from_byte a b d.sub_range; end = to_byte a b d.sub_range } ∷ told_of a b ds
 
--- what is told of trees that stand side by side from byte a on: of each node before those below it
+-- the findings of trees side by side from byte a on: of each node before those below it
 abbrev pub told_in : ℕ → Forest → List Told
 told_in a none = []
 told_in a (more h ks r) =
     told_of a (saturated (a + length (h.text ++ joined ks))) h.diagnostics
     ++ (told_in (saturated (a + length h.text)) ks ++ told_in (saturated (a + length (h.text ++ joined ks))) r)
 
--- what is told of a tree
+-- the findings of a tree
 abbrev pub told : Tree → List Told
 told t = told_in 0 (more t.head t.kids none)
 
+-- an error, and not a warning
 abbrev pub is_grave : Severity → Bool
 is_grave severity.Error = true
 is_grave severity.Warning = false
 
--- the word for how grave it is
+-- the word for how grave a finding is
 abbrev pub severity_word : Severity → List ℕ
 severity_word severity.Error = codes "error"
 severity_word severity.Warning = codes "warning"
 
--- an error is among them
+-- an error is among some findings
 abbrev pub any_error : List Told → Bool
 any_error [] = false
 any_error (t ∷ ts) = is_grave t.diagnostic.severity || any_error ts
 
--- how many errors are among them
+-- how many errors are among some findings
 abbrev pub error_count : List Told → ℕ
 error_count [] = 0
 error_count (t ∷ ts) = (if is_grave t.diagnostic.severity then 1 else 0) + error_count ts
 
--- the first of them, so many at most
+-- the first of some findings, so many at most
 abbrev pub first : Option ℕ → List Told → List Told
 first None all = all
 first (Some most) all = take most all
@@ -69,6 +71,6 @@ first (Some most) all = take most all
 abbrev pub has_error : List ℕ → Bool
 has_error text = any_error (told (tree unicode_classes (chars text)))
 
--- a text fails: it has an error, or, where warnings are denied, a warning
+-- a text fails: it has an error or, if warnings are denied, a warning
 abbrev pub fails : Bool → List ℕ → Bool
 fails denied text = has_error text || (denied && nat_lt 0 (length (told (tree unicode_classes (chars text)))))

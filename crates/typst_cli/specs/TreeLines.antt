@@ -26,7 +26,7 @@ node depth start end h = begin_object ∷ (members depth start end h ++ end_obje
 abbrev pub end_of : ℕ → Head → Forest → ℕ
 end_of start h ks = saturated (start + length (h.text ++ joined ks))
 
--- the lines of nodes that stand side by side from a byte on, each with those of the nodes below it
+-- the lines of nodes that are side by side from a byte on, each with those of the nodes below it
 abbrev pub node_lines : ℕ → ℕ → Forest → List ℕ
 node_lines depth start none = []
 node_lines depth start (more h ks r) =

@@ -14,13 +14,13 @@ use std::io::{self, ErrorKind, Read, Write};
 /// Why a file wasn't checked.
 #[derive(Debug, Clone, Copy)]
 pub enum Fault {
-    /// Its name isn't UTF-8.
+    /// The file's name isn't UTF-8.
     OddName,
-    /// It can't be opened, for that reason.
+    /// The file can't be opened, for that reason.
     NotOpened(io::Error),
-    /// It can't be read, for that reason.
+    /// The file can't be read, for that reason.
     NotRead(io::Error),
-    /// It isn't UTF-8.
+    /// The file isn't UTF-8.
     NotUtf8,
     /// Memory was refused.
     OutOfMemory,
@@ -55,7 +55,7 @@ impl Fault {
         }
     }
 
-    /// Adds what it says.
+    /// Adds what the fault says to a line.
     fn push_to(self, line: &mut String) -> Result<(), AllocError> {
         match self {
             Fault::OddName => line.push_str("the name isn't UTF-8")?,
@@ -71,8 +71,8 @@ impl Fault {
 }
 
 /// Reads a text from `input`, prints to `output` what the options ask of it, and adds to the tally what it has.
-/// Gives the status: 0, or 1 where the text fails, or 2 with a line on `errors`. Where nobody reads the output
-/// any more the tally says so, and there is no line.
+/// Gives the status: 0, or 1 if the text fails, or 2 with a line on `errors`. If nobody reads the output any more
+/// the tally says so, and there is no line.
 pub fn check<R: Read, W: Write, E: Write>(
     alloc: Global,
     options: Options,

@@ -24,7 +24,7 @@ pub struct Edit<'a> {
 }
 
 impl Edit<'_> {
-    /// The range of the new text that was parsed anew, on a line, and below it the tree of the new text.
+    /// The range of the new text that was parsed again, on a line, and below it the tree of the new text.
     pub fn answer(self, alloc: Global, text: String) -> Result<String, Failure>
         ensures printed { IfOk result (λ printed. Prints (edits (range_in self.entry) self.entry.with_text.now) (string_bytes text) (string_bytes printed)) }
         ensures fault { IfErr result (λ fault. IsAnswerFault fault (edits (range_in self.entry) self.entry.with_text.now) (string_bytes text)) }

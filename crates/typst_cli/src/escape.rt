@@ -22,7 +22,7 @@ pub enum Target {
 }
 
 impl Target {
-    /// What stands for a character.
+    /// What is written in place of a character, if it isn't the character itself.
     fn instead(self, c: char) -> Option<&'static str>
         ensures { option_map (λ s. s.now) result ≡ spec.instead self c }
     {

@@ -9,7 +9,7 @@ use std::alloc::{AllocError, AllocFailed};
 use std::io::{self, Write};
 use typst_parser::SourceError;
 
-/// What went wrong, in the order in which it is looked for; want of memory is met anywhere.
+/// What went wrong, in the order in which it is looked for; lack of memory is met anywhere.
 #[derive(Debug, Clone, Copy, PartialEq, Eq)]
 pub enum Failure {
     /// The words are none that the program knows.
@@ -77,7 +77,7 @@ impl Failure {
         }
     }
 
-    /// The line that tells of it.
+    /// The line on standard error.
     pub fn line(self) -> &'static str
         ensures { result.now ≡ line_of self }
     {
@@ -92,7 +92,7 @@ impl Failure {
         }
     }
 
-    /// Tells of the failure and gives the status, also where the line can't be written.
+    /// Reports the failure and gives the status, even if the line can't be written.
     pub fn report<E: Write>(self, errors: &mut E) -> u8
         ensures status { result ≡ status_of self }
         ensures line { Begins (E.contents errors.old) (E.contents errors.new) (line_of self) }
@@ -101,7 +101,7 @@ impl Failure {
         self.status()
     }
 
-    /// Writes and flushes the line that tells of it, which takes no memory.
+    /// Writes and flushes the line on the failure, which takes no memory.
     pub fn tell<E: Write>(self, errors: &mut E) -> io::Result<Delivered>
         ensures whole { OnOk result (Appends (E.contents errors.old) (E.contents errors.new) (line_of self)) }
         ensures begins { Begins (E.contents errors.old) (E.contents errors.new) (line_of self) }

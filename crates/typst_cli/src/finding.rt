@@ -20,25 +20,28 @@ impl<'t> Finding<'t> {
     ghost use Rattle.std.specs.Prelude.{◌≡◌};
     ghost use Rattle.typst_cli.specs.Told as spec;
 
+    /// Whether the finding is an error.
     pub fn is_error(&self) -> bool
         ensures { result ≡ spec.is_grave self.now.diagnostic.now.severity }
     {
         self.diagnostic.severity() == Severity::Error
     }
 
-    /// The word for how grave it is.
+    /// The word for how grave the finding is.
     pub fn severity(&self) -> &'static str
         ensures { result.now ≡ spec.severity_word self.now.diagnostic.now.severity }
     {
         if self.is_error() { "error" } else { "warning" }
     }
 
+    /// What the finding says.
     pub fn message(&self) -> &'t str
         ensures { result.now ≡ self.now.diagnostic.now.message }
     {
         self.diagnostic.message()
     }
 
+    /// The finding's hints, in their order.
     pub fn hints(&self) -> &'t [Hint]
         ensures { result.now ≡ self.now.diagnostic.now.hints }
     {
@@ -58,7 +61,7 @@ pub fn findings<'t>(alloc: Global, root: &'t SyntaxNode) -> Result<Vec<Finding<'
     Ok(found)
 }
 
-/// Adds those of a node that begins at a byte, and none of those below it.
+/// Adds the findings of a node that begins at a byte, without those of the nodes below it.
 fn add_own<'t>(
     found: &mut Vec<Finding<'t>>,
     node: &'t SyntaxNode,

@@ -14,11 +14,11 @@ pub enum Format {
 /// What is printed about a file.
 #[derive(Debug, Clone, Copy, PartialEq, Eq)]
 pub enum Form {
-    /// Its errors and warnings.
+    /// The file's errors and warnings.
     Findings(Format),
-    /// Its tree, a JSON object a line for each node.
+    /// The file's tree, a JSON object a line for each node.
     Tree,
-    /// Its text as an HTML page.
+    /// The file's text as an HTML page.
     Page,
     /// Nothing.
     Nothing,
@@ -29,7 +29,7 @@ pub enum Form {
 pub struct Options {
     /// What is printed about each.
     pub form: Form,
-    /// How many of the errors and warnings of each are printed at most, where there is a limit.
+    /// How many of the errors and warnings of each are printed at most, if there is a limit.
     pub most: Option<usize>,
     /// Whether warnings fail as errors do.
     pub denies_warnings: bool,

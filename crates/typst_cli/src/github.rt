@@ -21,7 +21,7 @@ pub fn commands_of(alloc: Global, name: &str, located: &[Located]) -> Result<Str
     Ok(printed)
 }
 
-/// Adds the command of a finding. Its hints stand in the message, each in a line of its own.
+/// Adds the command of a finding. Its hints are in the message, each in a line of its own.
 fn push_command(printed: &mut String, name: &str, located: &Located) -> Result<(), AllocError>
     ensures { OnOk result (string_bytes printed.new ≡ string_bytes printed.old ++ spec.command name.now (as_placed located.now)) }
 {

@@ -1,5 +1,5 @@
 //! What the programs print, over any reader and writers: `typst_syn` answers to its words (program.rt),
-//! `typst_check` tells what is wrong with a text (check.rt).
+//! `typst_check` reports what is wrong with a text (check.rt).
 #![tactic(auto)]
 
 pub mod check;

@@ -17,8 +17,8 @@ pub struct Located<'t> {
     pub end: Place,
 }
 
-/// Finds the places of findings. Where one is in the line of the last and behind it, only what is
-/// between them is looked at, so a line with many findings isn't read anew for each.
+/// Finds the places of findings. If one is in the line of the last and after it, only what is between them is
+/// looked at, so a line with many findings isn't read again for each.
 pub fn locate<'t>(
     alloc: Global,
     lines: &Lines<&str>,

@@ -1,12 +1,12 @@
-//! Names of files that stand in a list.
+//! Names of files that are in a list.
 
 ghost use Rattle.std.specs.Prelude.{◌≡◌, ◌++◌, IfOk, OnOk, map};
 ghost use Rattle.typst_cli.specs.Names as spec;
 
 use std::alloc::{AllocError, Global};
 
-/// The names in a list, where NUL bytes end them if there is one, as `git` and `find` write it, and else
-/// newlines. What is empty is no name.
+/// The names in a list. NUL bytes end them if there is one, as `git` and `find` write it, and else newlines. What
+/// is empty isn't a name.
 pub fn names_in(alloc: Global, list: &[u8]) -> Result<Vec<Vec<u8>>, AllocError>
     ensures { IfOk result (λ names. map (λ name. name.items) names.items ≡ spec.names_in list.now) }
 {

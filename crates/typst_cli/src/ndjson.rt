@@ -22,7 +22,7 @@ pub fn lines_of(alloc: Global, name: &str, located: &[Located]) -> Result<Vec<u8
     Ok(printed)
 }
 
-/// The lines with that of a finding behind them.
+/// The lines, and after them the line of a finding.
 fn push_line(lines: Vec<u8>, name: &str, located: &Located) -> Result<Vec<u8>, AllocError>
     ensures { IfOk result (λ new. new.items ≡ lines.items ++ spec.line (spec.finding name.now (as_placed located.now))) }
 {
@@ -31,7 +31,7 @@ fn push_line(lines: Vec<u8>, name: &str, located: &Located) -> Result<Vec<u8>, A
     end_line(writer)
 }
 
-/// The bytes with the end of a line behind what was written.
+/// The bytes that were written, with the end of a line after them.
 pub fn end_line(writer: Writer) -> Result<Vec<u8>, AllocError>
     ensures { IfOk result (λ new. new.items ≡ writer.before ++ spec.line writer.tokens) }
 {
@@ -50,7 +50,7 @@ fn write_finding(writer: &mut Writer, name: &str, located: &Located) -> Result<(
     writer.end_object()
 }
 
-/// Writes what a finding in the file of that name tells.
+/// Writes what a finding in the file of that name says.
 fn write_told(writer: &mut Writer, name: &str, finding: &Finding) -> Result<(), AllocError>
     ensures before { OnOk result (writer.new.before ≡ writer.old.before) }
     ensures tokens { OnOk result (writer.new.tokens ≡ writer.old.tokens ++ spec.told_members name.now finding.now.diagnostic.now) }

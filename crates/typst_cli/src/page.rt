@@ -45,7 +45,7 @@ fn in_order(alloc: Global, found: &[Finding]) -> Result<Vec<(usize, usize)>, All
     Ok(order)
 }
 
-/// A page that is written.
+/// A page that is being written.
 #[derive(Drop)]
 struct Page<'p, 'l, 't> {
     html: String,
@@ -55,16 +55,16 @@ struct Page<'p, 'l, 't> {
     found: &'p [Finding<'t>],
     /// The findings by where they begin.
     order: Vec<(usize, usize)>,
-    /// How many of them have begun.
+    /// How many of the findings have begun.
     opened: usize,
-    /// Those that have begun and not ended.
+    /// The findings that have begun and not ended.
     open: Vec<Finding<'t>>,
 }
 
 impl<'p, 'l, 't> Page<'p, 'l, 't> {
     ghost use Rattle.std.specs.Prelude.{◌<◌, ◌≤◌};
 
-    /// Writes all that stands before the text.
+    /// Writes all that is before the text.
     fn push_head(&mut self, name: &str) -> Result<(), AllocError> {
         self.html.push_str(
             "<!doctype html>\n<html lang=\"en\">\n<head>\n<meta charset=\"utf-8\">\n<meta name=\"viewport\" content=\"width=device-width\">\n<title>",
@@ -201,7 +201,7 @@ impl<'p, 'l, 't> Page<'p, 'l, 't> {
     }
 }
 
-/// The earlier of two places behind a byte, of which the second may not be behind it.
+/// The earlier of two places after a byte, of which the second may not be after it.
 fn earlier(at: usize, cut: usize, other: usize) -> usize
     requires { at < cut }
     ensures behind { at < result }

@@ -24,8 +24,8 @@ impl Place {
     ghost use Rattle.typst_lines.specs.Lines.{line_of};
     ghost use Rattle.typst_cli.specs.Places.{IsBase, IsPlace, IsPlaceOf};
 
-    /// The place of a byte, or of the character that holds it. Where it is in the line of the last place
-    /// and behind that, only what is between them is looked at, and else the line up to there.
+    /// The place of a byte, or of the character that holds it. If it is in the line of the last place and after
+    /// that, only what is between them is looked at, and else the line up to there.
     pub fn of_byte(lines: &Lines<&str>, byte: usize, last: Option<Place>) -> Place
         requires { IfSome last (IsPlace lines.now) }
         ensures { IsPlaceOf lines.now byte result }
@@ -43,7 +43,7 @@ impl Place {
         }
     }
 
-    /// The last place, where it is in the line of that number and not behind the byte, or the line's start.
+    /// The last place, if it is in the line of that number and not after the byte, or else the line's start.
     fn base(lines: &Lines<&str>, number: usize, byte: usize, last: Option<Place>) -> Place
         requires known { IfSome last (IsPlace lines.now) }
         requires boundary { IsCharBoundary lines.now byte }

@@ -29,7 +29,7 @@ impl Report {
     ghost use Rattle.typst_parser.specs.UnicodeTables.{unicode_classes};
     ghost use Rattle.typst_parser.specs.Grammar.{tree};
 
-    /// What the form asks of a text of that name.
+    /// What the form prints about a text of that name, with all errors and warnings.
     pub fn of_text(alloc: Global, form: Form, name: &str, text: &str) -> Result<Report, AllocError>
         ensures errors { IfOk result (λ report. report.has_errors ≡ has_error text.now) }
         ensures printed { IfOk result (λ report. Prints form name.now text.now (tree unicode_classes (chars text.now)) report.printed.items) }
@@ -37,7 +37,7 @@ impl Report {
         Report::limited(alloc, form, None, name, text)
     }
 
-    /// The same, where at most so many errors and warnings are printed.
+    /// What the form prints about a text of that name, with so many errors and warnings at most.
     pub fn limited(
         alloc: Global,
         form: Form,
@@ -63,7 +63,7 @@ impl Report {
         })
     }
 
-    /// Whether the text fails: it has an error, or, where warnings are denied, a warning.
+    /// Whether the text fails: it has an error or, if warnings are denied, a warning.
     pub fn fails(&self, denies_warnings: bool) -> bool
         ensures { result ≡ (self.now.has_errors || (denies_warnings && nat_lt 0 self.now.counts.findings)) }
     {
@@ -104,7 +104,7 @@ fn any_error(found: &[Finding]) -> bool
     false
 }
 
-/// What a form prints about a text of that name and tree, where these findings are to be shown.
+/// What a form prints about a text of that name and tree, if these findings are to be shown.
 fn print(
     alloc: Global,
     form: Form,

@@ -36,7 +36,7 @@ impl Paint {
         }
     }
 
-    /// The code by which a terminal begins it, or nothing where there are no colours.
+    /// The code by which a terminal begins the paint, or nothing if there are no colours.
     fn begin(self, color: bool) -> &'static str
         ensures { result.now ≡ spec.begin color self }
     {
@@ -52,7 +52,7 @@ impl Paint {
     }
 }
 
-/// The code by which a terminal ends any paint, or nothing where there are no colours.
+/// The code by which a terminal ends any paint, or nothing if there are no colours.
 fn finish(color: bool) -> &'static str
     ensures { result.now ≡ spec.finish color }
 {

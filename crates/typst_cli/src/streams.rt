@@ -11,7 +11,7 @@ use crate::failure::Failure;
 use std::alloc::{AllocError, Global};
 use std::io::{self, ErrorKind, Read, Write};
 
-/// Why not all of the input is at hand.
+/// Why not all of the input was read.
 #[derive(Debug, Drop)]
 pub enum Unread {
     /// A read failed, with that error.
@@ -65,7 +65,7 @@ fn decode(bytes: Vec<u8>) -> Result<String, Failure>
     }
 }
 
-/// That bytes were written and then flushed: only `deliver` makes it.
+/// Shows that bytes were written and then flushed: only `deliver` makes one.
 #[derive(Debug, Drop)]
 pub struct Delivered {
     flushed: (),
@@ -117,14 +117,14 @@ fn flush<W: Write>(output: &mut W) -> io::Result<Delivered>
     Err(too_many_turns())
 }
 
-/// Whether the call that failed so is to be made again.
+/// Whether the call that failed with this error has to be made again.
 fn is_interrupted(error: &io::Error) -> bool
     ensures { IsFalse result ↔ IsFinal error.now }
 {
     error.kind() == ErrorKind::Interrupted
 }
 
-/// The error where a stream was interrupted without an end.
+/// The error for a stream that was interrupted without an end.
 fn too_many_turns() -> io::Error
     ensures { IsFinal result }
 {

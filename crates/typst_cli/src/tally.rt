@@ -27,7 +27,7 @@ impl Tally {
     ghost use Rattle.std.specs.Prelude.{◌≡◌, IfOk, string_bytes};
     ghost use Rattle.typst_cli.specs.Tally as spec;
 
-    /// No file.
+    /// A tally of no files.
     pub fn new() -> Tally {
         Tally {
             files: 0,
@@ -71,7 +71,7 @@ fn push_counted(line: &mut String, count: usize, word: &str) -> Result<(), Alloc
     Ok(())
 }
 
-/// What stands behind a word for so many.
+/// The ending of a word for so many.
 fn plural(count: usize) -> &'static str
     ensures { result.now ≡ spec.plural count }
 {

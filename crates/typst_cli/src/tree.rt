@@ -13,7 +13,7 @@ use typst_parser::{
 };
 
 /// The syntax tree of the text. Each node has a line with its kind, its range in bytes and, for an
-/// error, its message, two spaces deeper than its parent; below it stand its warnings and hints, and
+/// error, its message, two spaces deeper than its parent; below it are its warnings and hints, and
 /// then its children.
 pub fn answer<C: Classes>(alloc: Global, text: &str, classes: &C) -> Result<String, AllocError>
     ensures { IfOk result (λ printed. string_bytes printed ≡ spec.tree_printed (C.classes classes.now) text.now) }
@@ -24,7 +24,7 @@ pub fn answer<C: Classes>(alloc: Global, text: &str, classes: &C) -> Result<Stri
     Ok(printed)
 }
 
-/// The same of a text of code.
+/// The syntax tree of a text of code, printed as `answer` prints one.
 pub fn answer_code<C: Classes>(alloc: Global, text: &str, classes: &C) -> Result<String, AllocError>
     ensures { IfOk result (λ printed. string_bytes printed ≡ spec.code_tree_printed (C.classes classes.now) text.now) }
 {
@@ -34,7 +34,7 @@ pub fn answer_code<C: Classes>(alloc: Global, text: &str, classes: &C) -> Result
     Ok(printed)
 }
 
-/// The same of the text of a formula.
+/// The syntax tree of the text of a formula, printed as `answer` prints one.
 pub fn answer_math<C: Classes>(alloc: Global, text: &str, classes: &C) -> Result<String, AllocError>
     ensures { IfOk result (λ printed. string_bytes printed ≡ spec.math_tree_printed (C.classes classes.now) text.now) }
 {
@@ -44,7 +44,7 @@ pub fn answer_math<C: Classes>(alloc: Global, text: &str, classes: &C) -> Result
     Ok(printed)
 }
 
-/// Trees that stand side by side and are still to be printed, and where the first one begins, in bytes.
+/// Trees that are side by side and are still to be printed, and where the first one begins, in bytes.
 #[derive(Clone, Copy)]
 struct Row<'a> {
     trees: &'a [SyntaxNode],
@@ -126,7 +126,7 @@ fn print_own_line(
     Ok(())
 }
 
-/// Prints the messages of the errors, each behind a space.
+/// Prints the messages of the errors, each after a space.
 pub fn print_errors(printed: &mut String, diagnostics: &[Diagnostic]) -> Result<(), AllocError>
     ensures { OnOk result (string_bytes printed.new ≡ string_bytes printed.old ++ spec.errors diagnostics.now) }
 {

@@ -23,16 +23,17 @@ use Rattle.typst_code.specs.Groups.{begins_item, spread, pair}
 abbrev pub opens_arguments : SyntaxKind → Bool
 opens_arguments k = same kind.LeftParen k || same kind.LeftBracket k
 
--- and directly behind what is called
+-- arguments begin here, directly after what is called
 abbrev pub calls_directly : SyntaxKind → Bool → Bool
 calls_directly k has_trivia = opens_arguments k && not has_trivia
 
--- what stands before a colon has to be a name
+-- what is done to what is before a colon: it has to be a name, one that wasn't seen
 abbrev pub name_change : List (List ℕ) → Key → Change
 name_change names (key.Name name) = when_named names name
 name_change names (key.Str text) = is_not (codes "identifier")
 name_change names key.Other = is_not (codes "identifier")
 
+-- an argument with a key becomes a named one
 abbrev pub argument_shape : List (List ℕ) → Option Key → Shape
 argument_shape names None = keeps stays
 argument_shape names (Some key) = holds (name_change names key) kind.Named
@@ -62,31 +63,32 @@ argument_list = within (at_newline newline.Continue) (do
   names ← repeat argument_turn []
   eat_if (same kind.RightParen))
 
--- the same, if a paren begins it
+-- `( .. )`, if a paren begins it; answers whether no paren is left open
 unfoldable pub listed_arguments : Parser Bool
 listed_arguments = do
   ahead ← peek
   pick (same kind.LeftParen ahead.kind) argument_list (gives true)
 
--- a content block, if one begins directly here
+-- a content block, if one begins here without trivia before it
 unfoldable pub content_turn : Unit {0} → Parser (Bool × Unit {0})
 content_turn x = do
   ahead ← peek
   pick (opens_directly ahead) (read_block block.Content >> gives (true, tt)) (gives (false, tt))
 
--- arguments that are missing, or stand behind a space
+-- says that arguments are missing, or come after a space
 unfoldable pub missing_arguments : Parser (Unit {0})
 missing_arguments = do
   said ← expected (codes "argument list")
   ahead ← peek
   pick (opens_arguments ahead.kind) (does (advises (codes "there may not be any spaces before the argument list"))) (gives tt)
 
+-- says that arguments are missing, if none begin directly here
 unfoldable pub begin_arguments : Parser (Unit {0})
 begin_arguments = do
   ahead ← peek
   pick (calls_directly ahead.kind ahead.has_trivia) (gives tt) missing_arguments
 
--- a list in parens, and content blocks directly behind it
+-- the arguments of a call: a list in parens, and content blocks directly after it
 unfoldable pub arguments : Parser (Unit {0})
 arguments = do
   begun ← begin_arguments

@@ -17,11 +17,11 @@ use Rattle.typst_code.specs.Parts.{expression_if}
 use Rattle.typst_code.specs.Patterns.{deeper_pattern}
 use Rattle.typst_code.specs.Params.{params}
 
--- parameters begin directly behind the name
+-- parameters begin directly after the name
 abbrev pub opens_params : SyntaxKind → Bool → Bool
 opens_params k has_trivia = same kind.LeftParen k && not has_trivia
 
--- behind a name: parameters, if they begin directly here
+-- a name, and parameters if they begin directly after it
 unfoldable pub bound_name : Parser Bound
 bound_name = do
   name ← eat
@@ -34,13 +34,13 @@ bound_part = do
   ahead ← peek
   pick (same kind.Ident ahead.kind) bound_name (deeper_pattern role.Binding [] >> gives bound.Names)
 
--- a name alone may stand without a value
+-- the equals sign, which only after a name alone may be missing; answers whether it came
 abbrev pub equals : Bound → Parser Bool
 equals bound.Name = eat_if (same kind.Eq)
 equals bound.Function = expects (same kind.Eq) (codes "equals sign")
 equals bound.Names = expects (same kind.Eq) (codes "equals sign")
 
--- a function is a closure with a name
+-- what is bound as a node: a function is a closure with a name
 abbrev pub bound_shape : Bound → Shape
 bound_shape bound.Name = keeps stays
 bound_shape bound.Function = becomes kind.Closure

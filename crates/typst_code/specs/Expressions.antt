@@ -32,7 +32,7 @@ use Rattle.typst_code.specs.Statements.{field, set_rule, show_rule, contextual, 
 
 -- ---- what an expression begins with
 
--- what the token at hand begins
+-- what the current token begins, in an atomic expression or in another
 abbrev pub code_head : Bool → SyntaxKind → CodeHead
 code_head atomic kind.Plus = if atomic then head.StrayOperator else head.Unary unary.Pos
 code_head atomic kind.Minus = if atomic then head.StrayOperator else head.Unary unary.Neg
@@ -70,7 +70,7 @@ code_head atomic _ = if atomic then head.Unexpected else head.Missing
 unfoldable pub unary_expr : UnOp → Parser (Unit {0})
 unary_expr op = node (λ _. becomes kind.Unary) (eat >> deeper (CodeExpr false (unary_precedence op)) tt)
 
--- what is read there
+-- the production for what a token begins
 abbrev pub code_by : Bool → CodeHead → Parser (Unit {0})
 code_by atomic (head.Unary op) = unary_expr op
 code_by atomic head.StrayOperator = unexpected (codes "to use a unary operator here, wrap the entire expression in parentheses" ∷ [])
@@ -97,36 +97,39 @@ code_by atomic head.Return = func_return
 code_by atomic head.Unexpected = unexpected []
 code_by atomic head.Missing = expected (codes "expression")
 
+-- what an expression begins with
 unfoldable pub code_primary : Bool → Parser (Unit {0})
 code_primary atomic = do
   ahead ← peek
   code_by atomic (code_head atomic ahead.kind)
 
--- ---- what stands behind it
+-- ---- what comes after it
 
--- a dot stands directly behind it
+-- a dot comes directly after an expression
 abbrev pub dots_directly : SyntaxKind → Bool → Bool
 dots_directly k has_trivia = same kind.Dot k && not has_trivia
 
--- an operator that binds less tightly than this is left to what stands around
+-- an operator, if it binds at least so tightly; others are left to what is around
 abbrev pub binary_tail : ℕ → Option BinOp → CodeTail
 binary_tail least None = tail.Nothing
 binary_tail least (Some op) = if nat_lt (binary_precedence op) least then tail.Nothing else tail.Binary op
 
+-- what a token makes of an expression before it that isn't atomic
 abbrev pub operator_tail : ℕ → SyntaxKind → CodeTail
 operator_tail least k =
     if same kind.Dot k then tail.Field
     else (if same kind.Not k then (if nat_lt (binary_precedence binary.NotIn) least then tail.Nothing else tail.NotIn)
     else binary_tail least (binary_of k))
 
--- what takes an expression into its node: an atomic one only what stands directly behind it
+-- what a token makes of the expression before it: of an atomic one only directly after it
 abbrev pub code_tail : Bool → ℕ → SyntaxKind → Bool → CodeTail
 code_tail atomic least k has_trivia =
     if calls_directly k has_trivia then tail.Call
     else (if atomic then (if dots_directly k has_trivia then tail.DirectField else tail.Nothing)
     else operator_tail least k)
 
--- how tightly a right operand binds at least: as tightly as its operator where that is taken from the right, else more tightly
+-- how tightly a right operand has to bind: as tightly as its operator if that is taken from the
+-- right, else more tightly
 abbrev pub operand_least : BinOp → ℕ
 operand_least op = elim (assoc_of op) [ Left ↦ suc (binary_precedence op) | Right ↦ binary_precedence op ]
 
@@ -137,24 +140,25 @@ binary_expr op = do
   operand ← deeper (CodeExpr false (operand_least op)) tt
   gives (Some (becomes kind.Binary), tt)
 
--- `not` is an operator with `in` behind it
+-- `not`, which with `in` after it is an operator
 unfoldable pub not_in : Parser (Option Shape × Unit {0})
 not_in = do
   sign ← eat
   ahead ← peek
   pick (same kind.In ahead.kind) (binary_expr binary.NotIn) (expected (codes "keyword `in`") >> gives (None, tt))
 
--- a dot belongs to an atomic expression only before an identifier
+-- a field access, if an identifier comes directly after the dot: else the dot doesn't belong to an
+-- atomic expression
 unfoldable pub direct_field : Parser (Option Shape × Unit {0})
 direct_field = do
   behind ← does further
   pick (same kind.Ident behind) field (gives (None, tt))
 
--- arguments take what is called into their call
+-- the arguments of a call, which all goes into
 unfoldable pub call_tail : Parser (Option Shape × Unit {0})
 call_tail = arguments >> gives (Some (becomes kind.FuncCall), tt)
 
--- what is read there
+-- the production for what a token makes of the expression before it
 abbrev pub tail_by : CodeTail → Parser (Option Shape × Unit {0})
 tail_by tail.Call = call_tail
 tail_by tail.Field = field
@@ -163,6 +167,7 @@ tail_by tail.NotIn = not_in
 tail_by (tail.Binary op) = binary_expr op
 tail_by tail.Nothing = gives (None, tt)
 
+-- one turn: what the current token makes of the expression before it
 unfoldable pub code_tail_turn : Bool → ℕ → Unit {0} → Parser (Option Shape × Unit {0})
 code_tail_turn atomic least x = do
   ahead ← peek

@@ -30,7 +30,8 @@ begins_item k = same kind.Dots k || begins_code k
 unfoldable pub spread : Parser (Unit {0})
 spread = node (λ _. becomes kind.Spread) (eat >> code_expression)
 
--- an expression, and behind a colon another one, which makes them a pair; answers what the first is as its key
+-- an expression, and after a colon another one, which makes them a pair; answers what the first of
+-- a pair is as its key
 unfoldable pub pair : Parser (Option Key)
 pair = do
   first ← seeing code_expression
@@ -43,41 +44,47 @@ pair = do
 abbrev pub when_seen : List (List ℕ) → List ℕ → Change
 when_seen keys key = if has_name keys key then turns_wrong (codes "duplicate key: " ++ key) else stays
 
+-- what is done to the key of a pair
 abbrev pub key_change : List (List ℕ) → Key → Change
 key_change keys (key.Name name) = when_seen keys name
 key_change keys (key.Str text) = when_seen keys text
 key_change keys key.Other = stays
 
--- behind a colon an item is a pair, with a name or another key
+-- the kind of a pair, by its key: a name, or another one
 abbrev pub pair_kind : Key → SyntaxKind
 pair_kind (key.Name name) = kind.Named
 pair_kind (key.Str text) = kind.Keyed
 pair_kind key.Other = kind.Keyed
 
+-- an item with a key becomes a pair
 abbrev pub item_shape : List (List ℕ) → Option Key → Shape
 item_shape keys None = keeps stays
 item_shape keys (Some key) = holds (key_change keys key) (pair_kind key)
 
--- a pair in an array becomes an error, and what is no pair in a dictionary
+-- what is done to an item that doesn't fit the others: a pair in an array becomes an error, and so
+-- does what isn't a pair in a dictionary
 abbrev pub misfit : Option Bool → Bool → Change
 misfit None is_pair = stays
 misfit (Some true) is_pair = if is_pair then stays else is_not (codes "named or keyed pair")
 misfit (Some false) is_pair = if is_pair then is_not (codes "expression") else stays
 
+-- the keys that were seen, with this one
 abbrev pub with_key : List (List ℕ) → Key → List (List ℕ)
 with_key keys (key.Name name) = with_name keys name
 with_key keys (key.Str text) = with_name keys text
 with_key keys key.Other = keys
 
+-- the keys that were seen, with that of a pair
 abbrev pub with_pair : List (List ℕ) → Option Key → List (List ℕ)
 with_pair keys None = keys
 with_pair keys (Some key) = with_key keys key
 
--- the first item that is no spread decides between array and dictionary, unless that is decided
+-- the first item that isn't a spread decides between array and dictionary, unless that is decided
 abbrev pub decided : Option Bool → Bool → Option Bool
 decided None is_pair = Some is_pair
 decided (Some pairs) is_pair = Some pairs
 
+-- what was found of the items so far, with one more
 abbrev pub with_item : Items → Option Key → Items
 with_item items key = record {
   any = true;
@@ -86,13 +93,15 @@ with_item items key = record {
   keys = with_pair items.keys key;
 }
 
+-- what was found of the items so far, with a spread
 abbrev pub with_spread : Items → Items
 with_spread items = record items { any = true; is_plain = false }
 
+-- what was found of the items so far, after a comma or none
 abbrev pub with_comma : Bool → Items → Items
 with_comma comma items = record items { is_plain = items.is_plain && not comma }
 
--- one item
+-- one item; answers what was found of the items so far
 unfoldable pub item : Items → Parser Items
 item items = do
   ahead ← peek
@@ -110,25 +119,25 @@ group_turn items = do
     gives (true, with_comma comma more))
       (unexpected [] >> gives (true, items)))
 
--- no items; a colon first makes them a dictionary's
+-- what is known before the first item; a colon first makes the items a dictionary's
 abbrev pub no_items : Bool → Items
 no_items colon = record { any = false; is_plain = true; are_pairs = if colon then Some true else None; keys = [] }
 
--- what lists of pairs and of others are; without an item or with spreads alone it is an array
+-- what a list of pairs is, or of other items; without an item or with spreads alone it is an array
 abbrev pub list_kind : Option Bool → SyntaxKind
 list_kind None = kind.Array
 list_kind (Some true) = kind.Dict
 list_kind (Some false) = kind.Array
 
--- one item alone is an expression in parens
+-- what the items in parens are; one item alone is an expression in parens
 abbrev pub group_kind : Items → SyntaxKind
 group_kind items = if items.any && items.is_plain then kind.Parenthesized else list_kind items.are_pairs
 
--- what stands in parens, of which the second may be missing
+-- what is in parens as a node, whose second paren may be missing
 abbrev pub group_shape : Bool × SyntaxKind → Shape
 group_shape x = encloses x.1 x.0
 
--- what stands behind the first paren; answers whether the second one comes, and what it is
+-- what comes after the first paren; answers whether the second one comes, and what all is
 unfoldable pub group_rest : Parser (Bool × SyntaxKind)
 group_rest = do
   colon ← eat_if (same kind.Colon)

@@ -13,20 +13,20 @@ use Rattle.typst_language.specs.Expected.{expect_identifier}
 use Rattle.typst_markup.specs.Markup.{at_newline}
 use Rattle.typst_code.specs.Parts.{code_expression, separator}
 
--- a dot and a name
+-- a dot and a name, if they come
 unfoldable pub path_turn : Unit {0} → Parser (Bool × Unit {0})
 path_turn x = do
   dot ← eat_if (same kind.Dot)
   name ← pick dot expect_identifier (gives false)
   gives (dot, tt)
 
--- a name; what stands in its place is unexpected
+-- a name; another token in its place is unexpected
 unfoldable pub import_name : Parser (Unit {0})
 import_name = do
   ahead ← peek
   pick (same kind.Ident ahead.kind) eat (unexpected [])
 
--- a name, and names behind dots
+-- a path: a name, and names after dots
 unfoldable pub import_path : Parser (Unit {0})
 import_path = node (λ _. becomes kind.ImportItemPath) (import_name >> repeat path_turn tt)
 
@@ -37,6 +37,7 @@ renaming = do
   name ← pick renamed expect_identifier (gives false)
   gives renamed
 
+-- an item that is renamed becomes one node
 abbrev pub import_shape : Bool → Shape
 import_shape renamed = if renamed then becomes kind.RenamedImportItem else keeps stays
 
@@ -53,10 +54,11 @@ import_turn x = do
 unfoldable pub import_items : Parser (Unit {0})
 import_items = node (λ _. becomes kind.ImportItems) (repeat import_turn tt)
 
--- in parens, of which the first is an error where the second is missing
+-- the first paren becomes an error if the second is missing
 abbrev pub parens_shape : Bool → Shape
 parens_shape closed = keeps (if closed then stays else turns_wrong (codes "unclosed delimiter"))
 
+-- `( .. )` around the items that are imported
 unfoldable pub import_parens : Parser (Unit {0})
 import_parens = do
   closed ← node parens_shape (within (at_newline newline.Continue) (do
@@ -65,12 +67,13 @@ import_parens = do
     eat_if (same kind.RightParen)))
   gives tt
 
--- what comes behind the colon: items, in parens or not, or a star
+-- what comes after the colon: items, in parens or not, or a star
 unfoldable pub imported : Parser (Unit {0})
 imported = do
   ahead ← peek
   pick (same kind.LeftParen ahead.kind) import_parens (pick (same kind.Star ahead.kind) eat import_items)
 
+-- what comes after the colon, if it came
 abbrev pub imported_if : Bool → Parser (Unit {0})
 imported_if colon = pick colon imported (gives tt)
 

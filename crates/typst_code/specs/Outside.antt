@@ -15,13 +15,13 @@ use Rattle.typst_code.specs.Sequences.{code_block}
 pub record Blocks (l : Level) : Type 0 where
   pub content : ReadsBlock l block.Content content_block
   pub code : ReadsBlock l block.Code code_block
-  -- and what is told of first readings is what they find
+  -- what is known of first readings is what they find
   pub guess : (z : Place) (outer : Reading) → l.guess l.levels z outer ≡ guess_of l z outer
 
--- what the code reads where no block is being read
+-- `Means`, where no block is being read
 abbrev pub MeansAround : {A : Type 0} → Frame → Parser A → View → Result A AllocError → View → Type 0
 MeansAround f q old r new = (l : Level) → Fills l f → Blocks l → Reads l q old r new
 
--- the same where the code answers in its own terms
+-- `MeansBy`, where no block is being read
 abbrev pub MeansAroundBy : {A B : Type 0} → Frame → (B → A) → Parser A → View → Result B AllocError → View → Type 0
 MeansAroundBy f told q old r new = (l : Level) → Fills l f → Blocks l → ReadsBy l told q old r new

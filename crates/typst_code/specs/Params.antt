@@ -13,7 +13,8 @@ use Rattle.typst_language.specs.Expected.{seeing}
 use Rattle.typst_code.specs.Parts.{code_expression, separator, in_parens}
 use Rattle.typst_code.specs.Patterns.{deeper_pattern, name_of, named_shape, sink, sink_shape}
 
--- a pattern, and behind a colon what stands for it where it is not given; answers whether a colon came, and a name stands before it
+-- a pattern, and after a colon its default; answers whether a colon came and a name is before it,
+-- and the names that were seen
 unfoldable pub defaulted : List (List ℕ) → Parser (Option Bool × List (List ℕ))
 defaulted names = do
   x ← seeing (deeper_pattern role.Parameter names)
@@ -44,7 +45,7 @@ param_turn so_far = do
     gives (true, more))
       (unexpected [] >> gives (true, so_far)))
 
--- `( .. )`
+-- `( .. )`: the parameters of a closure
 unfoldable pub params : Parser (Unit {0})
 params = do
   closed ← node (encloses kind.Params) (within in_parens (do

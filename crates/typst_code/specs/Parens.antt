@@ -21,63 +21,66 @@ use Rattle.typst_code.specs.Parts.{expression_if}
 use Rattle.typst_code.specs.Patterns.{destructuring}
 use Rattle.typst_code.specs.Groups.{group, group_rest}
 
--- an arrow makes parameters of what stands before it; an equals sign makes it what is assigned to, unless it is one expression in parens
+-- what comes after a group: an arrow makes parameters of it; an equals sign makes it what is
+-- assigned to, unless it is one expression in parens
 abbrev pub behind_group : SyntaxKind → SyntaxKind → Behind
 behind_group group k =
     if same kind.Arrow k then behind.Arrow
     else (if same kind.Eq k && not (same kind.Parenthesized group) then behind.Eq else behind.Nothing)
 
--- the first reading
+-- the first reading: a group; answers what comes after it
 unfoldable pub as_group : Parser Behind
 as_group = do
   read ← group
   ahead ← peek
   gives (behind_group read ahead.kind)
 
--- the same, where the first paren was taken
+-- the first reading from after its paren on; answers what comes after the group
 unfoldable pub after_paren : Parser Behind
 after_paren = do
   x ← within (at_newline newline.Continue) (peek >> group_rest)
   ahead ← peek
   gives (behind_group x.1 ahead.kind)
 
--- what a first reading finds, by where it goes on behind its paren and how it is read outside
+-- what a first reading finds, by where it goes on after its paren and how it is read outside
 abbrev pub guess_of : Level → Place → Reading → Guess
 guess_of l z outer =
     let o = run l after_paren z (record (start_point outer) { held = at_newline newline.Continue outer }) in
     record { behind = o.value; asks = o.asks }
 
+-- an arrow comes
 abbrev pub is_arrow : Behind → Bool
 is_arrow behind.Arrow = true
 is_arrow behind.Eq = false
 is_arrow behind.Nothing = false
 
+-- an equals sign comes
 abbrev pub is_eq : Behind → Bool
 is_eq behind.Arrow = false
 is_eq behind.Eq = true
 is_eq behind.Nothing = false
 
--- a first reading, which is given up where what comes behind it asks for a second one
+-- a first reading, which is given up if what comes after it asks for a second one
 abbrev pub either_reading : Parser Behind
 either_reading = either (either as_group is_arrow (params >> gives behind.Arrow)) is_eq (destructuring role.Target [] >> gives behind.Eq)
 
--- only parens are read twice
+-- the reading of a group, which only with parens may be a second one
 unfoldable pub readings : Parser Behind
 readings = do
   ahead ← peek
   pick (same kind.LeftParen ahead.kind) either_reading as_group
 
--- what comes in place of a sign that doesn't come
+-- what came after a group, if its sign did, and else nothing
 abbrev pub behind_if : Bool → Behind → Behind
 behind_if came b = if came then b else behind.Nothing
 
--- the sign behind a second reading
+-- the arrow or the equals sign after a second reading; answers whether it came
 abbrev pub sign : Behind → Parser Bool
 sign behind.Arrow = expects (same kind.Arrow) (codes "arrow")
 sign behind.Eq = expects (same kind.Eq) (codes "equals sign")
 sign behind.Nothing = gives false
 
--- a group, and behind a second reading its sign and an expression, which aren't given up
+-- a group, and after a second reading its sign and an expression, which aren't given up
 unfoldable pub parens : Parser (Unit {0})
 parens = do
   x ← node closure_shape (do

@@ -19,16 +19,16 @@ code_expression = deeper (CodeExpr false 0) tt
 abbrev pub atomic_expression : Parser (Unit {0})
 atomic_expression = deeper (CodeExpr true 0) tt
 
--- an expression, where something was taken that asks for one
+-- an expression, if something was taken that asks for one
 abbrev pub expression_if : Bool → Parser (Unit {0})
 expression_if asked = pick asked code_expression (gives tt)
 
--- a comma stands between two items; answers whether one came
+-- a comma between two items, unless the list ends; answers whether one came
 unfoldable pub separator : Parser Bool
 separator = do
   ahead ← peek
   pick (is_terminator ahead.kind) (gives false) (expects (same kind.Comma) (codes "comma"))
 
--- in parens no newline stops
+-- how what is in parens is read: no newline stops
 abbrev pub in_parens : Reading → Reading
 in_parens r = record r { at_newline = Continue }

@@ -32,29 +32,31 @@ abbrev pub name_of_one : Seen → Option (List ℕ)
 name_of_one (leaf_seen k text) = if same kind.Ident k then Some text else None
 name_of_one (inner_seen k) = None
 
--- the same of the first of several nodes
+-- the name that the first of several nodes is
 abbrev pub name_of : List Seen → Option (List ℕ)
 name_of [] = None
 name_of (s ∷ ss) = name_of_one s
 
--- what is said of a name that was seen before
+-- what an error says of a name that was seen before
 abbrev pub duplicate : Role → List ℕ
 duplicate role.Parameter = codes "duplicate parameter: "
 duplicate _ = codes "duplicate binding: "
 
+-- a name that is bound becomes an error if it was seen
 abbrev pub when_bound : Role → List (List ℕ) → List ℕ → Change
 when_bound role names name = if has_name names name then turns_wrong (duplicate role ++ name) else stays
 
--- what is bound has to be a name that wasn't seen
+-- what is done to what is bound: it has to be a name, one that wasn't seen
 abbrev pub bound_change : Role → List (List ℕ) → Option (List ℕ) → Change
 bound_change role names (Some name) = when_bound role names name
 bound_change role names None = is_not (codes "pattern")
 
+-- the names that were seen, with this one, if there is one
 abbrev pub with_bound : List (List ℕ) → Option (List ℕ) → List (List ℕ)
 with_bound names (Some name) = with_name names name
 with_bound names None = names
 
--- an expression is read in place of a name, so that all of it becomes one error
+-- a name that is bound; an expression is read in its place, so that all of it becomes one error
 unfoldable pub bound_name : Role → List (List ℕ) → Parser (List (List ℕ))
 bound_name role names = do
   name ← node (λ name. keeps (bound_change role names name)) (do
@@ -62,6 +64,7 @@ bound_name role names = do
     gives (name_of x.1))
   gives (with_bound names name)
 
+-- what is assigned to, and not bound
 abbrev pub is_target : Role → Bool
 is_target role.Target = true
 is_target role.Binding = false
@@ -81,25 +84,25 @@ pattern_leaf role names = do
 
 -- ---- several patterns in parens
 
--- two dots, and a name where one comes
+-- two dots, and a name if one comes
 unfoldable pub sink : Role → List (List ℕ) → Parser (List (List ℕ))
 sink role names = do
   dots ← eat
   ahead ← peek
   pick (begins_leaf ahead.kind) (pattern_leaf role names) (gives names)
 
--- only the first of them may stand
+-- two dots with their name as one node, or as an error if there were two dots before
 abbrev pub sink_shape : List ℕ → Bool → Shape
 sink_shape message again = if again then fails message else becomes kind.Spread
 
--- a name; answers whether a colon comes behind it
+-- a name; answers whether a colon comes after it
 unfoldable pub name_and_colon : Parser Bool
 name_and_colon = do
   name ← eat
   behind ← peek
   gives (same kind.Colon behind.kind)
 
--- a name that stands before a colon; answers whether it was taken. Only the name is given up where no colon comes
+-- a name before a colon; answers whether it was taken. If no colon comes the name is given up
 unfoldable pub key : Parser Bool
 key = do
   ahead ← peek
@@ -112,12 +115,12 @@ key_or_pattern role names = do
   seen ← pick is_key (gives names) (deeper_pattern role names)
   gives (is_key, seen)
 
--- what stands before a colon has to be a name
+-- what a colon is in as one node; before the colon a name has to be
 abbrev pub named_shape : Option Bool → Shape
 named_shape None = keeps stays
 named_shape (Some is_name) = holds (if is_name then stays else is_not (codes "identifier")) kind.Named
 
--- a pattern, with a key before it or not; answers whether a colon came, and what stands before it is a key
+-- a pattern, with a key before it or not; answers whether a colon came, and what is before it is a key
 unfoldable pub part : Role → List (List ℕ) → Parser (Option Bool × List (List ℕ))
 part role names = do
   first ← key_or_pattern role names
@@ -132,19 +135,23 @@ part role names = do
 abbrev pub Found : Type 0
 Found = Parts × List (List ℕ)
 
+-- what is known before the first of several patterns
 abbrev pub no_parts : Parts
 no_parts = record { any = false; is_plain = true; has_sink = false }
 
+-- what was found of several patterns so far, with one that has two dots
 abbrev pub with_sink : Parts → Parts
 with_sink parts = record { any = true; is_plain = false; has_sink = true }
 
+-- what was found of several patterns so far, with one more, which has a colon or not
 abbrev pub with_part : Bool → Parts → Parts
 with_part is_named parts = record { any = true; is_plain = parts.is_plain && not parts.any && not is_named; has_sink = parts.has_sink }
 
+-- what was found of several patterns so far, after a comma or none
 abbrev pub with_comma : Bool → Parts → Parts
 with_comma comma parts = record parts { is_plain = parts.is_plain && not comma }
 
--- one of several patterns
+-- one of several patterns; answers what was found of them so far
 unfoldable pub destructuring_item : Role → Found → Parser Found
 destructuring_item role found = do
   ahead ← peek
@@ -158,7 +165,7 @@ destructuring_item role found = do
 abbrev pub begins_part : SyntaxKind → Bool
 begins_part k = among set.destructuring_item k
 
--- one of them and what separates it from the next, unless the list ends
+-- one of several patterns and what separates it from the next, unless the list ends
 unfoldable pub destructuring_turn : Role → Found → Parser (Bool × Found)
 destructuring_turn role found = do
   ahead ← peek
@@ -168,13 +175,13 @@ destructuring_turn role found = do
     gives (true, (with_comma comma more.0, more.1)))
       (unexpected [] >> gives (true, found)))
 
--- below a pattern in parens names are names of bindings
+-- what names are within a pattern in parens: those of a parameter are bindings there
 abbrev pub role_below : Role → Role
 role_below role.Target = role.Target
 role_below role.Binding = role.Binding
 role_below role.Parameter = role.Binding
 
--- one pattern alone is a pattern in parens
+-- what several patterns in parens are; one alone is a pattern in parens
 abbrev pub parts_kind : Parts → SyntaxKind
 parts_kind parts = if parts.any && parts.is_plain then kind.Parenthesized else kind.Destructuring
 

@@ -16,11 +16,11 @@ use Rattle.typst_markup.specs.Markup.{at_newline}
 use Rattle.typst_markup.specs.Starts.{begins_code}
 use Rattle.typst_code.specs.Parts.{code_expression}
 
--- a code block ends at any closing delimiter
+-- a code block ends at any closing delimiter, or at the end
 abbrev pub ends_code : SyntaxKind → Bool
 ends_code k = same kind.RightBrace k || same kind.RightBracket k || same kind.RightParen k || is_end k
 
--- two statements stand on one line; a label, which markup has, is told apart
+-- says that a statement doesn't end; at a label, which only markup has, with hints
 unfoldable pub missing_break : Parser (Unit {0})
 missing_break = do
   said ← expected (codes "semicolon or line break")
@@ -30,7 +30,7 @@ missing_break = do
     does (advises (codes "try wrapping your code in a markup block (`[ ]`)")))
       (gives tt)
 
--- a statement ends at a semicolon, or where the sequence stops
+-- the end of a statement: a semicolon, unless the sequence stops there
 unfoldable pub statement_end : (SyntaxKind → Bool) → Parser (Unit {0})
 statement_end stops = do
   ahead ← peek
@@ -42,7 +42,7 @@ statement stops = do
   ahead ← peek
   pick (begins_code ahead.kind) (code_expression >> statement_end stops) (unexpected [])
 
--- a statement goes on behind a newline only at `else` or a dot
+-- a statement, unless a stop comes; it goes on after a newline only at `else` or a dot
 unfoldable pub code_turn : (SyntaxKind → Bool) → Unit {0} → Parser (Bool × Unit {0})
 code_turn stops x = do
   ahead ← peek
@@ -60,10 +60,11 @@ code_exprs stops = do
 unfoldable pub code : (SyntaxKind → Bool) → Parser (Unit {0})
 code stops = node (λ _. becomes kind.Code) (code_exprs stops)
 
+-- how a code block is read, whatever is around it
 abbrev pub code_reading : Reading
 code_reading = record { mode = mode.Code; at_newline = newline.Continue }
 
--- `{ .. }`: behind the second brace the token is asked for as it is read around the block
+-- `{ .. }`: after the second brace the next token is asked for as it is read around the block
 unfoldable pub code_block : Parser (Unit {0})
 code_block = do
   closed ← node (encloses kind.CodeBlock) (scoped (λ _. code_reading) (do

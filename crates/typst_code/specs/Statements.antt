@@ -27,23 +27,24 @@ any_block = do
   pick (same kind.LeftBracket ahead.kind) (read_block block.Content)
       (pick (same kind.LeftBrace ahead.kind) (read_block block.Code) (expected (codes "block")))
 
--- a dot and a name behind it take what stands to their left into a field access
+-- a dot and a name, which take what is to their left into a field access
 unfoldable pub field : Parser (Option Shape × Unit {0})
 field = do
   dot ← eat
   name ← expect_identifier
   gives (Some (becomes kind.FieldAccess), tt)
 
+-- a dot and a name, if a dot comes
 unfoldable pub target_turn : Unit {0} → Parser (Option Shape × Unit {0})
 target_turn x = do
   ahead ← peek
   pick (same kind.Dot ahead.kind) field (gives (None, tt))
 
--- a name, and names behind dots
+-- a name, and names after dots
 unfoldable pub target : Parser (Unit {0})
 target = grow (expect_identifier >> gives tt) target_turn
 
--- `set text(..)`, and `if` with a condition behind it
+-- `set text(..)`, and `if` with a condition after it
 unfoldable pub set_rule : Parser (Unit {0})
 set_rule = node (λ _. becomes kind.SetRule) (do
   keyword ← eat
@@ -52,10 +53,11 @@ set_rule = node (λ _. becomes kind.SetRule) (do
   conditional ← eat_if (same kind.If)
   expression_if conditional)
 
--- `show .. : ..`, where the colon has to come; what stands before it may be missing
+-- `show .. : ..`: without a colon an empty error comes after the keyword
 abbrev pub show_shape : Bool → Shape
 show_shape colon = if colon then becomes kind.ShowRule else lacks 1 (codes "expected colon") kind.ShowRule
 
+-- `show .. : ..`: what is shown may be missing, the colon may not
 unfoldable pub show_rule : Parser (Unit {0})
 show_rule = do
   colon ← node show_shape (do
@@ -71,13 +73,13 @@ show_rule = do
 unfoldable pub contextual : Bool → Parser (Unit {0})
 contextual atomic = node (λ _. becomes kind.Contextual) (eat >> deeper (CodeExpr atomic 0) tt)
 
--- what comes behind `else`, unless it is another `if`; answers whether that comes
+-- what comes after `else`, unless it is another `if`; answers whether that comes
 unfoldable pub other_branch : Parser (Bool × Unit {0})
 other_branch = do
   ahead ← peek
   pick (same kind.If ahead.kind) (gives (true, tt)) (any_block >> gives (false, tt))
 
--- `if .. { .. }`; answers whether `else if` came, of which `else` is taken
+-- `if .. { .. }`, with an `else` after it; answers whether another `if` comes after that
 unfoldable pub conditional_turn : Unit {0} → Parser (Bool × Unit {0})
 conditional_turn x = do
   keyword ← eat
@@ -98,7 +100,7 @@ while_loop = node (λ _. becomes kind.WhileLoop) (eat >> code_expression >> any_
 abbrev pub begins_pattern : SyntaxKind → Bool
 begins_pattern k = among set.pattern k
 
--- a comma and a second pattern, which would have to stand in parens with the first
+-- a comma and a second pattern, which would have to be in parens with the first
 unfoldable pub second_pattern : List (List ℕ) → Parser (Unit {0})
 second_pattern names = do
   comma ← eat_making false (surprise (codes "destructuring patterns must be wrapped in parentheses" ∷ []))
@@ -124,7 +126,7 @@ module_include = node (λ _. becomes kind.ModuleInclude) (eat >> code_expression
 unfoldable pub jump : SyntaxKind → Parser (Unit {0})
 jump k = node (λ _. becomes k) eat
 
--- `return`, with an expression where one comes
+-- `return`, with an expression if one comes
 unfoldable pub func_return : Parser (Unit {0})
 func_return = node (λ _. becomes kind.FuncReturn) (do
   keyword ← eat

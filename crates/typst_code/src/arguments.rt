@@ -17,7 +17,7 @@ use typst_kinds::{Names, SyntaxKind};
 use typst_language::{AtNewline, Change, Levels, Parser};
 use typst_markup::{Key, opens_directly, with_argument, wrap_named};
 
-/// Makes a named argument of an argument that has a key, which has to be a name that wasn't seen.
+/// Makes one node of a named argument: its key has to be a name, one that wasn't seen.
 fn wrap_argument(
     p: &mut Parser<'_>,
     from: usize,
@@ -99,7 +99,7 @@ fn argument_list<L: Levels>(g: &L, p: &mut Parser<'_>) -> Result<bool, AllocErro
     Ok(closed)
 }
 
-/// Reads a content block, if one begins directly here; answers whether it did.
+/// Reads a content block, if one begins here without trivia before it; answers whether it did.
 fn content_turn<L: Levels>(g: &L, p: &mut Parser<'_>) -> Result<bool, AllocError>
     requires { L.may_call g.now }
     ensures { MeansAroundBy (L.frame g.now) (λ more. (more, tt)) (spec.content_turn tt) p.old result p.new }
@@ -111,7 +111,7 @@ fn content_turn<L: Levels>(g: &L, p: &mut Parser<'_>) -> Result<bool, AllocError
     Ok(true)
 }
 
-/// Reads content blocks that stand directly behind one another.
+/// Reads content blocks that come directly one after another.
 fn content_turns<L: Levels>(g: &L, p: &mut Parser<'_>) -> Result<(), AllocError>
     requires { L.may_call g.now }
     ensures { MeansAround (L.frame g.now) (repeat spec.content_turn tt) p.old result p.new }
@@ -125,7 +125,7 @@ fn content_turns<L: Levels>(g: &L, p: &mut Parser<'_>) -> Result<(), AllocError>
     }
 }
 
-/// Says that arguments are missing, or stand behind a space.
+/// Says that arguments are missing, or come after a space.
 #[cold]
 fn missing_arguments<L: Levels>(g: &L, p: &mut Parser<'_>) -> Result<(), AllocError>
     ensures { Means (L.frame g.now) spec.missing_arguments p.old result p.new }
@@ -137,7 +137,7 @@ fn missing_arguments<L: Levels>(g: &L, p: &mut Parser<'_>) -> Result<(), AllocEr
     Ok(())
 }
 
-/// Reads the arguments of a call: a list in parens, and content blocks directly behind it.
+/// Reads the arguments of a call: a list in parens, and content blocks directly after it.
 pub(crate) fn arguments<L: Levels>(g: &L, p: &mut Parser<'_>) -> Result<(), AllocError>
     requires { L.may_call g.now }
     ensures { MeansAround (L.frame g.now) spec.arguments p.old result p.new }
@@ -150,7 +150,7 @@ pub(crate) fn arguments<L: Levels>(g: &L, p: &mut Parser<'_>) -> Result<(), Allo
     Ok(())
 }
 
-/// Says so where arguments don't begin directly here.
+/// Says that arguments are missing, if none begin directly here.
 fn begin_arguments<L: Levels>(g: &L, p: &mut Parser<'_>) -> Result<(), AllocError>
     ensures { Means (L.frame g.now) spec.begin_arguments p.old result p.new }
 {

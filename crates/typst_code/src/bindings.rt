@@ -15,20 +15,20 @@ use typst_language::{Change, Levels, Parser, Role, deeper_pattern};
 pub enum Bound {
     /// A name.
     Name,
-    /// A name with parameters directly behind it.
+    /// A name with parameters directly after it.
     Function,
     /// The names of a pattern.
     Names,
 }
 
-/// Whether parameters begin directly behind a name.
+/// Whether parameters begin directly after a name.
 fn opens_params(kind: SyntaxKind, has_trivia: bool) -> bool
     ensures { result ≡ spec.opens_params kind has_trivia }
 {
     kind == SyntaxKind::LeftParen && !has_trivia
 }
 
-/// Reads a name, and parameters if they begin directly behind it.
+/// Reads a name, and parameters if they begin directly after it.
 fn bound_name<L: Levels>(g: &L, p: &mut Parser<'_>) -> Result<Bound, AllocError>
     requires { L.may_call g.now }
     ensures { Means (L.frame g.now) spec.bound_name p.old result p.new }
@@ -53,7 +53,7 @@ fn bound_part<L: Levels>(g: &L, p: &mut Parser<'_>) -> Result<Bound, AllocError>
     Ok(Bound::Names)
 }
 
-/// Reads the equals sign, without which only a name may stand; answers whether it came.
+/// Reads the equals sign, which only after a name alone may be missing; answers whether it came.
 fn equals<L: Levels>(g: &L, p: &mut Parser<'_>, bound: Bound) -> Result<bool, AllocError>
     ensures { Means (L.frame g.now) (spec.equals bound) p.old result p.new }
 {
@@ -65,7 +65,7 @@ fn equals<L: Levels>(g: &L, p: &mut Parser<'_>, bound: Bound) -> Result<bool, Al
     }
 }
 
-/// Makes a closure of a function.
+/// Makes a closure of a function that is bound.
 fn wrap_bound(p: &mut Parser<'_>, from: usize, bound: Bound) -> Result<(), AllocError>
     ensures { OnOk result (Rewrapped from (spec.bound_shape bound) p.old p.new) }
 {
@@ -92,7 +92,7 @@ fn binding<L: Levels>(g: &L, p: &mut Parser<'_>) -> Result<(), AllocError>
     Ok(())
 }
 
-/// `let ..`
+/// Reads `let .. = ..`.
 pub fn let_binding<L: Levels>(g: &L, p: &mut Parser<'_>) -> Result<(), AllocError>
     requires { L.may_call g.now }
     ensures { Means (L.frame g.now) spec.let_binding p.old result p.new }

@@ -9,7 +9,7 @@ use std::alloc::AllocError;
 use typst_kinds::SyntaxKind;
 use typst_language::{Behind, Change, Levels, Parser};
 
-/// What comes behind a name.
+/// What comes after a name: only an arrow counts.
 fn behind_name(kind: SyntaxKind) -> Behind
     ensures { result ≡ spec.behind_name kind }
 {
@@ -19,7 +19,7 @@ fn behind_name(kind: SyntaxKind) -> Behind
     Behind::Nothing
 }
 
-/// What comes behind an underscore.
+/// What comes after an underscore: an arrow or an equals sign counts.
 fn behind_underscore(kind: SyntaxKind) -> Behind
     ensures { result ≡ spec.behind_underscore kind }
 {
@@ -46,7 +46,7 @@ fn wrap_name(p: &mut Parser<'_>, from: usize, behind: Behind) -> Result<(), Allo
     Ok(())
 }
 
-/// The same of an underscore, which alone is no expression.
+/// Makes parameters of an underscore before an arrow, and an error of one that is alone.
 fn wrap_underscore(p: &mut Parser<'_>, from: usize, behind: Behind) -> Result<(), AllocError>
     ensures { OnOk result (Rewrapped from (spec.underscore_shape behind) p.old p.new) }
 {
@@ -60,7 +60,7 @@ fn wrap_underscore(p: &mut Parser<'_>, from: usize, behind: Behind) -> Result<()
     Ok(())
 }
 
-/// Makes a closure or an assignment of all of it.
+/// Makes a closure or an assignment of all that was read.
 pub fn wrap_closure(p: &mut Parser<'_>, from: usize, behind: Behind) -> Result<(), AllocError>
     ensures { OnOk result (Rewrapped from (spec.closure_shape behind) p.old p.new) }
 {
@@ -76,7 +76,7 @@ pub fn wrap_closure(p: &mut Parser<'_>, from: usize, behind: Behind) -> Result<(
     Ok(())
 }
 
-/// Reads the sign, and an expression.
+/// Reads the arrow or the equals sign, and an expression.
 fn right_side<L: Levels>(g: &L, p: &mut Parser<'_>, behind: Behind) -> Result<(), AllocError>
     requires { L.may_call g.now }
     ensures { Means (L.frame g.now) (spec.right_side behind) p.old result p.new }
@@ -109,7 +109,7 @@ pub fn named<L: Levels>(g: &L, p: &mut Parser<'_>) -> Result<(), AllocError>
     Ok(())
 }
 
-/// Reads a closure whose parameter has no name, or what is assigned to nothing.
+/// Reads an underscore: the parameter of a closure, or what is assigned to.
 pub fn placeholder<L: Levels>(g: &L, p: &mut Parser<'_>) -> Result<(), AllocError>
     requires { L.may_call g.now }
     ensures { Means (L.frame g.now) spec.placeholder p.old result p.new }

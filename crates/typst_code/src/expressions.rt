@@ -22,7 +22,7 @@ use typst_kinds::{Assoc, BinOp, SyntaxKind, UnOp};
 use typst_language::{Levels, Parser, deeper_code_expr};
 use typst_markup::equation;
 
-/// An operator and its operand.
+/// Reads an operator and its operand.
 fn unary_expr<L: Levels>(g: &L, p: &mut Parser<'_>, op: UnOp) -> Result<(), AllocError>
     requires { L.may_call g.now }
     ensures { Means (L.frame g.now) (spec.unary_expr op) p.old result p.new }
@@ -73,7 +73,7 @@ fn code_primary<L: Levels>(g: &L, p: &mut Parser<'_>, atomic: bool) -> Result<()
     Ok(())
 }
 
-/// How tightly the right operand of an operator binds at least.
+/// How tightly the right operand of an operator has to bind.
 fn operand_least(op: BinOp) -> u8
     ensures { result ≡ spec.operand_least op }
 {
@@ -83,7 +83,7 @@ fn operand_least(op: BinOp) -> u8
     }
 }
 
-/// The token of an operator, and its right operand.
+/// Reads the token of an operator, and its right operand.
 fn binary_expr<L: Levels>(
     g: &L,
     p: &mut Parser<'_>,
@@ -98,7 +98,7 @@ fn binary_expr<L: Levels>(
     Ok(Some(SyntaxKind::Binary))
 }
 
-/// `not`, which is an operator with `in` behind it.
+/// Reads `not`, which with `in` after it is an operator.
 fn not_in<L: Levels>(g: &L, p: &mut Parser<'_>) -> Result<Option<SyntaxKind>, AllocError>
     requires { L.may_call g.now }
     ensures means { MeansBy (L.frame g.now) bare_growth spec.not_in p.old result p.new }
@@ -112,7 +112,7 @@ fn not_in<L: Levels>(g: &L, p: &mut Parser<'_>) -> Result<Option<SyntaxKind>, Al
     Ok(None)
 }
 
-/// A field access, if an identifier stands directly behind the dot.
+/// Reads a field access, if an identifier comes directly after the dot.
 fn direct_field<L: Levels>(g: &L, p: &mut Parser<'_>) -> Result<Option<SyntaxKind>, AllocError>
     ensures means { MeansBy (L.frame g.now) bare_growth spec.direct_field p.old result p.new }
     ensures fine { IfOk result (λ kind. IfSome kind (λ k. is_error k ≡ false)) }
@@ -123,7 +123,7 @@ fn direct_field<L: Levels>(g: &L, p: &mut Parser<'_>) -> Result<Option<SyntaxKin
     Ok(field(g, p)?)
 }
 
-/// Arguments.
+/// Reads the arguments of a call.
 fn call_tail<L: Levels>(g: &L, p: &mut Parser<'_>) -> Result<Option<SyntaxKind>, AllocError>
     requires { L.may_call g.now }
     ensures means { MeansAroundBy (L.frame g.now) bare_growth spec.call_tail p.old result p.new }
@@ -133,7 +133,7 @@ fn call_tail<L: Levels>(g: &L, p: &mut Parser<'_>) -> Result<Option<SyntaxKind>,
     Ok(Some(SyntaxKind::FuncCall))
 }
 
-/// Reads what takes an expression into its node; answers the kind of that node.
+/// Reads what the current token makes of the expression before it; answers the kind of that node.
 fn code_tail_turn<L: Levels>(
     g: &L,
     p: &mut Parser<'_>,

@@ -22,7 +22,7 @@ pub(crate) fn begins_item(kind: SyntaxKind) -> bool
     kind == SyntaxKind::Dots || begins_code(kind)
 }
 
-/// `..` and an expression.
+/// Reads `..` and an expression.
 pub(crate) fn spread<L: Levels>(g: &L, p: &mut Parser<'_>) -> Result<(), AllocError>
     requires { L.may_call g.now }
     ensures { Means (L.frame g.now) spec.spread p.old result p.new }
@@ -34,7 +34,7 @@ pub(crate) fn spread<L: Levels>(g: &L, p: &mut Parser<'_>) -> Result<(), AllocEr
     Ok(())
 }
 
-/// Reads an expression, and behind a colon another one; answers the first as a key where one came.
+/// Reads an expression, and after a colon another one; answers the first as a key if a colon came.
 pub(crate) fn pair<L: Levels>(g: &L, p: &mut Parser<'_>) -> Result<Option<Key>, AllocError>
     requires { L.may_call g.now }
     ensures { Means (L.frame g.now) spec.pair p.old result p.new }
@@ -69,7 +69,7 @@ fn wrap_item(
     Ok(())
 }
 
-/// Makes a pair, of which the first is an error where its key was seen.
+/// Makes a pair, whose key becomes an error if it was seen.
 fn wrap_pair(
     p: &mut Parser<'_>,
     from: usize,
@@ -89,7 +89,7 @@ fn wrap_pair(
     Ok(())
 }
 
-/// What an item becomes that doesn't fit the others.
+/// What is done to an item that doesn't fit the others.
 fn misfit(are_pairs: Option<bool>, is_pair: bool) -> Change<'static>
     ensures meant { meant result ≡ spec.misfit are_pairs is_pair }
     ensures fine { IsFine result }
@@ -101,7 +101,7 @@ fn misfit(are_pairs: Option<bool>, is_pair: bool) -> Change<'static>
     }
 }
 
-/// Reads one item.
+/// Reads one item; answers what was found of the items so far.
 fn item<L: Levels>(g: &L, p: &mut Parser<'_>, items: Items) -> Result<Items, AllocError>
     requires { L.may_call g.now }
     ensures { Means (L.frame g.now) (spec.item items) p.old result p.new }
@@ -138,7 +138,7 @@ fn group_turn<L: Levels>(
     Ok((true, more.with_comma(comma)))
 }
 
-/// Reads the items in parens.
+/// Reads the items in parens; answers what was found of them.
 fn group_items<L: Levels>(g: &L, p: &mut Parser<'_>, items: Items) -> Result<Items, AllocError>
     requires { L.may_call g.now }
     ensures { Means (L.frame g.now) (repeat spec.group_turn items) p.old result p.new }
@@ -154,7 +154,7 @@ fn group_items<L: Levels>(g: &L, p: &mut Parser<'_>, items: Items) -> Result<Ite
     }
 }
 
-/// `( .. )`; answers what it is.
+/// Reads `( .. )`; answers what it is.
 pub(crate) fn group<L: Levels>(g: &L, p: &mut Parser<'_>) -> Result<SyntaxKind, AllocError>
     requires { L.may_call g.now }
     ensures { Means (L.frame g.now) spec.group p.old result p.new }

@@ -13,11 +13,11 @@ pub enum CodeHead {
     Unary(UnOp),
     /// An operator, which an atomic expression can't begin with.
     StrayOperator,
-    /// A node of its own.
+    /// A token that is an expression by itself.
     Itself,
     /// A name, or a closure.
     Named,
-    /// An underscore, which alone is no expression.
+    /// An underscore, which alone isn't an expression.
     Placeholder,
     /// `{ .. }`
     CodeBlock,
@@ -27,7 +27,7 @@ pub enum CodeHead {
     Equation,
     /// `( .. )`
     Group,
-    /// The same, or the parameters of a closure, or what is assigned to.
+    /// `( .. )` that may also be the parameters of a closure, or what is assigned to.
     Parens,
     /// `let ..`
     Let,
@@ -53,26 +53,26 @@ pub enum CodeHead {
     Continue,
     /// `return ..`
     Return,
-    /// Nothing, and it is taken.
+    /// Nothing that begins an expression, and it is taken as an error.
     Unexpected,
-    /// Nothing, and it stays.
+    /// Nothing that begins an expression, and it stays.
     Missing,
 }
 
-/// What a token takes an expression that stands before it into.
+/// What a token makes of the expression before it.
 #[derive(Debug, Clone, Copy, PartialEq, Eq)]
 pub enum CodeTail {
-    /// A call, with arguments directly behind it.
+    /// A call, with arguments directly after it.
     Call,
     /// A field access.
     Field,
-    /// The same, if an identifier stands directly behind the dot.
+    /// A field access, if an identifier comes directly after the dot.
     DirectField,
-    /// An operator of two words, if `in` comes behind `not`.
+    /// An operator of two words, if `in` comes after `not`.
     NotIn,
     /// An operator.
     Binary(BinOp),
-    /// Nothing.
+    /// Nothing: the expression ends before the token.
     Nothing,
 }
 
@@ -126,8 +126,8 @@ pub(crate) fn opens_arguments(kind: SyntaxKind) -> bool
     kind == SyntaxKind::LeftParen || kind == SyntaxKind::LeftBracket
 }
 
-/// What takes an expression into its node, which is atomic or whose operators bind at least so
-/// tightly: a token behind trivia or directly behind it.
+/// What a token, directly after an expression or after trivia, makes of the expression, which is atomic or whose
+/// operators bind at least so tightly.
 pub(crate) fn code_tail(atomic: bool, least: u8, kind: SyntaxKind, has_trivia: bool) -> CodeTail
     ensures { result ≡ spec.code_tail atomic least kind has_trivia }
 {
@@ -143,21 +143,21 @@ pub(crate) fn code_tail(atomic: bool, least: u8, kind: SyntaxKind, has_trivia: b
     CodeTail::Nothing
 }
 
-/// Whether arguments begin directly behind an expression.
+/// Whether arguments begin directly after an expression.
 pub(crate) fn calls_directly(kind: SyntaxKind, has_trivia: bool) -> bool
     ensures { result ≡ arguments.calls_directly kind has_trivia }
 {
     opens_arguments(kind) && !has_trivia
 }
 
-/// Whether a dot stands directly behind it.
+/// Whether a dot comes directly after an expression.
 fn dots_directly(kind: SyntaxKind, has_trivia: bool) -> bool
     ensures { result ≡ spec.dots_directly kind has_trivia }
 {
     kind == SyntaxKind::Dot && !has_trivia
 }
 
-/// What takes an expression into its node that isn't atomic.
+/// What a token makes of an expression before it that isn't atomic.
 fn operator_tail(least: u8, kind: SyntaxKind) -> CodeTail
     ensures { result ≡ spec.operator_tail least kind }
 {
@@ -173,7 +173,7 @@ fn operator_tail(least: u8, kind: SyntaxKind) -> CodeTail
     CodeTail::NotIn
 }
 
-/// An operator that binds at least so tightly, if it is one.
+/// The operator, if there is one and it binds at least so tightly.
 fn binary_tail(least: u8, op: Option<BinOp>) -> CodeTail
     ensures { result ≡ spec.binary_tail least op }
 {

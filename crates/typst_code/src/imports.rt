@@ -33,7 +33,7 @@ fn path_turns<L: Levels>(g: &L, p: &mut Parser<'_>) -> Result<(), AllocError>
     }
 }
 
-/// A name; what stands in its place is unexpected.
+/// Reads a name; another token in its place is unexpected.
 fn import_name<L: Levels>(g: &L, p: &mut Parser<'_>) -> Result<(), AllocError>
     ensures { Means (L.frame g.now) spec.import_name p.old result p.new }
 {
@@ -45,7 +45,7 @@ fn import_name<L: Levels>(g: &L, p: &mut Parser<'_>) -> Result<(), AllocError>
     Ok(())
 }
 
-/// A name, and names behind dots.
+/// Reads a path: a name, and names after dots.
 fn import_path<L: Levels>(g: &L, p: &mut Parser<'_>) -> Result<(), AllocError>
     ensures { Means (L.frame g.now) spec.import_path p.old result p.new }
 {
@@ -106,7 +106,7 @@ fn import_turns<L: Levels>(g: &L, p: &mut Parser<'_>) -> Result<(), AllocError>
     }
 }
 
-/// The items that are imported.
+/// Reads the items that are imported.
 fn import_items<L: Levels>(g: &L, p: &mut Parser<'_>) -> Result<(), AllocError>
     ensures { Means (L.frame g.now) spec.import_items p.old result p.new }
 {
@@ -116,7 +116,7 @@ fn import_items<L: Levels>(g: &L, p: &mut Parser<'_>) -> Result<(), AllocError>
     Ok(())
 }
 
-/// The same in parens.
+/// Reads the items that are imported, in parens.
 fn import_parens<L: Levels>(g: &L, p: &mut Parser<'_>) -> Result<(), AllocError>
     ensures { Means (L.frame g.now) spec.import_parens p.old result p.new }
 {
@@ -130,7 +130,7 @@ fn import_parens<L: Levels>(g: &L, p: &mut Parser<'_>) -> Result<(), AllocError>
     Ok(())
 }
 
-/// Makes the first paren an error where the second is missing.
+/// Makes the first paren an error if the second is missing.
 fn close_parens(p: &mut Parser<'_>, from: usize, closed: bool) -> Result<(), AllocError>
     ensures { OnOk result (Rewrapped from (spec.parens_shape closed) p.old p.new) }
 {
@@ -142,7 +142,7 @@ fn close_parens(p: &mut Parser<'_>, from: usize, closed: bool) -> Result<(), All
     Ok(())
 }
 
-/// What comes behind the colon: items, in parens or not, or a star.
+/// Reads what comes after the colon: items, in parens or not, or a star.
 fn imported<L: Levels>(g: &L, p: &mut Parser<'_>) -> Result<(), AllocError>
     ensures { Means (L.frame g.now) spec.imported p.old result p.new }
 {
@@ -158,7 +158,7 @@ fn imported<L: Levels>(g: &L, p: &mut Parser<'_>) -> Result<(), AllocError>
     Ok(())
 }
 
-/// The same, if a colon was taken.
+/// Reads what comes after the colon, if it was taken.
 fn imported_if<L: Levels>(g: &L, p: &mut Parser<'_>, colon: bool) -> Result<(), AllocError>
     ensures { Means (L.frame g.now) (spec.imported_if colon) p.old result p.new }
 {
@@ -168,7 +168,7 @@ fn imported_if<L: Levels>(g: &L, p: &mut Parser<'_>, colon: bool) -> Result<(), 
     Ok(())
 }
 
-/// `import ..`
+/// Reads `import .. as name: ..`.
 pub(crate) fn module_import<L: Levels>(g: &L, p: &mut Parser<'_>) -> Result<(), AllocError>
     requires { L.may_call g.now }
     ensures { Means (L.frame g.now) spec.module_import p.old result p.new }

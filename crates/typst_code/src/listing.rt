@@ -22,7 +22,7 @@ pub struct Items {
 }
 
 impl Items {
-    /// No items; a colon first makes them a dictionary's.
+    /// What is known before the first item; a colon first makes the items a dictionary's.
     pub(crate) fn new(alloc: Global, colon: bool) -> Items
         ensures { result ≡ spec.no_items colon }
     {
@@ -34,7 +34,7 @@ impl Items {
         }
     }
 
-    /// With a spread.
+    /// What was found, with a spread.
     pub(crate) fn with_spread(self) -> Items
         ensures { result ≡ spec.with_spread self }
     {
@@ -44,7 +44,7 @@ impl Items {
         items
     }
 
-    /// With an item, which has a key where it is a pair.
+    /// What was found, with one more item, which has a key if it is a pair.
     pub(crate) fn with_item(self, key: Option<Key>) -> Result<Items, AllocError>
         ensures { IfOk result (λ items. items ≡ spec.with_item self key) }
     {
@@ -60,7 +60,7 @@ impl Items {
         Ok(items)
     }
 
-    /// With a comma behind the last, if there is one.
+    /// What was found, after a comma or none.
     pub(crate) fn with_comma(self, comma: bool) -> Items
         ensures { result ≡ spec.with_comma comma self }
     {
@@ -69,7 +69,7 @@ impl Items {
         items
     }
 
-    /// What all of them make.
+    /// What the items in parens are.
     pub(crate) fn kind(&self) -> SyntaxKind
         ensures kind { result ≡ spec.group_kind self.now }
         ensures fine { is_error result ≡ false }

@@ -34,8 +34,8 @@ fn is_name_itself(node: &SyntaxNode) -> bool
     node.kind() == SyntaxKind::Ident
 }
 
-/// Reads a pattern, and behind a colon what stands for it where it is not given; answers whether a
-/// colon came and a name stands before it, and the names that were seen.
+/// Reads a pattern, and after a colon its default; answers whether a colon came and a name is before it, and the
+/// names that were seen.
 fn defaulted<L: Levels>(
     g: &L,
     p: &mut Parser<'_>,
@@ -128,7 +128,7 @@ fn param_turns<L: Levels>(
     }
 }
 
-/// Reads parameters.
+/// Reads the parameters of a closure, with their parens.
 pub fn params<L: Levels>(g: &L, p: &mut Parser<'_>) -> Result<(), AllocError>
     requires { L.may_call g.now }
     ensures { Means (L.frame g.now) spec.params p.old result p.new }

@@ -12,7 +12,7 @@ use std::alloc::AllocError;
 use typst_kinds::{Names, SyntaxKind};
 use typst_language::{Behind, Levels, Parser, Role};
 
-/// What comes behind a group of this kind.
+/// What comes after a group of this kind: an arrow, or an equals sign that asks for a second reading.
 fn behind_group(group: SyntaxKind, kind: SyntaxKind) -> Behind
     ensures { result ≡ spec.behind_group group kind }
 {
@@ -25,7 +25,7 @@ fn behind_group(group: SyntaxKind, kind: SyntaxKind) -> Behind
     Behind::Nothing
 }
 
-/// Reads a group; answers what comes behind it.
+/// Reads a group; answers what comes after it.
 fn as_group<L: Levels>(g: &L, p: &mut Parser<'_>) -> Result<Behind, AllocError>
     requires { L.may_call g.now }
     ensures { Means (L.frame g.now) spec.as_group p.old result p.new }
@@ -34,8 +34,7 @@ fn as_group<L: Levels>(g: &L, p: &mut Parser<'_>) -> Result<Behind, AllocError>
     Ok(behind_group(kind, p.current()))
 }
 
-/// Reads a group, and where what comes behind it asks for that, goes back and reads parameters or what
-/// is assigned to.
+/// Reads a group; if what comes after it asks for that, goes back and reads parameters or what is assigned to.
 fn guess<L: Levels>(g: &L, p: &mut Parser<'_>) -> Result<Behind, AllocError>
     requires may { L.may_call g.now }
     requires paren { p.old.hand.kind ≡ kind.LeftParen }
@@ -64,8 +63,8 @@ fn guess<L: Levels>(g: &L, p: &mut Parser<'_>) -> Result<Behind, AllocError>
     Ok(behind)
 }
 
-/// Reads a group, or in a second reading parameters or what is assigned to; answers what comes behind
-/// it. Where it is remembered that a second reading is asked for, there is no first one.
+/// Reads a group, or in a second reading parameters or what is assigned to; answers what comes after it. If it is
+/// remembered that a second reading is asked for, there is no first one.
 fn readings<L: Levels>(g: &L, p: &mut Parser<'_>) -> Result<Behind, AllocError>
     requires { L.may_call g.now }
     ensures { MeansAround (L.frame g.now) spec.readings p.old result p.new }
@@ -94,7 +93,7 @@ fn readings<L: Levels>(g: &L, p: &mut Parser<'_>) -> Result<Behind, AllocError>
     Ok(behind)
 }
 
-/// Takes the sign behind a second reading; answers whether it came.
+/// Takes the arrow or the equals sign after a second reading; answers whether it came.
 fn sign<L: Levels>(g: &L, p: &mut Parser<'_>, behind: Behind) -> Result<bool, AllocError>
     ensures { Means (L.frame g.now) (spec.sign behind) p.old result p.new }
 {
@@ -105,7 +104,7 @@ fn sign<L: Levels>(g: &L, p: &mut Parser<'_>, behind: Behind) -> Result<bool, Al
     }
 }
 
-/// Nothing, where a sign doesn't come.
+/// What came after a group, if its sign did, and else nothing.
 fn behind_if(came: bool, behind: Behind) -> Behind
     ensures { result ≡ spec.behind_if came behind }
 {

@@ -18,7 +18,7 @@ pub struct Parts {
 }
 
 impl Parts {
-    /// None.
+    /// What is known before the first pattern.
     pub(crate) fn none() -> Parts
         ensures { result ≡ spec.no_parts }
     {
@@ -29,7 +29,7 @@ impl Parts {
         }
     }
 
-    /// With one that has two dots.
+    /// What was found, with a pattern that has two dots.
     pub(crate) fn with_sink(self) -> Parts
         ensures { result ≡ spec.with_sink self }
     {
@@ -40,7 +40,7 @@ impl Parts {
         }
     }
 
-    /// With one more, which has a colon or not.
+    /// What was found, with one more pattern, which has a colon or not.
     pub(crate) fn with_part(self, is_named: bool) -> Parts
         ensures { result ≡ spec.with_part is_named self }
     {
@@ -51,7 +51,7 @@ impl Parts {
         }
     }
 
-    /// With a comma behind the last, if there is one.
+    /// What was found, after a comma or none.
     pub(crate) fn with_comma(self, comma: bool) -> Parts
         ensures { result ≡ spec.with_comma comma self }
     {
@@ -62,7 +62,7 @@ impl Parts {
         }
     }
 
-    /// What all of them make.
+    /// What the patterns in parens are.
     pub(crate) fn kind(self) -> SyntaxKind
         ensures kind { result ≡ spec.parts_kind self }
         ensures fine { is_error result ≡ false }

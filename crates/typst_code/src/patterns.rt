@@ -37,7 +37,7 @@ fn name_of_one(alloc: Global, node: &SyntaxNode) -> Result<Option<Text>, AllocEr
     Ok(None)
 }
 
-/// What stands before a name that was seen.
+/// What an error says before a name that was seen.
 fn duplicate(role: Role) -> &'static str
     ensures { result.now ≡ spec.duplicate role }
 {
@@ -47,7 +47,7 @@ fn duplicate(role: Role) -> &'static str
     }
 }
 
-/// Says so where what is bound is no name, or one that was seen.
+/// Makes what is bound an error if it isn't a name, or is one that was seen.
 fn change_bound(
     p: &mut Parser<'_>,
     from: usize,
@@ -64,7 +64,7 @@ fn change_bound(
     Ok(())
 }
 
-/// Says so where a name was seen.
+/// Makes a name that is bound an error if it was seen.
 fn change_seen(
     p: &mut Parser<'_>,
     from: usize,
@@ -84,7 +84,7 @@ fn change_seen(
     Ok(())
 }
 
-/// With a name, if there is one.
+/// The names that were seen, with this one, if there is one.
 fn with_bound(names: Names, name: Option<Text>) -> Result<Names, AllocError>
     ensures { IfOk result (λ more. more ≡ spec.with_bound names name) }
 {
@@ -95,7 +95,7 @@ fn with_bound(names: Names, name: Option<Text>) -> Result<Names, AllocError>
     Ok(names)
 }
 
-/// Reads an expression where a name is to stand; answers the names that were seen.
+/// Reads an expression where a name has to be; answers the names that were seen.
 fn bound_name<L: Levels>(
     g: &L,
     p: &mut Parser<'_>,
@@ -113,7 +113,7 @@ fn bound_name<L: Levels>(
     Ok(with_bound(names, name)?)
 }
 
-/// Whether what stands there is assigned to.
+/// Whether what the pattern names is assigned to, and not bound.
 fn is_target(role: Role) -> bool
     ensures { result ≡ spec.is_target role }
 {
@@ -157,7 +157,7 @@ fn begins_leaf(kind: SyntaxKind) -> bool
     set::PATTERN_LEAF.contains(kind)
 }
 
-/// Reads two dots, and a name where one comes; answers the names that were seen.
+/// Reads two dots, and a name if one comes; answers the names that were seen.
 pub(crate) fn sink<L: Levels>(
     g: &L,
     p: &mut Parser<'_>,
@@ -174,7 +174,7 @@ pub(crate) fn sink<L: Levels>(
     Ok(pattern_leaf(g, p, role, names)?)
 }
 
-/// Makes a node of two dots and a name, or an error where there were two dots before.
+/// Makes a node of two dots and a name, or an error if there were two dots before.
 pub(crate) fn wrap_sink(
     p: &mut Parser<'_>,
     from: usize,
@@ -191,7 +191,7 @@ pub(crate) fn wrap_sink(
     Ok(())
 }
 
-/// Takes a name; answers whether a colon comes behind it.
+/// Takes a name; answers whether a colon comes after it.
 fn name_and_colon<L: Levels>(g: &L, p: &mut Parser<'_>) -> Result<bool, AllocError>
     ensures { Means (L.frame g.now) spec.name_and_colon p.old result p.new }
 {
@@ -199,7 +199,7 @@ fn name_and_colon<L: Levels>(g: &L, p: &mut Parser<'_>) -> Result<bool, AllocErr
     Ok(p.current() == SyntaxKind::Colon)
 }
 
-/// Takes a name that stands before a colon; answers whether it did.
+/// Takes a name before a colon; answers whether it did.
 fn key<L: Levels>(g: &L, p: &mut Parser<'_>) -> Result<bool, AllocError>
     ensures { Means (L.frame g.now) spec.key p.old result p.new }
 {
@@ -234,8 +234,8 @@ fn key_or_pattern<L: Levels>(
     Ok((is_key, seen))
 }
 
-/// Reads a pattern, with a key before it or not; answers whether a colon came and a key stands before
-/// it, and the names that were seen.
+/// Reads a pattern, with a key before it or not; answers whether a colon came and a key is before it, and the
+/// names that were seen.
 fn part<L: Levels>(
     g: &L,
     p: &mut Parser<'_>,
@@ -254,7 +254,7 @@ fn part<L: Levels>(
     Ok((Some(is_key), all))
 }
 
-/// Makes a node of what a colon stands in; before the colon a name has to stand.
+/// Makes one node of what a colon is in; before the colon a name has to be.
 pub(crate) fn wrap_named(
     p: &mut Parser<'_>,
     from: usize,
@@ -270,7 +270,7 @@ pub(crate) fn wrap_named(
     Ok(())
 }
 
-/// Reads one of several patterns; answers what was found so far.
+/// Reads one of several patterns; answers what was found of them so far.
 fn destructuring_item<L: Levels>(
     g: &L,
     p: &mut Parser<'_>,
@@ -305,8 +305,8 @@ fn begins_part(kind: SyntaxKind) -> bool
     set::DESTRUCTURING_ITEM.contains(kind)
 }
 
-/// Reads one of several patterns and what separates it from the next, unless the list ends; answers
-/// whether it did, and what was found so far.
+/// Reads one of several patterns and what separates it from the next, unless the list ends; answers whether it
+/// did, and what was found of them so far.
 fn destructuring_turn<L: Levels>(
     g: &L,
     p: &mut Parser<'_>,
@@ -329,7 +329,7 @@ fn destructuring_turn<L: Levels>(
     Ok((true, (more.with_comma(comma), seen)))
 }
 
-/// Reads the patterns in parens.
+/// Reads the patterns in parens; answers what was found of them.
 fn destructuring_items<L: Levels>(
     g: &L,
     p: &mut Parser<'_>,
@@ -350,7 +350,7 @@ fn destructuring_items<L: Levels>(
     }
 }
 
-/// What names are below a pattern in parens.
+/// What names are within a pattern in parens.
 fn role_below(role: Role) -> Role
     ensures { result ≡ spec.role_below role }
 {

@@ -69,7 +69,7 @@ fn statement<L: Levels>(g: &L, p: &mut Parser<'_>, stop: CodeStop) -> Result<(),
     Ok(())
 }
 
-/// Ends a statement: a semicolon, unless the sequence stops.
+/// Reads the end of a statement: a semicolon, unless the sequence stops.
 fn statement_end<L: Levels>(g: &L, p: &mut Parser<'_>, stop: CodeStop) -> Result<(), AllocError>
     ensures { Means (L.frame g.now) (spec.statement_end (stops_at stop)) p.old result p.new }
 {
@@ -84,7 +84,7 @@ fn statement_end<L: Levels>(g: &L, p: &mut Parser<'_>, stop: CodeStop) -> Result
     Ok(())
 }
 
-/// Says that a statement doesn't end.
+/// Says that a statement doesn't end; at a label, with hints.
 #[cold]
 fn missing_break<L: Levels>(g: &L, p: &mut Parser<'_>) -> Result<(), AllocError>
     ensures { Means (L.frame g.now) spec.missing_break p.old result p.new }
@@ -97,7 +97,7 @@ fn missing_break<L: Levels>(g: &L, p: &mut Parser<'_>) -> Result<(), AllocError>
     Ok(())
 }
 
-/// `{ .. }`. What comes behind it isn't asked for.
+/// Reads `{ .. }`. What comes after it isn't asked for.
 pub fn code_block<L: Levels>(g: &L, p: &mut Parser<'_>) -> Result<(), AllocError>
     requires { L.may_call g.now }
     ensures { MeansLast (L.frame g.now) spec.code_block p.old result p.new }
@@ -126,7 +126,7 @@ fn code<L: Levels>(g: &L, p: &mut Parser<'_>) -> Result<(), AllocError>
     Ok(())
 }
 
-/// A code block as a unit of its own, which is noted where it begins and where it ends.
+/// Reads a code block as a unit, which is noted where it begins and where it ends.
 pub(crate) fn read_code<L: Levels>(g: &L, p: &mut Parser<'_>) -> Result<(), AllocError>
     requires { L.may_call g.now }
     ensures { MeansAround (L.frame g.now) (read_block Block.Code) p.old result p.new }
@@ -137,7 +137,7 @@ pub(crate) fn read_code<L: Levels>(g: &L, p: &mut Parser<'_>) -> Result<(), Allo
     Ok(())
 }
 
-/// The same of a content block.
+/// Reads a content block as a unit, which is noted where it begins and where it ends.
 pub(crate) fn read_content<L: Levels>(g: &L, p: &mut Parser<'_>) -> Result<(), AllocError>
     requires { L.may_call g.now }
     ensures { MeansAround (L.frame g.now) (read_block Block.Content) p.old result p.new }

@@ -15,7 +15,7 @@ use typst_kinds::{Names, SyntaxKind, set};
 use typst_language::{Levels, Parser, Role, deeper_code_expr, deeper_pattern};
 use typst_markup::begins_code;
 
-/// `{ .. }` or `[ .. ]`
+/// Reads `{ .. }` or `[ .. ]`.
 fn any_block<L: Levels>(g: &L, p: &mut Parser<'_>) -> Result<(), AllocError>
     requires { L.may_call g.now }
     ensures { MeansAround (L.frame g.now) spec.any_block p.old result p.new }
@@ -32,7 +32,7 @@ fn any_block<L: Levels>(g: &L, p: &mut Parser<'_>) -> Result<(), AllocError>
     Ok(())
 }
 
-/// A dot and a name, which take what stands to their left into a field access.
+/// Reads a dot and a name, which take what is to their left into a field access.
 pub(crate) fn field<L: Levels>(g: &L, p: &mut Parser<'_>) -> Result<Option<SyntaxKind>, AllocError>
     ensures means { MeansBy (L.frame g.now) bare_growth spec.field p.old result p.new }
     ensures fine { IfOk result (λ kind. IfSome kind (λ k. is_error k ≡ false)) }
@@ -52,7 +52,7 @@ fn target_turn<L: Levels>(g: &L, p: &mut Parser<'_>) -> Result<Option<SyntaxKind
     Ok(field(g, p)?)
 }
 
-/// A name, and names behind dots.
+/// Reads a name, and names after dots.
 fn target<L: Levels>(g: &L, p: &mut Parser<'_>) -> Result<(), AllocError>
     ensures { Means (L.frame g.now) spec.target p.old result p.new }
 {
@@ -70,7 +70,7 @@ fn target<L: Levels>(g: &L, p: &mut Parser<'_>) -> Result<(), AllocError>
     }
 }
 
-/// `set ..`
+/// Reads `set text(..)`, and `if` with a condition after it.
 pub(crate) fn set_rule<L: Levels>(g: &L, p: &mut Parser<'_>) -> Result<(), AllocError>
     requires { L.may_call g.now }
     ensures { MeansAround (L.frame g.now) spec.set_rule p.old result p.new }
@@ -85,7 +85,7 @@ pub(crate) fn set_rule<L: Levels>(g: &L, p: &mut Parser<'_>) -> Result<(), Alloc
     Ok(())
 }
 
-/// `show ..`
+/// Reads `show .. : ..`.
 pub(crate) fn show_rule<L: Levels>(g: &L, p: &mut Parser<'_>) -> Result<(), AllocError>
     requires { L.may_call g.now }
     ensures { Means (L.frame g.now) spec.show_rule p.old result p.new }
@@ -111,7 +111,7 @@ fn wrap_show(p: &mut Parser<'_>, from: usize, colon: bool) -> Result<(), AllocEr
     Ok(())
 }
 
-/// `context ..`
+/// Reads `context ..`.
 pub(crate) fn contextual<L: Levels>(
     g: &L,
     p: &mut Parser<'_>,
@@ -127,7 +127,7 @@ pub(crate) fn contextual<L: Levels>(
     Ok(())
 }
 
-/// `if ..` and what comes behind it up to another `if`; answers whether that comes.
+/// Reads `if ..` and what comes after it up to another `if`; answers whether that comes.
 fn conditional_turn<L: Levels>(g: &L, p: &mut Parser<'_>) -> Result<bool, AllocError>
     requires { L.may_call g.now }
     ensures { MeansAroundBy (L.frame g.now) (λ more. (more, tt)) (spec.conditional_turn tt) p.old result p.new }
@@ -142,7 +142,7 @@ fn conditional_turn<L: Levels>(g: &L, p: &mut Parser<'_>) -> Result<bool, AllocE
     Ok(other_branch(g, p)?)
 }
 
-/// Reads what comes behind `else`, unless it is another `if`; answers whether that comes.
+/// Reads what comes after `else`, unless it is another `if`; answers whether that comes.
 fn other_branch<L: Levels>(g: &L, p: &mut Parser<'_>) -> Result<bool, AllocError>
     requires { L.may_call g.now }
     ensures { MeansAroundBy (L.frame g.now) (λ more. (more, tt)) spec.other_branch p.old result p.new }
@@ -154,7 +154,7 @@ fn other_branch<L: Levels>(g: &L, p: &mut Parser<'_>) -> Result<bool, AllocError
     Ok(false)
 }
 
-/// `if .. else if .. else ..`, each within the one before it.
+/// Reads `if .. else if .. else ..`, each within the one before it.
 pub(crate) fn conditional<L: Levels>(g: &L, p: &mut Parser<'_>) -> Result<(), AllocError>
     requires { L.may_call g.now }
     ensures { MeansAround (L.frame g.now) spec.conditional p.old result p.new }
@@ -171,7 +171,7 @@ pub(crate) fn conditional<L: Levels>(g: &L, p: &mut Parser<'_>) -> Result<(), Al
     }
 }
 
-/// `while ..`
+/// Reads `while .. { .. }`.
 pub(crate) fn while_loop<L: Levels>(g: &L, p: &mut Parser<'_>) -> Result<(), AllocError>
     requires { L.may_call g.now }
     ensures { MeansAround (L.frame g.now) spec.while_loop p.old result p.new }
@@ -192,7 +192,7 @@ fn begins_pattern(kind: SyntaxKind) -> bool
     set::PATTERN.contains(kind)
 }
 
-/// Reads a second pattern behind a comma, which isn't to stand there, where these names were seen.
+/// Reads a comma and a second pattern, which would have to be in parens with the first; these names were seen.
 #[cold]
 fn second_pattern<L: Levels>(g: &L, p: &mut Parser<'_>, names: Names) -> Result<(), AllocError>
     requires { L.may_call g.now }
@@ -217,7 +217,7 @@ fn loop_names<L: Levels>(g: &L, p: &mut Parser<'_>) -> Result<(), AllocError>
     Ok(())
 }
 
-/// `for ..`
+/// Reads `for .. in .. { .. }`.
 pub(crate) fn for_loop<L: Levels>(g: &L, p: &mut Parser<'_>) -> Result<(), AllocError>
     requires { L.may_call g.now }
     ensures { MeansAround (L.frame g.now) spec.for_loop p.old result p.new }
@@ -232,7 +232,7 @@ pub(crate) fn for_loop<L: Levels>(g: &L, p: &mut Parser<'_>) -> Result<(), Alloc
     Ok(())
 }
 
-/// `include ..`
+/// Reads `include ..`.
 pub(crate) fn module_include<L: Levels>(g: &L, p: &mut Parser<'_>) -> Result<(), AllocError>
     requires { L.may_call g.now }
     ensures { Means (L.frame g.now) spec.module_include p.old result p.new }
@@ -244,7 +244,7 @@ pub(crate) fn module_include<L: Levels>(g: &L, p: &mut Parser<'_>) -> Result<(),
     Ok(())
 }
 
-/// `break` or `continue`
+/// Reads `break` or `continue`.
 pub(crate) fn jump<L: Levels>(g: &L, p: &mut Parser<'_>, kind: SyntaxKind) -> Result<(), AllocError>
     requires { is_error kind ≡ false }
     ensures { Means (L.frame g.now) (spec.jump kind) p.old result p.new }
@@ -255,7 +255,7 @@ pub(crate) fn jump<L: Levels>(g: &L, p: &mut Parser<'_>, kind: SyntaxKind) -> Re
     Ok(())
 }
 
-/// `return ..`
+/// Reads `return`, with an expression if one comes.
 pub(crate) fn func_return<L: Levels>(g: &L, p: &mut Parser<'_>) -> Result<(), AllocError>
     requires { L.may_call g.now }
     ensures { Means (L.frame g.now) spec.func_return p.old result p.new }

@@ -7,12 +7,12 @@ ghost use Rattle.typst_code.specs.Stops.{stops_at};
 use typst_kinds::SyntaxKind;
 use typst_language::{Stops, is_end};
 
-/// At which tokens a sequence stops.
+/// At which tokens a sequence of code stops.
 #[derive(Debug, Clone, Copy, PartialEq, Eq)]
 pub enum CodeStop {
     /// At the end of what may be read.
     End,
-    /// There, and at what closes a code block or stands around it.
+    /// At the end, and at any closing delimiter, as a code block does.
     Block,
 }
 

@@ -34,19 +34,20 @@ production k (Pattern role names) = pattern role names
 abbrev pub has : Block → Bool
 has b = true
 
--- what a block reads, from the token at hand on
+-- what a block reads, from the current token on
 abbrev pub block_production : Block → Parser (Unit {0})
 block_production block.Content = content_block
 block_production block.Code = code_block
 
+-- the rules of the whole grammar
 abbrev pub rules : CharClasses → Rules
 rules k = record { production = production k; has = has; block_production = block_production }
 
--- what a call gives below so many levels
+-- what a call gives where so many levels are left
 abbrev pub meaning : CharClasses → ℕ → (call : Call) → Meaning (Answer call)
 meaning k levels call = meaning_of (rules k) k levels call
 
--- where so many levels are left
+-- where a parser runs with so many levels left
 abbrev pub level_at : CharClasses → ℕ → Level
 level_at k levels = level_of (rules k) k levels
 
@@ -54,6 +55,7 @@ level_at k levels = level_of (rules k) k levels
 abbrev pub max_depth : ℕ
 max_depth = 256
 
+-- the place at the start of a text
 abbrev pub start_of : List ℕ → Place
 start_of text = record { before = []; ahead = text }
 
@@ -89,7 +91,7 @@ tree_code k text = inner_of kind.Code (forest (parsed_code k max_depth text).nod
 unfoldable pub whole_math : Parser (Unit {0})
 whole_math = peek >> math_exprs is_end >> flush_trivia
 
--- what is read of the characters of such a text, where so many levels are left
+-- what is read of the characters of the text of a formula, where so many levels are left
 abbrev pub parsed_math : CharClasses → ℕ → List ℕ → Outcome (Unit {0})
 parsed_math k levels text = run (level_at k levels) whole_math (start_of text) (start_point math_reading)
 

@@ -18,7 +18,9 @@ use Rattle.typst_grammar.specs.declared.part.RunKind.{RunKind}
 use Rattle.typst_grammar.specs.Grammar.{rules, level_at, meaning, tree, tree_code, tree_math}
 use Rattle.typst_grammar.specs.Pieces.{run_level}
 
--- A piece of a sequence of a text's own or of a content block's, with whether a line begins there and in how many brackets it stands: an expression with what follows up to the next token.
+-- A piece of a text's own run, of a content block's or of another sequence, with whether a line
+-- begins there and in how many brackets it is: an expression with what follows up to the next
+-- token.
 abbrev pub piece : CharClasses → RunKind → Bool → (SyntaxKind → Bool) → Bool → ℕ → ℕ → Meaning (Bool × (Bool × ℕ))
 piece k which is_run stops at_start nesting levels = run (run_level k levels which) (markup_turn is_run stops (at_start, nesting))
 
@@ -56,23 +58,24 @@ CallLaws = (k : CharClasses) (call : Call) → Lawful (λ levels. meaning k leve
 
 -- ---- readings of what begins with a paren
 
--- Parens as a group, an array or a dictionary, with the look at the token behind them.
+-- Parens as a group, an array or a dictionary, with the look at the token after them.
 abbrev pub group_reading : CharClasses → ℕ → Meaning Behind
 group_reading k levels = run (level_at k levels) as_group
 
--- The same from behind the first paren on: what is remembered of a first reading is what this gives.
+-- Parens as a group, an array or a dictionary, from after the first one on: what is remembered of a
+-- first reading is what this gives.
 abbrev pub rest_reading : CharClasses → ℕ → Meaning Behind
 rest_reading k levels = run (level_at k levels) after_paren
 
--- The same place as the parameters of a closure.
+-- Parens as the parameters of a closure.
 abbrev pub params_reading : CharClasses → ℕ → Meaning (Unit {0})
 params_reading k levels = run (level_at k levels) params
 
--- The same place as a destructuring, where these names were seen before it.
+-- Parens as a destructuring, where these names were seen before it.
 abbrev pub destructuring_reading : CharClasses → Role → List (List ℕ) → ℕ → Meaning (List (List ℕ))
 destructuring_reading k role names levels = run (level_at k levels) (destructuring role names)
 
--- The first reading, or the second one where what stands behind the parens asks for it.
+-- Parens by the first reading, or by the second one if what comes after them asks for it.
 abbrev pub counted_reading : CharClasses → ℕ → Meaning Behind
 counted_reading k levels = run (level_at k levels) readings
 
@@ -80,7 +83,7 @@ counted_reading k levels = run (level_at k levels) readings
 abbrev pub GroupLaws : Type 0
 GroupLaws = (k : CharClasses) → Lawful (group_reading k)
 
--- The laws of the first reading behind its paren.
+-- The laws of the first reading after its paren.
 abbrev pub RestLaws : Type 0
 RestLaws = (k : CharClasses) → Lawful (rest_reading k)
 
@@ -102,10 +105,10 @@ CountedLaws = (k : CharClasses) → Lawful (counted_reading k)
 abbrev pub LeavesLaw : Type 0
 LeavesLaw = (k : CharClasses) (text : List ℕ) → text_of (tree k text) ≡ encode_utf8_all text
 
--- The same of a text of code.
+-- The leaves of the tree of a text of code, joined, are the text.
 abbrev pub CodeLeavesLaw : Type 0
 CodeLeavesLaw = (k : CharClasses) (text : List ℕ) → text_of (tree_code k text) ≡ encode_utf8_all text
 
--- The same of the text of a formula.
+-- The leaves of the tree of the text of a formula, joined, are the text.
 abbrev pub MathLeavesLaw : Type 0
 MathLeavesLaw = (k : CharClasses) (text : List ℕ) → text_of (tree_math k text) ≡ encode_utf8_all text

@@ -23,17 +23,19 @@ use Rattle.typst_grammar.specs.Grammar.{rules, meaning}
 use Rattle.typst_grammar.specs.Pieces.{AllGo, asks_of, given, run_level, first_look, pieces_on, end_on}
 use Rattle.typst_grammar.specs.Told.{guesses}
 
--- A block that is read by itself, where so many levels are left and its first token is read in a mode.
+-- A block that is read by itself, where so many levels are left and its first token is read in a
+-- mode.
 abbrev pub block_alone : CharClasses → ℕ → Block → SyntaxMode → Place → Outcome (Unit {0})
 block_alone k levels b mode z = blocks_of (rules k) k levels (meaning k levels) b z (start_point (record { mode = mode; at_newline = newline.Continue }))
 
--- A part that was read from a place on has these nodes and takes so many characters, and what was looked at and noted for it is what was asked, where so many levels are left.
+-- A part has the nodes that were read from a place on, and ends after so many characters; what was
+-- looked at and noted for it is what was asked, where so many levels are left.
 pub record IsPart (levels : ℕ) (z : Place) (nodes : List Tree) (taken : ℕ) (asks : List Ask) (p : ReadPart) : Type 0 where
   pub nodes_are : p.nodes.items ≡ nodes
   pub end : p.end ≡ position (moved taken z)
   pub log : ◌≡◌ {A = Log} (record { reach = p.hull.reach; least = p.hull.least; notes = Some p.notes.items }) (logged levels z no_log asks)
 
--- A parser stands at a place where nothing is known but how it is read there, and it keeps notes.
+-- A parser is at a place where nothing is known but how it is read there, and it keeps notes.
 pub record IsResumed (z : Place) (reading : Reading) (v : View) : Type 0 where
   pub nodes : v.nodes ≡ []
   pub place : v.place ≡ z
@@ -41,7 +43,7 @@ pub record IsResumed (z : Place) (reading : Reading) (v : View) : Type 0 where
   pub log : v.log ≡ no_log
   pub memo : v.memo ≡ []
 
--- A part is what a parser gave that keeps notes, up to where it stood.
+-- A part is what a parser gave that keeps notes, up to where it is.
 pub record IsGiven (v : View) (p : ReadPart) : Type 0 where
   pub nodes : p.nodes.items ≡ v.nodes
   pub end : p.end ≡ position v.place
@@ -53,13 +55,13 @@ IsBlock k levels b mode z p = let o = block_alone k levels b mode z in IsPart le
 
 -- ---- pieces
 
--- The token at hand begins at this byte, and all but what is remembered stayed.
+-- The current token begins at this byte, and nothing changed except what is remembered.
 pub record IsTokenStart (l : Level) (v w : View) (start : ℕ) : Type 0 where
   pub start_is : start ≡ position (moved v.hand.gap v.place)
   pub same : w ≡ record v { memo = w.memo }
   pub fits : Fits l w
 
--- So many pieces of a run were read from a place on, and all of them go on.
+-- So many pieces of a run were read from a place on, and after each of them the run goes on.
 pub record HasRead (k : CharClasses) (levels : ℕ) (which : RunKind) (x : Bool × ℕ) (z : Place) (m : ℕ) (p : PieceReader) : Type 0 where
   pub levels_are : p.levels ≡ levels
   pub some : 0 < levels
@@ -70,23 +72,23 @@ pub record HasRead (k : CharClasses) (levels : ℕ) (which : RunKind) (x : Bool 
   pub state : p.parser.state ≡ (end_on (run_level k levels which) (stops_of which) x m z).state
   pub nodes : p.parser.nodes ≡ given (pieces_on (run_level k levels which) (stops_of which) x m z) []
   pub log : p.parser.log ≡ logged levels z no_log ((first_look (run_level k levels which) z).asks ++ asks_of (pieces_on (run_level k levels which) (stops_of which) x m z))
-  -- the token behind them is at hand, and begins at this byte
+  -- the token after them is the current one, and begins at this byte
   pub fits : Fits (guessing (guesses k) (run_level k levels which)) p.parser
   pub end : p.end ≡ position (moved (gap_of p.parser.state.known) p.parser.place)
 
--- The run ends behind so many pieces.
+-- The run ends after so many pieces.
 abbrev pub IsOver : CharClasses → ℕ → RunKind → Bool × ℕ → Place → ℕ → Type 0
 IsOver k levels which x z m =
     let l = run_level k levels which in
     let e = end_on l (stops_of which) x m z in
     ends (stops_of which) e.value.1 (hand_of l (moved e.taken z) e.state).kind ≡ true
 
--- A piece more was read, or the run ends there.
+-- One more piece was read, or the run ends there.
 abbrev pub HasReadOn : CharClasses → ℕ → RunKind → Bool × ℕ → Place → ℕ → Bool → PieceReader → Type 0
 HasReadOn k levels which x z m true p = HasRead k levels which x z (m + 1) p
 HasReadOn k levels which x z m false p = HasRead k levels which x z m p × IsOver k levels which x z m
 
--- A part is so many pieces of a run with the trivia behind them.
+-- A part is so many pieces of a run with the trivia after them.
 abbrev pub ArePieces : CharClasses → ℕ → RunKind → Bool × ℕ → Place → ℕ → ReadPart → Type 0
 ArePieces k levels which x z m p =
     let l = run_level k levels which in

@@ -28,7 +28,7 @@ made m (suc n) x z s = let o = m x z s in o ∷ made m n o.value.1 (moved o.take
 abbrev pub goes : {A : Type 0} → Outcome (Bool × A) → Bool
 goes o = o.value.0 && nat_lt 0 o.taken
 
--- each of them says that the loop goes on, and took something
+-- each of some turns says that the loop goes on, and took something
 abbrev pub AllGo : {A : Type 0} → List (Outcome (Bool × A)) → Type 0
 AllGo [] = Unit {0}
 AllGo (o ∷ os) = (goes o ≡ true) × AllGo os
@@ -39,6 +39,7 @@ pub record End (A : Type 0) : Type 0 where
   pub taken : ℕ
   pub state : Point
 
+-- where some turns end
 abbrev pub end_of : {A : Type 0} → A → Point → List (Outcome (Bool × A)) → End A
 end_of x s [] = record { value = x; taken = 0; state = s }
 end_of x s (o ∷ os) = let e = end_of o.value.1 o.state os in record e { taken = o.taken + e.taken }
@@ -48,7 +49,7 @@ abbrev pub asks_of : {A : Type 0} → List (Outcome (Bool × A)) → List Ask
 asks_of [] = []
 asks_of (o ∷ os) = o.asks ++ shift o.taken (asks_of os)
 
--- the nodes that stand behind several outcomes, by those before them
+-- the nodes after several outcomes, by those before them
 abbrev pub given : {A : Type 0} → List (Outcome (Bool × A)) → List Tree → List Tree
 given [] ts = ts
 given (o ∷ os) ts = given os (standing o ts)
@@ -60,16 +61,18 @@ abbrev pub stops_of : RunKind → SyntaxKind → Bool
 stops_of of.Text = is_end
 stops_of of.Block = ends_block
 
--- which blocks may be read in a run itself, and what they give: in that of a text each, and in that of a content block none
+-- which blocks may be read in a run itself: in that of a text each, and in that of a content block
+-- none
 abbrev pub has_in : RunKind → Block → Bool
 has_in of.Text = has
 has_in of.Block = λ b. false
 
+-- what blocks give that may be read in a run itself
 abbrev pub blocks_in : CharClasses → ℕ → RunKind → Block → Meaning (Unit {0})
 blocks_in k levels of.Text = blocks_of (rules k) k levels (meaning k levels)
 blocks_in k levels of.Block = λ b z s. plain tt s
 
--- where a run of this kind is read, and where so many levels are left for what is called in it
+-- where a run of this kind is read, with so many levels left for what is called in it
 abbrev pub run_level : CharClasses → ℕ → RunKind → Level
 run_level k levels which = record (blockless k levels (meaning k levels)) { has = has_in which; blocks = blocks_in k levels which }
 
@@ -77,9 +80,10 @@ run_level k levels which = record (blockless k levels (meaning k levels)) { has 
 abbrev pub first_look : Level → Place → Outcome AtHand
 first_look l z = run l peek z (start_point markup_reading)
 
--- the first m pieces from there on, with whether a line begins there and in how many brackets it stands, and where they end
+-- the first m pieces from there on, by whether a line begins there and in how many brackets it is
 abbrev pub pieces_on : Level → (SyntaxKind → Bool) → Bool × ℕ → ℕ → Place → List (Outcome (Bool × (Bool × ℕ)))
 pieces_on l stops x m z = made (λ y. run l (markup_turn true stops y)) m x z (first_look l z).state
 
+-- where the first m pieces end, with what is carried and the state there
 abbrev pub end_on : Level → (SyntaxKind → Bool) → Bool × ℕ → ℕ → Place → End (Bool × ℕ)
 end_on l stops x m z = end_of x (first_look l z).state (pieces_on l stops x m z)

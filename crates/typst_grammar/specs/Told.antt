@@ -5,10 +5,10 @@ use Rattle.typst_language.specs.Meaning.{Guessing, Level, guessing}
 use Rattle.typst_code.specs.Parens.{guess_of}
 use Rattle.typst_grammar.specs.Grammar.{level_at}
 
--- what they find where so many levels are left
+-- what first readings find where so many levels are left
 abbrev pub guesses : CharClasses → Guessing
 guesses k levels z outer = guess_of (level_at k levels) z outer
 
--- where so many levels are left, and that is told
+-- where a parser runs with so many levels left, and what first readings find there is known
 abbrev pub told_at : CharClasses → ℕ → Level
 told_at k levels = guessing (guesses k) (level_at k levels)

@@ -15,7 +15,7 @@ use typst_lines::Classes;
 use typst_tokens::Hull;
 use typst_tree::SyntaxNode;
 
-/// So many nodes are not moved out of the room in which they were read.
+/// From how many nodes on they are not moved out of the room in which they were read.
 const MANY: usize = 25_000;
 
 /// The root over the nodes of a text, without room for more of them: few nodes are moved, and many
@@ -32,9 +32,9 @@ pub fn root_over(kind: SyntaxKind, mut nodes: Vec<SyntaxNode>) -> Result<SyntaxN
     Ok(SyntaxNode::inner(kind, nodes))
 }
 
-/// The syntax tree of a text of markup, with detached spans. Any text has one; its leaves joined are
-/// the text, and in one without errors the operands of each binary operator bind as tightly as the
-/// operator asks for. It refuses only for want of memory.
+/// The syntax tree of a text of markup, with detached spans. Any text has one; its leaves joined are the text, and
+/// in one without errors the operands of each binary operator bind as tightly as the operator asks for. It fails
+/// only for lack of memory.
 pub fn parse<C: Classes>(alloc: Global, text: &str, classes: &C) -> Result<SyntaxNode, AllocError>
     ensures tree { IfOk result (λ t. t ≡ spec.tree (C.classes classes.now) (chars text.now)) }
     ensures leaves { IfOk result (λ t. text_of t ≡ text.now) }
@@ -46,8 +46,8 @@ pub fn parse<C: Classes>(alloc: Global, text: &str, classes: &C) -> Result<Synta
     Ok(root)
 }
 
-/// The syntax tree of a text of code, with detached spans. Any text has one; its leaves joined are the
-/// text, and its operands bind as those of [`parse`] do. It refuses only for want of memory.
+/// The syntax tree of a text of code, with detached spans. Any text has one; its leaves joined are the text, and
+/// its operands bind as those of [`parse`] do. It fails only for lack of memory.
 pub fn parse_code<C: Classes>(
     alloc: Global,
     text: &str,
@@ -63,8 +63,8 @@ pub fn parse_code<C: Classes>(
     Ok(root)
 }
 
-/// The syntax tree of the text of a formula, with detached spans. Any text has one; its leaves joined
-/// are the text, and its operands bind as those of [`parse`] do. It refuses only for want of memory.
+/// The syntax tree of the text of a formula, with detached spans. Any text has one; its leaves joined are the
+/// text, and its operands bind as those of [`parse`] do. It fails only for lack of memory.
 pub fn parse_math<C: Classes>(
     alloc: Global,
     text: &str,
@@ -90,9 +90,9 @@ pub struct Noted {
 }
 
 /// The syntax tree of a text of markup, and what was looked at and noted for it, in order: a piece
-/// at the text's start and behind each expression of the text's own, where a content block opens
-/// and closes, and between them a piece behind its bracket and behind each of its expressions. What
-/// lies at the limit of depth is no run and has no pieces. Of each note, where the looks since the note
+/// at the text's start and after each expression of the text's own, where a content block opens
+/// and closes, and between them a piece after its bracket and after each of its expressions. What
+/// lies at the limit of depth isn't a run and has no pieces. Of each note, where the looks since the note
 /// before it end and where they begin, in bytes.
 pub fn parse_noted<C: Classes>(alloc: Global, text: &str, classes: &C) -> Result<Noted, AllocError>
     ensures tree { IfOk result (λ r. r.tree ≡ spec.tree (C.classes classes.now) (chars text.now)) }

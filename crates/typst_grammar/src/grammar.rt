@@ -126,7 +126,7 @@ fn read_all<L: Levels>(g: &L, p: &mut Parser<'_>, mode: SyntaxMode) -> Result<()
     }
 }
 
-/// A parser that read a whole text in a mode, and kept notes where it was to.
+/// A parser that read a whole text in a mode, and kept notes if `keeps_notes` says so.
 pub fn read_whole<'s, C: Classes>(
     alloc: Global,
     text: &'s str,

@@ -5,12 +5,12 @@ ghost use Rattle.typst_grammar.specs.Examples.{CodeTrees, MathTrees, NamedTrees,
 ghost use Rattle.typst_grammar.specs.Laws.{BlockLaws, CallLaws, CodeLeavesLaw, CountedLaws, DestructuringLaws, GroupLaws, LeavesLaw, MathLeavesLaw, ParamsLaws, PieceLaws, RestLaws, RunLaws, SequenceLaws};
 ghost use Rattle.typst_grammar.specs.Notes.{Notes};
 
-/// What holds of every part of the grammar: of a piece, of a text's own run or a content block's, of
-/// a run, of another sequence, of a block, and of what is read one level deeper. Where all that was
-/// asked shows the same at two places, the same is read there from the same state: the value, the
-/// characters taken, the state, the nodes, what was asked and noted, and whether the limit of depth
-/// was met. Two readings at different depths that meet no limit are the same. The nodes that are given
-/// hold the characters that are taken, and no more is taken than there is.
+/// What holds of every part of the grammar: of a piece, of a text's own run or a content block's, of a run, of
+/// another sequence, of a block, and of what is read one level deeper. If all that was asked shows the same at two
+/// places, the same is read there from the same state: the value, the characters taken, the state, the nodes, what
+/// was asked and noted, and whether the limit of depth was met. Two readings at different depths that meet no
+/// limit are the same. The nodes that are given hold the characters that are taken, and no more is taken than
+/// there is.
 pub fn grammar_laws()
     ensures piece { PieceLaws }
     ensures sequence { SequenceLaws }
@@ -19,9 +19,9 @@ pub fn grammar_laws()
     ensures call { CallLaws }
 {}
 
-/// The same of each reading of what begins with a paren: as a group, also from behind its paren on,
-/// as parameters, as a destructuring, and the one of them that counts. So at two depths that meet no
-/// limit a first reading finds the same behind its parens.
+/// What `grammar_laws` says of parts, of each reading of what begins with a paren: as a group, also from after its
+/// paren on, as parameters, as a destructuring, and the one of them that counts. So at two depths that meet no
+/// limit a first reading finds the same after its parens.
 pub fn reading_laws()
     ensures group { GroupLaws }
     ensures rest { RestLaws }
@@ -42,22 +42,22 @@ pub fn trees_of_texts()
     ensures { (beyond : CharClasses) → Trees beyond }
 {}
 
-/// The same of texts with raw texts, links, labels and references.
+/// Trees of short texts with raw texts, links, labels and references.
 pub fn trees_of_names()
     ensures { (beyond : CharClasses) → NamedTrees beyond }
 {}
 
-/// The same of texts with code.
+/// Trees of short texts with code.
 pub fn trees_of_code()
     ensures { (beyond : CharClasses) → CodeTrees beyond }
 {}
 
-/// The same of texts of code with patterns.
+/// Trees of short texts of code with patterns.
 pub fn trees_of_patterns()
     ensures { (beyond : CharClasses) → PatternTrees beyond }
 {}
 
-/// The same of formulas.
+/// Trees of short formulas.
 pub fn trees_of_formulas()
     ensures { (beyond : CharClasses) → MathTrees beyond }
 {}

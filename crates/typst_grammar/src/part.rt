@@ -29,7 +29,7 @@ use typst_tree::SyntaxNode;
 pub struct ReadPart {
     /// The nodes at the top of it, with detached spans.
     pub nodes: Vec<SyntaxNode>,
-    /// Where it ends, in bytes from the text's start.
+    /// Where the part ends, in bytes from the text's start.
     pub end: usize,
     /// What was noted in it, in order, with places in bytes from the text's start.
     pub notes: Vec<Note>,
@@ -37,11 +37,10 @@ pub struct ReadPart {
     pub hull: Hull,
 }
 
-/// Reads a block of a text by itself: its node, and what was looked at and noted for it, without the
-/// notes at its two ends. It begins at a byte between two characters, with a token that is read in
-/// this mode and is no trivia; so many levels are left for what is called in it, as the note says where
-/// it opens. Of what stands before it nothing else is known. It goes through the block and no further,
-/// and refuses only for want of memory.
+/// Reads a block of a text by itself: its node, and what was looked at and noted for it, without the notes at its
+/// two ends. It begins at a byte between two characters, with a token that is read in this mode and isn't trivia;
+/// so many levels are left for what is called in it, as the note says where it opens. Of what is before it nothing
+/// else is known. It goes through the block and no further, and fails only for lack of memory.
 pub fn parse_block<C: Classes>(
     alloc: Global,
     text: &str,
@@ -71,33 +70,33 @@ pub fn parse_block<C: Classes>(
 /// Whose run pieces are of.
 #[derive(Debug, Clone, Copy, PartialEq, Eq)]
 pub enum RunKind {
-    /// A text's own: it ends with the text.
+    /// A text's own run: it ends with the text.
     Text,
-    /// A content block's: it ends at a bracket that nothing in it has opened, or with the text.
+    /// A content block's run: it ends at a bracket that nothing in it has opened, or with the text.
     Block,
 }
 
-/// Pieces of a run of markup, which are read one after the other.
+/// Reads pieces of a run of markup, one after the other.
 ///
-/// After an error of memory it stands somewhere between: it can only be dropped.
+/// After an error of memory it is somewhere between: it can only be dropped.
 #[derive(Drop)]
 pub struct PieceReader<'s> {
     parser: Parser<'s>,
-    /// What is carried behind the pieces.
+    /// What is carried after the pieces.
     carried: Carried,
     /// How many levels are left for what is called in the run.
     levels: usize,
     /// Whose run it is.
     kind: RunKind,
-    /// Where the token at hand begins.
+    /// Where the current token begins.
     end: usize,
 }
 
-/// A reader of the pieces of a run from a byte between two characters on, where the token of a piece
-/// begins, with what is carried there, as the note behind the piece before it says. The run ends at such
-/// tokens: that of a text at [`Stop::End`], that of a content block at [`Stop::Block`]; so many levels are
-/// left for what is called in it, as its notes say. Of what stands before it nothing else is known. It
-/// looks at the token there and no further, and refuses only for want of memory.
+/// A reader of the pieces of a run from a byte between two characters on, where the token of a piece begins, with
+/// what is carried there, as the note after the piece before it says. The run ends at such tokens: that of a text
+/// at [`Stop::End`], that of a content block at [`Stop::Block`]; so many levels are left for what is called in it,
+/// as its notes say. Of what is before it nothing else is known. It looks at the token there and no further, and
+/// fails only for lack of memory.
 pub fn resume_pieces<'s, C: Classes>(
     alloc: Global,
     text: &'s str,
@@ -129,8 +128,8 @@ pub fn resume_pieces<'s, C: Classes>(
 }
 
 impl<'s> PieceReader<'s> {
-    /// Reads a piece more, with the look at the token behind it; answers false where the run ends
-    /// here: then nothing was read. It refuses only for want of memory.
+    /// Reads one more piece, with the look at the token after it; answers false if the run ends here: then nothing
+    /// was read. It fails only for lack of memory.
     pub fn next<C: Classes>(&mut self, classes: &C) -> Result<bool, AllocError>
         ensures read { (levels : ℕ) (kind : RunKind) (x : Bool × ℕ) (z : Place) (m : ℕ) → HasRead (C.classes classes.now) levels kind x z m self.old → IfOk result (λ more. HasReadOn (C.classes classes.now) levels kind x z m more self.new) }
         ensures shorter { (levels : ℕ) (kind : RunKind) (x : Bool × ℕ) (z : Place) (m : ℕ) → HasRead (C.classes classes.now) levels kind x z m self.old → IfOk result (λ more. more ≡ true → bytes_left self.new.parser.place < bytes_left self.old.parser.place) }
@@ -145,7 +144,7 @@ impl<'s> PieceReader<'s> {
         Ok(true)
     }
 
-    /// Where the pieces read so far end, with the trivia behind them: where the token at hand begins,
+    /// Where the pieces read so far end, with the trivia after them: where the current token begins,
     /// in bytes from the text's start.
     pub fn end(&self) -> usize
         ensures { result ≡ self.now.end }
@@ -153,21 +152,21 @@ impl<'s> PieceReader<'s> {
         self.end
     }
 
-    /// What is carried behind the pieces read so far.
+    /// What is carried after the pieces read so far.
     pub fn carried(&self) -> Carried
         ensures { result ≡ self.now.carried }
     {
         self.carried
     }
 
-    /// How it goes on behind the pieces read so far, but for the place.
+    /// How the reader goes on after the pieces read so far, except the place.
     pub fn state(&self) -> State
         ensures { result ≡ state_of self.now.parser.state }
     {
         self.parser.state()
     }
 
-    /// The pieces read so far, with the trivia behind them. It refuses only for want of memory.
+    /// The pieces read so far, with the trivia after them. It fails only for lack of memory.
     pub fn finish(self) -> Result<ReadPart, AllocError>
         ensures { (k : CharClasses) (levels : ℕ) (kind : RunKind) (x : Bool × ℕ) (z : Place) (m : ℕ) → HasRead k levels kind x z m self.entry → IfOk result (λ p. ArePieces k levels kind x z m p) }
     {
@@ -177,7 +176,7 @@ impl<'s> PieceReader<'s> {
     }
 }
 
-/// Reads a piece of a run; answers whether there is one, and what is carried behind it.
+/// Reads a piece of a run; answers whether there is one, and what is carried after it.
 fn read_piece<L: Levels>(
     g: &L,
     p: &mut Parser<'_>,
@@ -193,7 +192,7 @@ fn read_piece<L: Levels>(
     }
 }
 
-/// Where the token at hand begins, in bytes from the text's start.
+/// Where the current token begins, in bytes from the text's start.
 fn token_start(p: &mut Parser<'_>) -> Result<usize, AllocError>
     ensures { (l : Level) → Fits l p.old → IfOk result (λ start. IsTokenStart l p.old p.new start) }
 {
@@ -220,7 +219,7 @@ fn resume<'s>(alloc: Global, text: &'s str, at: usize, reading: Reading) -> Pars
     Parser::resume(alloc, start, Vec::new(alloc), state, Log::new(alloc, true))
 }
 
-/// What a parser gave, up to where it stands.
+/// What a parser gave, up to where it is.
 fn finish(p: Parser<'_>) -> ReadPart
     ensures { IsGiven p.entry result }
 {

@@ -18,15 +18,18 @@ pub record Diagnostic : Type 0 where
   pub message : List ℕ
   pub hints : List Hint
 
+-- how a range of bytes is stored in ghost fields
 abbrev pub bytes_code : Coded Bytes
 bytes_code = code_by (ℕ × ℕ) (coded× coded_ℕ coded_ℕ) (λ r. (r.start, r.end)) (λ p. record { start = p.0; end = p.1 }) (λ _. refl)
 
+-- how a hint is stored in ghost fields
 abbrev pub hint_code : Coded Hint
 hint_code =
     code_by (Option Bytes × List ℕ) (coded× (coded_option bytes_code) (coded_list coded_ℕ)) (λ h. (h.sub_range, h.message))
     (λ p. record { sub_range = p.0; message = p.1 })
     (λ _. refl)
 
+-- how a diagnostic is stored in ghost fields
 abbrev pub diagnostic_code : Coded Diagnostic
 diagnostic_code =
     code_by (Severity × (Option Bytes × (List ℕ × List Hint)))
@@ -51,7 +54,7 @@ hint_with range message = record { sub_range = range; message = message }
 abbrev pub hinted : Hint → Diagnostic → Diagnostic
 hinted h d = record d { hints = d.hints ++ h ∷ [] }
 
--- the list with its last element changed, where it has one
+-- the list with its last element changed, if it has one
 abbrev pub at_last : {X : Type 0} → (X → X) → List X → List X
 at_last f [] = []
 at_last f (x ∷ []) = f x ∷ []

@@ -16,6 +16,7 @@ pub record Head : Type 0 where
   pub upper : ℕ
   pub diagnostics : List Diagnostic
 
+-- how a head is stored in ghost fields
 abbrev pub head_code : Coded Head
 head_code =
     code_by (SyntaxKind × (Bool × (List ℕ × (SpanValue × (ℕ × List Diagnostic)))))
@@ -24,19 +25,21 @@ head_code =
     (λ p. record { kind = p.0; is_inner = p.1.0; text = p.1.1.0; span = p.1.1.1.0; upper = p.1.1.1.1.0; diagnostics = p.1.1.1.1.1 })
     (λ _. refl)
 
--- what a node keeps beside its children: its head, and the length of its text and the count of its nodes as `kept` says
+-- what a node keeps besides its children: its head, and as `kept` limits them the length of its
+-- text and the count of its nodes
 pub record Own : Type 0 where
   pub head : Head
   pub len : ℕ
   pub descendants : ℕ
 
+-- how what a node keeps is stored in ghost fields
 abbrev pub own_code : Coded Own
 own_code =
     code_by (Head × (ℕ × ℕ)) (coded× head_code (coded× coded_ℕ coded_ℕ)) (λ o. (o.head, (o.len, o.descendants)))
     (λ p. record { head = p.0; len = p.1.0; descendants = p.1.1 })
     (λ _. refl)
 
--- the head, spans aside
+-- the head without its span and its upper end
 abbrev pub bare_head : Head → Head
 bare_head h = record h { span = None; upper = 0 }
 
@@ -68,7 +71,7 @@ kept n = min n (2 ^ 32 - 1)
 abbrev pub leaf_own : Head → Own
 leaf_own h = record { head = h; len = kept (length h.text); descendants = 1 }
 
--- the same with another head
+-- what a node keeps, with another head
 abbrev pub with_head : Own → Head → Own
 with_head o h = record o { head = h }
 

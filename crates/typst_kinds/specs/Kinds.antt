@@ -14,7 +14,7 @@ abbrev pub among : List SyntaxKind → SyntaxKind → Bool
 among [] kind = false
 among (k ∷ ks) kind = same k kind || among ks kind
 
--- space and comments
+-- trivia: spaces, paragraph breaks and comments
 abbrev pub is_trivia : SyntaxKind → Bool
 is_trivia kind.Space = true
 is_trivia kind.Parbreak = true
@@ -22,12 +22,12 @@ is_trivia kind.LineComment = true
 is_trivia kind.BlockComment = true
 is_trivia _ = false
 
--- what is no syntax
+-- the kind of what isn't syntax
 abbrev pub is_error : SyntaxKind → Bool
 is_error kind.Error = true
 is_error _ = false
 
--- the words that code keeps for itself
+-- the keywords of code
 abbrev pub is_keyword : SyntaxKind → Bool
 is_keyword kind.Not = true
 is_keyword kind.And = true
@@ -70,7 +70,7 @@ is_terminator kind.RightParen = true
 is_terminator kind.RightBracket = true
 is_terminator _ = false
 
--- blocks
+-- blocks of code and of content
 abbrev pub is_block : SyntaxKind → Bool
 is_block kind.CodeBlock = true
 is_block kind.ContentBlock = true

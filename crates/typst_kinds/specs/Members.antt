@@ -11,7 +11,7 @@ use denote.Enum.Declared.{tag_of}
 unfoldable pub place_of : SyntaxKind → ℕ
 place_of kind = tag_of the_type kind
 
--- a bit of a row of words of 64 bits
+-- the bit at a place in a list of words of 64 bits
 abbrev pub bit_of : List ℕ → ℕ → ℕ
 bit_of words place = bit_at (slice_index words (place / 64)) (place % 64)
 

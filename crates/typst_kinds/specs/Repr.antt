@@ -1,4 +1,4 @@
--- How the parts of a node stand in memory, and what contracts see of them.
+-- How the parts of a node lie in memory, and what contracts see of them.
 use Rattle.std.specs.Prelude.{◌≡◌, ℕ, ◌≤◌, ◌+◌, ◌*◌, ◌^◌, true, false, List, [], length}
 use Rattle.typst_kinds.specs.declared.kind.SyntaxKind.{SyntaxKind}
 use Rattle.typst_kinds.specs.Span.{SpanValue}
@@ -20,10 +20,12 @@ abbrev pub plain_inner : SpanValue → SyntaxKind → ℕ → ℕ → ℕ → Ow
 plain_inner sp k upper len descendants =
     record { head = record { kind = k; is_inner = true; text = []; span = sp; upper = upper; diagnostics = [] }; len = len; descendants = descendants }
 
+-- a node whose parts are kept together in a box, as those of a node with diagnostics are
 abbrev pub of_parts : SpanValue → SyntaxKind → Parts → Own
 of_parts sp k p =
     record { head = record { kind = k; is_inner = p.is_inner; text = p.text; span = sp; upper = p.extent.upper; diagnostics = p.diagnostics.items }; len = p.extent.len; descendants = p.extent.descendants }
 
+-- what contracts see of a node, by its span and how its parts lie in memory
 abbrev pub own_of : SpanValue → Repr → Own
 own_of sp (ShortLeaf k s) = plain_leaf sp k s
 own_of sp (BoxedLeaf k n s) = plain_leaf sp k s.value
@@ -31,7 +33,7 @@ own_of sp (LongLeaf k n s) = plain_leaf sp k s.value
 own_of sp (Inner k high low len descendants) = plain_inner sp k (upper_end high low) len descendants
 own_of sp (Diagnosed k p) = of_parts sp k p.value
 
--- an upper end is at most the last, and the length that stands beside a text is the text's
+-- an upper end is at most 2 ^ 47, and the length that is kept beside a text is the text's
 abbrev pub IsOwn : Repr → Type 0
 IsOwn (ShortLeaf k s) = Unit {0}
 IsOwn (BoxedLeaf k n s) = n ≡ kept (length s.value)

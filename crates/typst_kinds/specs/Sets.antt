@@ -15,11 +15,11 @@ math_expr = kind.Hash ∷ kind.MathIdent ∷ kind.MathFieldAccess ∷ kind.LeftB
 abbrev pub unary_op : List SyntaxKind
 unary_op = kind.Plus ∷ kind.Minus ∷ kind.Not ∷ []
 
--- kinds of binary operators, but for the word pair `not in`
+-- kinds of binary operators, except the word pair `not in`
 abbrev pub binary_op : List SyntaxKind
 binary_op = kind.Plus ∷ kind.Minus ∷ kind.Star ∷ kind.Slash ∷ kind.And ∷ kind.Or ∷ kind.EqEq ∷ kind.ExclEq ∷ kind.Lt ∷ kind.LtEq ∷ kind.Gt ∷ kind.GtEq ∷ kind.Eq ∷ kind.In ∷ kind.PlusEq ∷ kind.HyphEq ∷ kind.StarEq ∷ kind.SlashEq ∷ []
 
--- kinds that begin a part of a pattern that is no pattern in parens
+-- kinds that begin a part of a pattern that isn't a pattern in parens
 abbrev pub pattern_leaf : List SyntaxKind
 pattern_leaf = kind.Ident ∷ kind.LeftBrace ∷ kind.LeftBracket ∷ kind.LeftParen ∷ kind.Dollar ∷ kind.Let ∷ kind.Set ∷ kind.Show ∷ kind.Context ∷ kind.If ∷ kind.While ∷ kind.For ∷ kind.Import ∷ kind.Include ∷ kind.Break ∷ kind.Continue ∷ kind.Return ∷ kind.Raw ∷ kind.None ∷ kind.Auto ∷ kind.Int ∷ kind.Float ∷ kind.Bool ∷ kind.Numeric ∷ kind.Str ∷ kind.Label ∷ []
 

@@ -25,15 +25,17 @@ abbrev pub number_of : SpanValue → ℕ
 number_of None = 0
 number_of (Some p) = p.1
 
--- a span in one number: the file above 48 bits for the node's number, and 0 where there is neither
+-- a span as one number: the file's number above 48 bits for the node's number, and 0 for a detached
+-- span
 abbrev pub packed : SpanValue → ℕ
 packed None = 0
 packed (Some p) = p.0 * 2 ^ 48 + p.1
 
+-- the span that a number holds
 abbrev pub unpacked : ℕ → SpanValue
 unpacked n = if n == 0 then None else Some (n / 2 ^ 48, n % 2 ^ 48)
 
--- what is packed is nothing, or a file and a node's number
+-- a number that holds a span: 0, or a file's number and a node's
 abbrev pub IsPacked : ℕ → Type 0
 IsPacked n = (n < 2 ^ 64) × (0 < n → IsFile (n / 2 ^ 48) × IsSpanNumber (n % 2 ^ 48))
 

@@ -61,7 +61,7 @@ impl Hint {
         }
     }
 
-    /// The bytes of the node that the hint is about, or `None` where it is about all of it.
+    /// The bytes of the node that the hint is about, or `None` if it is about all of it.
     pub fn sub_range(&self) -> Option<SubRange>
         ensures { result ≡ self.now.sub_range }
     {
@@ -75,6 +75,7 @@ impl Hint {
         self.said.as_str()
     }
 
+    /// A copy of the hint.
     pub fn try_clone(&self, alloc: Global) -> Result<Hint, AllocError>
         ensures { IfOk result (λ h. h ≡ self.now) }
     {
@@ -119,35 +120,35 @@ impl Diagnostic {
         }
     }
 
-    /// Whether it is an error or a warning.
+    /// Whether the diagnostic is an error or a warning.
     pub fn severity(&self) -> Severity
         ensures { result ≡ self.now.severity }
     {
         self.severity
     }
 
-    /// The bytes of the node that it is about, or `None` where it is about all of it.
+    /// The bytes of the node that the diagnostic is about, or `None` if it is about all of the node.
     pub fn sub_range(&self) -> Option<SubRange>
         ensures { result ≡ self.now.sub_range }
     {
         self.sub_range
     }
 
-    /// What it says.
+    /// What the diagnostic says.
     pub fn message(&self) -> &str
         ensures { result.now ≡ self.now.message }
     {
         self.message.as_str()
     }
 
-    /// Its hints, in the order in which they were given.
+    /// The diagnostic's hints, in the order in which they were given.
     pub fn hints(&self) -> &[Hint]
         ensures { result.now ≡ self.now.hints }
     {
         self.hints.as_slice()
     }
 
-    /// Adds a hint behind the others.
+    /// Adds a hint after the others. After an error nothing has changed.
     pub fn push_hint(&mut self, hint: Hint) -> Result<(), AllocError>
         ensures ok { OnOk result (self.new ≡ hinted hint self.old) }
         ensures err { OnErr result (self.new ≡ self.old) }
@@ -156,6 +157,7 @@ impl Diagnostic {
         Ok(())
     }
 
+    /// A copy of the diagnostic and its hints.
     pub fn try_clone(&self, alloc: Global) -> Result<Diagnostic, AllocError>
         ensures { IfOk result (λ d. d ≡ self.now) }
     {
@@ -194,6 +196,7 @@ fn clone_hints(alloc: Global, hints: &[Hint]) -> Result<Vec<Hint>, AllocError>
     Ok(all)
 }
 
+/// A copy of some diagnostics, in their order.
 pub fn clone_diagnostics(
     alloc: Global,
     diagnostics: &[Diagnostic],
@@ -221,6 +224,7 @@ fn same_hints(a: &[Hint], b: &[Hint]) -> bool
     true
 }
 
+/// Whether two lists have the same diagnostics in the same order.
 pub fn same_diagnostics(a: &[Diagnostic], b: &[Diagnostic]) -> bool
     ensures { IsTrue result ↔ (a.now ≡ b.now) }
 {

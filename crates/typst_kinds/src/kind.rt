@@ -7,7 +7,7 @@ ghost use Rattle.typst_kinds.specs.Kinds.{same, is_trivia, is_error, is_keyword,
 pub enum SyntaxKind {
     /// The end of the text, or of the part of it that may be read.
     End,
-    /// Text that is no syntax.
+    /// Text that isn't syntax.
     Error,
     /// `#!` at the text's start, up to the line's end.
     Shebang,
@@ -87,7 +87,7 @@ pub enum SyntaxKind {
     MathArgs,
     /// Math between matching delimiters.
     MathDelimited,
-    /// A base with what stands above and below it: `a_1^2`.
+    /// A base with what is above and below it: `a_1^2`.
     MathAttach,
     /// `'''` in math.
     MathPrimes,
@@ -435,7 +435,7 @@ impl SyntaxKind {
         }
     }
 
-    /// Whether the kind is of space or of a comment, which stand between what the grammar asks for.
+    /// Whether the kind is trivia: a space, a paragraph break or a comment.
     #[inline(always)]
     pub fn is_trivia(self) -> bool
         ensures { result ≡ is_trivia self }
@@ -449,7 +449,7 @@ impl SyntaxKind {
         }
     }
 
-    /// Whether the kind is that of what is no syntax.
+    /// Whether the kind is `Error`.
     pub fn is_error(self) -> bool
         ensures { result ≡ is_error self }
     {

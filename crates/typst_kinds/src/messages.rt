@@ -4,7 +4,7 @@ ghost use Rattle.typst_kinds.specs.Messages.{expected_message, unexpected_messag
 use crate::{SyntaxKind, Text};
 use std::alloc::{AllocError, Global};
 
-/// The message of an error where `thing` was expected.
+/// The message `expected THING, found NAME`, with the name of the kind that was found.
 pub fn expected_message(alloc: Global, thing: &str, name: &str) -> Result<Text, AllocError>
     ensures { IfOk result (λ m. m ≡ expected_message thing.now name.now) }
 {
@@ -12,7 +12,7 @@ pub fn expected_message(alloc: Global, thing: &str, name: &str) -> Result<Text, 
     Ok(Text::from_string(message))
 }
 
-/// The message of an error where nothing else is known to be expected.
+/// The message `unexpected NAME`, with the name of the kind that was found.
 pub fn unexpected_message(alloc: Global, name: &str) -> Result<Text, AllocError>
     ensures { IfOk result (λ m. m ≡ unexpected_message name.now) }
 {
@@ -20,7 +20,7 @@ pub fn unexpected_message(alloc: Global, name: &str) -> Result<Text, AllocError>
     Ok(Text::from_string(message))
 }
 
-/// How to use a name that is a keyword.
+/// The hint for a keyword that was found where a name was expected: to write it with `_` after it.
 pub fn keyword_hint(alloc: Global, text: &str) -> Result<Text, AllocError>
     ensures { IfOk result (λ m. m ≡ keyword_hint text.now) }
 {
@@ -36,7 +36,7 @@ fn is_name_word(thing: &str) -> bool
     thing == "identifier" || thing == "pattern"
 }
 
-/// Whether a keyword stands where a name is wanted.
+/// Whether a keyword was found where an identifier or a pattern was expected.
 pub fn is_lost_name(kind: SyntaxKind, thing: &str) -> bool
     ensures { result ≡ is_lost_name kind thing.now }
 {

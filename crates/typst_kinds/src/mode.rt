@@ -5,6 +5,6 @@ pub enum SyntaxMode {
     Markup,
     /// Formulas, the language between `$` and `$`.
     Math,
-    /// Code, the language behind `#` and of `{ .. }`.
+    /// Code, the language after `#` and of `{ .. }`.
     Code,
 }

@@ -15,7 +15,7 @@ pub enum UnOp {
 }
 
 impl UnOp {
-    /// The operator that a token of this kind is, or `None` where it is none.
+    /// The operator that a token of this kind is, or `None` if it is none.
     pub fn from_kind(token: SyntaxKind) -> Option<UnOp>
         ensures { result ≡ unary_of token }
     {
@@ -82,7 +82,7 @@ pub enum BinOp {
     DivAssign,
 }
 
-/// On which side operators of one precedence are taken together first.
+/// On which side operators of the same precedence are taken together first.
 #[derive(Debug, Clone, Copy, PartialEq, Eq)]
 pub enum Assoc {
     /// `a - b - c` is `(a - b) - c`.
@@ -92,7 +92,7 @@ pub enum Assoc {
 }
 
 impl BinOp {
-    /// The operator that a token of this kind is, or `None` where it is none.
+    /// The operator that a token of this kind is, or `None` if it is none.
     ///
     /// `not in` is two tokens, so no kind gives it.
     pub fn from_kind(token: SyntaxKind) -> Option<BinOp>
@@ -148,7 +148,7 @@ impl BinOp {
         }
     }
 
-    /// On which side the operator is taken first among its like.
+    /// On which side operators of this one's precedence are taken together first.
     pub fn assoc(self) -> Assoc
         ensures { result ≡ assoc_of self }
     {

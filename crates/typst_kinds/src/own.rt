@@ -26,8 +26,8 @@ struct Parts {
     diagnostics: Vec<Diagnostic>,
 }
 
-/// The usual nodes hold their parts in 16 bytes. An upper end takes 6 of them. A leaf whose text stands
-/// apart keeps its length here, so that rows of nodes are added up without a look at their texts.
+/// The usual nodes hold their parts in 16 bytes. An upper end takes 6 of them. A leaf whose text is elsewhere
+/// keeps its length here, so that rows of nodes are added up without reading their texts.
 #[derive(Drop)]
 enum Repr {
     ShortLeaf(SyntaxKind, ShortText<12>),
@@ -43,7 +43,7 @@ enum Repr {
     Diagnosed(SyntaxKind, Box<Parts>),
 }
 
-/// A count as it is kept.
+/// A count as a node keeps it: the largest one means that many or more.
 fn kept(count: usize) -> usize
     ensures { result ≡ kept count }
 {
@@ -116,7 +116,7 @@ fn long(alloc: Global, text: &str) -> Result<Box<Text>, AllocError>
 
 // Makers.
 impl Own {
-    /// A leaf's.
+    /// What a new leaf keeps, with a copy of its text.
     #[inline(always)]
     pub fn leaf(alloc: Global, kind: SyntaxKind, text: &str) -> Result<Own, AllocError>
         ensures { IfOk result (λ o. o ≡ leaf_own (leaf_head kind text.now)) }
@@ -124,8 +124,8 @@ impl Own {
         Own::leaf_of(alloc, kind, text, ShortText::new(text))
     }
 
-    /// A leaf's whose text `rest` begins with. A text of up to 12 bytes takes no memory, and one of up
-    /// to 70 bytes takes it once.
+    /// What a new leaf keeps, whose text `rest` begins with. A text of up to 12 bytes takes no memory, and one of
+    /// up to 70 bytes takes it once.
     #[inline(always)]
     pub fn front_leaf(
         alloc: Global,
@@ -139,7 +139,7 @@ impl Own {
         Own::leaf_of(alloc, kind, text, ShortText::front(text, rest))
     }
 
-    /// A leaf's, whose text may be short enough to stand within.
+    /// What a new leaf keeps, by its text and, if that is short enough, its copy in place.
     #[inline(always)]
     fn leaf_of(
         alloc: Global,
@@ -163,7 +163,7 @@ impl Own {
         })
     }
 
-    /// An inner node's.
+    /// What a new inner node keeps, by the length of its text and the count of its nodes.
     pub fn inner(kind: SyntaxKind, len: usize, descendants: usize) -> Own
         ensures { result ≡ record { head = inner_head kind; len = kept len; descendants = kept descendants } }
     {
@@ -179,7 +179,7 @@ impl Own {
         }
     }
 
-    /// An error leaf's.
+    /// What a new error leaf keeps.
     pub fn error(alloc: Global, message: Text, text: Text) -> Result<Own, AllocError>
         ensures { IfOk result (λ o. o ≡ leaf_own (error_head message text)) }
     {
@@ -202,7 +202,7 @@ impl Own {
         })
     }
 
-    /// The same again. In place where a tree is copied, as most nodes take no memory.
+    /// A copy. In place where a tree is copied, as most nodes take no memory.
     #[inline(always)]
     pub fn try_clone(&self, alloc: Global) -> Result<Own, AllocError>
         ensures { IfOk result (λ o. o ≡ self.now) }
@@ -271,6 +271,7 @@ impl Parts {
 
 // Readers.
 impl Own {
+    /// The node's kind.
     pub fn kind(&self) -> SyntaxKind
         ensures { result ≡ self.now.head.kind }
     {
@@ -283,6 +284,7 @@ impl Own {
         }
     }
 
+    /// Whether the node is an inner one.
     pub fn is_inner(&self) -> bool
         ensures { result ≡ self.now.head.is_inner }
     {
@@ -295,6 +297,7 @@ impl Own {
         }
     }
 
+    /// The text of a leaf, empty for an inner node.
     pub fn text(&self) -> &str
         ensures { result.now ≡ self.now.head.text }
     {
@@ -307,13 +310,14 @@ impl Own {
         }
     }
 
+    /// The node's span.
     pub fn span(&self) -> Span
         ensures { result ≡ self.now.head.span }
     {
         self.span
     }
 
-    /// The node's number, or 0 where it is detached.
+    /// The node's number, or 0 if it is detached.
     pub fn number(&self) -> u64
         ensures value { result ≡ number_of self.now.head.span }
         ensures small { result < 2 ^ 47 }
@@ -321,6 +325,7 @@ impl Own {
         self.span.number_or_zero()
     }
 
+    /// The node's errors and warnings, in the order in which they were given.
     pub fn diagnostics(&self) -> &[Diagnostic]
         ensures { result.now ≡ self.now.head.diagnostics }
     {
@@ -333,7 +338,7 @@ impl Own {
         }
     }
 
-    /// The length of the node's text, as it is kept. Short leaves and inner nodes, as most nodes are, tell it in
+    /// The length of the node's text, as it is kept. Short leaves and inner nodes, as most nodes are, are read in
     /// place: two comparisons take no table of jumps, as a `match` does.
     #[inline(always)]
     pub fn len(&self) -> usize
@@ -348,7 +353,7 @@ impl Own {
         self.len_apart()
     }
 
-    /// The same, of a node of any kind.
+    /// The length of the text that a node of any kind keeps.
     #[inline(never)]
     fn len_apart(&self) -> usize
         ensures { result ≡ self.now.len }
@@ -362,7 +367,7 @@ impl Own {
         }
     }
 
-    /// The count of the node and those below it, as it is kept. Short leaves and inner nodes tell it in place, by
+    /// The count of the node and those below it, as it is kept. Short leaves and inner nodes are read in place, by
     /// comparisons too.
     #[inline(always)]
     pub fn descendants(&self) -> usize
@@ -377,7 +382,7 @@ impl Own {
         self.descendants_apart()
     }
 
-    /// The same, of a node of any kind.
+    /// The count of nodes that a node of any kind keeps.
     #[inline(never)]
     fn descendants_apart(&self) -> usize
         ensures { result ≡ self.now.descendants }
@@ -391,6 +396,7 @@ impl Own {
         }
     }
 
+    /// The node's upper end: the bound of the numbers below it, or 0 for a leaf.
     pub fn upper(&self) -> u64
         ensures value { result ≡ self.now.head.upper }
         ensures small { result ≤ 2 ^ 47 }
@@ -408,7 +414,7 @@ impl Own {
         }
     }
 
-    /// Whether all but the numbers are the same.
+    /// Whether the heads are the same, spans and upper ends aside.
     pub fn same_bare(&self, other: &Own) -> bool
         ensures { IsTrue result ↔ (bare_head self.now.head ≡ bare_head other.now.head) }
     {
@@ -440,7 +446,7 @@ impl Own {
         }
     }
 
-    /// Gives the node a span, and the upper end where it is an inner node.
+    /// Gives the node a span, and the upper end if it is an inner node.
     pub fn locate(&mut self, span: Span, upper: u64)
         requires { upper ≤ 2 ^ 47 }
         ensures { self.new ≡ with_head self.old (located span upper self.old.head) }
@@ -499,7 +505,7 @@ impl Own {
         self.locate(span, span.number_or_zero());
     }
 
-    /// Adds a diagnostic behind the others.
+    /// Adds a diagnostic after the others. After an error nothing has changed.
     pub fn push_diagnostic(
         &mut self,
         alloc: Global,
@@ -528,7 +534,7 @@ impl Own {
         Ok(())
     }
 
-    /// Adds a hint behind those of the last diagnostic, if there is one.
+    /// Adds a hint after those of the last diagnostic, if there is one. After an error nothing has changed.
     pub fn push_hint(&mut self, hint: Hint) -> Result<(), AllocError>
         ensures ok { OnOk result (self.new ≡ with_head self.old (helped hint self.old.head)) }
         ensures err { OnErr result (self.new ≡ self.old) }
@@ -541,7 +547,7 @@ impl Own {
     }
 }
 
-/// Adds a hint to the last of the diagnostics, if there is one.
+/// Adds a hint to the last of the diagnostics, if there is one. After an error nothing has changed.
 fn push_last(diagnostics: &mut Vec<Diagnostic>, hint: Hint) -> Result<(), AllocError>
     ensures ok { OnOk result (diagnostics.new.items ≡ at_last (hinted hint) diagnostics.old.items) }
     ensures err { OnErr result (diagnostics.new.items ≡ diagnostics.old.items) }

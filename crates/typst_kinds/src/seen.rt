@@ -1,4 +1,4 @@
-//! Names that were seen.
+//! The names that were seen so far, as of arguments or parameters.
 
 ghost use Rattle.std.specs.Prelude.{◌≡◌, [], OnOk};
 ghost use Rattle.typst_kinds.specs.SeenNames as spec;
@@ -7,7 +7,7 @@ use crate::Text;
 use std::alloc::{AllocError, Global};
 use std::marker::Model;
 
-/// The names that were seen.
+/// The names that were seen so far, each once.
 #[derive(Drop)]
 pub struct Names {
     names: Vec<Text>,
@@ -22,7 +22,7 @@ impl Model for Names {
 }
 
 impl Names {
-    /// None.
+    /// No names, for which no memory is taken.
     pub fn new(alloc: Global) -> Names
         ensures { result ≡ [] }
     {
@@ -31,14 +31,14 @@ impl Names {
         }
     }
 
-    /// Whether the name is one of them.
+    /// Whether the name was seen. Goes through the names.
     pub fn has(&self, name: &str) -> bool
         ensures { result ≡ spec.has_name self.now name.now }
     {
         self.names.as_slice().iter().any(|n| n.as_str() == name)
     }
 
-    /// Adds the name, which is moved, unless it is one of them.
+    /// Adds the name, which is moved, unless it was seen.
     pub fn add(&mut self, name: Text) -> Result<(), AllocError>
         ensures { OnOk result (self.new ≡ spec.with_name self.old name) }
     {

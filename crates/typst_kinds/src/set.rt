@@ -17,7 +17,7 @@ pub struct SyntaxSet {
     words: [u64; 3],
 }
 
-/// The bits of a set's last word that stand for kinds. The bits behind them stand for nothing.
+/// The bits of a set's last word that stand for kinds. The bits after them stand for nothing.
 const LAST_WORD: u64 = (1 << (SyntaxKind::DestructAssignment as u64 % 64 + 1)) - 1;
 
 /// The set of the kinds that are listed.
@@ -75,13 +75,13 @@ pub const MATH_EXPR: SyntaxSet = syntax_set!(
 /// Kinds of unary operators.
 pub const UNARY_OP: SyntaxSet = syntax_set!(Plus, Minus, Not);
 
-/// Kinds of binary operators, but for the word pair `not in`.
+/// Kinds of binary operators, except the word pair `not in`.
 pub const BINARY_OP: SyntaxSet = syntax_set!(
     Plus, Minus, Star, Slash, And, Or, EqEq, ExclEq, Lt, LtEq, Gt, GtEq, Eq, In, PlusEq, HyphEq,
     StarEq, SlashEq
 );
 
-/// Kinds that begin a part of a pattern that is no pattern in parens.
+/// Kinds that begin a part of a pattern that isn't a pattern in parens.
 pub const PATTERN_LEAF: SyntaxSet = syntax_set!(
     Ident,
     LeftBrace,
@@ -142,14 +142,14 @@ const fn place(kind: SyntaxKind) -> usize
 }
 
 impl SyntaxSet {
-    /// The set without a kind.
+    /// The empty set.
     pub const fn new() -> SyntaxSet
         ensures { (kind : SyntaxKind) → has result kind ≡ false }
     {
         SyntaxSet { words: [0; 3] }
     }
 
-    /// This set with a kind besides.
+    /// This set with a kind added.
     pub const fn add(self, kind: SyntaxKind) -> SyntaxSet
         ensures added { has result kind ≡ true }
         ensures others { (other : SyntaxKind) → other ≢ kind → has result other ≡ has self other }
@@ -171,7 +171,7 @@ impl SyntaxSet {
         SyntaxSet { words }
     }
 
-    /// The kinds of both sets.
+    /// The kinds that are in either set.
     pub const fn union(self, other: SyntaxSet) -> SyntaxSet
         ensures { (kind : SyntaxKind) → has result kind ≡ (has self kind || has other kind) }
     {

@@ -60,7 +60,7 @@ impl Model for SpanNumber {
 }
 
 impl SpanNumber {
-    /// This number, or `None` where no node may have it.
+    /// This number, or `None` if no node may have it.
     pub fn new(value: u64) -> Option<SpanNumber>
         ensures { SomeIff result (IsSpanNumber value) value }
     {
@@ -80,7 +80,7 @@ impl SpanNumber {
     }
 }
 
-/// Where a node stands: a file and the node's number in it, or nowhere ("detached").
+/// What names a node: a file and the node's number in it, or neither ("detached").
 ///
 /// Contracts see an `Option` of the pair. It takes 8 bytes.
 #[derive(Debug, Clone, Copy, PartialEq, Eq)]
@@ -107,7 +107,7 @@ impl Span {
     /// How many bits of a span the node's number takes.
     const NUMBER_BITS: u32 = 48;
 
-    /// The span of what stands nowhere.
+    /// The span without file and number.
     pub fn detached() -> Span
         ensures { result ≡ None }
     {
@@ -124,7 +124,7 @@ impl Span {
         }
     }
 
-    /// The file, or `None` where the span is detached.
+    /// The file, or `None` if the span is detached.
     pub fn id(self) -> Option<FileId>
         ensures { result ≡ option_map (λ place. place.0) self }
     {
@@ -134,7 +134,7 @@ impl Span {
         }
     }
 
-    /// The node's number, or `None` where the span is detached.
+    /// The node's number, or `None` if the span is detached.
     pub fn number(self) -> Option<SpanNumber>
         ensures { result ≡ option_map (λ place. place.1) self }
     {
@@ -156,7 +156,7 @@ impl Span {
         }
     }
 
-    /// The file and the node's number, or `None` where the span is detached.
+    /// The file and the node's number, or `None` if the span is detached.
     pub fn get(self) -> Option<(FileId, SpanNumber)>
         ensures { result ≡ self }
     {
@@ -194,7 +194,7 @@ impl Model for SubRange {
 }
 
 impl SubRange {
-    /// The range from `start` up to `end`, or `None` where `start` passes `end`.
+    /// The range from `start` up to `end`, or `None` if `start` passes `end`.
     pub fn new(start: usize, end: usize) -> Option<SubRange>
         ensures { SomeIff result (start ≤ end) (record { start = start; end = end }) }
     {

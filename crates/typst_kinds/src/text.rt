@@ -82,7 +82,7 @@ impl Text {
     }
 }
 
-/// A text of at most `N` bytes, which stand where it stands.
+/// A text of at most `N` bytes, which it holds in place.
 #[derive(Drop)]
 pub struct ShortText<const N: usize> {
     len: u16,
@@ -101,8 +101,7 @@ impl<const N: usize> Model for ShortText<N> {
 }
 
 impl ShortText<12> {
-    /// A copy of `text`, or `None` where it is longer. A text of one byte is made without memory
-    /// between.
+    /// A copy of `text`, or `None` if it is longer than 12 bytes. A text of one byte takes no loop.
     #[inline(always)]
     pub fn new(text: &str) -> Option<ShortText<12>>
         ensures { MatchOption result (12 < length text.now) (λ t. t ≡ text.now) }
@@ -121,7 +120,7 @@ impl ShortText<12> {
         Some(short)
     }
 
-    /// A copy of `text`, which `rest` begins with, or `None` where it is longer. Where `rest` has twelve
+    /// A copy of `text`, which `rest` begins with, or `None` if it is longer than 12 bytes. If `rest` has twelve
     /// bytes all of them are copied, whatever the text's length is, which takes no loop.
     #[inline(always)]
     pub fn front(text: &str, rest: &str) -> Option<ShortText<12>>
@@ -144,7 +143,7 @@ impl ShortText<12> {
         })
     }
 
-    /// A copy of `text`.
+    /// A copy of `text`, which has at most 12 bytes.
     #[inline(never)]
     fn apart(text: &str) -> ShortText<12>
         requires { length text.now ≤ 12 }
@@ -180,7 +179,7 @@ impl<const N: usize> ShortText<N> {
         self.len = bytes.len() as u16;
     }
 
-    /// The same text again.
+    /// A copy of the text.
     pub fn copy(&self) -> ShortText<N>
         ensures { result ≡ self.now }
     {

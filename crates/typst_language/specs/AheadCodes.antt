@@ -5,6 +5,7 @@ use Rattle.typst_language.specs.declared.calls.Note.{Note}
 use Rattle.typst_language.specs.contracts.calls.Note.{the_row as note_row}
 use Rattle.typst_language.specs.Log.{Log}
 
+-- how a log is stored in ghost fields
 abbrev pub log_code : Coded Log
 log_code =
     code_by (ℕ × (ℕ × Option (List Note))) (coded× coded_ℕ (coded× coded_ℕ (coded_option (coded_list note_row.coded))))

@@ -10,7 +10,7 @@ use Rattle.typst_language.specs.Hand.{Hand, hand_at}
 use Rattle.typst_language.specs.declared.ahead.ReadAhead.{ReadAhead}
 use Rattle.typst_language.specs.Bytes.{token_hull, column_hull}
 
--- how many characters stand between two scanners
+-- how many characters are between two scanners
 abbrev pub distance : Scanner → Scanner → ℕ
 distance from to = length (place to).before - length (place from).before
 
@@ -25,7 +25,7 @@ hand_of_ahead a trivia = record {
   token = a.token;
 }
 
--- the token stands in the text behind its trivia
+-- the token is where its trivia end, in the same text
 pub record Stands (a : ReadAhead) : Type 0 where
   pub start : place a.start ≡ moved (distance a.before a.start) (place a.before)
   pub after : place a.after ≡ moved (distance a.start a.after) (place a.start)
@@ -33,7 +33,7 @@ pub record Stands (a : ReadAhead) : Type 0 where
   pub after_text : a.after.text.now ≡ a.start.text.now
   pub line_text : a.line.text.now ≡ a.before.text.now
 
--- trivia and token are those at a place of which nothing was known
+-- the trivia and the token are those at a place of which nothing was known
 pub record IsAhead (k : CharClasses) (held : Reading) (from : Scanner) (trivia : List Tree) (a : ReadAhead) : Type 0 where
   pub before : a.before ≡ from
   pub is_read : a.is_read ≡ true

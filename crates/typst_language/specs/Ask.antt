@@ -9,7 +9,8 @@ use Rattle.typst_language.specs.declared.calls.Mark.{Mark}
 pub data Ask : Type 0 where
   -- a stretch around the place so many characters on was looked at
   looked : ℕ → Look → Ask
-  -- a unit begins or ends so many characters on, behind so many characters of trivia, where so many levels fewer are left, in a state
+  -- a unit begins or ends so many characters on, after so many characters of trivia, where so many
+  -- levels fewer are left, in a state
   marked : ℕ → ℕ → ℕ → Mark → State → Ask
 
 -- two places show the same where this was asked
@@ -22,19 +23,21 @@ abbrev pub SameIn : List Ask → Place → Place → Type 0
 SameIn [] z w = Unit {0}
 SameIn (ask ∷ asks) z w = SameOne ask z w × SameIn asks z w
 
+-- an ask, counted from n characters before
 abbrev pub shift_one : ℕ → Ask → Ask
 shift_one n (looked at look) = looked (n + at) look
 shift_one n (marked at gap fewer mark s) = marked (n + at) gap fewer mark s
 
--- the same, counted from so many characters before
+-- asks, counted from n characters before
 abbrev pub shift : ℕ → List Ask → List Ask
 shift n = map (shift_one n)
 
+-- an ask, counted from where one level more is left
 abbrev pub sink_one : Ask → Ask
 sink_one (looked at look) = looked at look
 sink_one (marked at gap fewer mark s) = marked at gap (suc fewer) mark s
 
--- the same, counted from where one level more is left
+-- asks, counted from where one level more is left
 abbrev pub sunk : List Ask → List Ask
 sunk = map sink_one
 

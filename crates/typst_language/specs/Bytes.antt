@@ -1,4 +1,4 @@
--- What was looked at for the token at hand, and what is left, in bytes.
+-- What was looked at for the current token, and what is left, in bytes.
 use Rattle.std.specs.Prelude.{ℕ, zero, suc, ◌≤◌, max, min, if◌then◌else◌, length, encode_utf8_all}
 use Rattle.typst_kinds.specs.declared.mode.SyntaxMode.{SyntaxMode}
 use Rattle.typst_lines.specs.Place.{Place, moved}
@@ -15,7 +15,7 @@ use Rattle.typst_language.specs.Hand.{len_at, at_trivia, ahead, asks_column, col
 abbrev pub bytes_left : Place → ℕ
 bytes_left z = length (encode_utf8_all z.ahead)
 
--- both stretches, and what lies between them
+-- two stretches of bytes, and what lies between them
 abbrev pub joined_hull : Hull → Hull → Hull
 joined_hull a b = record { reach = max a.reach b.reach; least = min a.least b.least }
 
@@ -28,19 +28,21 @@ pub record LiesIn (u v : Hull) : Type 0 where
 abbrev pub token_hull : CharClasses → SyntaxMode → Place → Hull
 token_hull k m z = hull_of (look (token k m) z) z
 
+-- what was looked at for the trivia at a place and the token after them, where there are no more
+-- trivia tokens than the number says
 abbrev pub tokens_by : CharClasses → SyntaxMode → ℕ → Place → Hull
 tokens_by k m zero z = token_hull k m z
 tokens_by k m (suc n) z = if at_trivia k m z then joined_hull (token_hull k m z) (tokens_by k m n (moved (len_at k m z) z)) else token_hull k m z
 
--- what was looked at for the trivia at a place and the token after it
+-- what was looked at for the trivia at a place and the token after them
 unfoldable pub tokens_at : CharClasses → SyntaxMode → Place → Hull
 tokens_at k m z = tokens_by k m (length z.ahead) z
 
--- with what was looked at for the column, where the rule asks for it
+-- a stretch of bytes with what was looked at for the column, if the newline rule asks for it
 abbrev pub column_hull : Reading → Newlines → Place → Hull → Hull
 column_hull held newlines z h = if asks_column held newlines then joined_hull h (hull_of (column_look z) z) else h
 
--- all that was looked at for the token at hand and the trivia before it
+-- all that was looked at for the current token and the trivia before it
 unfoldable pub whole_at : CharClasses → Reading → Place → Hull
 whole_at k held z =
     let a = ahead k held.mode z in

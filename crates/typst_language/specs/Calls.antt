@@ -22,7 +22,7 @@ pub data Call : Type 0 where
   -- a pattern, what its names are, and which names were seen before it
   Pattern : Role → List (List ℕ) → Call
 
--- what a call answers: of an expression of markup in how many brackets what comes after it stands, of one of code
+-- what a call answers: of an expression of markup in how many brackets what comes after it is, of one of code
 -- or of a formula nothing, of a pattern which names were seen
 abbrev pub Answer : Call → Type 0
 Answer (MarkupExpr at_start nesting) = ℕ
@@ -30,7 +30,7 @@ Answer (CodeExpr atomic least) = Unit {0}
 Answer (MathExpr least chain) = Unit {0}
 Answer (Pattern role names) = List (List ℕ)
 
--- what stands for an answer where no call is made
+-- the answer where no call is made
 abbrev pub no_answer : (call : Call) → Answer call
 no_answer (MarkupExpr at_start nesting) = 0
 no_answer (CodeExpr atomic least) = tt

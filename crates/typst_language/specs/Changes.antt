@@ -14,7 +14,7 @@ meant (IsNot thing) = is_not thing.now
 meant (Renamed kind) = renamed kind
 meant Unparened = unparened
 
--- a node is renamed to a kind that is no error
+-- a node is renamed to a kind that isn't an error
 abbrev pub IsFine : Changed → Type 0
 IsFine Stays = Unit {0}
 IsFine (TurnsWrong message) = Unit {0}

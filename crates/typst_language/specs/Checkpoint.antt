@@ -11,24 +11,26 @@ use Rattle.typst_language.specs.View.{View}
 
 -- ---- what a checkpoint keeps
 
--- numbers, a place, and the token at hand, but no node
+-- numbers, a place, and the current token, but no node
 pub record Saved : Type 0 where
-  -- how many nodes stand before the trivia at hand, how many nodes these are, and how many notes there are
+  -- how many nodes are before the pending trivia, how many nodes these are, and how many notes there are
   pub nodes : ℕ
   pub trivia : ℕ
   pub notes : ℕ
   pub place : Place
   pub state : State
-  -- whether the token at hand was asked for, and the token, without its trivia
+  -- whether the current token was asked for, and the token, without its trivia
   pub is_known : Bool
   pub hand : Hand
   pub own : Hull
   pub here : Hull
 
+-- there is a value
 abbrev pub is_some : {A : Type 0} → Option A → Bool
 is_some None = false
 is_some (Some a) = true
 
+-- what a checkpoint keeps of a view
 abbrev pub saved : View → Saved
 saved v = record {
   nodes = length v.nodes;
@@ -42,20 +44,22 @@ saved v = record {
   here = v.here;
 }
 
--- ---- what stands behind going back
+-- ---- what is after going back
 
--- the first so many of what was given since, or what is at hand, where fewer were given
+-- the first so many of the nodes given since a checkpoint; if fewer were given, the nodes that were
+-- held
 abbrev pub first_of : ℕ → List Tree → List Tree → List Tree
 first_of count given held = let first = take count given in if length first == count then first else held
 
--- the nodes of the trivia at hand
+-- the nodes of the trivia that are pending after going back
 abbrev pub trivia_back : Saved → View → List Tree
 trivia_back c v = first_of c.trivia (drop c.nodes v.nodes) v.hand.trivia
 
+-- the current token after going back, with its trivia
 abbrev pub hand_back : Saved → View → Hand
 hand_back c v = record c.hand { trivia = trivia_back c v }
 
--- what stood before the checkpoint, with all that was looked at since
+-- the view of a checkpoint again, with all that was looked at since
 abbrev pub went_back : Saved → View → View
 went_back c v = record {
   nodes = take c.nodes v.nodes;
@@ -74,15 +78,17 @@ went_back c v = record {
   memo = v.memo;
 }
 
--- a reading left what stood before it, and the trivia that were at hand are what it gave first, or are at hand still
+-- a reading kept the nodes before a checkpoint, and the trivia that were pending there are the
+-- first that it gave, or are pending still
 pub record Leaves (old mid : View) : Type 0 where
   pub nodes : take (length old.nodes) mid.nodes ≡ old.nodes
   pub trivia : trivia_back (saved old) mid ≡ old.hand.trivia
 
--- what was noted since is dropped
+-- what was noted since a checkpoint is dropped
 abbrev pub forgot_notes : Saved → View → View
 forgot_notes c v = record v { log = unnoted c.notes v.log }
 
--- looks that were made before it count at the first note since, or where there is none since the last note
+-- looks that were made before a checkpoint count at the first note since, or if there is none, as
+-- looks since the last note
 abbrev pub looked_since : Saved → Hull → View → View
 looked_since c u v = record v { log = looked_before c.notes u v.log }

@@ -21,6 +21,7 @@ use Rattle.typst_language.specs.declared.memo.Guessed.{Guessed}
 use Rattle.typst_language.specs.contracts.memo.Guessed.{the_row as guessed_row}
 use Rattle.typst_language.specs.View.{View}
 
+-- how a current token is stored in ghost fields
 abbrev pub hand_code : Coded Hand
 hand_code =
     code_by (SyntaxKind × (List Tree × (ℕ × (ℕ × (Newlines × Token)))))
@@ -29,11 +30,13 @@ hand_code =
     (λ p. record { kind = p.0; trivia = p.1.0; gap = p.1.1.0; len = p.1.1.1.0; newlines = p.1.1.1.1.0; token = p.1.1.1.1.1 })
     (λ _. refl)
 
+-- how what is known of trivia is stored in ghost fields
 abbrev pub trivia_code : Coded Trivia
 trivia_code =
     code_by (List Tree × (ℕ × Newlines)) (coded× (coded_list tree_code) (coded× coded_ℕ newlines_row.coded))
     (λ t. (t.nodes, (t.gap, t.newlines))) (λ p. record { nodes = p.0; gap = p.1.0; newlines = p.1.1 }) (λ _. refl)
 
+-- how a point is stored in ghost fields
 abbrev pub point_code : Coded Point
 point_code =
     code_by (Reading × (Reading × (ℕ × (Bool × Option Trivia))))
@@ -42,6 +45,7 @@ point_code =
     (λ p. record { reading = p.0; held = p.1.0; empties = p.1.1.0; is_after_error = p.1.1.1.0; known = p.1.1.1.1 })
     (λ _. refl)
 
+-- how a view is stored in ghost fields
 abbrev pub view_code : Coded View
 view_code =
     code_by (List Tree × (Place × (Point × (Hand × (Hull × (Hull × (Log × List Guessed)))))))

@@ -18,9 +18,11 @@ use Rattle.typst_language.specs.View.{View}
 abbrev pub known_of : ReadAhead → List Tree → Option Trivia
 known_of a trivia = if a.is_read then known_by (hand_of_ahead a trivia) else None
 
+-- the point of a parser, by its state, the token that was read ahead, and the trivia before it
 abbrev pub point_of_ahead : State → ReadAhead → List Tree → Point
 point_of_ahead s a trivia = record { reading = s.reading; held = s.held; empties = s.empties; is_after_error = s.is_after_error; known = known_of a trivia }
 
+-- what a parser of the code shows
 abbrev pub view_of : Inside → View
 view_of i = record {
   nodes = i.nodes.items;
@@ -33,6 +35,8 @@ view_of i = record {
   memo = i.memo.items;
 }
 
+-- a parser of the code is in order: the token is where its trivia end, and no more empty errors are
+-- counted than there are nodes
 pub record IsReady (i : Inside) : Type 0 where
   pub stands : Stands i.ahead
   pub few : i.state.empties ≤ length i.nodes.items

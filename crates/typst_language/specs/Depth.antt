@@ -1,4 +1,4 @@
--- The limit of depth, and what stands in place of what lies deeper.
+-- The limit of depth, and what is in place of what lies deeper.
 use Rattle.std.specs.Prelude.{ℕ, ◌+◌, ◌-◌, ◌^◌, min, Bool, true, false, not, ◌||◌, ◌&&◌, ◌==◌, codes}
 use Rattle.typst_kinds.specs.declared.kind.SyntaxKind.{SyntaxKind}
 use Rattle.typst_kinds.specs.declared.kind.SyntaxKind.TheVariants as kind
@@ -10,19 +10,20 @@ use Rattle.typst_language.specs.Syntax.Op.{is_deepest}
 use Rattle.typst_language.specs.Syntax.Parser.{gives, does, pick, repeat, calls}
 use Rattle.typst_language.specs.Steps.{peek, eat, within, node}
 
+-- the end of what may be read
 abbrev pub is_end : SyntaxKind → Bool
 is_end kind.End = true
 is_end _ = false
 
--- in front of one expression every token stops
+-- every token stops what lies too deep, as in place of one expression
 abbrev pub anywhere : SyntaxKind → Bool
 anywhere k = true
 
--- one more, and at most as many as a machine word counts
+-- one more, but at most as many as a machine word counts
 abbrev pub one_more : ℕ → ℕ
 one_more n = min (n + 1) (2 ^ 64 - 1)
 
--- how many delimiters are open behind a token; closing ones that match none don't count
+-- how many delimiters are open after a token; closing ones that match none don't count
 abbrev pub balance : SyntaxKind → ℕ → ℕ
 balance kind.LeftBracket n = one_more n
 balance kind.LeftBrace n = one_more n
@@ -50,7 +51,8 @@ too_deep stops = do
   count ← node (λ _. fails (codes "maximum parsing depth exceeded")) (within (λ r. record r { at_newline = Continue }) (repeat (skip_one stops) 0))
   gives tt
 
--- what is read one level deeper, where a level is left; what is too deep answers as if it were not there
+-- what is read one level deeper, if a level is left; what is too deep answers as if it were not
+-- there
 unfoldable pub deeper : (call : Call) → Answer call → Parser (Answer call)
 deeper call answer = do
   is_deep ← does is_deepest

@@ -1,4 +1,4 @@
--- Steps that answer whether what was expected stood there.
+-- Steps that answer whether what was expected was there.
 use Rattle.std.specs.Prelude.{ℕ, Bool, true, false, List, codes}
 use Rattle.typst_kinds.specs.declared.kind.SyntaxKind.{SyntaxKind}
 use Rattle.typst_kinds.specs.declared.kind.SyntaxKind.TheVariants as kind
@@ -19,13 +19,15 @@ expects is thing = do
   first ← expect is thing
   gives (is ahead.kind)
 
--- the same of an identifier; a keyword in its place becomes the error that an identifier was expected
+-- takes an identifier, or says that it was expected; answers whether it took it. A keyword in its
+-- place becomes the error that an identifier was expected
 unfoldable pub expect_identifier : Parser Bool
 expect_identifier = do
   ahead ← peek
   pick (is_keyword ahead.kind) (eat_making true (wanted (codes "identifier")) >> gives false) (expects (same kind.Ident) (codes "identifier"))
 
--- what is given, and what is seen of it from the token at hand on
+-- what the parser gives, and with its answer what is seen of the nodes that it gave, from the
+-- current token on
 unfoldable pub seeing : {A : Type 0} → Parser A → Parser (A × List Seen)
 seeing p = do
   ahead ← peek

@@ -7,6 +7,7 @@ use Rattle.typst_language.specs.Syntax.{Parser, ◌>>◌}
 use Rattle.typst_language.specs.Steps.{peek}
 use Rattle.typst_language.specs.Meaning.{Meaning, Level, plain, blockless, no_guess, run}
 
+-- what the grammar says of calls and blocks
 pub record Rules : Type 1 where
   -- what a call reads
   pub production : (call : Call) → Parser (Answer call)
@@ -14,18 +15,20 @@ pub record Rules : Type 1 where
   pub has : Block → Bool
   pub block_production : Block → Parser (Unit {0})
 
--- what a block gives, by what is read one level deeper: within it no other block is read but there
+-- what a block gives, by what is read one level deeper. In it no other block is read, except there
 abbrev pub blocks_of : Rules → CharClasses → ℕ → ((call : Call) → Meaning (Answer call)) → Block → Meaning (Unit {0})
 blocks_of r k levels deeper b = run (blockless k levels deeper) (peek >> r.block_production b)
 
+-- where a parser runs by these rules, by what is read one level deeper
 abbrev pub level_by : Rules → CharClasses → ℕ → ((call : Call) → Meaning (Answer call)) → Level
 level_by r k levels deeper = record { classes = k; levels = levels; deeper = deeper; has = r.has; blocks = blocks_of r k levels deeper; guess = no_guess }
 
--- what a call gives below so many levels; at the limit none is made
+-- what a call gives where so many levels are left; at the limit nothing is read, and the limit is
+-- met
 unfoldable pub meaning_of : Rules → CharClasses → ℕ → (call : Call) → Meaning (Answer call)
 meaning_of r k zero call = λ z s. record (plain (no_answer call) s) { met = true }
 meaning_of r k (suc levels) call = run (level_by r k levels (meaning_of r k levels)) (r.production call)
 
--- where so many levels are left
+-- where a parser runs by these rules, with so many levels left
 abbrev pub level_of : Rules → CharClasses → ℕ → Level
 level_of r k levels = level_by r k levels (meaning_of r k levels)

@@ -30,14 +30,15 @@ use Rattle.typst_language.specs.Syntax.Begin.{at_token, at_trivia}
 use Rattle.typst_language.specs.Syntax.Op.{hand, so, further, column, erred, takes, takes_so, flushes, complains, advises, marks, is_deepest}
 use Rattle.typst_language.specs.Syntax.Parser.{gives, does, next, pick, repeat, wraps, grows, nests, scoped, either, calls, block}
 
+-- what a parser gives
 pub record Outcome (A : Type 0) : Type 0 where
   pub value : A
   -- how many characters were taken
   pub taken : ℕ
   pub state : Point
-  -- how many of the nodes that stood were taken back
+  -- how many of the nodes before were taken back
   pub back : ℕ
-  -- hints for the last of those that are left, where it is an error
+  -- hints for the last of those that are left, if it is an error
   pub hints : List (List ℕ)
   -- the nodes that were given
   pub nodes : List Tree
@@ -46,6 +47,7 @@ pub record Outcome (A : Type 0) : Type 0 where
   -- whether the limit of depth was met, also in what was given up
   pub met : Bool
 
+-- what a parser gives at each place, from each point
 abbrev pub Meaning : Type 0 → Type 0
 Meaning A = Place → Point → Outcome A
 
@@ -57,20 +59,21 @@ plain a s = record { value = a; taken = 0; state = s; back = 0; hints = []; node
 abbrev pub answered : {A B : Type 0} → B → Outcome A → Outcome B
 answered b o = record { value = b; taken = o.taken; state = o.state; back = o.back; hints = o.hints; nodes = o.nodes; asks = o.asks; met = o.met }
 
--- all but the last n
+-- a list without its last n elements
 unfoldable pub less : {A : Type 0} → ℕ → List A → List A
 less n xs = take (length xs - n) xs
 
--- the nodes that stand behind an outcome
+-- the nodes after an outcome, by those before it
 abbrev pub standing : {A : Type 0} → Outcome A → List Tree → List Tree
 standing o ts = hinted o.hints (less o.back ts) ++ o.nodes
 
--- hints of one outcome and of the next for what stood before both: where the next leaves a node of
--- the first they are the first's, and where it takes back more than these they are its own
+-- the hints of two outcomes for the nodes before both: if the second leaves a node of the first
+-- they are the first's, and if it takes back more than these they are its own
 abbrev pub hints_before : {A B : Type 0} → Outcome B → Outcome A → List (List ℕ)
 hints_before o p = if nat_lt p.back (length o.nodes) then o.hints else (if nat_lt (length o.nodes) p.back then p.hints else o.hints ++ p.hints)
 
--- one after the other: the second may take back nodes of the first, and then of those that stood before both
+-- two outcomes, one after the other: the second may take back nodes of the first, and then of those
+-- before both
 abbrev pub joined : {A B : Type 0} → Outcome B → Outcome A → Outcome A
 joined o p = record {
   value = p.value;
@@ -83,53 +86,64 @@ joined o p = record {
   met = o.met || p.met;
 }
 
+-- an outcome, and then what its answer leads to
 abbrev pub followed : {A B : Type 0} → Outcome B → (B → Meaning A) → Place → Outcome A
 followed o f z = joined o (f o.value (moved o.taken z) o.state)
 
+-- the outcome of a last turn, without what it says of another one
 abbrev pub as_last : {A : Type 0} → Outcome (Bool × A) → Outcome A
 as_last o = answered o.value.1 o
 
--- no more characters are taken from here
+-- no more characters than so many can be taken from here
 abbrev pub bound : Place → Point → ℕ
 bound z s = max (gap_of s.known) (length z.ahead)
 
--- the number bounds the turns: more than there are characters to take are never made
+-- turn after turn, while the last one says so and has taken something; the number bounds the turns,
+-- and more than there are characters to take are never made
 abbrev pub turns : {A : Type 0} → (A → Meaning (Bool × A)) → ℕ → A → Meaning A
 turns m zero x z s = plain x s
 turns m (suc n) x z s =
     let o = m x z s in
     if o.value.0 && nat_lt 0 o.taken then followed o (λ v. turns m n v.1) z else as_last o
 
+-- turn after turn, as many as there may be
 unfoldable pub repeated : {A : Type 0} → (A → Meaning (Bool × A)) → A → Meaning A
 repeated m x z s = turns m (suc (bound z s)) x z s
 
--- how many nodes of trivia stand before what begins here
+-- how many nodes of pending trivia are before a node that begins so
 abbrev pub before : Begin → Point → ℕ
 before at_token s = length (pending s.known)
 before at_trivia s = 0
 
--- the first n nodes stay before what the others become; a node that was put before them, or taken back, shifts this by one
+-- the nodes of an outcome without the first n, which stay before what the others become; a node
+-- that was put before them, or taken back, shifts this by one
 abbrev pub inside : {A : Type 0} → ℕ → Outcome A → List Tree
 inside n o = drop (n + o.back) o.nodes
 
+-- an outcome whose nodes after the first n go into a shape
 abbrev pub reshaped : {A : Type 0} → Shape → ℕ → Outcome A → Outcome A
 reshaped shape n o = record o {
   state = after_shape shape (inside n o) o.state;
   nodes = take (n + o.back) o.nodes ++ shaped shape (inside n o);
 }
 
+-- an outcome whose nodes after the first n go into a shape, which its answer says; it answers also
+-- what is seen of these nodes
 abbrev pub wrapped : {A : Type 0} → (A → Shape) → ℕ → Outcome A → Outcome (A × List Seen)
 wrapped f n o = answered (o.value, map seen (inside n o)) (reshaped (f o.value) n o)
 
--- a turn behind what was given so far: the shape that all goes into, if it says one
+-- an outcome with a turn: if the turn says a shape, all nodes after the first n go into it
 abbrev pub grown : {A : Type 0} → ℕ → Option Shape → Outcome A → Outcome A
 grown n None o = o
 grown n (Some shape) o = reshaped shape n o
 
+-- there is a value
 abbrev pub is_more : {A : Type 0} → Option A → Bool
 is_more None = false
 is_more (Some a) = true
 
+-- turn after turn that grows what was given, while the last one says a shape and has taken
+-- something, at most so many
 abbrev pub growths : {A : Type 0} → (A → Meaning (Option Shape × A)) → ℕ → ℕ → Outcome A → Place → Outcome A
 growths m n zero o z = o
 growths m n (suc k) o z =
@@ -137,10 +151,11 @@ growths m n (suc k) o z =
     let next = grown n p.value.0 (answered p.value.1 (joined o p)) in
     if is_more p.value.0 && nat_lt 0 p.taken then growths m n k next z else next
 
+-- what the first gives, grown turn after turn
 unfoldable pub growing : {A : Type 0} → (A → Meaning (Option Shape × A)) → ℕ → Meaning A → Meaning A
 growing m n first z s = growths m n (suc (bound z s)) (first z s) z
 
--- a turn with all that comes behind it becomes one node
+-- turn after turn, at most so many: each turn becomes one node with all that comes after it
 abbrev pub nestings : {A : Type 0} → (A → Shape) → Begin → (A → Meaning (Bool × A)) → ℕ → A → Meaning A
 nestings f begin m zero x z s = plain x s
 nestings f begin m (suc n) x z s =
@@ -148,10 +163,11 @@ nestings f begin m (suc n) x z s =
     let p = if o.value.0 && nat_lt 0 o.taken then followed o (λ v. nestings f begin m n v.1) z else as_last o in
     reshaped (f p.value) (before begin s) p
 
+-- turn after turn that nests, as many as there may be
 unfoldable pub nesting : {A : Type 0} → (A → Shape) → Begin → (A → Meaning (Bool × A)) → A → Meaning A
 nesting f begin m x z s = nestings f begin m (suc (bound z s)) x z s
 
--- what a block gives, noted at both ends, and with nothing known of the trivia behind it
+-- what a block gives, noted at both ends, and with nothing known of the trivia after it
 abbrev pub closed : Block → Point → Outcome (Unit {0}) → Outcome (Unit {0})
 closed b s o = record o { state = forgot o.state; asks = marked 0 0 0 (mark.Opens b) (state_of s) ∷ (o.asks ++ marked o.taken 0 0 mark.Closes (state_of o.state) ∷ []) }
 
@@ -159,25 +175,29 @@ closed b s o = record o { state = forgot o.state; asks = marked 0 0 0 (mark.Open
 abbrev pub bounded : Block → Meaning (Unit {0}) → Meaning (Unit {0})
 bounded b m z s = closed b s (m z (forgot s))
 
--- what is read one level deeper
+-- what was read one level deeper, with its asks counted from outside
 abbrev pub deeper_by_one : {A : Type 0} → Outcome A → Outcome A
 deeper_by_one o = record o { asks = sunk o.asks }
 
--- what was given up leaves its looks, and no unit of either reading is noted
+-- the outcome of a second reading, after the first was given up: that leaves its looks, and no unit
+-- of either reading is noted
 abbrev pub given_up : {A : Type 0} → Outcome A → Outcome A → Outcome A
 given_up o p = record p { asks = only_looks (o.asks ++ p.asks); met = o.met || p.met }
 
+-- the first outcome, or if its answer is wrong, the second, which takes its place
 abbrev pub chosen : {A : Type 0} → (A → Bool) → Outcome A → Outcome A → Outcome A
 chosen is_wrong o p = if is_wrong o.value then given_up o p else o
 
 -- ---- readings
 
+-- whether two modes are the same
 abbrev pub same_mode : SyntaxMode → SyntaxMode → Bool
 same_mode mode.Markup mode.Markup = true
 same_mode mode.Math mode.Math = true
 same_mode mode.Code mode.Code = true
 same_mode _ _ = false
 
+-- whether two newline rules are the same
 abbrev pub same_rule : AtNewline → AtNewline → Bool
 same_rule Continue Continue = true
 same_rule Stop Stop = true
@@ -190,31 +210,34 @@ same_rule _ _ = false
 abbrev pub start_point : Reading → Point
 start_point r = record { reading = r; held = r; empties = 0; is_after_error = false; known = None }
 
--- the tokens to come are read so, and the token at hand stays
+-- the tokens to come are read so, and the current token stays
 abbrev pub entered : Reading → Point → Point
 entered reading s = record s { reading = reading }
 
--- behind another mode trivia and token are read again in the outer one; behind another rule the token is judged again by the outer one
+-- the tokens to come are read in the outer way again. After another mode, trivia and token are read
+-- again; after another rule, the token is judged again
 abbrev pub left : Reading → Point → Point
 left outer s =
     if same_mode s.reading.mode outer.mode
     then record s { reading = outer; held = record s.held { at_newline = if same_rule s.reading.at_newline outer.at_newline then s.held.at_newline else outer.at_newline } }
     else record s { reading = outer; held = outer; known = None }
 
+-- an outcome after which the tokens to come are read in the outer way again
 abbrev pub left_to : {A : Type 0} → Reading → Outcome A → Outcome A
 left_to outer o = record o { state = left outer o.state }
 
 -- ---- the meaning
 
--- what a first reading of parens finds behind them, and what it asks for that
+-- what a first reading of parens finds after them, and what it asks for that
 pub record Guess : Type 0 where
   pub behind : Behind
   pub asks : List Ask
 
--- a first reading by how many levels are left, where it goes on behind its paren, and how it is read outside
+-- a first reading by how many levels are left, where it goes on after its paren, and how it is read outside
 abbrev pub Guessing : Type 0
 Guessing = ℕ → Place → Reading → Guess
 
+-- nothing is known of first readings
 abbrev pub no_guess : Guessing
 no_guess levels z outer = record { behind = Nothing; asks = [] }
 
@@ -228,28 +251,30 @@ pub record Level : Type 0 where
   -- which blocks may be read, and what they give
   pub has : Block → Bool
   pub blocks : Block → Meaning (Unit {0})
-  -- what is told of first readings, on which nothing depends that is read
+  -- what is known of first readings; nothing that is read depends on it
   pub guess : Guessing
 
--- the same, where this is told of first readings
+-- a level where this is known of first readings
 abbrev pub guessing : Guessing → Level → Level
 guessing g l = record l { guess = g }
 
--- where so many levels are left, and no block may be read but within what is read deeper
+-- where so many levels are left, and no block may be read except within what is read deeper
 abbrev pub blockless : CharClasses → ℕ → ((c : Call) → Meaning (Answer c)) → Level
 blockless k levels deeper = record { classes = k; levels = levels; deeper = deeper; has = λ b. false; blocks = λ b z s. plain tt s; guess = no_guess }
 
--- the same, where no block may be read
+-- a level where no block may be read
 abbrev pub apart : Level → Level
 apart l = guessing l.guess (blockless l.classes l.levels l.deeper)
 
+-- the current token at a place and a point
 abbrev pub hand_of : Level → Place → Point → Hand
 hand_of l z s = hand_at l.classes s.held s.known z
 
+-- the looks for the current token at a place and a point
 abbrev pub hand_asks_of : Level → Place → Point → List Ask
 hand_asks_of l z s = hand_asks l.classes s.held s.known z
 
--- the trivia at hand were asked for
+-- the point where the pending trivia were asked for
 abbrev pub asked : Hand → Point → Point
 asked h s = record s { known = known_by h }
 
@@ -257,20 +282,21 @@ asked h s = record s { known = known_by h }
 abbrev pub node_by : CharClasses → Making → Token → ℕ → Place → Tree
 node_by k making t len z = made making (token_node k t (text_ahead len z))
 
--- what a token at hand becomes
+-- what the current token becomes
 abbrev pub taken_node : CharClasses → Making → Hand → Place → Tree
 taken_node k making h z = node_by k making h.token h.len (moved h.gap z)
 
--- the token to come is at hand, and nothing is known of the trivia before it
+-- the point after a token was taken: the next one is read as the reading says, and nothing is known
+-- of the trivia before it
 abbrev pub renewed : Point → Point
 renewed s = record s { held = s.reading; known = None }
 
--- a flush of some trivia: their newlines stay known
+-- the point after some pending trivia became nodes: their newlines stay known
 abbrev pub flushed_state : Hand → Point → Point
 flushed_state h s =
     record (elim h.trivia as (λ _. Point) [ [] ↦ s | t ∷ ts ↦ after_node false [] s ]) { known = Some (record { nodes = []; gap = 0; newlines = h.newlines }) }
 
--- the trivia at hand are passed, and a token of so many characters that became this node
+-- the pending trivia are passed, and a token of so many characters that became this node
 abbrev pub gave : Hand → Bool → ℕ → Tree → List Ask → Point → Outcome (Unit {0})
 gave h trims len node asks s = record (plain tt (renewed (after_node (is_error node.head.kind) (text_of node) s))) {
   taken = h.gap + len;
@@ -280,7 +306,7 @@ gave h trims len node asks s = record (plain tt (renewed (after_node (is_error n
 }
 
 module _ (l : Level) where
-  -- the token at hand, read from its start in another way
+  -- the current token, read from its start in another way
   abbrev pub reader_so : Way → Reader Memory Token
   reader_so way = token_so l.classes way
 

@@ -6,7 +6,7 @@ use Rattle.typst_language.specs.declared.calls.Note.{Note}
 use Rattle.typst_language.specs.declared.reading.State.{State}
 use Rattle.typst_language.specs.Log.{Log, least_behind, reach_behind, with_hull, with_more}
 
--- something was noted, between two byte offsets of which the first is that of the trivia before it
+-- the log, where something was noted too: at `before` its trivia begin, and at `start` its token
 abbrev pub with_noted : Mark → ℕ → ℕ → ℕ → State → Log → Log
 with_noted mark before start levels s h = record {
   reach = reach_behind h.notes h.reach;
@@ -18,17 +18,17 @@ with_noted mark before start levels s h = record {
 abbrev pub hull_in : Log → Hull
 hull_in h = record { reach = h.reach; least = h.least }
 
--- what was noted, nothing where no notes are kept
+-- what was noted, or no notes if none are kept
 abbrev pub listed : Option (List Note) → List Note
 listed None = []
 listed (Some ns) = ns
 
--- where the looks before these notes end, and those since
+-- where the looks before these notes end, and those since the last of them
 abbrev pub reach_of : ℕ → List Note → ℕ
 reach_of reach [] = reach
 reach_of reach (note ∷ notes) = reach_of (max reach note.reach) notes
 
--- and where they begin
+-- where the looks before these notes begin, and those since the last of them
 abbrev pub least_of : ℕ → List Note → ℕ
 least_of least [] = least
 least_of least (note ∷ notes) = least_of (min least note.least) notes
@@ -41,20 +41,21 @@ unnoted count h = record {
   notes = option_map (take count) h.notes;
 }
 
--- all looks since the last note are set aside but these
+-- all looks since the last note are set aside, except these
 abbrev pub looked_alone : Hull → Log → Log
 looked_alone u h = record h { reach = u.reach; least = u.least }
 
--- a look that was made before a note counts at it
+-- a note, with a look that was made before it
 abbrev pub note_behind : Hull → Note → Note
 note_behind u note = record note { reach = max note.reach u.reach; least = min note.least u.least }
 
--- the same of the note of a number
+-- notes, where the one of a number has a look that was made before it
 abbrev pub notes_behind : ℕ → Hull → List Note → List Note
 notes_behind n u [] = []
 notes_behind zero u (note ∷ notes) = note_behind u note ∷ notes
 notes_behind (suc n) u (note ∷ notes) = note ∷ notes_behind n u notes
 
--- looks that were made before the note of a number count at it, and where there is none since the last note
+-- looks that were made before the note of a number count at it, or if there is no such note, as
+-- looks since the last one
 abbrev pub looked_before : ℕ → Hull → Log → Log
 looked_before n u h = if nat_lt n (length (listed h.notes)) then record h { notes = option_map (notes_behind n u) h.notes } else with_hull u h

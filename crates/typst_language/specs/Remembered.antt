@@ -10,7 +10,7 @@ use Rattle.typst_language.specs.Bytes.{LiesIn, bytes_left}
 use Rattle.typst_language.specs.Meaning.{Guess, Guessing}
 use Rattle.typst_language.specs.declared.memo.Guessed.{Guessed}
 
--- where the text of a place ends
+-- the place at the end of a place's text
 abbrev pub end_of : Place → Place
 end_of z = moved (length z.ahead) z
 
@@ -20,7 +20,9 @@ LooksIn u z [] = Unit {0}
 LooksIn u z (looked at look ∷ asks) = LiesIn (hull_of look (moved at z)) u × LooksIn u z asks
 LooksIn u z (marked at gap fewer mark s ∷ asks) = LooksIn u z asks
 
--- this comes behind a first reading that goes on at a place; what was looked at for its paren and all looks for it make up a stretch
+-- a first reading that goes on at z finds `b` after its parens, and `hull` is what was looked at
+-- for it: all its looks lie in it, and it lies in each stretch that has these and what was looked
+-- at for the paren
 pub record Comes (g : Guess) (paren hull : Hull) (z : Place) (b : Behind) : Type 0 where
   pub behind : b ≡ g.behind
   pub looks : LooksIn hull z g.asks
@@ -30,6 +32,7 @@ pub record Comes (g : Guess) (paren hull : Hull) (z : Place) (b : Behind) : Type
 abbrev pub IsSo : Guessing → Place → Guessed → Type 0
 IsSo g end e = (z : Place) → end_of z ≡ end → bytes_left z ≡ e.left → Comes (g e.levels z e.outer) e.paren e.hull z e.behind
 
+-- all that is remembered is so, at each place of a text that has so many bytes left
 abbrev pub AllSo : Guessing → Place → List Guessed → Type 0
 AllSo g end [] = Unit {0}
 AllSo g end (e ∷ es) = IsSo g end e × AllSo g end es

@@ -5,6 +5,7 @@ use Rattle.typst_language.specs.declared.checkpoint.Checkpoint.{Checkpoint}
 use Rattle.typst_language.specs.Checkpoint.{Saved}
 use Rattle.typst_language.specs.AheadCursor.{hand_of_ahead}
 
+-- what a checkpoint of the code keeps
 abbrev pub saved_by : Checkpoint → Saved
 saved_by c = record {
   nodes = c.nodes;

@@ -1,4 +1,5 @@
--- The steps that every production is made of. Each begins and ends with a token at hand that was looked at, unless it says otherwise.
+-- The steps that every production is made of. Each begins and ends with a current token that was
+-- looked at, unless it says otherwise.
 use Rattle.std.specs.Prelude.{ℕ, Bool, true, false, List, ◌++◌, Option, codes}
 use Rattle.typst_kinds.specs.declared.kind.SyntaxKind.{SyntaxKind}
 use Rattle.typst_kinds.specs.Kinds.{is_error}
@@ -14,49 +15,50 @@ use Rattle.typst_language.specs.Syntax.Begin.{at_token, at_trivia}
 use Rattle.typst_language.specs.Syntax.Op.{hand, erred, takes, takes_so, flushes, complains, marks}
 use Rattle.typst_language.specs.Syntax.Parser.{gives, does, pick, wraps, grows, nests, scoped, block}
 
--- the token at hand
+-- asks for the current token
 abbrev pub peek : Parser AtHand
 peek = does hand
 
--- takes the token so, and looks at the one behind it
+-- takes the current token, made into something, and looks at the one after it
 unfoldable pub eat_making : Bool → Making → Parser (Unit {0})
 eat_making trims making = do
   first ← does (takes trims making)
   ahead ← peek
   gives tt
 
--- takes the token
+-- takes the current token
 unfoldable pub eat : Parser (Unit {0})
 eat = eat_making false itself
 
--- takes the token as another kind
+-- takes the current token as another kind
 unfoldable pub convert_and_eat : SyntaxKind → Parser (Unit {0})
 convert_and_eat kind = eat_making false (of_kind kind)
 
--- takes the token that is found in another way, and looks at the one behind it
+-- takes the token that is found in another way, and looks at the one after it
 unfoldable pub eat_so : Way → Making → Parser (Unit {0})
 eat_so way making = do
   first ← does (takes_so way making)
   ahead ← peek
   gives tt
 
--- takes the token if the test holds, and answers whether it did
+-- takes the current token if the test holds, and answers whether it did
 unfoldable pub eat_if : (SyntaxKind → Bool) → Parser Bool
 eat_if is = do
   ahead ← peek
   pick (is ahead.kind) (eat >> gives true) (gives false)
 
--- takes the token if the test holds, and answers whether it did; nothing is asked behind it
+-- takes the current token if the test holds, and answers whether it did; nothing is asked after it
 unfoldable pub close_if : (SyntaxKind → Bool) → Parser Bool
 close_if is = do
   ahead ← peek
   pick (is ahead.kind) (does (takes false itself) >> gives true) (gives false)
 
--- takes the token as an error, with hints, in place of the empty errors before it
+-- takes the current token as an error, with hints, in place of the empty errors before it
 unfoldable pub unexpected : List (List ℕ) → Parser (Unit {0})
 unexpected hints = eat_making true (surprise hints)
 
--- an erroneous token is taken in place of the empty errors before it; else there is an empty error, unless one stands there
+-- says that something was expected: an erroneous token is taken in place of the empty errors before
+-- it; else an empty error is given, unless the node before is an error
 unfoldable pub expected : List ℕ → Parser (Unit {0})
 expected thing = do
   ahead ← peek
@@ -64,27 +66,28 @@ expected thing = do
     is_after_error ← does erred
     pick is_after_error (gives tt) (does (complains (codes "expected " ++ thing))))
 
--- takes the token if the test holds, or says that it was expected
+-- takes the current token if the test holds, or says that something was expected
 unfoldable pub expect : (SyntaxKind → Bool) → List ℕ → Parser (Unit {0})
 expect is thing = do
   ahead ← peek
   pick (is ahead.kind) eat (expected thing)
 
--- the trivia at hand become nodes
+-- the pending trivia become nodes
 unfoldable pub flush_trivia : Parser (Unit {0})
 flush_trivia = do
   first ← does flushes
   ahead ← peek
   gives tt
 
--- what is read so, and the token at hand as it is read behind it
+-- what the parser gives while the tokens are read in another way; then the current token is looked
+-- at as it is read outside
 unfoldable pub within : {A : Type 0} → (Reading → Reading) → Parser A → Parser A
 within f p = do
   a ← scoped f p
   ahead ← peek
   gives a
 
--- what the parser gives becomes one node, which begins at the token at hand
+-- what the parser gives becomes one node, which begins at the current token
 unfoldable pub node : {A : Type 0} → (A → Shape) → Parser A → Parser A
 node shape p = do
   ahead ← peek
@@ -97,19 +100,19 @@ node_with_trivia kind p = do
   a ← wraps (λ _. becomes kind) at_trivia (p >> flush_trivia)
   gives a.1
 
--- what the parser gives, with what comes behind it turn by turn, which takes what stands to its left into its node
+-- what the parser gives, grown turn by turn: each turn takes what is to its left into its node
 unfoldable pub grow : {A : Type 0} → Parser A → (A → Parser (Option Shape × A)) → Parser A
 grow p turn = do
   ahead ← peek
   grows at_token p turn
 
--- turn by turn; what a turn gives becomes one node with all that comes behind it
+-- what is given turn by turn, nested: each turn becomes one node with all that comes after it
 unfoldable pub nest : {A : Type 0} → (A → Shape) → (A → Parser (Bool × A)) → A → Parser A
 nest shape turn x = do
   ahead ← peek
   nests shape at_token turn x
 
--- notes what begins or ends at the token at hand
+-- notes what begins or ends at the current token
 unfoldable pub note : Mark → Parser (Unit {0})
 note mark = do
   ahead ← peek
@@ -117,7 +120,7 @@ note mark = do
   again ← peek
   gives tt
 
--- gives the pending trivia, reads a block, and looks at the token behind it
+-- gives the pending trivia, reads a block, and looks at the token after it
 unfoldable pub read_block : Block → Parser (Unit {0})
 read_block b = do
   read ← block b

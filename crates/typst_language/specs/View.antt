@@ -31,6 +31,7 @@ use Rattle.typst_language.specs.Noted.{hull_in, looked_alone}
 use Rattle.typst_language.specs.declared.memo.Guessed.{Guessed}
 use Rattle.typst_language.specs.Remembered.{Comes, Knows, end_of}
 
+-- what a parser of the code shows
 pub record View : Type 0 where
   -- the nodes before the pending trivia
   pub nodes : List Tree
@@ -39,7 +40,7 @@ pub record View : Type 0 where
   pub state : Point
   -- the token that was read ahead
   pub hand : Hand
-  -- what was looked at for it, and with its column where the newline rule asks for it
+  -- what was looked at for it, and with its column if the newline rule asks for it
   pub own : Hull
   pub here : Hull
   -- what was looked at and noted up to here
@@ -55,6 +56,7 @@ pub record Runs {A : Type 0} (levels : ℕ) (o : Outcome A) (a : A) (old new : V
   pub nodes : new.nodes ≡ standing o old.nodes
   pub log : new.log ≡ logged levels old.place old.log o.asks
 
+-- what a parser gives at a view
 abbrev pub at : {A : Type 0} → Level → Parser A → View → Outcome A
 at l p v = run l p v.place v.state
 
@@ -73,43 +75,45 @@ pub record Fits (l : Level) (v : View) : Type 0 where
   pub log : with_hull v.here v.log ≡ v.log
   pub knows : Knows l.guess (end_of v.place) v.memo
 
--- no token was asked for
+-- no token was asked for, and what is remembered is so
 pub record Bare (l : Level) (v : View) : Type 0 where
   pub known : v.state.known ≡ None
   pub knows : Knows l.guess (end_of v.place) v.memo
 
--- whatever was asked for
+-- a token was asked for or not, and what is remembered is so
 pub record Loose (l : Level) (v : View) : Type 0 where
   pub knows : Knows l.guess (end_of v.place) v.memo
 
--- the code did what the parser does from where one thing holds, and then another thing holds
+-- where P holds of the old view, the code did what the parser does, and Q holds of the new one
 pub record Goes {A : Type 0} (l : Level) (P Q : View → Type 0) (p : Parser A) (a : A) (old new : View) : Type 0 where
   pub ran : P old → Ran l p a old new
   pub ready : P old → Q new
 
--- with the token at hand before and behind it
+-- the code did what the parser does, with the current token asked for before and after it
 abbrev pub Does : {A : Type 0} → Level → Parser A → A → View → View → Type 0
 Does l p a old new = Goes l (Fits l) (Fits l) p a old new
 
--- the same of what is read a level deeper
+-- the code did what a call does, one level deeper, with the current token asked for before and
+-- after it
 pub record Makes (l : Level) (call : Call) (a : Answer call) (old new : View) : Type 0 where
   pub ran : Fits l old → Runs (l.levels - 1) (l.deeper call old.place old.state) a old new
   pub ready : Fits l old → Fits l new
 
--- unless memory is refused
+-- `Goes`, unless memory is refused
 abbrev pub GoesIf : {A : Type 0} → Level → (View → Type 0) → (View → Type 0) → Parser A → View → Result A AllocError → View → Type 0
 GoesIf l P Q p old (Ok a) new = Goes l P Q p a old new
 GoesIf l P Q p old (Err e) new = Unit {0}
 
+-- `Does`, unless memory is refused
 abbrev pub Reads : {A : Type 0} → Level → Parser A → View → Result A AllocError → View → Type 0
 Reads l p old r new = GoesIf l (Fits l) (Fits l) p old r new
 
--- unless memory is refused
+-- `Makes`, unless memory is refused
 abbrev pub Calls : Level → (call : Call) → View → Result (Answer call) AllocError → View → Type 0
 Calls l call old (Ok a) new = Makes l call a old new
 Calls l call old (Err e) new = Unit {0}
 
--- the token at hand was asked for
+-- the current token was asked for
 pub record Looked (l : Level) (v w : View) : Type 0 where
   pub nodes : w.nodes ≡ v.nodes
   pub place : w.place ≡ v.place
@@ -120,15 +124,15 @@ pub record Looked (l : Level) (v w : View) : Type 0 where
   pub log : w.log ≡ logged l.levels v.place v.log (hand_asks_of l v.place v.state)
   pub memo : w.memo ≡ v.memo
 
--- what was asked for is forgotten
+-- the view where what was asked for is forgotten
 abbrev pub unasked : View → View
 unasked v = record v { state = forgot v.state }
 
--- the reading is the outer one again, and the token at hand was asked for
+-- the reading is the outer one again, and the current token was asked for
 abbrev pub Left : Level → Reading → View → View → Type 0
 Left l outer v w = Fits l v → Looked l (record v { state = left outer v.state }) w
 
--- the trivia at hand became nodes
+-- the pending trivia became nodes
 pub record Flushed (v w : View) : Type 0 where
   pub nodes : w.nodes ≡ v.nodes ++ v.hand.trivia
   pub place : w.place ≡ moved v.hand.gap v.place
@@ -150,16 +154,16 @@ pub record Rewrapped (from : ℕ) (shape : Shape) (mid new : View) : Type 0 wher
   pub log : new.log ≡ mid.log
   pub memo : new.memo ≡ mid.memo
 
--- the same view with the nodes from a number on in a shape
+-- the view with the nodes from a number on in a shape
 abbrev pub rewrapped : ℕ → Shape → View → View
 rewrapped from shape v = record v { nodes = take from v.nodes ++ shaped shape (drop from v.nodes); state = after_shape shape (drop from v.nodes) v.state }
 
--- the same from each of these numbers on, beginning with the last
+-- the view with the nodes from each of these numbers on in a shape, the last number first
 abbrev pub rewrapped_each : List ℕ → Shape → View → View
 rewrapped_each [] shape v = v
 rewrapped_each (from ∷ froms) shape v = rewrapped from shape (rewrapped_each froms shape v)
 
--- this was noted before the pending trivia
+-- the view where this was noted before the pending trivia
 abbrev pub noted_here : ℕ → Mark → View → View
 noted_here levels mark v = record v { log = with_note 0 levels mark (state_of v.state) v.place v.log }
 
@@ -169,58 +173,63 @@ pub record Opened (l : Level) (b : Block) (v w : View) : Type 0 where
   pub flushed : Fits l v → Flushed v mid
   pub looked : Looked l (noted_here l.levels (Opens b) (unasked mid)) w
 
--- the end of a block was noted, and the token behind it was asked for
+-- the end of a block was noted, and the token after it was asked for
 abbrev pub Closed : Level → View → View → Type 0
 Closed l v w = Looked l (noted_here l.levels Closes (unasked v)) w
 
--- the block may be read, by this parser, which begins with the token at hand
+-- the block may be read, and gives what this parser does after it asked for the current token
 pub record ReadsBlock (l : Level) (b : Block) (p : Parser (Unit {0})) : Type 0 where
   pub has : l.has b ≡ true
   pub same : (z : Place) (s : Point) → l.blocks b z s ≡ run (apart l) (peek >> p) z s
 
 -- ---- first readings
 
--- where a first reading goes on behind its paren, which is the token at hand
+-- where a first reading goes on after its paren, which is the current token
 abbrev pub behind_paren : View → Place
 behind_paren v = moved (v.hand.gap + v.hand.len) v.place
 
--- what a first reading of the parens at hand finds
+-- what a first reading of the parens finds that begin with the current token
 abbrev pub guess_at : Level → View → Guess
 guess_at l v = l.guess l.levels (behind_paren v) v.state.reading
 
--- this comes behind the parens at hand, and a stretch is what a first reading of them would look at beyond what was looked at
+-- this is what a first reading finds after the parens that begin with the current token, and with
+-- `hull` all was looked at that it would look at
 pub record Found (l : Level) (v : View) (b : Behind) (hull : Hull) : Type 0 where
   pub leaf : is_leaf v.hand.token ≡ true
   pub behind : b ≡ (guess_at l v).behind
   pub looks : with_hull hull v.log ≡ logged l.levels (behind_paren v) v.log (only_looks (guess_at l v).asks)
 
--- what is remembered is of as many levels and the same reading, and all that was looked at for its paren was looked at
+-- what is remembered is of as many levels and of this reading, and all that was looked at for its
+-- paren was looked at
 pub record IsThis (n : ℕ) (v : View) (e : Guessed) : Type 0 where
   pub levels : e.levels ≡ n
   pub outer : e.outer ≡ v.state.reading
   pub paren : LiesIn e.paren (hull_in v.log)
 
--- nothing changed but what is remembered, and where this comes behind the parens at hand, and no more was looked at than for them, all that is remembered stays so
+-- nothing changed except what is remembered; and all of that stays so, if `b` comes after the
+-- parens that begin with the current token, and only what was looked at for them counts as looked
+-- at
 pub record Remembers (levels : ℕ) (b : Behind) (v w : View) : Type 0 where
   pub same : w ≡ record v { memo = w.memo }
   pub knows : (l : Level) → l.levels ≡ levels → (is_leaf v.hand.token ≡ true → Comes (guess_at l v) v.here (hull_in v.log) (behind_paren v) b) → Knows l.guess (end_of v.place) v.memo → Knows l.guess (end_of v.place) w.memo
 
--- a first reading begins: all looks are set aside but those for the token at hand
+-- the view where a first reading begins: all looks are set aside, except those for the current
+-- token
 abbrev pub begun : View → View
 begun v = record v { log = looked_alone v.here v.log }
 
--- this was looked at too
+-- the view where this was looked at too
 abbrev pub looked_too : Hull → View → View
 looked_too u v = record v { log = with_hull u v.log }
 
--- nothing changed but what is remembered, and what is no more told stays so
+-- nothing changed except what is remembered, and all of that stays so
 pub record Dropped (v w : View) : Type 0 where
   pub same : w ≡ record v { memo = w.memo }
   pub knows : (l : Level) → Knows l.guess (end_of v.place) v.memo → Knows l.guess (end_of v.place) w.memo
 
 -- ---- a function that makes calls
 
--- the calls that are made: by which classes, how deep they may nest, and what each may give
+-- the calls that code makes: by which classes, how deep they may nest, and what each may give
 pub record Frame : Type 1 where
   pub classes : CharClasses
   pub levels : ℕ
@@ -233,43 +242,46 @@ pub record Fills (l : Level) (f : Frame) : Type 0 where
   pub levels : l.levels ≡ f.levels
   pub reads : (old new : View) (call : Call) (r : Result (Answer call) AllocError) → f.gives call old r new → Calls l call old r new
 
--- what the code reads wherever such calls are made
+-- what the clause of a production says: its code does what the parser does, at each level that its
+-- calls fill
 abbrev pub Means : {A : Type 0} → Frame → Parser A → View → Result A AllocError → View → Type 0
 Means f q old r new = (l : Level) → Fills l f → Reads l q old r new
 
--- the same where the code answers in its own terms, of which this is the answer
+-- `Reads`, where the code answers in its own terms, and `told` says what its answer means
 abbrev pub ReadsBy : {A B : Type 0} → Level → (B → A) → Parser A → View → Result B AllocError → View → Type 0
 ReadsBy l told p old (Ok b) new = Does l p (told b) old new
 ReadsBy l told p old (Err e) new = Unit {0}
 
+-- `Means`, where the code answers in its own terms, and `told` says what its answer means
 abbrev pub MeansBy : {A B : Type 0} → Frame → (B → A) → Parser A → View → Result B AllocError → View → Type 0
 MeansBy f told q old r new = (l : Level) → Fills l f → ReadsBy l told q old r new
 
--- a turn of what grows, of which the code says the kind of the node that all goes into
+-- the answer of a turn that grows, where the code says the kind of the node that all goes into
 abbrev pub growth : {A : Type 0} → Option SyntaxKind × A → Option Shape × A
 growth x = (option_map becomes x.0, x.1)
 
--- the same where it says no more
+-- the answer of a turn that grows and says no more than that kind
 abbrev pub bare_growth : Option SyntaxKind → Option Shape × Unit {0}
 bare_growth kind = (option_map becomes kind, tt)
 
--- the same where no token was asked for before it
+-- `Means`, where no token was asked for before it
 abbrev pub MeansFirst : {A : Type 0} → Frame → Parser A → View → Result A AllocError → View → Type 0
 MeansFirst f q old r new = (l : Level) → Fills l f → GoesIf l (Bare l) (Fits l) q old r new
 
--- the same where no token is asked for behind it
+-- `Means`, where no token is asked for after it
 abbrev pub MeansLast : {A : Type 0} → Frame → Parser A → View → Result A AllocError → View → Type 0
 MeansLast f q old r new = (l : Level) → Fills l f → GoesIf l (Fits l) (Loose l) q old r new
 
--- what a function does that makes calls, with a parser, so many levels and two things that it is told
+-- what a function does that makes calls: by the parser, how many levels are left, and two more
+-- arguments
 abbrev pub Calling : Type 0 → Type 0 → Type 0 → Type 1
 Calling A B R = MutBor View → ℕ → A → B → Result R AllocError → MutBor View → Type 0
 
--- it may be called above the limit
+-- such a function may be called while a level is left
 abbrev pub MayNest : {A B : Type 0} → ℕ → (MutBor View → ℕ → A → B → Type 0) → Type 0
 MayNest {A = A} {B = B} levels pre = (old : MutBor View) (x : A) (y : B) → 0 < levels → pre old levels x y
 
--- what it gives of what its reference points to
+-- what such a function gives, by the views that its reference points to
 abbrev pub given : {A B R : Type 0} → Calling A B R → ℕ → A → B → View → Result R AllocError → View → Type 0
 given post levels x y old r new = (v : MutBor View) × (w : MutBor View) × (v.now ≡ old) × (w.now ≡ new) × post v levels x y r w
 

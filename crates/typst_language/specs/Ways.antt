@@ -1,4 +1,4 @@
--- The token at hand, read from its start in another way.
+-- The current token, read from its start in another way.
 use Rattle.std.specs.Prelude.{◌≡◌, [], ◌∷◌, ◌++◌}
 use Rattle.typst_lines.specs.Place.{Place}
 use Rattle.typst_kinds.specs.Kinds.{is_error}
@@ -7,7 +7,7 @@ use Rattle.typst_language.specs.Shape.{after_node}
 use Rattle.typst_language.specs.Meaning.{renewed}
 use Rattle.typst_language.specs.View.{View}
 
--- the trivia at hand and this node were given, up to a place
+-- the pending trivia and this node were given, up to a place
 pub record GaveUpTo (end : Place) (node : Tree) (v w : View) : Type 0 where
   pub nodes : w.nodes ≡ v.nodes ++ (v.hand.trivia ++ node ∷ [])
   pub place : w.place ≡ end

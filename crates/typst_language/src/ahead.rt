@@ -23,7 +23,7 @@ use typst_tokens::column::column;
 use typst_tokens::{Hull, LineEnd, Token};
 use typst_tree::SyntaxNode;
 
-/// The token at hand, without the nodes of the trivia before it.
+/// The current token, without the nodes of the trivia before it.
 #[derive(Clone, Copy)]
 pub struct ReadAhead<'s> {
     /// Whether the token was asked for. If not, it stands for nothing.
@@ -32,16 +32,16 @@ pub struct ReadAhead<'s> {
     pub before: Scanner<'s>,
     /// Where the token begins.
     pub start: Scanner<'s>,
-    /// Where it ends.
+    /// Where the token ends.
     pub after: Scanner<'s>,
     /// The newlines before the token, also those that became nodes already.
     pub newlines: Newlines,
     pub token: Token,
-    /// The token's kind, or the end where the newline rule stops.
+    /// The token's kind, or End if the newline rule stops.
     pub kind: SyntaxKind,
     /// What was looked at for the token.
     pub own: Hull,
-    /// The same, with its column where the newline rule asks for it.
+    /// What was looked at for the token, and for its column if the newline rule asks for it.
     pub here: Hull,
     /// The end of a line of the text that is known.
     pub line: LineEnd<'s>,
@@ -50,7 +50,7 @@ pub struct ReadAhead<'s> {
 impl<'s> ReadAhead<'s> {
     ghost use Rattle.std.specs.Prelude.{false};
 
-    /// Nothing, at a place.
+    /// No token, at a place.
     pub fn none(at: Scanner<'s>) -> ReadAhead<'s>
         ensures stands { Stands result }
         ensures before { result.before ≡ at.entry }
@@ -75,7 +75,7 @@ impl<'s> ReadAhead<'s> {
         }
     }
 
-    /// Passes the token. What comes behind it wasn't asked for.
+    /// Passes the token. What comes after it wasn't asked for.
     #[inline(always)]
     pub fn pass(&mut self)
         ensures { self.new ≡ record self.old { is_read = false; before = self.old.after; start = self.old.after } }
@@ -86,8 +86,8 @@ impl<'s> ReadAhead<'s> {
         self.start = after;
     }
 
-    /// Reads trivia, of which these become the nodes, and a token, and answers all that was looked
-    /// at for them. A space that stands alone, as most trivia do, becomes its node at once.
+    /// Reads trivia, of which these become the nodes, and a token, and answers all that was looked at for them. A
+    /// single space, as most trivia are, becomes its node at once.
     pub fn read<C: Classes>(
         &mut self,
         trivia: &mut Vec<SyntaxNode>,
@@ -137,7 +137,7 @@ impl<'s> ReadAhead<'s> {
     }
 }
 
-/// Adds the node of a token that took the text, which `rest` begins with, behind the others.
+/// Adds the node of a token that took the text, which `rest` begins with, after the others.
 #[inline(always)]
 fn push_node<C: Classes>(
     nodes: &mut Vec<SyntaxNode>,
@@ -177,7 +177,7 @@ pub fn no_newlines() -> Newlines
     }
 }
 
-/// With the newlines of a trivia token.
+/// Newlines, with those of a trivia token.
 fn with_token(newlines: Newlines, token: Token) -> Newlines
     ensures { result ≡ spec.both_newlines newlines (spec.newlines_of token) }
 {
@@ -193,8 +193,8 @@ fn is_parbreak(kind: SyntaxKind) -> bool
     matches!(kind, SyntaxKind::Parbreak)
 }
 
-/// The kind of a token, or the end where the newline rule stops; and what was looked at for the
-/// token, with its column where the rule asks for it.
+/// The kind of a token, or End if the newline rule stops; and what was looked at for the token, with its column if
+/// the rule asks for it.
 #[inline(always)]
 pub fn judged(
     held: Reading,

@@ -1,4 +1,4 @@
-//! What the grammar adds to the language: what its calls are told, what is noted, and how else a token is read.
+//! What the grammar adds to the language: what its calls take, what is noted, and how else a token is read.
 
 use crate::reading::State;
 use typst_kinds::SyntaxMode;
@@ -6,7 +6,7 @@ use typst_kinds::SyntaxMode;
 /// What the names of a pattern are.
 #[derive(Debug, Clone, Copy, PartialEq, Eq)]
 pub enum Role {
-    /// What is assigned to: any expression may stand there.
+    /// What is assigned to: any expression may be there.
     Target,
     /// New names.
     Binding,
@@ -14,7 +14,7 @@ pub enum Role {
     Parameter,
 }
 
-/// What comes behind a name, an underscore or parens.
+/// What comes after a name, an underscore or parens.
 #[derive(Debug, Clone, Copy, PartialEq, Eq)]
 pub enum Behind {
     /// `=>`, which makes a closure of it.
@@ -25,7 +25,7 @@ pub enum Behind {
     Nothing,
 }
 
-/// Signs of attachments.
+/// Which signs of attachments end an expression of a formula.
 #[derive(Debug, Clone, Copy, PartialEq, Eq)]
 pub struct ChainSet {
     /// Whether `^` is one of them.
@@ -35,7 +35,7 @@ pub struct ChainSet {
 }
 
 /// What is carried from an expression of markup to what comes next: whether a line begins there, and in
-/// how many brackets it stands.
+/// how many brackets it is.
 pub type Carried = (bool, usize);
 
 /// What is noted as one block.
@@ -47,7 +47,7 @@ pub enum Block {
     Content,
 }
 
-/// In which other way the token at hand is read from its start.
+/// In which other way the current token may be read from its start.
 #[derive(Debug, Clone, Copy, PartialEq, Eq)]
 pub enum Way {
     /// As a token of this mode.
@@ -62,7 +62,7 @@ pub enum Way {
 #[derive(Debug, Clone, Copy, PartialEq, Eq)]
 pub enum Mark {
     /// A piece of a run begins: an expression of markup, whether at the start of a line, and in how
-    /// many brackets. Behind the last expression of a run stands one more, which no expression
+    /// many brackets. After the last expression of a run is one more, which no expression
     /// follows: there the run ends.
     Piece(bool, usize),
     /// A block begins.
@@ -71,25 +71,25 @@ pub enum Mark {
     Closes,
 }
 
-/// What was noted where a unit begins or ends. Places are bytes from the text's start, but for
-/// `least`. Before the text's first and after its last character stands a mark, each as long as a
+/// What was noted where a unit begins or ends. Places are bytes from the text's start, except
+/// `least`. Before the text's first and after its last character is a mark, each as long as a
 /// byte, at which a look may begin or end.
 #[derive(Debug, Clone, Copy, PartialEq, Eq)]
 pub struct Note {
     /// What begins or ends.
     pub mark: Mark,
-    /// Where the trivia before it begin, as far as they were looked at already.
+    /// Where the trivia before its token begin, as far as they were looked at already.
     pub before: usize,
-    /// Where they end.
+    /// Where the trivia before its token end, and the token begins.
     pub start: usize,
     /// How many levels are left for calls: 256 at the text's start, one less within each call.
     pub levels: usize,
     /// What the parser goes on from.
     pub state: State,
     /// Where all looks since the note before it end; one more than the text's length where one saw the
-    /// mark behind the text, and 0 where nothing was looked at.
+    /// mark after the text, and 0 where nothing was looked at.
     pub reach: usize,
-    /// Where they begin, counted from the mark before the text, which is 0; the largest number where
-    /// nothing was looked at.
+    /// Where the looks since the note before it begin, counted from the mark before the text, which is 0; the
+    /// largest number if nothing was looked at.
     pub least: usize,
 }

@@ -19,13 +19,13 @@ pub enum Change<'a> {
     TurnsWrong(&'a str),
     /// It becomes the error that this was expected in its place.
     IsNot(&'a str),
-    /// It becomes a node of another kind, which is no error.
+    /// It becomes a node of another kind, which isn't an error.
     Renamed(SyntaxKind),
-    /// Where it is delimited by parens in math, these become parens and it becomes math.
+    /// If it is delimited by parens in math, these become parens, and it becomes math.
     Unparened,
 }
 
-/// Changes a node. In place, so that nothing is called where it stays, as most nodes do.
+/// Changes a node. In place, so that nothing is called if it stays, as most nodes do.
 #[inline(always)]
 pub fn change_node(node: &mut SyntaxNode, change: Change<'_>) -> Result<(), AllocError>
     requires { IsFine change }
@@ -41,7 +41,7 @@ pub fn change_node(node: &mut SyntaxNode, change: Change<'_>) -> Result<(), Allo
     Ok(())
 }
 
-/// Changes the first of several nodes, if there is one. In place too.
+/// Changes the first of several nodes, if there is one. In place, as `change_node`.
 #[inline(always)]
 pub fn change_first(nodes: &mut Vec<SyntaxNode>, change: Change<'_>) -> Result<(), AllocError>
     requires { IsFine change }

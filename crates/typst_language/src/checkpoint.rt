@@ -10,13 +10,12 @@ use std::alloc::AllocError;
 use typst_tokens::Hull;
 use typst_tree::SyntaxNode;
 
-/// Where a parser stood: how many nodes and notes there were, and the token at hand. It keeps no
-/// node and no text.
+/// Where a parser was: how many nodes and notes there were, and the current token. It keeps no node and no text.
 #[derive(Clone, Copy)]
 pub struct Checkpoint<'s> {
-    /// How many nodes stood before the trivia at hand,
+    /// How many nodes were before the pending trivia.
     nodes: usize,
-    /// and how many nodes these are.
+    /// How many nodes the pending trivia were.
     trivia: usize,
     /// How many notes there were.
     notes: usize,
@@ -28,7 +27,7 @@ pub struct Checkpoint<'s> {
 impl<'s> Parser<'s> {
     ghost use Rattle.typst_language.specs.Saved.{saved_by};
 
-    /// Where the parser stands.
+    /// A checkpoint of where the parser is.
     pub fn checkpoint(&self) -> Checkpoint<'s>
         ensures saved { saved_by result ≡ saved self.now }
         ensures few { self.now.state.empties ≤ length self.now.nodes }
@@ -43,9 +42,8 @@ impl<'s> Parser<'s> {
         }
     }
 
-    /// Goes back to where the parser stood. The nodes that were given since are gone, but for the
-    /// trivia that were at hand, which are at hand again; what was noted since is gone, and what was
-    /// looked at stays.
+    /// Goes back to where the parser was. The nodes that were given since are gone, except the trivia that were
+    /// pending, which are pending again; what was noted since is gone, and what was looked at stays.
     pub fn restore(&mut self, to: Checkpoint<'s>) -> Result<(), AllocError>
         ensures { OnOk result (self.new ≡ went_back (saved_by to.entry) self.old) }
     {
@@ -60,14 +58,14 @@ impl<'s> Parser<'s> {
         Ok(())
     }
 
-    /// This was looked at before the place: it counts at what was noted first since.
+    /// Says that this was looked at before the checkpoint: it counts at what was noted first since.
     pub fn look_before(&mut self, since: Checkpoint<'s>, hull: Hull)
         ensures { self.new ≡ looked_since (saved_by since.entry) hull self.old }
     {
         self.log.look_before(since.notes, hull);
     }
 
-    /// Drops what was noted since, behind a second reading of the same place. What was looked at
+    /// Drops what was noted since the checkpoint, after a second reading of the same place. What was looked at
     /// stays.
     pub fn drop_notes(&mut self, since: Checkpoint<'s>)
         ensures { self.new ≡ forgot_notes (saved_by since.entry) self.old }
@@ -76,7 +74,7 @@ impl<'s> Parser<'s> {
     }
 }
 
-/// The first so many nodes are at hand again, where so many were given.
+/// Makes the first so many nodes pending again, if so many were given.
 fn put_back(held: &mut Vec<SyntaxNode>, mut given: Vec<SyntaxNode>, count: usize)
     ensures { held.new.items ≡ first_of count given.items held.old.items }
 {

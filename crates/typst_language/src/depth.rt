@@ -1,4 +1,4 @@
-//! The limit of depth, and what stands in place of what lies deeper.
+//! The limit of depth, and what is in place of what lies deeper.
 
 ghost use Rattle.std.specs.Prelude.{◌≡◌, ◌<◌, Bool, refl};
 ghost use Rattle.typst_kinds.specs.declared.kind.SyntaxKind.{SyntaxKind as Kind};
@@ -29,8 +29,8 @@ pub struct Grammar<'g, C, M, D, F, P> {
     pub pattern: P,
 }
 
-/// What calls are made with: by which classes of characters, how deep they may still nest, and by what.
-/// A call reads one level deeper, where one is left.
+/// What calls are made with: by which classes of characters, how deep they may still nest, and by what. A call
+/// reads one level deeper, if one is left.
 pub trait Levels: Classes {
     ghost use Rattle.typst_language.specs.View.{Frame};
 
@@ -45,7 +45,7 @@ pub trait Levels: Classes {
         ensures { result ≡ (frame self.now).levels };
 
     /// Reads an expression of markup, whether at the start of a line, and in how many brackets; answers
-    /// in how many brackets what comes behind it stands.
+    /// in how many brackets what comes after it is.
     fn markup_expr(
         &self,
         p: &mut Parser<'_>,
@@ -69,7 +69,7 @@ pub trait Levels: Classes {
         requires above { 0 < (frame self.now).levels }
         ensures { (frame self.now).gives (MathExpr least signs) p.old result p.new };
 
-    /// Reads a pattern, before which these names were seen; answers which were seen behind it.
+    /// Reads a pattern, before which these names were seen; answers which were seen after it.
     fn pattern(&self, p: &mut Parser<'_>, role: Role, names: Names) -> Result<Names, AllocError>
         requires may { may_call self.now }
         requires above { 0 < (frame self.now).levels }
@@ -161,17 +161,17 @@ impl<'g, C: Classes, M, D, F, P> Classes for Grammar<'g, C, M, D, F, P> {
     }
 }
 
-/// Where a sequence stops.
+/// At which tokens a sequence stops.
 pub trait Stops {
     // the kinds of tokens at which it does
     ghost at: { Self → Kind → Bool };
 
-    /// Whether it stops at such a token.
+    /// Whether it stops at a token of this kind.
     fn has(&self, kind: SyntaxKind) -> bool
         ensures { result ≡ at self.now kind };
 }
 
-/// At every token.
+/// A sequence that stops at every token.
 #[derive(Clone, Copy)]
 pub struct Anywhere;
 
@@ -184,7 +184,7 @@ impl Stops for Anywhere {
 }
 
 /// Reads an expression of markup one level deeper, as [`Levels::markup_expr`]. What lies too deep is
-/// skipped, and stands in no more brackets.
+/// skipped, and is in no more brackets.
 #[inline(always)]
 pub fn deeper_markup_expr<L: Levels>(
     g: &L,
@@ -297,7 +297,7 @@ fn skip_one<L: Levels, S: Stops>(
     Ok((skips(stops, count, p.current()), count))
 }
 
-/// How many delimiters are open behind a token.
+/// How many delimiters are open after a token.
 fn balance(kind: SyntaxKind, count: usize) -> usize
     ensures { result ≡ spec.balance kind count }
 {
@@ -318,7 +318,7 @@ fn skips<S: Stops>(stops: &S, count: usize, kind: SyntaxKind) -> bool
     !((count == 0 && stops.has(kind)) || is_end(kind))
 }
 
-/// Whether this is the end of what may be read.
+/// Whether the kind is End, the end of what may be read.
 pub fn is_end(kind: SyntaxKind) -> bool
     ensures { result ≡ spec.is_end kind }
 {

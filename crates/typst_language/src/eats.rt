@@ -1,4 +1,4 @@
-//! What takes the token at hand, and what is said of it.
+//! What takes the current token, and what is said of it.
 
 ghost use Rattle.std.specs.Prelude.{Bool, ◌≡◌, [], ◌∷◌, codes, OnOk, IfOk, true, false};
 ghost use Rattle.typst_kinds.specs.Kinds.{is_error, same};
@@ -28,7 +28,7 @@ use typst_lines::Classes;
 use typst_tree::SyntaxNode;
 
 impl<'s> Parser<'s> {
-    /// Whether the node of the token at hand is a leaf of its kind.
+    /// Whether the node of the current token is a leaf of its kind.
     #[inline(always)]
     fn has_leaf(&self) -> bool
         ensures { result ≡ is_leaf self.now.hand.token }
@@ -36,7 +36,7 @@ impl<'s> Parser<'s> {
         is_leaf(self.ahead.token)
     }
 
-    /// That leaf.
+    /// The leaf that the node of the current token is.
     #[inline(always)]
     fn leaf(&self) -> Result<SyntaxNode, AllocError>
         requires { is_leaf self.now.hand.token ≡ true }
@@ -50,7 +50,7 @@ impl<'s> Parser<'s> {
         )
     }
 
-    /// The node of the token at hand.
+    /// The node of the current token.
     fn node<C: Classes>(&self, classes: &C) -> Result<SyntaxNode, AllocError>
         ensures { (k : CharClasses) → k ≡ C.classes classes.now → IfOk result (λ t. t ≡ token_node k self.now.hand.token (text_ahead self.now.hand.len (moved self.now.hand.gap self.now.place))) }
     {
@@ -62,7 +62,8 @@ impl<'s> Parser<'s> {
         )
     }
 
-    /// Takes the token at hand as this node. What comes behind it isn't asked for.
+    /// Takes the current token as this node, in place of the empty errors before it if `trims` says so. What comes
+    /// after it isn't asked for.
     #[inline(always)]
     fn take(&mut self, trims: bool, node: SyntaxNode) -> Result<(), AllocError>
         ensures { (l : Level) (making : Making) → node ≡ taken_node l.classes making self.old.hand self.old.place → GoesIf l (Fits l) (Bare l) (does (takes trims making)) self.old result self.new }
@@ -77,7 +78,8 @@ impl<'s> Parser<'s> {
         Ok(())
     }
 
-    /// Takes the token at hand as this node, and asks for the one behind it.
+    /// Takes the current token as this node, in place of the empty errors before it if `trims` says so, and asks
+    /// for the one after it.
     #[inline(always)]
     fn take_on<C: Classes>(
         &mut self,
@@ -92,7 +94,7 @@ impl<'s> Parser<'s> {
         Ok(())
     }
 
-    /// The same, apart from the common way.
+    /// Takes the current token as this node, as `take_on` does, apart from the common way.
     #[inline(never)]
     fn take_apart<C: Classes>(
         &mut self,
@@ -106,7 +108,7 @@ impl<'s> Parser<'s> {
         Ok(())
     }
 
-    /// Takes the token at hand. What comes behind it isn't asked for.
+    /// Takes the current token. What comes after it isn't asked for.
     pub fn pass<L: Levels>(&mut self, g: &L) -> Result<(), AllocError>
         ensures { (l : Level) → Fills l (L.frame g.now) → GoesIf l (Fits l) (Bare l) (does (takes false itself)) self.old result self.new }
     {
@@ -119,7 +121,7 @@ impl<'s> Parser<'s> {
         Ok(())
     }
 
-    /// Takes the token at hand.
+    /// Takes the current token, and asks for the one after it.
     #[inline(never)]
     pub fn eat<L: Levels>(&mut self, g: &L) -> Result<(), AllocError>
         ensures { Means (L.frame g.now) spec.eat self.old result self.new }
@@ -134,7 +136,7 @@ impl<'s> Parser<'s> {
         Ok(())
     }
 
-    /// Takes the token at hand as another kind.
+    /// Takes the current token as another kind.
     #[inline(never)]
     pub fn convert_and_eat<L: Levels>(&mut self, kind: SyntaxKind, g: &L) -> Result<(), AllocError>
         requires { is_error kind ≡ false }
@@ -152,7 +154,7 @@ impl<'s> Parser<'s> {
         Ok(())
     }
 
-    /// Takes the token at hand if it is such a one.
+    /// Takes the current token if `is` says so, and answers whether it did.
     pub fn eat_if<L: Levels>(&mut self, is: bool, g: &L) -> Result<bool, AllocError>
         ensures { (kinds : Kind → Bool) → is ≡ kinds self.old.hand.kind → Means (L.frame g.now) (spec.eat_if kinds) self.old result self.new }
     {
@@ -162,7 +164,7 @@ impl<'s> Parser<'s> {
         Ok(is)
     }
 
-    /// Takes the token at hand if it is such a one. What comes behind it isn't asked for.
+    /// Takes the current token if `is` says so, and answers whether it did. What comes after it isn't asked for.
     pub fn close_if<L: Levels>(&mut self, is: bool, g: &L) -> Result<bool, AllocError>
         ensures { (kinds : Kind → Bool) → is ≡ kinds self.old.hand.kind → MeansLast (L.frame g.now) (spec.close_if kinds) self.old result self.new }
     {
@@ -172,7 +174,7 @@ impl<'s> Parser<'s> {
         Ok(is)
     }
 
-    /// Takes the token at hand as an error that it was not expected.
+    /// Takes the current token as an error that it was not expected, in place of the empty errors before it.
     #[cold]
     pub fn unexpected<L: Levels>(&mut self, g: &L) -> Result<(), AllocError>
         ensures { Means (L.frame g.now) (spec.unexpected []) self.old result self.new }
@@ -183,7 +185,8 @@ impl<'s> Parser<'s> {
         Ok(())
     }
 
-    /// The same with a hint.
+    /// Takes the current token as an error that it was not expected, with a hint, in place of the empty errors
+    /// before it.
     pub fn unexpected_with_hint<L: Levels>(&mut self, hint: &str, g: &L) -> Result<(), AllocError>
         ensures { Means (L.frame g.now) (spec.unexpected (hint.now ∷ [])) self.old result self.new }
     {
@@ -191,7 +194,7 @@ impl<'s> Parser<'s> {
         Ok(())
     }
 
-    /// The same, where the empty errors before it stay.
+    /// Takes the current token as an error that it was not expected, with a hint. The empty errors before it stay.
     pub fn eat_unexpected<L: Levels>(&mut self, hint: &str, g: &L) -> Result<(), AllocError>
         ensures { Means (L.frame g.now) (spec.eat_making false (surprise (hint.now ∷ []))) self.old result self.new }
     {
@@ -210,8 +213,8 @@ impl<'s> Parser<'s> {
         Ok(())
     }
 
-    /// Says that something was expected here, unless an error stands here. An erroneous token is
-    /// taken instead.
+    /// Says that something was expected here, unless the node before is an error. An erroneous token is taken
+    /// instead.
     pub fn expected<L: Levels>(&mut self, thing: &str, g: &L) -> Result<(), AllocError>
         ensures { Means (L.frame g.now) (spec.expected thing.now) self.old result self.new }
     {
@@ -232,7 +235,7 @@ impl<'s> Parser<'s> {
         Ok(())
     }
 
-    /// Takes the token at hand if it is such a one, or says that this was expected.
+    /// Takes the current token if `is` says so, or says that `thing` was expected.
     pub fn expect<L: Levels>(&mut self, is: bool, thing: &str, g: &L) -> Result<(), AllocError>
         ensures { (kinds : Kind → Bool) → is ≡ kinds self.old.hand.kind → Means (L.frame g.now) (spec.expect kinds thing.now) self.old result self.new }
     {
@@ -244,8 +247,8 @@ impl<'s> Parser<'s> {
         Ok(())
     }
 
-    /// Takes the token at hand as an error that something else was expected in its place, and takes
-    /// the empty errors before it back or leaves them.
+    /// Takes the current token as an error that something else was expected in its place; `trims` says whether it
+    /// takes the empty errors before it back.
     #[cold]
     pub fn eat_wanted<L: Levels>(
         &mut self,
@@ -261,8 +264,7 @@ impl<'s> Parser<'s> {
         Ok(())
     }
 
-    /// Takes the token at hand if it is such a one, or says that this was expected; answers whether
-    /// it took it.
+    /// Takes the current token if `is` says so, or says that `thing` was expected; answers whether it took it.
     pub fn expects<L: Levels>(&mut self, is: bool, thing: &str, g: &L) -> Result<bool, AllocError>
         ensures { (kinds : Kind → Bool) → is ≡ kinds self.old.hand.kind → Means (L.frame g.now) (expected.expects kinds thing.now) self.old result self.new }
     {
@@ -283,7 +285,7 @@ impl<'s> Parser<'s> {
         Ok(self.expects(is, "identifier", g)?)
     }
 
-    /// Adds a hint to the node before the pending trivia, where that is an error.
+    /// Adds a hint to the node before the pending trivia, if that is an error.
     #[cold]
     pub fn hint(&mut self, hint: &str) -> Result<(), AllocError>
         ensures { (l : Level) → Reads l (does (advises hint.now)) self.old result self.new }
@@ -292,7 +294,7 @@ impl<'s> Parser<'s> {
         Ok(())
     }
 
-    /// The kind of the token directly behind the token at hand.
+    /// The kind of the token directly after the current token.
     pub fn further<L: Levels>(&mut self, g: &L) -> Result<SyntaxKind, AllocError>
         ensures { Means (L.frame g.now) (does further) self.old result self.new }
     {
@@ -310,7 +312,7 @@ impl<'s> Parser<'s> {
         Ok(())
     }
 
-    /// The same.
+    /// Makes nodes of the pending trivia. The newlines in them stay known.
     pub(crate) fn flush(&mut self) -> Result<(), AllocError>
         ensures { (l : Level) → OnOk result (Fits l self.old → Flushed self.old self.new) }
     {

@@ -6,7 +6,7 @@ ghost use Rattle.typst_language.specs.Shape.{hinted_last};
 use std::alloc::AllocError;
 use typst_lexer::SyntaxNode;
 
-/// Adds a hint to the last of several nodes, where it is an error.
+/// Adds a hint to the last of several nodes, if it is an error.
 pub fn hint_last(nodes: &mut Vec<SyntaxNode>, hint: &str) -> Result<(), AllocError>
     ensures hinted { OnOk result (nodes.new.items ≡ hinted_last (hint.now ∷ []) nodes.old.items) }
     ensures as_many { length nodes.new.items ≡ length nodes.old.items }

@@ -20,9 +20,9 @@ const NOTHING: Hull = Hull {
 /// What was looked at and noted so far.
 #[derive(Drop)]
 pub struct Log {
-    /// Where the looks since the last note end, and where they begin; all, where no notes are kept.
+    /// Where the looks since the last note end, and where they begin; all looks, if no notes are kept.
     hull: Hull,
-    /// What was noted, in order, where notes are kept.
+    /// What was noted, in order, if notes are kept.
     notes: Option<Vec<Note>>,
 }
 
@@ -39,7 +39,7 @@ impl Model for Log {
 }
 
 impl Log {
-    /// Nothing.
+    /// A log in which nothing was looked at or noted.
     pub fn new(alloc: Global, keeps_notes: bool) -> Log
         ensures { result ≡ blank_log keeps_notes }
     {
@@ -52,7 +52,7 @@ impl Log {
         Log { hull, notes }
     }
 
-    /// This was looked at.
+    /// Says that this was looked at.
     #[inline(always)]
     pub fn look(&mut self, hull: Hull)
         ensures { self.new ≡ with_hull hull self.old }
@@ -60,7 +60,7 @@ impl Log {
         self.hull = joined(self.hull, hull);
     }
 
-    /// All that was looked at since the last note is set aside but this; answers what it was.
+    /// Sets all looks since the last note aside, except this one; answers what was set aside.
     pub fn set_aside(&mut self, hull: Hull) -> Hull
         ensures aside { result ≡ hull_in self.old }
         ensures least { self.old.least ≤ 2 ^ 64 - 1 }
@@ -72,7 +72,7 @@ impl Log {
         aside
     }
 
-    /// This was looked at before the note of a number, or where there is none since the last note.
+    /// Says that this was looked at before the note of a number, or if there is no such note, since the last one.
     pub fn look_before(&mut self, count: usize, hull: Hull)
         ensures { self.new ≡ looked_before count hull self.old }
     {
@@ -87,8 +87,8 @@ impl Log {
         self.look(hull);
     }
 
-    /// Something begins or ends: the trivia before it at one place, and the token at another, in
-    /// bytes from the text's start.
+    /// Notes that something begins or ends: its trivia begin at `before`, and its token at `start`, in bytes from
+    /// the text's start.
     pub fn note(
         &mut self,
         mark: Mark,
@@ -115,14 +115,14 @@ impl Log {
         Ok(())
     }
 
-    /// Where the looks since the last note end, and where they begin; all, where no notes are kept.
+    /// Where the looks since the last note end, and where they begin; all looks, if no notes are kept.
     pub fn hull(&self) -> Hull
         ensures { result ≡ hull_in self.now }
     {
         self.hull
     }
 
-    /// Whether all of this was looked at since the last note, or ever, where no notes are kept.
+    /// Whether all of this was looked at since the last note, or ever, if no notes are kept.
     pub fn holds(&self, hull: Hull) -> bool
         ensures { result ≡ true → LiesIn hull (hull_in self.now) }
     {
@@ -153,7 +153,7 @@ impl Log {
         }
     }
 
-    /// What was noted, none where no notes are kept; where the looks since the last note end, and where
+    /// What was noted, none if no notes are kept; where the looks since the last note end, and where
     /// they begin.
     pub fn finish(self, alloc: Global) -> (Vec<Note>, Hull)
         ensures notes { result.0.items ≡ listed self.notes }
@@ -167,7 +167,7 @@ impl Log {
     }
 }
 
-/// The looks before which these were noted, and those since.
+/// The looks before these notes, and those since the last of them.
 fn hull_of(since: Hull, notes: &[Note]) -> Hull
     ensures { result ≡ record { reach = spec.reach_of since.reach notes.now; least = spec.least_of since.least notes.now } }
 {
@@ -179,7 +179,7 @@ fn hull_of(since: Hull, notes: &[Note]) -> Hull
     hull
 }
 
-/// Both stretches, and what lies between them.
+/// Two stretches of bytes, and what lies between them.
 pub(crate) fn joined(a: Hull, b: Hull) -> Hull
     ensures { result ≡ joined_hull a b }
 {

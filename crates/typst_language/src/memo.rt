@@ -13,8 +13,8 @@ use std::alloc::AllocError;
 use typst_lexer::is_leaf;
 use typst_tokens::Hull;
 
-/// A first reading that turned out wrong: where it went on behind its paren, by how many bytes there
-/// were from there on; how many levels were left; how it was read outside; what came behind it; what
+/// A first reading that turned out wrong: where it went on after its paren, by how many bytes there
+/// were from there on; how many levels were left; how it was read outside; what came after it; what
 /// was looked at for the paren; and what for it and by the reading. What had been looked at before it
 /// is in neither, since a second reading of what is around it may have noted something in between.
 #[derive(Debug, Clone, Copy)]
@@ -28,9 +28,9 @@ pub struct Guessed {
 }
 
 impl<'s> Parser<'s> {
-    /// A first reading begins with the token at hand. Until it ends, what turns out wrong within it is
-    /// remembered. What was looked at since the last note is set aside, but for what was for that
-    /// token, so that all looks from here on are the reading's own; answers what it was.
+    /// Begins a first reading with the current token. Until it ends, what turns out wrong within it is remembered.
+    /// What was looked at since the last note is set aside, except what was for that token, so that all looks from
+    /// here on are the reading's own; answers what was set aside.
     pub fn begin_guess(&mut self) -> Hull
         ensures aside { result ≡ hull_in self.old.log }
         ensures least { self.old.log.least ≤ 2 ^ 64 - 1 }
@@ -40,7 +40,7 @@ impl<'s> Parser<'s> {
         self.log.set_aside(self.ahead.here)
     }
 
-    /// It ended, with the second reading that it may have asked for. With the last one all that is
+    /// Ends a first reading, with the second one that it may have asked for. With the outermost one all that is
     /// remembered is dropped.
     pub fn end_guess(&mut self)
         ensures { Dropped self.old self.new }
@@ -51,15 +51,15 @@ impl<'s> Parser<'s> {
         }
     }
 
-    /// This was looked at too.
+    /// Says that this was looked at.
     pub fn look_too(&mut self, hull: Hull)
         ensures { self.new ≡ looked_too hull self.old }
     {
         self.log.look(hull);
     }
 
-    /// What comes behind the parens that begin with the token at hand, and what a first reading of
-    /// them would look at beyond what was looked at, where that is remembered.
+    /// What comes after the parens that begin with the current token, and what a first reading of them would look
+    /// at beyond what was looked at, if that is remembered.
     pub fn guessed<L: Levels>(&self, g: &L) -> Option<(Behind, Hull)>
         ensures { (l : Level) → l.levels ≡ (L.frame g.now).levels → Fits l self.now → IfSome result (λ found. Found l self.now found.0 found.1) }
     {
@@ -82,7 +82,8 @@ impl<'s> Parser<'s> {
         }
     }
 
-    /// Whether it was read so, and all that was looked at for its paren counts as looked at.
+    /// Whether what is remembered is of this reading, and all that was looked at for its paren counts as looked
+    /// at.
     fn is_this(&self, entry: &Guessed, levels: usize) -> bool
         ensures { result ≡ true → IsThis levels self.now entry.now }
     {
@@ -92,8 +93,8 @@ impl<'s> Parser<'s> {
             && self.log.holds(entry.paren)
     }
 
-    /// Remembers what came behind the parens that begin with the token at hand, where another first
-    /// reading could ask for it; what was looked at before them is set aside still.
+    /// Remembers what came after the parens that begin with the current token, if another first reading could ask
+    /// for it; what was looked at before them is set aside still.
     pub fn remember<L: Levels>(&mut self, behind: Behind, g: &L) -> Result<(), AllocError>
         ensures { OnOk result (Remembers (L.frame g.now).levels behind self.old self.new) }
     {
@@ -113,7 +114,7 @@ impl<'s> Parser<'s> {
         Ok(())
     }
 
-    /// Where the first one stands, or would stand, that has no more bytes left.
+    /// The place among what is remembered of the first entry that has at most `left` bytes left, or the end.
     fn first_at(&self, left: usize) -> usize
         ensures { result ≤ length self.now.memo }
     {

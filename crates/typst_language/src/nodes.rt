@@ -1,4 +1,4 @@
-//! The nodes that were given, and what is told of the last of them.
+//! The nodes that were given, and what the state says of the last of them.
 
 ghost use Rattle.std.specs.Prelude.{◌≡◌, ◌≤◌, ◌++◌, ◌∷◌, [], if◌then◌else◌, length, OnOk, OnErr};
 ghost use Rattle.typst_kinds.specs.Kinds.{is_error};
@@ -11,7 +11,7 @@ use crate::State;
 use std::alloc::AllocError;
 use typst_tree::SyntaxNode;
 
-/// Adds a node, and tells whether it is an error.
+/// Adds a node; the state then says whether it is an error.
 #[inline(always)]
 pub(crate) fn give(
     nodes: &mut Vec<SyntaxNode>,
@@ -31,7 +31,7 @@ pub(crate) fn give(
     Ok(())
 }
 
-/// How many empty errors stand behind a node.
+/// How many empty errors this node is: one, if it is an error without text.
 pub(crate) fn empty_errors(node: &SyntaxNode) -> usize
     ensures { result ≡ (if is_error node.now.head.kind then count_empty (text_of node.now) else 0) }
 {
@@ -51,7 +51,7 @@ pub(crate) fn is_none(nodes: &[SyntaxNode]) -> bool
     nodes.is_empty()
 }
 
-/// Takes the last nodes away.
+/// Takes the last `count` nodes away.
 pub(crate) fn trim(nodes: &mut Vec<SyntaxNode>, count: usize)
     requires { count ≤ length nodes.old.items }
     ensures { nodes.new.items ≡ less count nodes.old.items }
@@ -69,7 +69,7 @@ pub(crate) fn clear(nodes: &mut Vec<SyntaxNode>)
     }
 }
 
-/// Moves all nodes behind the others. Mostly it is one, a space, which is moved by itself.
+/// Moves all nodes after the others. Mostly it is one, a space, which is moved by itself.
 #[inline(always)]
 pub(crate) fn push_all(
     nodes: &mut Vec<SyntaxNode>,

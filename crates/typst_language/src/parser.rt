@@ -25,24 +25,23 @@ use typst_tokens::Hull;
 use typst_tokens::column::column;
 use typst_tree::SyntaxNode;
 
-/// Room is taken at once for a node for so many bytes of the text: those that are inner nodes'
-/// children already don't stand in it.
+/// For how many bytes of the text room for a node is taken at once: nodes that are children of inner nodes already
+/// need none.
 const BYTES_PER_NODE: usize = 8;
 
-/// It is taken for so many nodes at most: it takes addresses, and pages where nodes are written to
-/// it.
+/// For how many nodes room is taken at most: it takes addresses, and pages only once nodes are written to it.
 const MOST_ROOM: usize = 100_000;
 
-/// A parser of a text: the nodes so far, the token at hand, and how to go on.
+/// A parser of a text: the nodes so far, the current token, and how to go on.
 ///
-/// After an error of memory it stands somewhere between: it can only be dropped.
+/// After an error of memory it is somewhere between: it can only be dropped.
 #[derive(Drop)]
 pub struct Parser<'s> {
     pub(crate) alloc: Global,
-    /// Without the trivia before the token at hand.
+    /// The nodes so far, without the trivia before the current token.
     pub(crate) nodes: Vec<SyntaxNode>,
     pub(crate) ahead: ReadAhead<'s>,
-    /// The nodes of the trivia before it.
+    /// The nodes of the trivia before the current token.
     pub(crate) trivia: Vec<SyntaxNode>,
     pub(crate) state: State,
     pub(crate) log: Log,
@@ -95,8 +94,8 @@ impl<'s> Parser<'s> {
         })
     }
 
-    /// A parser at a place of a text, before anything was asked there: behind these nodes, in this
-    /// state, after this was looked at and noted.
+    /// A parser at a place of a text, before anything was asked there: with these nodes before it, this state, and
+    /// this log of what was looked at and noted.
     pub fn resume(
         alloc: Global,
         at: Scanner<'s>,
@@ -130,28 +129,28 @@ impl<'s> Parser<'s> {
         self.ahead.before.cursor()
     }
 
-    /// How it goes on, but for the place.
+    /// How the parser goes on, except the place.
     pub fn state(&self) -> State
         ensures { result ≡ state_of self.now.state }
     {
         self.state
     }
 
-    /// What was looked at since the last note: where the looks end, and where they begin; all looks,
-    /// where no notes are kept.
+    /// What was looked at since the last note: where the looks end, and where they begin; all looks, if no notes
+    /// are kept.
     pub fn looked(&self) -> Hull
         ensures { result ≡ hull_in self.now.log }
     {
         self.log.hull()
     }
 
-    /// Where its memory comes from.
+    /// The allocator that it takes its memory from.
     pub fn alloc(&self) -> Global {
         self.alloc
     }
 
-    /// The nodes that were read; what was noted, nothing where no notes are kept; and where the looks
-    /// since the last note end, and where they begin, all looks where no notes are kept.
+    /// The nodes that were read; what was noted, nothing if no notes are kept; and where the looks since the last
+    /// note end, and where they begin, all looks if no notes are kept.
     pub fn finish(self) -> (Vec<SyntaxNode>, Vec<Note>, Hull)
         ensures nodes { result.0.items ≡ self.entry.nodes }
         ensures notes { result.1.items ≡ listed self.entry.log.notes }
@@ -161,21 +160,21 @@ impl<'s> Parser<'s> {
         (self.nodes, notes, hull)
     }
 
-    /// The kind of the token at hand.
+    /// The kind of the current token.
     pub fn current(&self) -> SyntaxKind
         ensures { result ≡ self.now.hand.kind }
     {
         self.ahead.kind
     }
 
-    /// Whether a newline was passed before it.
+    /// Whether a newline was passed before the current token.
     pub fn had_newline(&self) -> bool
         ensures { result ≡ self.now.hand.newlines.any }
     {
         self.ahead.newlines.any
     }
 
-    /// Whether trivia were passed before it that are no nodes yet.
+    /// Whether trivia were passed before the current token that aren't nodes yet.
     pub fn had_trivia(&self) -> bool
         ensures { result ≡ not (is_nil self.now.hand.trivia) }
     {
@@ -198,7 +197,7 @@ impl<'s> Parser<'s> {
         more && self.left() < before
     }
 
-    /// How many characters the token stands behind its line's start.
+    /// How many characters the current token is after its line's start.
     pub fn current_column(&mut self) -> usize
         ensures { (l : Level) → Does l (does column) result self.old self.new }
     {
@@ -216,7 +215,7 @@ impl<'s> Parser<'s> {
         Ok(())
     }
 
-    /// The same.
+    /// Asks for the token to come, with the trivia before it, by these classes.
     #[inline(always)]
     pub(crate) fn read<C: Classes>(&mut self, classes: &C) -> Result<(), AllocError>
         ensures { (l : Level) → l.classes ≡ C.classes classes.now → OnOk result (Looked l (unasked self.old) self.new) }
@@ -228,7 +227,7 @@ impl<'s> Parser<'s> {
         Ok(())
     }
 
-    /// Notes what begins or ends at the token at hand.
+    /// Notes what begins or ends at the current token.
     pub fn note<L: Levels>(&mut self, mark: Mark, g: &L) -> Result<(), AllocError>
         ensures { Means (L.frame g.now) (spec.note mark) self.old result self.new }
     {
@@ -248,7 +247,7 @@ impl<'s> Parser<'s> {
         Ok(())
     }
 
-    /// The number that the node of the token at hand will have.
+    /// The number that the node of the current token will have.
     pub fn marker(&self) -> usize
         ensures marker { result ≡ length self.now.nodes + length self.now.hand.trivia }
         ensures few { self.now.state.empties ≤ length self.now.nodes }
@@ -284,8 +283,8 @@ impl<'s> Parser<'s> {
         outer
     }
 
-    /// Reads the tokens to come in the outer way again. Behind another mode the token at hand is
-    /// read again, behind another rule it is judged again.
+    /// Reads the tokens to come in the outer way again. After another mode the current token is
+    /// read again, after another rule it is judged again.
     pub fn leave<L: Levels>(&mut self, outer: Reading, g: &L) -> Result<(), AllocError>
         ensures { (l : Level) → Fills l (L.frame g.now) → OnOk result (Left l outer self.old self.new) }
     {
@@ -313,7 +312,7 @@ impl<'s> Parser<'s> {
         Ok(())
     }
 
-    /// The same, where no token is asked for.
+    /// Reads the tokens to come in the outer way again, where no token is asked for.
     pub fn leave_unasked(&mut self, outer: Reading)
         ensures { self.new ≡ record self.old { state = outside outer self.old.state } }
     {
@@ -329,8 +328,7 @@ impl<'s> Parser<'s> {
         }
     }
 
-    /// Gives the pending trivia, and notes where a block begins, which begins with nothing known of
-    /// them.
+    /// Makes nodes of the pending trivia, notes that a block begins, and asks for its first token.
     pub fn open_block<L: Levels>(&mut self, block: Block, g: &L) -> Result<(), AllocError>
         ensures { (l : Level) → Fills l (L.frame g.now) → OnOk result (Opened l block self.old self.new) }
     {
@@ -340,7 +338,7 @@ impl<'s> Parser<'s> {
         Ok(())
     }
 
-    /// Notes where a block ends, and asks for the token behind it.
+    /// Notes where a block ends, and asks for the token after it.
     pub fn close_block<L: Levels>(&mut self, g: &L) -> Result<(), AllocError>
         ensures { (l : Level) → Fills l (L.frame g.now) → OnOk result (Closed l self.old self.new) }
     {
@@ -350,6 +348,7 @@ impl<'s> Parser<'s> {
     }
 }
 
+/// Whether two modes are the same.
 pub(crate) fn same_mode(a: SyntaxMode, b: SyntaxMode) -> bool
     ensures { result ≡ same_mode a b }
 {
@@ -361,6 +360,7 @@ pub(crate) fn same_mode(a: SyntaxMode, b: SyntaxMode) -> bool
     )
 }
 
+/// Whether two newline rules are the same.
 pub(crate) fn same_rule(a: AtNewline, b: AtNewline) -> bool
     ensures { result ≡ same_rule a b }
 {

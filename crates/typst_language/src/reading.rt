@@ -13,7 +13,7 @@ pub enum AtNewline {
     ContextualContinue,
     /// Two newlines in one piece of whitespace stop.
     StopParBreak,
-    /// A newline stops, unless the token after it stands in a greater column.
+    /// A newline stops, unless the token after it is in a greater column.
     RequireColumn(usize),
 }
 
@@ -29,18 +29,18 @@ pub struct Reading {
 pub struct Newlines {
     /// Whether there was any.
     pub any: bool,
-    /// Whether two stood in one piece of whitespace.
+    /// Whether two were in one piece of whitespace.
     pub parbreak: bool,
 }
 
-/// What a parser goes on from, but for its place.
+/// What a parser goes on from, except its place.
 #[derive(Debug, Clone, Copy, PartialEq, Eq)]
 pub struct State {
     /// How the tokens to come are read.
     pub reading: Reading,
-    /// How the token at hand is read.
+    /// How the current token is read.
     pub held: Reading,
-    /// How many empty errors stand directly before the pending trivia.
+    /// How many empty errors are directly before the pending trivia.
     pub empties: usize,
     /// Whether the node before the pending trivia is an error.
     pub is_after_error: bool,

@@ -1,4 +1,4 @@
-//! The token at hand, read from its start in another way.
+//! The current token, read from its start in another way.
 
 ghost use Rattle.std.specs.Prelude.{◌≡◌, IfOk, OnOk};
 ghost use Rattle.typst_lines.specs.Scanner.{place};
@@ -25,7 +25,7 @@ use typst_tokens::LineEnd;
 use typst_tree::SyntaxNode;
 
 impl<'s> Parser<'s> {
-    /// Which kind the token at hand has where it is read from its start in another way.
+    /// Which kind the current token has if it is read from its start in another way.
     pub fn kind_so<L: Levels>(&mut self, way: Way, g: &L) -> Result<SyntaxKind, AllocError>
         ensures { Means (L.frame g.now) (does (so way)) self.old result self.new }
     {
@@ -47,8 +47,7 @@ impl<'s> Parser<'s> {
         Ok(())
     }
 
-    /// Takes the token that is found in another way as an error that something else was expected in
-    /// its place.
+    /// Takes the token that is found in another way, as an error that something else was expected in its place.
     #[cold]
     pub fn eat_wanted_so<L: Levels>(
         &mut self,
@@ -68,7 +67,7 @@ impl<'s> Parser<'s> {
         Ok(())
     }
 
-    /// Takes what goes from the start of the token at hand up to a place as this node.
+    /// Takes what goes from the start of the current token up to a place as this node.
     fn take_so(&mut self, after: Scanner<'s>, node: SyntaxNode) -> Result<(), AllocError>
         requires { after.text.now ≡ text_of self.old.place }
         ensures { OnOk result (GaveUpTo (place after.entry) node self.old self.new) }

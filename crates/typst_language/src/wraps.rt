@@ -31,7 +31,7 @@ impl<'s> Parser<'s> {
         Ok(is_empty)
     }
 
-    /// The same, where the first of them is changed.
+    /// Makes the nodes from a number on, the first of them changed, the children of one node.
     pub fn wrap_changed(
         &mut self,
         from: usize,
@@ -48,7 +48,8 @@ impl<'s> Parser<'s> {
         Ok(())
     }
 
-    /// The same, with an empty error behind the first so many of them.
+    /// Makes the nodes from a number on the children of one node, with an empty error after the first `count` of
+    /// them.
     #[cold]
     pub fn wrap_lacking(
         &mut self,
@@ -68,7 +69,7 @@ impl<'s> Parser<'s> {
         Ok(())
     }
 
-    /// The same, with a warning and its hint on the node.
+    /// Makes the nodes from a number on the children of one node, which has a warning and its hint.
     #[cold]
     pub fn wrap_with_warning(
         &mut self,
@@ -88,8 +89,8 @@ impl<'s> Parser<'s> {
         Ok(())
     }
 
-    /// The same of what stands between two delimiters: where the second one is missing the first
-    /// becomes the error that it was not closed.
+    /// Makes the nodes from a number on the children of one node, which they delimit: if the second delimiter is
+    /// missing, the first becomes the error that it was not closed.
     pub fn wrap_enclosed(
         &mut self,
         from: usize,
@@ -128,8 +129,8 @@ impl<'s> Parser<'s> {
         Ok(())
     }
 
-    /// Makes nodes of a kind, each of the nodes from a number on: from the last of these numbers to
-    /// the first, so that each node holds the one made before it.
+    /// Makes the nodes from a number on the children of one node of a kind, for each of these numbers: from the
+    /// last number to the first, so that each node holds the one made before it.
     pub fn wrap_nested(&mut self, froms: Vec<usize>, kind: SyntaxKind) -> Result<(), AllocError>
         requires { is_error kind ≡ false }
         ensures { OnOk result (self.new ≡ rewrapped_each froms.items (becomes kind) self.old) }
@@ -168,7 +169,7 @@ impl<'s> Parser<'s> {
         &self.nodes.as_slice()[from.min(self.nodes.len())..]
     }
 
-    /// Takes the nodes from a number on.
+    /// Takes the nodes from a number on away, and gives them.
     fn cut_off(&mut self, from: usize) -> Result<Vec<SyntaxNode>, AllocError>
         ensures rest { OnOk result (self.new ≡ record self.old { nodes = take from self.old.nodes; state = record self.old.state { empties = 0 } }) }
         ensures cut { IfOk result (λ found. found.items ≡ drop from self.old.nodes) }
@@ -179,7 +180,8 @@ impl<'s> Parser<'s> {
         Ok(nodes)
     }
 
-    /// The same. Where they are more than those before them, these are moved, and they stay.
+    /// Takes the nodes from a number on away, and gives them. If they are more than those before them, those are
+    /// moved instead.
     fn take_from(&mut self, from: usize) -> Result<Vec<SyntaxNode>, AllocError>
         ensures rest { OnOk result (self.new ≡ record self.old { nodes = take from self.old.nodes; state = record self.old.state { empties = 0 } }) }
         ensures cut { IfOk result (λ found. found.items ≡ drop from self.old.nodes) }

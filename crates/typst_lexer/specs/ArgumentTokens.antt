@@ -12,30 +12,30 @@ use Rattle.typst_tokens.specs.Memory.{Memory}
 use Rattle.typst_tokens.specs.Token.{plain}
 use Rattle.typst_tokens.specs.declared.token.Token.{Token}
 
--- No such argument begins. How far this was read means nothing.
+-- The answer where no such argument begins; how far was read then means nothing.
 abbrev pub nothing : Reader Memory Token
 nothing = answer (plain kind.End)
 
--- A name of these characters; a lone underscore is none.
+-- The token of a name of these characters; a lone underscore isn't a name.
 abbrev pub name_token : ℕ → List ℕ → Token
 name_token c rest = plain (if c == 95 && length rest == 0 then kind.Underscore else kind.Ident)
 
--- A colon comes next, which begins neither `:=` nor `::=`.
+-- The token, if a colon comes next that begins neither `:=` nor `::=`.
 unfoldable pub before_colon : Token → Reader Memory Token
 before_colon t = any_word kind.End (codes ":=" ∷ codes "::=" ∷ []) (peek 0 (λ c. if passes (λ c. c == 58) c then answer t else nothing))
 
--- The name of a named argument: an identifier directly before such a colon.
+-- The name of a named argument: an identifier directly before a colon that begins no shorthand.
 unfoldable pub named_argument : CharClasses → Reader Memory Token
 named_argument k = peek 0 (λ c. elim c [
   | None ↦ nothing
   | Some c ↦ if is_id_start k c then eat (eat_run (is_id_continue k) (λ rest. before_colon (name_token c rest))) else nothing
 ])
 
--- White space, another dot, and what ends an argument.
+-- White space, another dot, and what ends an argument: dots before these spread nothing.
 abbrev pub ends_spread : ℕ → Bool
 ends_spread c = is_whitespace c || c == 46 || c == 44 || c == 59 || c == 41 || c == 36
 
--- Something comes next that can be spread: not the end, and no comment.
+-- The dots, if something comes next that can be spread: neither the end nor a comment.
 unfoldable pub before_spread : Reader Memory Token
 before_spread = peek 0 (λ c. elim c [
   | None ↦ nothing

@@ -9,13 +9,13 @@ use Rattle.typst_tokens.specs.Memory.{Memory}
 use Rattle.typst_tokens.specs.Token.{plain}
 use Rattle.typst_tokens.specs.declared.token.Token.{Token}
 
--- How many characters the first cluster of what is left of a line has: one at least, also where
--- nothing is left of it.
+-- How many characters the first cluster of what is left of a line has: one at least, even if
+-- nothing is left.
 abbrev pub cluster_len : CharClasses → List ℕ → ℕ
 cluster_len k [] = 1
 cluster_len k line = max 1 (k.cluster line)
 
--- A cluster of the rest of the line, and so the whole rest is looked at.
+-- A cluster of the rest of the line. For it the whole rest is looked at.
 unfoldable pub cluster : CharClasses → Reader Memory Token
 cluster k = see_run in_line (λ line. skip (cluster_len k line) (answer (plain kind.MathText)))
 

@@ -15,7 +15,7 @@ use Rattle.typst_tokens.specs.declared.token.Fault.TheVariants.{CommentEnd, Uncl
 use Rattle.typst_tokens.specs.declared.token.NumberFault.{NumberFault}
 use Rattle.typst_tokens.specs.declared.token.NumberFault.TheVariants.{UnknownSuffix, Exponent, NoDigits, WrongDigits, Suffix}
 
--- The letters and digits of an escape, which stand behind `\u{`.
+-- The letters and digits of an escape, which are after `\u{`.
 abbrev pub escaped : List ℕ → List ℕ
 escaped taken = run is_ascii_alphanumeric (moved 3 (place [] taken))
 
@@ -25,23 +25,27 @@ escaped taken = run is_ascii_alphanumeric (moved 3 (place [] taken))
 abbrev pub is_decimal : ℕ → Bool
 is_decimal c = is_ascii_digit c || c == 46
 
+-- A plus or a minus.
 abbrev pub is_sign : ℕ → Bool
 is_sign c = c == 43 || c == 45
 
+-- `e` or `E`.
 abbrev pub is_exponent : ℕ → Bool
 is_exponent c = c == 101 || c == 69
 
--- Behind a sign, if one comes next.
+-- The place after a sign, if one comes next.
 abbrev pub behind_sign : Place → Place
 behind_sign z = if passes is_sign (scout 0 z) then moved 1 z else z
 
--- Behind an exponent, with its sign and its digits, if one comes next; `em` begins a suffix.
+-- The place after an exponent, with its sign and its digits, if one comes next; `em` begins a
+-- suffix.
 abbrev pub behind_exponent : Place → Place
 behind_exponent z =
     if word_at 0 (codes "em") z then z
     else (if passes is_exponent (scout 0 z) then past is_ascii_digit (behind_sign (moved 1 z)) else z)
 
--- Where the suffix of a number begins: behind the digits of its base, which stand behind two characters, or behind its exponent.
+-- Where the suffix of a number begins: after the digits of its base, which come after two
+-- characters, or after its exponent.
 abbrev pub at_suffix : NumberFault → Place → Place
 at_suffix UnknownSuffix z = behind_exponent (past is_decimal z)
 at_suffix Exponent z = behind_exponent (past is_decimal z)
@@ -53,20 +57,23 @@ at_suffix (Suffix b) z = past (is_digit_of b) (moved 2 z)
 abbrev pub without_suffix : NumberFault → List ℕ → List ℕ
 without_suffix f taken = reverse (at_suffix f (place [] taken)).before
 
--- The suffix.
+-- The suffix of a number, by its characters.
 abbrev pub suffix_of : NumberFault → List ℕ → List ℕ
 suffix_of f taken = (at_suffix f (place [] taken)).ahead
 
+-- The name of a base in messages.
 abbrev pub name_of : Base → List ℕ
 name_of Binary = codes "binary"
 name_of Octal = codes "octal"
 name_of Hexadecimal = codes "hexadecimal"
 
+-- What is said of a base without digits.
 abbrev pub wanted : Base → List ℕ
 wanted Binary = codes "expected a binary number"
 wanted Octal = codes "expected an octal number"
 wanted Hexadecimal = codes "expected a hexadecimal number"
 
+-- What is said of a suffix that no number has.
 abbrev pub unknown_suffix : List ℕ → List ℕ
 unknown_suffix suffix = codes "invalid number suffix: `" ++ (suffix ++ codes "`")
 
@@ -82,16 +89,17 @@ number_message (Suffix b) before suffix = name_of b ++ codes " numbers cannot ha
 abbrev pub value_of : Base → List ℕ → ℕ
 value_of b digits = elim (number (radix_of b) digits) [ Some n ↦ n | None ↦ 0 ]
 
--- The same number in decimal digits, which stand behind the two characters of its base, with the suffix.
+-- The hint to write the number in decimal digits, with the suffix. Its digits come after the two
+-- characters of its base.
 abbrev pub in_decimal : Base → List ℕ → List ℕ → List ℕ
 in_decimal b before suffix = codes "try using a decimal number: `" ++ (decimal (value_of b (drop 2 before)) ++ (suffix ++ codes "`"))
 
--- A suffix that no number has is told of beside another fault.
+-- The hint for a suffix that no number has, given beside another fault.
 abbrev pub suffix_hints : List ℕ → List (List ℕ)
 suffix_hints suffix = if length suffix == 0 || is_unit suffix then [] else (unknown_suffix suffix ∷ [])
 
--- Behind a number of a base a suffix that others can have asks for decimal digits; by the characters
--- before the suffix, and its bytes.
+-- The hints for a fault of a number, by the characters before the suffix, and the suffix's bytes:
+-- after a number of a base, a suffix that others can have asks for decimal digits.
 abbrev pub number_hints : NumberFault → List ℕ → List ℕ → List (List ℕ)
 number_hints UnknownSuffix before suffix = []
 number_hints Exponent before suffix = suffix_hints suffix
@@ -102,14 +110,17 @@ number_hints (Suffix b) before suffix =
 
 -- ---- characters
 
+-- What is said of a character that no token of code begins with.
 abbrev pub invalid_character : List ℕ → List ℕ
 invalid_character text = codes "the character `" ++ (text ++ codes "` is not valid in code")
 
+-- The hints for a character that no token of code begins with.
 abbrev pub character_hints : List ℕ → List (List ℕ)
 character_hints text =
     if bytes_eq text (codes "#") then (codes "you are already in code mode" ∷ codes "try removing the `#`" ∷ [])
     else (if bytes_eq text (codes "!") then (codes "in Typst, `not` is used for negation" ∷ codes "or did you mean to write `!=` for not-equal?" ∷ []) else [])
 
+-- The hints for an operator of other languages.
 abbrev pub operator_hints : List ℕ → List (List ℕ)
 operator_hints text =
     if bytes_eq text (codes "&&") then (codes "in Typst, `and` is used for logical AND" ∷ [])
@@ -118,7 +129,7 @@ operator_hints text =
 
 -- ---- all faults
 
--- What is said of a fault.
+-- The message of a fault, by the characters that its token took.
 abbrev pub message : Fault → List ℕ → List ℕ
 message CommentEnd taken = codes "unexpected end of block comment"
 message UnclosedRaw taken = codes "unclosed raw text"
@@ -132,7 +143,7 @@ message InvalidCharacter taken = invalid_character (encode_utf8_all taken)
 message HashedCharacter taken = invalid_character (encode_utf8_all taken)
 message InvalidOperator taken = codes "`" ++ (encode_utf8_all taken ++ codes "` is not valid in code")
 
--- The hints that go with it.
+-- The hints for a fault, by the characters that its token took.
 abbrev pub hints : Fault → List ℕ → List (List ℕ)
 hints CommentEnd taken = codes "consider escaping the `*` with a backslash or opening the block comment with `/*`" ∷ []
 hints (Number f) taken = number_hints f (without_suffix f taken) (encode_utf8_all (suffix_of f taken))

@@ -5,7 +5,8 @@ use Rattle.typst_lines.specs.Scanner.{place}
 use Rattle.typst_lexer.specs.RawLines.{last_row}
 use Rattle.typst_lexer.specs.declared.raw_lines.LastLine.{LastLine}
 
--- It is the last line of these characters.
+-- The line is the last one of these characters, and its places are before its line end and at the
+-- end.
 pub record IsLastLine (cs : List ℕ) (l : LastLine) : Type 0 where
   pub line : chars l.line.now ≡ (last_row cs).line
   pub from_start : (place l.start).ahead ≡ (last_row cs).ending ++ (last_row cs).line

@@ -16,7 +16,7 @@ use Rattle.typst_tokens.specs.Memory.{Memory}
 use Rattle.typst_tokens.specs.Token.{plain}
 use Rattle.typst_tokens.specs.declared.token.Token.{Token}
 
--- All primes that stand there.
+-- Primes come next: all of them.
 unfoldable pub primes : Reader Memory Token
 primes = eat_run (λ c. c == 39) (λ _. answer (plain kind.MathPrimes))
 
@@ -24,13 +24,13 @@ primes = eat_run (λ c. c == 39) (λ _. answer (plain kind.MathPrimes))
 unfoldable pub atom : CharClasses → ℕ → Reader Memory Token
 atom k c = if k.xid_start c then name k c else text k c
 
--- A character of such a class comes next: it opens or closes a delimited part, or neither.
+-- A character of this class comes next: it opens or closes a delimited part, or neither.
 unfoldable pub by_class : CharClasses → ℕ → Option MathClass → Reader Memory Token
 by_class k c (Some Opening) = sign kind.LeftBrace
 by_class k c (Some Closing) = sign kind.RightBrace
 by_class k c _ = atom k c
 
--- A sign of one character, or what its class says.
+-- A sign of one character, or what the character's class says.
 unfoldable pub single : CharClasses → ℕ → Reader Memory Token
 single k c =
     if c == 42 then sign kind.MathShorthand
@@ -55,6 +55,6 @@ math_from k c =
     else (if c == 39 then primes
     else several k c (single k c)))
 
--- The token of a formula that comes next, where none that all modes share does.
+-- The token of a formula that comes next, unless it is one that all modes share.
 unfoldable pub math : CharClasses → Reader Memory Token
 math k = peek 0 (λ c. elim c [ None ↦ answer (plain kind.End) | Some c ↦ math_from k c ])

@@ -1,4 +1,4 @@
--- What the looks of the tokens of formulas are good for, and some of them by hand.
+-- What the looks of the tokens of formulas are good for, and some looks written out.
 use Rattle.std.specs.Prelude.{◌≡◌, ◌≤◌, ℕ, List, [], ◌∷◌, Some, codes}
 use Rattle.typst_lines.specs.Classes.{CharClasses, by_law}
 use Rattle.typst_kinds.specs.declared.kind.SyntaxKind.TheVariants as kind
@@ -10,12 +10,12 @@ use Rattle.typst_tokens.specs.Memory.{Memory}
 use Rattle.typst_tokens.specs.Token.{plain}
 use Rattle.typst_tokens.specs.declared.token.Token.{Token}
 
--- Where another place shows the same characters and marks in the look of a reading, the reading there
+-- If another place shows the same characters and marks in the look of a reading, the reading there
 -- is the same, as long, and with the same look.
 abbrev pub IsFramed : Reader Memory Token → Type 0
 IsFramed r = (p q : Place) → Agree (look r p) p q → SameReading r p q
 
--- So it is with a token, with the name of an argument and with the dots of one.
+-- The frame law of a formula's tokens, and of the name and the dots that begin an argument.
 pub record MathFrame (k : CharClasses) : Type 0 where
   pub token : IsFramed (math k)
   pub named : IsFramed (named_argument k)
@@ -42,7 +42,7 @@ pub record MathLooks (beyond : CharClasses) : Type 0 where
   pub sign : Shows (math (by_law beyond)) (codes "+1") (ahead 3) (plain kind.MathText) 1
   -- an underscore continues no name
   pub subscript : Shows (math (by_law beyond)) (codes "a_b") (ahead 4) (plain kind.MathText) 1
-  -- behind a name the second character is looked at, and the rest of the line is not
+  -- after a name the second character is looked at, but not the rest of the line
   pub name : Shows (math (by_law beyond)) (codes "ab c d") (ahead 4) (plain kind.MathIdent) 2
   pub name_before_dot : Shows (math (by_law beyond)) (codes "ab.1 c") (ahead 4) (plain kind.MathIdent) 2
   pub field : Shows (math (by_law beyond)) (codes "ab.c d e") (ahead 6) (plain kind.MathFieldAccess) 4
@@ -65,7 +65,7 @@ pub record MathLooks (beyond : CharClasses) : Type 0 where
   pub closing : Shows (math (by_law beyond)) (codes "|]a") (ahead 2) (plain kind.RightBrace) 2
   pub root : Shows (math (by_law beyond)) (8730 ∷ codes "a") (ahead 1) (plain kind.Root) 1
   pub string : Shows (math (by_law beyond)) (codes "\"a\"b") (ahead 3) (plain kind.Str) 3
-  -- the name of an argument, the colon and what comes behind it
+  -- the name of an argument, the colon and what comes after it
   pub argument : Shows (named_argument (by_law beyond)) (codes "a: 1") (ahead 3) (plain kind.Ident) 1
   pub no_argument : Shows (named_argument (by_law beyond)) (codes "a b") (ahead 2) (plain kind.End) 1
   pub underscore : Shows (named_argument (by_law beyond)) (codes "_: 1") (ahead 3) (plain kind.Underscore) 1

@@ -13,7 +13,7 @@ use Rattle.typst_tokens.specs.Memory.Memory.{quoted}
 use Rattle.typst_tokens.specs.Token.{plain}
 use Rattle.typst_tokens.specs.declared.token.Token.{Token}
 
--- What continues an identifier of a formula: what continues others, but for the underscore.
+-- What continues an identifier of a formula: what continues others, except the underscore.
 abbrev pub continues : CharClasses → ℕ → Bool
 continues k c = k.xid_continue c && not (c == 95)
 
@@ -21,7 +21,7 @@ continues k c = k.xid_continue c && not (c == 95)
 abbrev pub is_field : CharClasses → Option ℕ → Option ℕ → Bool
 is_field k c d = passes (λ c. c == 46) c && passes k.xid_start d
 
--- Names behind a name: at a character that doesn't continue a name a dot may come, which takes the
+-- Names after a name: at a character that doesn't continue a name a dot may come, which takes the
 -- character that starts the next one with it.
 abbrev pub fields_turn : CharClasses → Bool → Option ℕ → Step (Turn Memory)
 fields_turn k behind_dot c =
@@ -29,25 +29,29 @@ fields_turn k behind_dot c =
     else (if passes (continues k) c then turn (go (quoted false))
     else see 1 (λ d. turn (if is_field k c d then go (quoted true) else leave)))
 
+-- A step through the fields of a name.
 abbrev pub fields_step : CharClasses → Memory → Option ℕ → Step (Turn Memory)
 fields_step k (quoted behind_dot) c = fields_turn k behind_dot c
 fields_step k _ c = turn leave
 
+-- The machine that takes the fields of a name.
 abbrev pub in_fields : CharClasses → Machine Memory
 in_fields k memory = see 0 (fields_step k memory)
 
--- Behind a name: a dot and the character that starts the next name, and what else belongs to fields.
--- The second character ahead is asked for whatever the first one is.
+-- What comes after a name: a dot and the character that starts the next name begin fields, and all
+-- that belongs to fields is taken. The second character ahead is looked at whatever the first one
+-- is.
 unfoldable pub behind_name : CharClasses → Reader Memory Token
 behind_name k = peek 0 (λ c. peek 1 (λ d.
     if is_field k c d then skip 2 (eat_span (in_fields k) (quoted false) (λ _. answer (plain kind.MathFieldAccess)))
     else answer (plain kind.MathIdent)))
 
--- Behind a name of these characters, which stands for one character where it is one cluster.
+-- A name of these characters: if it is one cluster, it stands for one character, and else it may
+-- have fields.
 unfoldable pub named : CharClasses → List ℕ → Reader Memory Token
 named k name = if k.cluster name == length name then answer (plain kind.MathText) else behind_name k
 
--- A name that begins with the character, which comes next and starts identifiers: more characters
--- have to continue it.
+-- The character that comes next starts identifiers: if the one after it continues them, it begins a
+-- name.
 unfoldable pub name : CharClasses → ℕ → Reader Memory Token
 name k c = peek 1 (λ d. if passes (continues k) d then eat (eat_run (continues k) (λ rest. named k (c ∷ rest))) else text k c)

@@ -15,17 +15,19 @@ use Rattle.typst_lexer.specs.Fields.{access_node}
 abbrev pub fault_node : Fault → List ℕ → Tree
 fault_node f taken = all_advised (hints f taken) (error_of (message f taken) (encode_utf8_all taken))
 
--- Only raw texts and names with fields are more than leaves.
+-- A raw text: its node is more than a leaf.
 abbrev pub is_raw : SyntaxKind → Bool
 is_raw kind.Raw = true
 is_raw _ = false
 
+-- A name with fields: its node is more than a leaf.
 abbrev pub has_fields : SyntaxKind → Bool
 has_fields kind.MathFieldAccess = true
 has_fields _ = false
 
--- The node of a raw text or of a name with fields, or a leaf; an error without a fault, which is never read, would say nothing.
--- No kind of token asks what class a character is of.
+-- The node of a token without a fault: that of a raw text or of a name with fields, or a leaf. An
+-- error without a fault, which is never read, would say nothing. No class of a character matters
+-- here.
 abbrev pub plain_node : CharClasses → Token → List ℕ → Tree
 plain_node _ t taken =
     if is_error t.kind then error_of [] (encode_utf8_all taken)
@@ -36,6 +38,6 @@ plain_node _ t taken =
 abbrev pub is_leaf : Token → Bool
 is_leaf t = elim t.fault [ None ↦ not (is_error t.kind) && not (is_raw t.kind || has_fields t.kind) | Some f ↦ false ]
 
--- The node of a token: its own, or an error leaf.
+-- The node of a token: an error leaf if it has a fault, else its own.
 abbrev pub token_node : CharClasses → Token → List ℕ → Tree
 token_node k t taken = elim t.fault [ None ↦ plain_node k t taken | Some f ↦ fault_node f taken ]

@@ -12,48 +12,49 @@ use Rattle.typst_lexer.specs.RawTag.{tag, warned}
 abbrev pub ticks : List ℕ → List ℕ
 ticks cs = take (prefix_len is_tick cs) cs
 
--- Characters without the n backticks that they begin with, or nothing where those aren't there.
+-- Characters without the n backticks that they begin with, or nothing if they don't.
 abbrev pub past_ticks : ℕ → List ℕ → Option (List ℕ)
 past_ticks zero cs = Some cs
 past_ticks (suc n) [] = None
 past_ticks (suc n) (c ∷ cs) = if is_tick c then past_ticks n cs else None
 
--- Characters without the n backticks that they end in, or nothing where those aren't there.
+-- Characters without the n backticks that they end in, or nothing if they don't.
 abbrev pub before_ticks : ℕ → List ℕ → Option (List ℕ)
 before_ticks n cs = option_map reverse (past_ticks n (reverse cs))
 
--- A tag, where there is one.
+-- The leaf of a tag, if there is one.
 abbrev pub tag_leaves : List ℕ → List Tree
 tag_leaves [] = []
 tag_leaves (c ∷ cs) = leaf kind.RawLang (c ∷ cs) ∷ []
 
--- A node of leaves between its delimiters.
+-- The node of a raw text: its leaves between two delimiters.
 abbrev pub delimited : List ℕ → List Tree → Tree
 delimited delim leaves = inner_of kind.Raw (forest (leaf kind.RawDelim delim ∷ (leaves ++ leaf kind.RawDelim delim ∷ [])))
 
--- One backtick on each side.
+-- The node of a raw text with one backtick on each side.
 abbrev pub inline_node : List ℕ → List ℕ → Tree
 inline_node delim inner = delimited delim (inline_leaves inner)
 
--- Three or more backticks on each side: a tag, and lines.
+-- The node of a raw text with three or more backticks on each side: a tag, and lines.
 abbrev pub block_node : List ℕ → List ℕ → Tree
 block_node delim inner =
     warned (length delim) (tag inner) inner
     (delimited delim (tag_leaves (tag inner) ++ block_leaves (drop (length (tag inner)) inner)))
 
--- What stands between two delimiters.
+-- The node of a raw text, by its delimiter and what is between the two.
 abbrev pub closed_node : List ℕ → List ℕ → Tree
 closed_node delim inner = if nat_lt 2 (length delim) then block_node delim inner else inline_node delim inner
 
+-- Two backticks and nothing else.
 abbrev pub is_pair : List ℕ → List ℕ → Bool
 is_pair delim rest = length delim == 2 && length rest == 0
 
--- Two backticks alone.
+-- The node of two backticks alone.
 abbrev pub two_delimiters : Tree
 two_delimiters = inner_of kind.Raw (forest (leaf kind.RawDelim (96 ∷ []) ∷ (leaf kind.RawDelim (96 ∷ []) ∷ [])))
 
--- Characters by their backticks and what follows them: two backticks alone are two delimiters, and others are a
--- delimiter that stands at the end again.
+-- The node of characters, by their backticks and what follows them: two backticks alone are two
+-- delimiters; others are a delimiter that has to be at the end again, else the text is unclosed.
 abbrev pub delimited_node : List ℕ → List ℕ → List ℕ → Tree
 delimited_node cs delim rest =
     if is_pair delim rest then two_delimiters

@@ -13,7 +13,7 @@ use Rattle.typst_tree.specs.Tree.{Tree, leaf_of}
 abbrev pub leaf : SyntaxKind → List ℕ → Tree
 leaf k cs = leaf_of k (encode_utf8_all cs)
 
--- A leaf of what is trimmed, where it is anything.
+-- A leaf of what is trimmed, if that is anything.
 abbrev pub trimmed : List ℕ → List Tree
 trimmed [] = []
 trimmed (c ∷ cs) = leaf kind.RawTrimmed (c ∷ cs) ∷ []
@@ -23,6 +23,7 @@ pub record Row : Type 0 where
   pub ending : List ℕ
   pub line : List ℕ
 
+-- Lines, each with the line end before it.
 abbrev pub paired : List (List ℕ) → List (List ℕ) → List Row
 paired [] lines = []
 paired (e ∷ endings) [] = []
@@ -36,6 +37,7 @@ first_line cs = take (prefix_len in_line cs) cs
 unfoldable pub later_rows : List ℕ → List Row
 later_rows cs = paired (line_ends cs) (drop 1 (stretches cs))
 
+-- A line of nothing but whitespace.
 abbrev pub is_blank : List ℕ → Bool
 is_blank line = list_all is_whitespace line
 
@@ -48,7 +50,7 @@ abbrev pub last_of : Row → List Row → Row
 last_of r [] = r
 last_of r (s ∷ rs) = last_of s rs
 
--- The last line of characters. No line end stands before it where it is the first.
+-- The last line of characters. If it is also the first, no line end is before it.
 unfoldable pub last_row : List ℕ → Row
 last_row cs = last_of (record { ending = []; line = first_line cs }) (later_rows cs)
 
@@ -62,6 +64,7 @@ least_indent n (r ∷ rs) = least_indent (if is_blank r.line then n else min n (
 unfoldable pub dedent : List ℕ → ℕ
 dedent cs = least_indent (indent (last_row cs).line) (later_rows cs)
 
+-- A backtick.
 abbrev pub is_tick : ℕ → Bool
 is_tick c = c == 96
 
@@ -73,10 +76,11 @@ has_spare_space line = passes (λ c. c == 32) (slice_get (reverse line) 0) && pa
 abbrev pub end_of : Row → List ℕ
 end_of r = if is_blank r.line then r.ending ++ r.line else (if has_spare_space r.line then 32 ∷ [] else [])
 
+-- What is trimmed at the end of the characters between two delimiters.
 unfoldable pub closing : List ℕ → List ℕ
 closing cs = end_of (last_row cs)
 
--- What stands before that.
+-- The characters before what is trimmed at the end.
 unfoldable pub front : List ℕ → List ℕ
 front cs = take (length cs - length (closing cs)) cs
 
@@ -99,7 +103,7 @@ first_leaves (c ∷ cs) = if c == 32 then leaf kind.RawTrimmed (c ∷ []) ∷ (l
 abbrev pub block_of : ℕ → List ℕ → List Row → List ℕ → List Tree
 block_of d first rs closing = if is_blank first then line_leaves d first rs closing else first_leaves first ++ line_leaves d [] rs closing
 
--- The leaves between three or more backticks on each side, behind the tag.
+-- The leaves between three or more backticks on each side, after the tag.
 unfoldable pub block_leaves : List ℕ → List Tree
 block_leaves cs = block_of (dedent cs) (first_line (front cs)) (later_rows (front cs)) (closing cs)
 

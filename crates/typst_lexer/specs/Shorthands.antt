@@ -11,51 +11,60 @@ use Rattle.typst_tokens.specs.Memory.{Memory}
 use Rattle.typst_tokens.specs.Token.{plain}
 use Rattle.typst_tokens.specs.declared.token.Token.{Token}
 
--- The first of the words that comes next is a token of the kind; another token where none of them does.
+-- The first of the words that comes next is a token of the kind; another token if none of them does.
 abbrev pub any_word : SyntaxKind → List (List ℕ) → Reader Memory Token → Reader Memory Token
 any_word k [] other = other
 any_word k (word ∷ words) other = at_word 0 word (skip (length word) (answer (plain k))) (any_word k words other)
 
--- The longest shorthand that comes next.
+-- The longest of some shorthands that comes next. Longer ones are listed before shorter ones.
 abbrev pub shorthand : List (List ℕ) → Reader Memory Token → Reader Memory Token
 shorthand = any_word kind.MathShorthand
 
+-- A hyphen comes next: a shorthand, even alone.
 unfoldable pub hyphen : Reader Memory Token
 hyphen = shorthand (codes "->>" ∷ codes "-->" ∷ codes "->" ∷ []) (sign kind.MathShorthand)
 
+-- A tilde comes next: a shorthand, even alone.
 unfoldable pub tilde : Reader Memory Token
 tilde = shorthand (codes "~~>" ∷ codes "~>" ∷ []) (sign kind.MathShorthand)
 
+-- A colon comes next: a shorthand, or a cluster.
 unfoldable pub colon : CharClasses → Reader Memory Token
 colon k = shorthand (codes "::=" ∷ codes ":=" ∷ []) (cluster k)
 
+-- An equals sign comes next: a shorthand, or a cluster.
 unfoldable pub equals : CharClasses → Reader Memory Token
 equals k = shorthand (codes "==>" ∷ codes "=>" ∷ codes "=:" ∷ []) (cluster k)
 
+-- `>` comes next: a shorthand, or a cluster.
 unfoldable pub greater : CharClasses → Reader Memory Token
 greater k = shorthand (codes ">->" ∷ codes ">>>" ∷ codes ">=" ∷ codes ">>" ∷ []) (cluster k)
 
--- Those of `<` with two characters, with three, and all of them.
+-- `<` comes next: a shorthand of two characters, or a cluster.
 unfoldable pub less_short : CharClasses → Reader Memory Token
 less_short k = shorthand (codes "<=" ∷ codes "<<" ∷ codes "<-" ∷ codes "<~" ∷ []) (cluster k)
 
+-- `<` comes next: a shorthand of three characters, or of two, or a cluster.
 unfoldable pub less_middle : CharClasses → Reader Memory Token
 less_middle k = shorthand (codes "<--" ∷ codes "<-<" ∷ codes "<->" ∷ codes "<<-" ∷ codes "<<<" ∷ codes "<=>" ∷ codes "<==" ∷ codes "<~~" ∷ []) (less_short k)
 
+-- `<` comes next: a shorthand of four characters, of three, or of two, or a cluster.
 unfoldable pub less : CharClasses → Reader Memory Token
 less k = shorthand (codes "<==>" ∷ codes "<-->" ∷ []) (less_middle k)
 
--- A bar, which with a bracket closes a delimited part.
+-- A bar comes next: a shorthand, a bar that with a bracket closes a delimited part, or a cluster.
 unfoldable pub bar : CharClasses → Reader Memory Token
 bar k = shorthand (codes "|->" ∷ codes "|=>" ∷ codes "||" ∷ []) (any_word kind.RightBrace (codes "|]" ∷ []) (cluster k))
 
--- A bracket, which with a bar opens a delimited part too.
+-- A bracket comes next, which opens a delimited part, with a bar or without.
 unfoldable pub bracket : Reader Memory Token
 bracket = eat (if_next (λ c. c == 124) (answer (plain kind.LeftBrace)) (answer (plain kind.LeftBrace)))
 
+-- `!` comes next: `!=`, or the sign alone.
 unfoldable pub bang : Reader Memory Token
 bang = shorthand (codes "!=" ∷ []) (sign kind.Bang)
 
+-- A dot comes next: three, or the dot alone.
 unfoldable pub dot : Reader Memory Token
 dot = shorthand (codes "..." ∷ []) (sign kind.Dot)
 

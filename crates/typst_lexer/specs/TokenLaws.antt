@@ -11,7 +11,7 @@ use Rattle.typst_tokens.specs.Token.{plain}
 use Rattle.typst_lexer.specs.Tokens.{token}
 use Rattle.typst_tokens.specs.declared.token.Token.{Token}
 
--- Where another place shows the same characters and marks in the look of a token, the token there
+-- If another place shows the same characters and marks in the look of a token, the token there
 -- is the same, as long, and with the same look.
 abbrev pub TokenFrame : Type 0
 TokenFrame = (k : CharClasses) (mode : SyntaxMode) (p q : Place) → Agree (look (token k mode) p) p q → SameReading (token k mode) p q
@@ -22,14 +22,14 @@ reach back front = record { back = back; front = front }
 
 -- The looks of some tokens, and of a column.
 pub record Looks (beyond : CharClasses) : Type 0 where
-  -- a line comment and the line feed behind it
+  -- a line comment and the line feed after it
   pub line_comment : look (token (by_law beyond) Markup) (place [] (codes "// a\nb")) ≡ reach 0 5
-  -- a block comment alone, and to the mark where it is unclosed
+  -- a block comment alone, and to the mark if it is unclosed
   pub block_comment : look (token (by_law beyond) Markup) (place [] (codes "/* a */b")) ≡ reach 0 7
   pub unclosed_comment : look (token (by_law beyond) Markup) (place [] (codes "/* a")) ≡ reach 0 5
-  -- two line ends and the character behind them
+  -- two line ends and the character after them
   pub parbreak : look (token (by_law beyond) Markup) (place [] (codes "\n\n- a")) ≡ reach 0 3
-  -- a list marker and the space behind it
+  -- a list marker and the space after it
   pub list_marker : look (token (by_law beyond) Markup) (place [] (codes "- a")) ≡ reach 0 2
   -- the end alone
   pub end : look (token (by_law beyond) Markup) (place [] []) ≡ reach 0 1
@@ -56,7 +56,7 @@ pub record TextLook (k : CharClasses) : Type 0 where
   pub look : look (token k Markup) (place [] (codes "ahttp:/")) ≡ reach 0 8
   pub shorter : Differ k (reach 0 7) (place [] (codes "ahttp:/")) (place [] (codes "ahttp://")) (plain kind.Text) (plain kind.Text) 5 1
 
--- A block comment ends at a slash behind a star.
+-- A block comment ends at a slash after a star.
 pub record CommentLook (k : CharClasses) : Type 0 where
   pub look : look (token k Markup) (place [] (codes "/*a*/b")) ≡ reach 0 5
   pub shorter : Differ k (reach 0 4) (place [] (codes "/*a*/b")) (place [] (codes "/*a*bc")) (plain kind.BlockComment) (plain kind.BlockComment) 5 6
@@ -65,7 +65,7 @@ pub record CommentLook (k : CharClasses) : Type 0 where
 pub record RawLook (k : CharClasses) : Type 0 where
   pub closed : look (token k Markup) (place [] (codes "`a`b")) ≡ reach 0 3
   pub unclosed : look (token k Markup) (place [] (codes "`a")) ≡ reach 0 3
-  -- two backticks end at what is none
+  -- two backticks end at what isn't a backtick
   pub two : look (token k Markup) (place [] (codes "``a")) ≡ reach 0 3
   pub shorter : Differ k (reach 0 2) (place [] (codes "`a`b")) (place [] (codes "`ab`")) (plain kind.Raw) (plain kind.Raw) 3 4
 
@@ -74,7 +74,7 @@ pub record LinkLook (k : CharClasses) : Type 0 where
   pub look : look (token k Markup) (place [] (codes "http://a. ")) ≡ reach 0 10
   pub shorter : Differ k (reach 0 9) (place [] (codes "http://a. ")) (place [] (codes "http://a.b")) (plain kind.Link) (plain kind.Link) 8 10
 
--- So are the name of a reference and that of a label.
+-- The name of a reference and that of a label are looked at to what ends them.
 pub record NameLook (beyond : CharClasses) : Type 0 where
   pub reference : look (token (by_law beyond) Markup) (place [] (codes "@a. ")) ≡ reach 0 4
   pub shorter_reference : Differ (by_law beyond) (reach 0 3) (place [] (codes "@a. ")) (place [] (codes "@a.b")) (plain kind.RefMarker) (plain kind.RefMarker) 2 4

@@ -29,13 +29,13 @@ hash k mode = glance 0 (λ before.
     if is_none before then peek 1 (λ d. if passes (λ d. d == 33) d then shebang else of_mode k mode 35)
     else of_mode k mode 35)
 
--- A slash comes next.
+-- A slash comes next: before another one or a star it begins a comment.
 unfoldable pub slash : CharClasses → SyntaxMode → Reader Memory Token
 slash k mode = peek 1 (λ d.
     if passes (λ d. d == 47) d then line_comment
     else (if passes (λ d. d == 42) d then block_comment else of_mode k mode 47))
 
--- A star comes next.
+-- A star comes next: before a slash it ends a comment, where none is open.
 unfoldable pub star : CharClasses → SyntaxMode → Reader Memory Token
 star k mode = peek 1 (λ d. if passes (λ d. d == 47) d then comment_end else of_mode k mode 42)
 

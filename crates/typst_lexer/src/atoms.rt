@@ -13,7 +13,7 @@ use typst_lines::classes::Classes;
 use typst_lines::{CharSet, ScannerExt};
 use typst_tokens::{Cursor, Token};
 
-/// Numeric characters.
+/// The set of the numeric characters.
 #[derive(Clone, Copy)]
 struct Numeric<'a, C: Classes>(&'a C);
 

@@ -47,7 +47,7 @@ fn comment_end_node(alloc: Global, text: &str) -> Result<SyntaxNode, AllocError>
     Ok(node)
 }
 
-/// What is said of an escape that names no character.
+/// The message of an escape that names no character.
 fn code_point_message(alloc: Global, text: &str) -> Result<String, AllocError>
     ensures { IfOk result (λ message. string_bytes message ≡ spec.message fault.InvalidEscape (chars text.now)) }
 {
@@ -66,7 +66,7 @@ fn escaped(text: &str) -> &str
     s.eat_while(&AsciiAlphanumeric)
 }
 
-/// A character that no token of code begins with.
+/// The node of a character that no token of code begins with.
 fn character_node(alloc: Global, text: &str) -> Result<SyntaxNode, AllocError>
     ensures { IfOk result (λ node. node ≡ fault_node fault.InvalidCharacter (chars text.now)) }
 {
@@ -91,7 +91,7 @@ fn hint_at_character(node: &mut SyntaxNode, text: &str) -> Result<(), AllocError
     }
 }
 
-/// Such a character directly behind a hash.
+/// The node of a character that no token of code begins with, directly after a hash.
 fn hashed_node(alloc: Global, text: &str) -> Result<SyntaxNode, AllocError>
     ensures { IfOk result (λ node. node ≡ fault_node fault.HashedCharacter (chars text.now)) }
 {
@@ -108,7 +108,7 @@ fn invalid_character(alloc: Global, text: &str) -> Result<SyntaxNode, AllocError
     SyntaxNode::error_saying(alloc, message, text)
 }
 
-/// An operator of other languages.
+/// The node of an operator of other languages.
 fn operator_node(alloc: Global, text: &str) -> Result<SyntaxNode, AllocError>
     ensures { IfOk result (λ node. node ≡ fault_node fault.InvalidOperator (chars text.now)) }
 {

@@ -21,7 +21,7 @@ pub(crate) fn access_node(alloc: Global, text: &str) -> Result<SyntaxNode, Alloc
     Ok(node)
 }
 
-/// A field of what stands to the left of its dot.
+/// The node of a field of what is to the left of its dot.
 fn field_node(alloc: Global, left: SyntaxNode, name: &str) -> Result<SyntaxNode, AllocError>
     ensures { IfOk result (λ node. node ≡ spec.field_node left (chars name.now)) }
 {

@@ -72,7 +72,7 @@ impl<'a, C: Classes> Lexer<'a, C> {
         }
     }
 
-    /// The mode in which it reads.
+    /// The mode in which the lexer reads.
     pub fn mode(&self) -> SyntaxMode
         ensures { result ≡ mode_of self.now }
     {
@@ -129,7 +129,7 @@ impl<'a, C: Classes> Lexer<'a, C> {
         self.newline
     }
 
-    /// How many characters stand between the last newline character before an index, or the
+    /// How many characters are between the last newline character before an index, or the
     /// text's start, and the index, which is a byte offset on a character boundary.
     pub fn column(&self, index: usize) -> usize
         requires { IsCharBoundary (text_of self.now) index }
@@ -140,8 +140,8 @@ impl<'a, C: Classes> Lexer<'a, C> {
         column(&s).0
     }
 
-    /// Reads a token, and gives it with its text. This takes no memory but for the brackets of a
-    /// link. Where memory is refused nothing changes.
+    /// Reads a token, and gives it with its text. This takes no memory except for the brackets of a link. If
+    /// memory is refused, nothing changes.
     pub fn scan(&mut self, alloc: Global) -> Result<(Token, &'a str), AllocError>
         ensures reads { IfOk result (λ r. exec (spec.token (C.classes self.old.classes.now) (mode_of self.old)) (place self.old) ≡ (r.0, place self.new)) }
         ensures characters { IfOk result (λ r. chars r.1.now ≡ take (eaten (spec.token (C.classes self.old.classes.now) (mode_of self.old)) (place self.old)) (place self.old).ahead) }
@@ -172,9 +172,8 @@ pub struct Read<'a> {
     pub hull: Hull,
 }
 
-/// The token of the mode that comes next. This takes no memory but for the brackets of a link. What
-/// is known of the end of a line goes from token to token, so that each line is gone through once
-/// for it.
+/// The token of the mode that comes next. This takes no memory except for the brackets of a link. What is known of
+/// the end of a line goes from token to token, so that each line is gone through once for it.
 #[inline(always)]
 pub fn token<'a, C: Classes>(
     alloc: Global,
@@ -206,8 +205,8 @@ fn read_up_to(cursor: Cursor<'_>, token: Token) -> Read<'_>
     Read { token, after, hull }
 }
 
-/// The space at a place, where one stands before a printable character of ASCII, as most do: it is a token in each
-/// mode, so that it can be told before the mode is asked for.
+/// The space at a place, if it is one before a printable character of ASCII, as most spaces are: such a space is a
+/// token in each mode, so that it is found before the mode is asked for.
 #[inline(always)]
 pub fn lone_space<'a>(start: Scanner<'a>, line: LineEnd<'a>) -> Option<Read<'a>>
     requires { line.text.now ≡ start.text.now }
@@ -222,8 +221,8 @@ pub fn lone_space<'a>(start: Scanner<'a>, line: LineEnd<'a>) -> Option<Read<'a>>
     Some(read_up_to(cursor, Token::plain(SyntaxKind::Space)))
 }
 
-/// Eats a space that stands before a printable character of ASCII: it is a token in each mode. Where
-/// there is none, nothing changes.
+/// Eats a space that is before a printable character of ASCII: it is a token in each mode. If there is none,
+/// nothing changes.
 #[inline(always)]
 fn eat_lone_space(s: &mut Cursor<'_>) -> bool
     ensures eaten { result ≡ true → (k : CharClasses) (mode : SyntaxMode) → Reads (spec.token k mode) s.old (plain kind.Space) s.new }
@@ -283,7 +282,7 @@ fn of_mode<C: Classes>(
     }
 }
 
-/// The same, apart from the common way.
+/// A token that only the mode has, apart from the common way.
 #[inline(never)]
 fn of_mode_apart<C: Classes>(
     alloc: Global,
@@ -359,7 +358,7 @@ fn backtick<C: Classes>(
     }
 }
 
-/// The name of a named argument of a formula that begins here, or End where none does.
+/// The name of a named argument of a formula that begins here, or End if none does.
 pub fn named_argument<'a, C: Classes>(start: Scanner<'a>, classes: &C) -> Read<'a>
     ensures { Scans (named (C.classes classes.now)) start.entry result.token result.hull result.after }
 {
@@ -368,7 +367,7 @@ pub fn named_argument<'a, C: Classes>(start: Scanner<'a>, classes: &C) -> Read<'
     read_up_to(cursor, token)
 }
 
-/// The dots of an argument of a formula that is spread, or End where none begins here.
+/// The dots of an argument of a formula that is spread, or End if none begins here.
 pub fn spread_argument(start: Scanner<'_>) -> Read<'_>
     ensures { Scans spread start.entry result.token result.hull result.after }
 {

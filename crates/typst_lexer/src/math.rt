@@ -14,7 +14,7 @@ use typst_tokens::escapes::backslash;
 use typst_tokens::strings::string;
 use typst_tokens::{Cursor, Token};
 
-/// The token of a formula that comes next, where none that all modes share does.
+/// The token of a formula that comes next, unless it is one that all modes share.
 #[inline(always)]
 #[tactic(auto, unfolding(crate::specs::Math::math))]
 pub fn math<C: Classes>(s: &mut Cursor<'_>, classes: &C) -> Token

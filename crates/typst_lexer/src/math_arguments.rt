@@ -10,7 +10,7 @@ use typst_lines::classes::{Classes, is_id_start};
 use typst_lines::sets::IdContinue;
 use typst_tokens::{Cursor, Token};
 
-/// The name of a named argument: an Ident, an Underscore, which is no name, or End where no named
+/// The name of a named argument: an Ident, an Underscore, which isn't a name, or End where no named
 /// argument begins.
 #[tactic(auto, unfolding(crate::specs::ArgumentTokens::named_argument))]
 pub fn named_argument<C: Classes>(s: &mut Cursor<'_>, classes: &C) -> Token
@@ -42,7 +42,7 @@ fn has_nothing(text: &str) -> bool
     text.is_empty()
 }
 
-/// The token, if a colon comes next that begins no shorthand.
+/// The token, if a colon comes next that begins neither `:=` nor `::=`, or else End.
 #[tactic(auto, unfolding(crate::specs::ArgumentTokens::before_colon))]
 fn before_colon(s: &mut Cursor<'_>, name: Token) -> Token
     ensures { Reads (spec.before_colon name) s.old result s.new }
@@ -59,7 +59,7 @@ fn before_colon(s: &mut Cursor<'_>, name: Token) -> Token
     }
 }
 
-/// The Dots of an argument that is spread, or End where none begins.
+/// The Dots of an argument that is spread, or End if none begins.
 #[tactic(auto, unfolding(crate::specs::ArgumentTokens::spread_argument))]
 pub fn spread_argument(s: &mut Cursor<'_>) -> Token
     ensures { Reads spec.spread_argument s.old result s.new }
@@ -70,7 +70,7 @@ pub fn spread_argument(s: &mut Cursor<'_>) -> Token
     Token::plain(SyntaxKind::End)
 }
 
-/// Dots, if something comes next that can be spread.
+/// Dots, if something comes next that can be spread, or else End.
 #[tactic(auto, unfolding(crate::specs::ArgumentTokens::before_spread))]
 fn before_spread(s: &mut Cursor<'_>) -> Token
     ensures { Reads spec.before_spread s.old result s.new }

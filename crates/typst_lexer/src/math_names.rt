@@ -14,7 +14,7 @@ use typst_lines::CharSet;
 use typst_lines::classes::Classes;
 use typst_tokens::{Cursor, Token};
 
-/// What continues an identifier of a formula.
+/// The set of what continues an identifier of a formula.
 #[derive(Clone, Copy)]
 struct MathIdContinue<'a, C: Classes>(&'a C);
 
@@ -74,7 +74,7 @@ fn is_cluster<C: Classes>(text: &str, classes: &C) -> bool
     classes.cluster(text) == text.len()
 }
 
-/// An identifier behind its name, with the fields that follow.
+/// An identifier after its name, with the fields that follow.
 #[inline(always)]
 fn behind_name<C: Classes>(s: &mut Cursor<'_>, classes: &C) -> Token
     ensures { Reads (spec.behind_name (C.classes classes.now)) s.old result s.new }

@@ -24,7 +24,7 @@ pub fn is_leaf(token: Token) -> bool
     }
 }
 
-/// The node of such a token that took the text, which `rest` begins with.
+/// The node of a token that makes a leaf of its kind, and took the text, which `rest` begins with.
 #[inline(always)]
 pub fn leaf_node(
     alloc: Global,

@@ -47,7 +47,7 @@ fn suffix_start(found: NumberFault, text: &str) -> Scanner<'_>
     s
 }
 
-/// Goes past the digits of a base, behind the two characters that name it.
+/// Goes past the digits of a base, after the two characters that name it.
 fn pass_based(s: &mut Scanner<'_>, base: Base)
     ensures { place s.new ≡ past (is_digit_of base) (moved 2 (place s.old)) }
 {
@@ -70,7 +70,7 @@ fn pass_decimal(s: &mut Scanner<'_>)
     }
 }
 
-/// What a decimal number is made of before its exponent.
+/// The set of the characters of a decimal number before its exponent.
 #[derive(Clone, Copy)]
 struct Decimal;
 
@@ -82,7 +82,7 @@ impl CharSet for Decimal {
     }
 }
 
-/// What an exponent begins with.
+/// The set of the characters that an exponent begins with.
 #[derive(Clone, Copy)]
 struct ExponentSign;
 
@@ -94,7 +94,7 @@ impl CharSet for ExponentSign {
     }
 }
 
-/// A sign.
+/// The set of the signs.
 #[derive(Clone, Copy)]
 struct Sign;
 
@@ -155,7 +155,7 @@ fn name_of(base: Base) -> &'static str
     }
 }
 
-/// Adds the hint that goes with it, if there is one.
+/// Adds the hint for a number's fault, if there is one.
 fn add_hint(
     alloc: Global,
     node: &mut SyntaxNode,
@@ -174,7 +174,7 @@ fn add_hint(
     }
 }
 
-/// Tells of a suffix that no number has.
+/// Adds the hint for a suffix that no number has, if this is one.
 fn add_suffix(alloc: Global, node: &mut SyntaxNode, suffix: &str) -> Result<(), AllocError>
     ensures { OnOk result (node.new ≡ all_advised (spec.suffix_hints suffix.now) node.old) }
 {
@@ -185,7 +185,7 @@ fn add_suffix(alloc: Global, node: &mut SyntaxNode, suffix: &str) -> Result<(), 
     node.hint(hint.as_str())
 }
 
-/// Asks for decimal digits, or tells of a suffix that no number has.
+/// Adds the hint to write decimal digits, or the one for a suffix that no number has.
 fn add_decimal(
     alloc: Global,
     node: &mut SyntaxNode,
@@ -210,7 +210,7 @@ fn in_decimal(alloc: Global, base: Base, before: &str, suffix: &str) -> Result<S
     format!(in alloc; "try using a decimal number: `{value}{suffix}`")
 }
 
-/// The number that the digits behind the first two characters write.
+/// The number that the digits after the first two characters write.
 fn value_of(base: Base, before: &str) -> u64
     ensures { result ≡ spec.value_of base (drop 2 (chars before.now)) }
 {

@@ -14,8 +14,8 @@ use typst_lines::Scanner;
 use typst_tokens::Fault;
 use typst_tree::SyntaxNode;
 
-/// The node of a raw text, whose characters begin with its backticks and end with them again. Where
-/// they don't, it is the error of an unclosed one.
+/// The node of a raw text, whose characters begin with its backticks and end with them again. If they don't, it is
+/// the error of an unclosed one.
 pub fn raw_node(alloc: Global, text: &str) -> Result<SyntaxNode, AllocError>
     ensures { IfOk result (λ node. node ≡ spec.raw_node (chars text.now)) }
 {
@@ -51,7 +51,7 @@ fn two_delimiters(alloc: Global) -> Result<SyntaxNode, AllocError>
     Ok(SyntaxNode::inner(SyntaxKind::Raw, leaves))
 }
 
-/// The place in the text before the backticks that it ends in, where there are so many.
+/// The place in the text before the backticks that it ends in, if there are so many.
 fn before_ticks(text: &str, count: usize) -> Option<Scanner<'_>>
     ensures { MatchOption result (spec.before_ticks count (chars text.now) ≡ None) (λ s. spec.before_ticks count (chars text.now) ≡ Some (reverse (place s).before)) }
 {
@@ -106,7 +106,7 @@ fn block_node(alloc: Global, delim: &str, inner: &str) -> Result<SyntaxNode, All
     Ok(node)
 }
 
-/// Adds a tag, where there is one.
+/// Adds the leaf of a tag, if there is one.
 fn push_tag(leaves: &mut Vec<SyntaxNode>, tag: &str) -> Result<(), AllocError>
     ensures { OnOk result (leaves.new.items ≡ leaves.old.items ++ spec.tag_leaves (chars tag.now)) }
 {

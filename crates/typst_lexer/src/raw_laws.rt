@@ -16,7 +16,7 @@ pub fn block_raws()
     ensures { law.BlockRaws }
 {}
 
-/// What is a tag, and what is warned of.
+/// What the tags of some texts are, and the warning of a text that is nothing but a tag.
 pub fn tagged_raws()
     ensures { law.TaggedRaws }
 {}

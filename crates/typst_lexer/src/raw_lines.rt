@@ -30,7 +30,7 @@ pub(crate) fn push_leaf(
     Ok(())
 }
 
-/// Adds a leaf of what is trimmed, where it is anything.
+/// Adds a leaf of what is trimmed, if that is anything.
 fn push_trimmed(leaves: &mut Vec<SyntaxNode>, text: &str) -> Result<(), AllocError>
     ensures { OnOk result (leaves.new.items ≡ leaves.old.items ++ spec.trimmed (chars text.now)) }
 {
@@ -40,7 +40,7 @@ fn push_trimmed(leaves: &mut Vec<SyntaxNode>, text: &str) -> Result<(), AllocErr
     Ok(())
 }
 
-/// Adds the leaves of what stands between single backticks.
+/// Adds the leaves of what is between single backticks.
 pub(crate) fn push_inline(leaves: &mut Vec<SyntaxNode>, text: &str) -> Result<(), AllocError>
     ensures { OnOk result (leaves.new.items ≡ leaves.old.items ++ spec.inline_leaves (chars text.now)) }
 {
@@ -50,7 +50,7 @@ pub(crate) fn push_inline(leaves: &mut Vec<SyntaxNode>, text: &str) -> Result<()
     Ok(())
 }
 
-/// Adds the leaves of what stands between three or more backticks, behind the tag.
+/// Adds the leaves of what is between three or more backticks, after the tag.
 pub(crate) fn push_block(leaves: &mut Vec<SyntaxNode>, text: &str) -> Result<(), AllocError>
     ensures { OnOk result (leaves.new.items ≡ leaves.old.items ++ spec.block_leaves (chars text.now)) }
 {
@@ -90,7 +90,7 @@ fn push_first(leaves: &mut Vec<SyntaxNode>, line: &str) -> Result<(), AllocError
 }
 
 /// Adds the leaves of the lines from a line end on: of each the line end and up to `dedent`
-/// characters are trimmed. What stands between `from` and the first line end is trimmed with it.
+/// characters are trimmed. What is between `from` and the first line end is trimmed with it.
 fn push_lines<'a>(
     leaves: &mut Vec<SyntaxNode>,
     from: &Scanner<'a>,

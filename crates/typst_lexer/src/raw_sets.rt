@@ -6,7 +6,7 @@ ghost use Rattle.typst_lexer.specs.RawTag.{in_tag};
 
 use typst_lines::CharSet;
 
-/// Backticks.
+/// The set of the backtick alone.
 #[derive(Clone, Copy)]
 pub(crate) struct Tick;
 
@@ -19,7 +19,7 @@ impl CharSet for Tick {
     }
 }
 
-/// What has the property White_Space.
+/// The set of the characters with the property White_Space.
 #[derive(Clone, Copy)]
 pub(crate) struct Whitespace;
 
@@ -32,7 +32,7 @@ impl CharSet for Whitespace {
     }
 }
 
-/// What a language tag is made of.
+/// The set of the characters that a language tag can have.
 #[derive(Clone, Copy)]
 pub(crate) struct InTag;
 

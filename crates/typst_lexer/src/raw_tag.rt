@@ -1,4 +1,4 @@
-//! The language tag of a raw text, and what is warned of.
+//! The language tag of a raw text, and the warning of a text that is nothing but a tag.
 ghost use Rattle.std.specs.Prelude.{◌≡◌, ◌+◌, ◌<◌, ◌^◌, length, drop, reverse, OnOk};
 ghost use Rattle.std.specs.Str.{chars};
 ghost use Rattle.typst_lines.specs.Scanner.{place};
@@ -10,7 +10,7 @@ use typst_kinds::SubRange;
 use typst_lines::Scanner;
 use typst_tree::SyntaxNode;
 
-/// The place behind the tag in what stands behind the backticks.
+/// The place after the tag in what is after the backticks.
 pub(crate) fn split_tag(inner: &str) -> Scanner<'_>
     ensures tag { reverse (place result).before ≡ spec.tag (chars inner.now) }
     ensures rest { (place result).ahead ≡ drop (length (spec.tag (chars inner.now))) (chars inner.now) }
@@ -20,7 +20,7 @@ pub(crate) fn split_tag(inner: &str) -> Scanner<'_>
     s
 }
 
-/// Warns of a tag that is all there is.
+/// Adds the warning of a tag that is all there is, if it is.
 pub(crate) fn warn(
     alloc: Global,
     node: &mut SyntaxNode,
@@ -44,7 +44,7 @@ fn is_whole(tag: &str, inner: &str) -> bool
     !tag.is_empty() && tag.len() == inner.len()
 }
 
-/// Warns that there is a tag and nothing else.
+/// Adds the warning that there is a tag and nothing else.
 fn warn_only_tag(
     alloc: Global,
     node: &mut SyntaxNode,

@@ -8,6 +8,7 @@ use typst_lines::classes::Classes;
 use typst_tokens::common::sign;
 use typst_tokens::{Cursor, Token};
 
+/// A shorthand that begins with a hyphen, or the hyphen alone, which is one too.
 #[tactic(auto, unfolding(crate::specs::Shorthands::hyphen))]
 pub(crate) fn hyphen(s: &mut Cursor<'_>) -> Token
     ensures { Reads spec.hyphen s.old result s.new }
@@ -24,6 +25,7 @@ pub(crate) fn hyphen(s: &mut Cursor<'_>) -> Token
     sign(s, SyntaxKind::MathShorthand)
 }
 
+/// A shorthand that begins with a tilde, or the tilde alone, which is one too.
 #[tactic(auto, unfolding(crate::specs::Shorthands::tilde))]
 pub(crate) fn tilde(s: &mut Cursor<'_>) -> Token
     ensures { Reads spec.tilde s.old result s.new }
@@ -37,6 +39,7 @@ pub(crate) fn tilde(s: &mut Cursor<'_>) -> Token
     sign(s, SyntaxKind::MathShorthand)
 }
 
+/// A shorthand that begins with a colon, or a cluster.
 #[tactic(auto, unfolding(crate::specs::Shorthands::colon))]
 pub(crate) fn colon<C: Classes>(s: &mut Cursor<'_>, classes: &C) -> Token
     ensures { Reads (spec.colon (C.classes classes.now)) s.old result s.new }
@@ -50,6 +53,7 @@ pub(crate) fn colon<C: Classes>(s: &mut Cursor<'_>, classes: &C) -> Token
     cluster(s, classes)
 }
 
+/// A shorthand that begins with an equals sign, or a cluster.
 #[tactic(auto, unfolding(crate::specs::Shorthands::equals))]
 pub(crate) fn equals<C: Classes>(s: &mut Cursor<'_>, classes: &C) -> Token
     ensures { Reads (spec.equals (C.classes classes.now)) s.old result s.new }
@@ -66,6 +70,7 @@ pub(crate) fn equals<C: Classes>(s: &mut Cursor<'_>, classes: &C) -> Token
     cluster(s, classes)
 }
 
+/// A shorthand that begins with `>`, or a cluster.
 #[tactic(auto, unfolding(crate::specs::Shorthands::greater))]
 pub(crate) fn greater<C: Classes>(s: &mut Cursor<'_>, classes: &C) -> Token
     ensures { Reads (spec.greater (C.classes classes.now)) s.old result s.new }
@@ -85,6 +90,7 @@ pub(crate) fn greater<C: Classes>(s: &mut Cursor<'_>, classes: &C) -> Token
     cluster(s, classes)
 }
 
+/// A shorthand that begins with `<`, or a cluster.
 #[tactic(auto, unfolding(crate::specs::Shorthands::less))]
 pub(crate) fn less<C: Classes>(s: &mut Cursor<'_>, classes: &C) -> Token
     ensures { Reads (spec.less (C.classes classes.now)) s.old result s.new }
@@ -98,7 +104,7 @@ pub(crate) fn less<C: Classes>(s: &mut Cursor<'_>, classes: &C) -> Token
     less_middle(s, classes)
 }
 
-/// The shorthands of three characters, and shorter ones.
+/// The shorthands of `<` with three characters, and shorter ones.
 #[tactic(auto, unfolding(crate::specs::Shorthands::less_middle))]
 fn less_middle<C: Classes>(s: &mut Cursor<'_>, classes: &C) -> Token
     ensures { Reads (spec.less_middle (C.classes classes.now)) s.old result s.new }
@@ -130,7 +136,7 @@ fn less_middle<C: Classes>(s: &mut Cursor<'_>, classes: &C) -> Token
     less_short(s, classes)
 }
 
-/// The shorthands of two characters, or `<` alone.
+/// The shorthands of `<` with two characters, or a cluster.
 #[tactic(auto, unfolding(crate::specs::Shorthands::less_short))]
 fn less_short<C: Classes>(s: &mut Cursor<'_>, classes: &C) -> Token
     ensures { Reads (spec.less_short (C.classes classes.now)) s.old result s.new }
@@ -182,6 +188,7 @@ pub(crate) fn bracket(s: &mut Cursor<'_>) -> Token
     Token::plain(SyntaxKind::LeftBrace)
 }
 
+/// `!=`, or `!` alone.
 #[tactic(auto, unfolding(crate::specs::Shorthands::bang))]
 pub(crate) fn bang(s: &mut Cursor<'_>) -> Token
     ensures { Reads spec.bang s.old result s.new }
@@ -192,6 +199,7 @@ pub(crate) fn bang(s: &mut Cursor<'_>) -> Token
     sign(s, SyntaxKind::Bang)
 }
 
+/// Three dots, which are a shorthand, or one dot.
 #[tactic(auto, unfolding(crate::specs::Shorthands::dot))]
 pub(crate) fn dot(s: &mut Cursor<'_>) -> Token
     ensures { Reads spec.dot s.old result s.new }

@@ -1,4 +1,4 @@
--- What is found in bytes that are looked at many at a time (of private clauses).
+-- What is found in bytes that are looked at many at a time (for private clauses).
 use Rattle.std.specs.Prelude.{◌≡◌, ◌≢◌, ℕ, ◌+◌, ◌-◌, ◌<◌, ◌≤◌, Bool, true, false, not, ◌&&◌, ◌||◌, ◌==◌, if◌then◌else◌, nat_le, nat_lt, List, length, take, drop, slice_index, slice_range}
 use Rattle.std.specs.Int.{w64, trailing_zeros}
 use Rattle.std.specs.Str.{IsCharBoundary}
@@ -43,7 +43,7 @@ pub record IsPlainFront (bytes : List ℕ) (at n run : ℕ) : Type 0 where
   pub plain : (k : ℕ) → at ≤ k → k < at + run → is_plain_byte (slice_index bytes k) ≡ true
   pub stops : run < n → is_plain_byte (slice_index bytes (at + run)) ≡ false
 
--- the place of the lowest bit that is set, or n
+-- the place of the lowest bit that is set, or n if none is
 abbrev pub first_set : ℕ → ℕ → ℕ
 first_set mask n = if mask == 0 then n else trailing_zeros w64 mask
 

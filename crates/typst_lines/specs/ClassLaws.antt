@@ -5,30 +5,37 @@ use Rattle.std.specs.Char.{is_ascii, is_ascii_alphabetic, is_ascii_alphanumeric,
 use Rattle.std.specs.List.{list_all}
 use Rattle.typst_lines.specs.Classes.{CharClasses, IsLawful, OnAscii, InNoClass, by_law, kept, ascii_continue, ascii_math}
 
+-- an ASCII character has the answer for ASCII
 kept-ascii : {A : Type 0} (none : A) (on_ascii beyond : ℕ → A) (c : ℕ) → is_ascii c ≡ true → kept none on_ascii beyond c ≡ on_ascii c
 kept-ascii none on_ascii beyond c e = rw e refl
 
+-- white space has the answer for no class
 kept-white : {A : Type 0} (none : A) (on_ascii beyond : ℕ → A) (c : ℕ) → is_whitespace c ≡ true → (is_ascii c ≡ true → on_ascii c ≡ none) → kept none on_ascii beyond c ≡ none
 kept-white none on_ascii beyond c w a =
     elim (is_ascii c) as (λ b. (b ≡ true → on_ascii c ≡ none) → (if b then on_ascii c else (if is_whitespace c then none else beyond c)) ≡ none)
     [ true ↦ λ h. h refl | false ↦ λ _. rw w refl ] a
 
--- ASCII white space is neither letter, digit, underscore nor bracket
+-- ASCII white space isn't a letter
 no_letter : (c : ℕ) → is_whitespace c ≡ true → is_ascii c ≡ true → is_ascii_alphabetic c ≡ false
 no_letter c w a = grind (arith, nat_tests)
 
+-- ASCII white space is neither a letter nor a digit
 no_alphanumeric : (c : ℕ) → is_whitespace c ≡ true → is_ascii c ≡ true → is_ascii_alphanumeric c ≡ false
 no_alphanumeric c w a = grind (arith, nat_tests)
 
+-- ASCII white space isn't a digit
 no_digit : (c : ℕ) → is_whitespace c ≡ true → is_ascii c ≡ true → is_ascii_digit c ≡ false
 no_digit c w a = grind (arith, nat_tests)
 
+-- ASCII white space doesn't continue an identifier
 no_continue : (c : ℕ) → is_whitespace c ≡ true → is_ascii c ≡ true → ascii_continue c ≡ false
 no_continue c w a = grind (arith, nat_tests)
 
+-- ASCII white space has no class in formulas
 no_math : (c : ℕ) → is_whitespace c ≡ true → is_ascii c ≡ true → ascii_math c ≡ None
 no_math c w a = grind (arith, nat_tests)
 
+-- answers by the law are fixed at ASCII characters
 by_law-ascii : (beyond : CharClasses) (c : ℕ) → is_ascii c ≡ true → OnAscii (by_law beyond) c
 by_law-ascii beyond c a = record {
   xid_start = kept-ascii false is_ascii_alphabetic beyond.xid_start c a;
@@ -40,6 +47,7 @@ by_law-ascii beyond c a = record {
   math = kept-ascii None ascii_math beyond.math c a;
 }
 
+-- answers by the law say of white space that it is in no class
 by_law-white : (beyond : CharClasses) (c : ℕ) → is_whitespace c ≡ true → InNoClass (by_law beyond) c
 by_law-white beyond c w = record {
   xid_start = kept-white false is_ascii_alphabetic beyond.xid_start c w (no_letter c w);

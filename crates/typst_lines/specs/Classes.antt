@@ -50,7 +50,7 @@ pub record InNoClass (k : CharClasses) (c : ℕ) : Type 0 where
   pub word : k.word c ≡ false
   pub math : k.math c ≡ None
 
--- A character that stands within a line.
+-- A character that isn't a newline character.
 abbrev pub in_line : ℕ → Bool
 in_line c = not (is_newline c)
 

@@ -14,11 +14,12 @@ pub record IsEdit (old new : List ℕ) (start end new_end : ℕ) : Type 0 where
   pub is : new ≡ take start old ++ (with ++ drop end old)
   pub new_end_is : new_end ≡ start + length with
 
--- the units before the first of several lines
+-- the UTF-16 units before the first of several lines, or 0 if there is none
 abbrev pub units_at : List Line → ℕ
 units_at [] = 0
 units_at (l ∷ ls) = l.utf16_idx
 
--- as many bytes and units behind other ones as it was behind some, in numbers that a machine word holds
+-- the line as far after byte c and unit v as it was after byte b and unit u, in numbers that a
+-- machine word holds
 abbrev pub moved_line : ℕ → ℕ → ℕ → ℕ → Line → Line
 moved_line b c u v l = record { byte_idx = min (l.byte_idx - b + c) (2 ^ 64 - 1); utf16_idx = min (l.utf16_idx - u + v) (2 ^ 64 - 1) }

@@ -7,7 +7,7 @@ use Rattle.typst_lines.specs.Classes.{CharClasses}
 abbrev pub is_id_start : CharClasses → ℕ → Bool
 is_id_start k c = k.xid_start c || c == 95
 
--- It goes on with characters of the class, underscores and hyphens.
+-- An identifier goes on with characters of the class, underscores and hyphens.
 abbrev pub is_id_continue : CharClasses → ℕ → Bool
 is_id_continue k c = k.xid_continue c || c == 95 || c == 45
 

@@ -5,7 +5,7 @@ use Rattle.typst_lines.specs.Classes.{CharClasses}
 use Rattle.typst_lines.specs.Identifiers.{is_id_continue}
 use Rattle.typst_lines.specs.Ends.{without_last}
 
--- They are made of what continues identifiers, colons and dots.
+-- The names of labels and references are made of what continues identifiers, colons and dots.
 abbrev pub is_name : CharClasses → ℕ → Bool
 is_name k c = is_id_continue k c || c == 58 || c == 46
 

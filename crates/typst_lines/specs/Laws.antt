@@ -2,6 +2,7 @@
 use Rattle.std.specs.Prelude.{◌≡◌, true, false, codes}
 use Rattle.typst_lines.specs.Links.{link_prefix}
 
+-- texts, the link that each begins with, and whether each of its brackets is closed
 pub record SomeLinks : Type 0 where
   pub wrong_closer : link_prefix (codes "(]") ≡ (codes "(", false)
   pub lone_closer : link_prefix (codes "a)b") ≡ (codes "a", true)

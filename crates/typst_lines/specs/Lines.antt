@@ -20,7 +20,7 @@ abbrev pub bytes : List ℕ → ℕ
 bytes [] = 0
 bytes (c ∷ cs) = char_width c + bytes cs
 
--- the place between these characters, the nearest first, and those
+-- the place after some characters, the nearest first, and before others
 abbrev pub between : List ℕ → List ℕ → Place
 between before ahead = record { before = before; ahead = ahead }
 
@@ -33,15 +33,17 @@ places_from before (c ∷ ahead) = between before (c ∷ ahead) ∷ places_from 
 abbrev pub places : List ℕ → List Place
 places text = places_from [] (chars text)
 
--- a line starts at the text's start and after each line end
+-- a line starts at the text's start and after each line end: by the characters before, and the next
+-- one
 abbrev pub starts_behind : List ℕ → Option ℕ → Bool
 starts_behind [] next = true
 starts_behind (c ∷ before) next = ends_line c next
 
+-- whether a line starts at a place
 abbrev pub starts_line : Place → Bool
 starts_line p = starts_behind p.before (scout 0 p)
 
--- how many bytes and UTF-16 units stand before a place
+-- how many bytes and UTF-16 units are before a place
 abbrev pub measured : Place → Line
 measured p = record { byte_idx = bytes p.before; utf16_idx = units p.before }
 
@@ -88,7 +90,7 @@ pub record IsLineUpTo (text : List ℕ) (utf16 : ℕ) (line : Line) : Type 0 whe
 unfoldable pub line_start : List ℕ → ℕ → Option ℕ
 line_start text line = option_map (λ l. l.byte_idx) (slice_get (line_table text) line)
 
--- how many characters stand between a byte offset and the start of its line
+-- how many characters are between a byte offset and the start of its line
 unfoldable pub column_of : List ℕ → ℕ → ℕ
 column_of text byte = length (chars (slice_range text (unwrap_or (line_start text (line_of text byte)) 0) byte))
 
@@ -107,14 +109,15 @@ byte_in_range text column range =
 unfoldable pub byte_at : List ℕ → ℕ → ℕ → Option ℕ
 byte_at text line column = option_and_then (byte_in_range text column) (line_range text line)
 
--- the least place with at least so many UTF-16 units before it
+-- the first place with at least so many UTF-16 units before it
 abbrev pub least_place : List ℕ → ℕ → Option Place
 least_place text utf16 = slice_get (filter (λ p. nat_le utf16 (units p.before)) (places text)) 0
 
--- its byte; none where that place is the text's end with more units before it
+-- the byte of that place; none if it is the text's end with more units before it
 abbrev pub byte_reached : ℕ → Place → Option ℕ
 byte_reached utf16 p = if nat_lt utf16 (units p.before) && length p.ahead == 0 then None else Some (bytes p.before)
 
+-- the byte with so many UTF-16 units before it; inside a pair of units the byte after the character
 unfoldable pub byte_at_utf16 : List ℕ → ℕ → Option ℕ
 byte_at_utf16 text utf16 = option_and_then (byte_reached utf16) (least_place text utf16)
 

@@ -12,16 +12,18 @@ signs = 33 ∷ 35 ∷ 36 ∷ 37 ∷ 38 ∷ 42 ∷ 43 ∷ 44 ∷ 45 ∷ 46 ∷ 47
 abbrev pub last_signs : List ℕ
 last_signs = 33 ∷ 44 ∷ 46 ∷ 58 ∷ 59 ∷ 63 ∷ 39 ∷ []
 
--- A character of links that is no bracket.
+-- A character of links that isn't a bracket.
 abbrev pub is_plain : ℕ → Bool
 is_plain c = is_ascii_alphanumeric c || among signs c
 
--- The closing brackets that are still to come, the innermost first, after one of them.
+-- The closing brackets that are still to come, the innermost first, after a closing bracket;
+-- nothing if it isn't the innermost.
 abbrev pub closed : List ℕ → ℕ → Option (List ℕ)
 closed [] c = None
 closed (d ∷ awaited) c = if d == c then Some awaited else None
 
--- The same after any character, or nothing where the link ends before it.
+-- The closing brackets that are still to come after any character, or nothing if the link ends
+-- before it.
 abbrev pub after : List ℕ → ℕ → Option (List ℕ)
 after awaited c =
     if c == 40 then Some (41 ∷ awaited)

@@ -38,11 +38,12 @@ woven [] ends = []
 woven (text ∷ texts) [] = text ++ woven texts []
 woven (text ∷ texts) (end ∷ ends) = text ++ (end ++ woven texts ends)
 
--- no newline character is among these
+-- no newline character is among the characters
 abbrev pub lacks_newlines : List ℕ → Bool
 lacks_newlines [] = true
 lacks_newlines (c ∷ cs) = not (is_newline c) && lacks_newlines cs
 
+-- no newline character is in any of the texts
 abbrev pub all_lack_newlines : List (List ℕ) → Bool
 all_lack_newlines [] = true
 all_lack_newlines (text ∷ texts) = lacks_newlines text && all_lack_newlines texts

@@ -23,12 +23,12 @@ pub record HasRoom (text removed : List ℕ) (capacity : ℕ) (s : Stretch) : Ty
   pub ordered : s.start ≤ s.new_end
   pub room : length text + length removed ≤ capacity
 
--- the lines behind the stretch, which stand before those that start in it now
+-- the lines of the table before the edit that start after the stretch
 abbrev pub lines_behind : Stretch → List Line → List Line
 lines_behind s lines = slice_range lines s.behind s.known
 
 -- the table of the edited text: the lines that stay, those that start in the stretch now, and those
--- behind it, moved
+-- after it, moved
 abbrev pub settled_lines : Stretch → List Line → List Line
 settled_lines s lines =
     take s.kept lines ++ (drop s.known lines ++ map (moved_line s.end s.new_end (units_at (lines_behind s lines)) s.utf16_idx) (lines_behind s lines))
@@ -46,12 +46,13 @@ abbrev pub UpTo : ℕ → List Line → Type 0
 UpTo b [] = Unit {0}
 UpTo b (l ∷ ls) = (l.byte_idx ≤ b) × UpTo b ls
 
--- the first line starts behind a byte and so many units, if there is one
+-- the first line starts after a byte and so many units, if there is one
 abbrev pub IsNext : ℕ → ℕ → List Line → Type 0
 IsNext b u [] = Unit {0}
 IsNext b u (l ∷ ls) = (b < l.byte_idx) × (u ≡ l.utf16_idx)
 
--- of the lines `starts` those up to a byte stand behind the old ones now, and so many units before the next
+-- the lines of `starts` up to a byte were added to the old ones, and so many units are before the
+-- next
 pub record AddsStarts (starts : List Line) (b u : ℕ) (old new : List Line) : Type 0 where
   pub fresh : List Line
   pub next : List Line

@@ -22,20 +22,24 @@ char_width c = len_utf8 c
 unfoldable pub place_at : List ℕ → ℕ → Place
 place_at text at = record { before = reverse (chars (take at text)); ahead = chars (drop at text) }
 
--- the place n characters on, or the text's end
+-- n characters on from the place after some characters, the nearest first, and before others; or
+-- the text's end
 abbrev pub moved_from : ℕ → List ℕ → List ℕ → Place
 moved_from zero before ahead = record { before = before; ahead = ahead }
 moved_from (suc n) before [] = record { before = before; ahead = [] }
 moved_from (suc n) before (c ∷ ahead) = moved_from n (c ∷ before) ahead
 
+-- the place n characters on, or the text's end
 abbrev pub moved : ℕ → Place → Place
 moved n p = moved_from n p.before p.ahead
 
--- the place one character back, or the text's start
+-- one character back from the place after some characters, the nearest first, and before others; or
+-- the text's start
 abbrev pub back_from : List ℕ → List ℕ → Place
 back_from [] ahead = record { before = []; ahead = ahead }
 back_from (c ∷ before) ahead = record { before = before; ahead = c ∷ ahead }
 
+-- the place one character back, or the text's start
 abbrev pub moved_back : Place → Place
 moved_back p = back_from p.before p.ahead
 
@@ -61,7 +65,7 @@ abbrev pub passes : (ℕ → Bool) → Option ℕ → Bool
 passes test None = false
 passes test (Some c) = test c
 
--- whether a word stands n places ahead
+-- whether the word begins n characters ahead
 abbrev pub word_at : ℕ → List ℕ → Place → Bool
 word_at n [] p = true
 word_at n (c ∷ word) p = passes (λ d. d == c) (scout n p) && word_at (suc n) word p
@@ -74,7 +78,7 @@ run test p = take (prefix_len test p.ahead) p.ahead
 abbrev pub past : (ℕ → Bool) → Place → Place
 past test p = moved (prefix_len test p.ahead) p
 
--- the character c stands in the text from one byte offset to the other
+-- the character c goes from one byte offset of the text to the other
 pub record IsStep (text : List ℕ) (at c end : ℕ) : Type 0 where
   pub grows : at < end
   pub width : end ≡ at + char_width c
@@ -83,18 +87,18 @@ pub record IsStep (text : List ℕ) (at c end : ℕ) : Type 0 where
   pub next : scout 0 (place_at text at) ≡ Some c
   pub moves : place_at text end ≡ moved 1 (place_at text at)
 
--- the character c stands in the text from one byte offset to the other, and one goes back over it
+-- the character c goes from one byte offset of the text to the other, and one goes back over it
 pub record IsStepBack (text : List ℕ) (start c at : ℕ) : Type 0 where
   pub boundary : IsCharBoundary text start
   pub last : slice_get (place_at text at).before 0 ≡ Some c
   pub moves : place_at text start ≡ moved_back (place_at text at)
 
--- no character stands before
+-- no character is before the byte offset
 pub record IsFirst (text : List ℕ) (at : ℕ) : Type 0 where
   pub last : slice_get (place_at text at).before 0 ≡ None
   pub stays : place_at text at ≡ moved_back (place_at text at)
 
--- no character follows
+-- no character is after the byte offset
 pub record IsLast (text : List ℕ) (at : ℕ) : Type 0 where
   pub next : scout 0 (place_at text at) ≡ None
   pub stays : place_at text at ≡ moved 1 (place_at text at)

@@ -2,8 +2,8 @@
 use Rattle.std.specs.Prelude.{◌≡◌, ℕ, ◌-◌, ◌≤◌, List, ◌++◌, length, take, drop, slice_range}
 use Rattle.std.specs.Str.{IsCharBoundary}
 
--- with so many bytes set aside at the front and at the end of both texts, what is left of the new
--- one in the place of what is left of the old one makes the new one
+-- with so many bytes set aside at the front and at the end of both texts, the old text with its
+-- middle replaced by the middle of the new one is the new one
 pub record Replaces (old new : List ℕ) (ends : ℕ × ℕ) : Type 0 where
   pub start : IsCharBoundary old ends.0
   pub end : IsCharBoundary old (length old - ends.1)

@@ -34,11 +34,11 @@ is_unspaced _ = false
 abbrev pub unicode_numeric : ℕ → Bool
 unicode_numeric c = is_number (general_category c)
 
--- A character is alphanumeric where it is alphabetic or numeric.
+-- A character is alphanumeric if it is alphabetic or numeric.
 abbrev pub unicode_alphanumeric : ℕ → Bool
 unicode_alphanumeric c = is_alphabetic c || unicode_numeric c
 
--- A character is one of a word where it is alphanumeric and its script puts spaces between words.
+-- A character is one of a word if it is alphanumeric and its script puts spaces between words.
 abbrev pub unicode_word : ℕ → Bool
 unicode_word c = unicode_alphanumeric c && not (is_unspaced (script c))
 
@@ -49,7 +49,7 @@ unicode_math c =
     else (if c == 0x2309 || c == 0x230b || c == 0x27e7 || c == 0x27e9 || c == 0x27eb || c == 0x27ed || c == 0x27ef then Some Closing
     else None)
 
--- How long the first of these pieces is; 1 where there is none.
+-- How long the first of some pieces is; 1 if there is none.
 abbrev pub first_len : List (List ℕ) → ℕ
 first_len [] = 1
 first_len (piece ∷ pieces) = length piece

@@ -6,10 +6,10 @@ ghost use Rattle.typst_lines.specs.Blocks.{BeginAlike, EndAlike, IsOfFirst, IsPl
 
 use std::simd::prelude::*;
 
-/// So many bytes are compared at a time.
+/// How many bytes are compared at a time.
 const BLOCK: usize = 64;
 
-/// So many bytes make a load: they are tested, or measured, at a time.
+/// How many bytes make a load: they are tested, or measured, at a time.
 pub(crate) const LANES: usize = 16;
 
 /// How many bytes two slices begin with alike, in whole blocks, which `==` compares many bytes at a time.

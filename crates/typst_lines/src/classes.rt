@@ -8,11 +8,11 @@ ghost use Rattle.typst_lines.specs.Identifiers as spec;
 /// What a character does in a formula.
 #[derive(Debug, Clone, Copy, PartialEq, Eq)]
 pub enum MathClass {
-    /// It opens a delimited part.
+    /// The character opens a delimited part.
     Opening,
-    /// It closes a delimited part.
+    /// The character closes a delimited part.
     Closing,
-    /// It stands for itself, like a letter.
+    /// The character stands for itself, like a letter.
     Alphabetic,
 }
 

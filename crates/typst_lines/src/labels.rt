@@ -14,7 +14,7 @@ pub fn is_valid_in_label_literal<C: Classes>(c: char, classes: &C) -> bool
     is_id_continue(c, classes) || c == ':' || c == '.'
 }
 
-/// What the names of labels and references are made of.
+/// The set of the characters that names of labels and references can have.
 #[derive(Clone, Copy)]
 pub struct InName<'a, C: Classes>(pub &'a C);
 
@@ -27,7 +27,7 @@ impl<C: Classes> CharSet for InName<'_, C> {
     }
 }
 
-/// What the name of a reference doesn't end in.
+/// The set of the characters that the name of a reference doesn't end in.
 #[derive(Clone, Copy)]
 struct LastMarks;
 
@@ -40,7 +40,7 @@ impl CharSet for LastMarks {
     }
 }
 
-/// The name of a reference, which the text is but for colons and dots at its end.
+/// The name of a reference: the text without the colons and dots at its end.
 pub fn ref_name(text: &str) -> &str
     ensures { chars result.now ≡ spec.ref_name (chars text.now) }
 {

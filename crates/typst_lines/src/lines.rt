@@ -76,7 +76,8 @@ impl Line {
         self.utf16_idx
     }
 
-    /// Moves the line to as many bytes and units behind other ones as it was behind some.
+    /// Moves the line: it is as far after byte `new_end` and unit `utf16_idx` as it was after byte `end` and unit
+    /// `base`.
     #[inline]
     fn shift(&mut self, end: usize, new_end: usize, base: usize, utf16_idx: usize)
         ensures { self.new ≡ moved_line end new_end base utf16_idx self.old }
@@ -195,7 +196,7 @@ fn plain_end(text: &str, start: usize) -> usize
     at
 }
 
-/// Whether the next two bytes are ASCII characters that aren't newline characters. Where they aren't, the
+/// Whether the next two bytes are ASCII characters that aren't newline characters. If they aren't, the
 /// run is one byte at most, as in text of other scripts most are, and a load costs more than it saves.
 #[inline]
 fn starts_run(bytes: &[u8], at: usize) -> bool
@@ -237,7 +238,7 @@ impl<S: Text> Model for Lines<S> {
 }
 
 impl<S: Text> Lines<S> {
-    /// The lines of a text.
+    /// The lines of a text. Goes through the text once, and takes memory for the table.
     pub fn new(alloc: Global, text: S) -> Result<Lines<S>, AllocError>
         ensures { IfOk result (λ lines. lines ≡ S.bytes text) }
     {
@@ -260,7 +261,7 @@ impl<S: Text> Lines<S> {
         self.text().len()
     }
 
-    /// The text's length in UTF-16 units.
+    /// The text's length in UTF-16 units. Goes through the last line.
     pub fn len_utf16(&self) -> usize
         ensures { result ≡ units (chars self.now) }
     {
@@ -283,7 +284,8 @@ impl<S: Text> Lines<S> {
         self.lines.get(line_idx).copied()
     }
 
-    /// The UTF-16 units before a byte offset; none past the text or inside a character.
+    /// The UTF-16 units before a byte offset; none past the text or inside a character. Goes through the line up
+    /// to it.
     pub fn byte_to_utf16(&self, byte_idx: usize) -> Option<usize>
         ensures value { SomeIff result (IsCharBoundary self.now byte_idx) (utf16_before self.now byte_idx) }
         ensures back { IfSome result (λ utf16. byte_at_utf16 self.now utf16 ≡ Some byte_idx) }
@@ -296,7 +298,7 @@ impl<S: Text> Lines<S> {
         Some(line.utf16_idx + len_utf16(&text[line.byte_idx..byte_idx]))
     }
 
-    /// The number of the line that holds a byte offset; none past the text.
+    /// The number of the line that holds a byte offset; none past the text. A binary search in the table.
     pub fn byte_to_line(&self, byte_idx: usize) -> Option<usize>
         ensures { SomeIff result (byte_idx ≤ length self.now) (line_of self.now byte_idx) }
     {
@@ -306,8 +308,8 @@ impl<S: Text> Lines<S> {
         Some(self.line_holding(byte_idx))
     }
 
-    /// How many characters stand between the start of its line and a byte offset; none past the text
-    /// or inside a character.
+    /// How many characters are between the start of its line and a byte offset; none past the text
+    /// or inside a character. Goes through the line up to it.
     pub fn byte_to_column(&self, byte_idx: usize) -> Option<usize>
         ensures { SomeIff result (IsCharBoundary self.now byte_idx) (column_of self.now byte_idx) }
     {
@@ -315,7 +317,8 @@ impl<S: Text> Lines<S> {
         Some(column)
     }
 
-    /// The line and the column of a byte offset; none past the text or inside a character.
+    /// The line and the column of a byte offset; none past the text or inside a character. Goes through the line
+    /// up to it.
     pub fn byte_to_line_column(&self, byte_idx: usize) -> Option<(usize, usize)>
         ensures value { SomeIff result (IsCharBoundary self.now byte_idx) (line_of self.now byte_idx, column_of self.now byte_idx) }
         ensures back { IfSome result (λ position. byte_at self.now position.0 position.1 ≡ Some byte_idx) }
@@ -330,7 +333,7 @@ impl<S: Text> Lines<S> {
     }
 
     /// The byte offset with so many UTF-16 units before it; inside a pair the offset after the
-    /// character, but none where that is the text's end.
+    /// character, but none if that is the text's end. Goes through the line up to it.
     pub fn utf16_to_byte(&self, utf16_idx: usize) -> Option<usize>
         ensures { result ≡ byte_at_utf16 self.now utf16_idx }
     {
@@ -372,7 +375,8 @@ impl<S: Text> Lines<S> {
         Some(start.byte_idx..end)
     }
 
-    /// The byte offset so many characters into a line; none where the line and its end hold fewer.
+    /// The byte offset so many characters into a line; none if the line and its end hold fewer. Goes through the
+    /// line up to it.
     pub fn line_column_to_byte(&self, line_idx: usize, column_idx: usize) -> Option<usize>
         ensures { result ≡ byte_at self.now line_idx column_idx }
     {
@@ -427,7 +431,7 @@ impl<S: Text> Lines<S> {
 }
 
 impl Lines<String> {
-    /// A copy.
+    /// A copy of the text and its line table.
     pub fn try_clone(&self) -> Result<Lines<String>, AllocError>
         ensures { IfOk result (λ lines. lines ≡ self.now) }
     {
@@ -456,7 +460,7 @@ impl Lines<String> {
     }
 
     /// The bytes of the longest common front of the text and another, in whole characters, and of
-    /// the longest common end of what is left of both; none where the texts are equal.
+    /// the longest common end of what is left of both; none if the texts are equal.
     #[tactic(auto, unfolding(crate::specs::Lines::common_ends))]
     pub fn replacement_range(&self, new: &str) -> Option<(usize, usize)>
         ensures value { MatchOption result (self.now ≡ new.now) (λ ends. (self.now ≢ new.now) × (ends ≡ common_ends self.now new.now)) }
@@ -483,12 +487,12 @@ impl Lines<String> {
         Ok(())
     }
 
-    /// Puts a text in the place of a range of bytes, as `edit` does, and hands the lines out, so that the
-    /// edit can be taken back without a request for memory. The lines of the empty text stand here until
-    /// those come back. After an error nothing has changed.
+    /// Puts a text in the place of a range of bytes, as `edit` does, and hands the lines out, so that the edit can
+    /// be taken back without a request for memory. The lines of the empty text take their place until they come
+    /// back. After an error nothing has changed.
     ///
-    /// It asks for memory for the removed text and the empty text's one line, and for more room only
-    /// where the text or the table has none left.
+    /// It asks for memory for the removed text and the empty text's one line, and for more room only where the
+    /// text or the table has none left.
     pub fn start_edit(
         &mut self,
         replace: Range<usize>,
@@ -513,7 +517,7 @@ impl Lines<String> {
         }
     }
 
-    /// The lines with a text in the place of a range of bytes, or the same lines where memory is wanting.
+    /// The lines with a text in the place of a range of bytes, or the lines as they were if memory is refused.
     fn edited(self, start: usize, end: usize, with: &str) -> Result<EditedLines, Lines<String>>
         requires start { IsCharBoundary self start }
         requires end { IsCharBoundary self end }
@@ -565,14 +569,14 @@ impl Lines<String> {
 #[derive(Clone, Copy)]
 struct Stretch {
     start: usize,
-    /// Where it ended, and where it ends now.
+    /// Where the stretch ended, and where it ends now.
     end: usize,
     new_end: usize,
-    /// How many lines stay, from which one on they start behind the stretch, and how many there were.
+    /// How many lines stay, from which one on they start after the stretch, and how many there were.
     kept: usize,
     behind: usize,
     known: usize,
-    /// The units before the first line behind the stretch now.
+    /// The units before the first line after the stretch now.
     utf16_idx: usize,
 }
 
@@ -607,7 +611,7 @@ impl EditedLines {
         self.text.as_str()
     }
 
-    /// The lines after the edit. It asks for no memory, and goes through the lines behind the stretch.
+    /// The lines after the edit. It asks for no memory, and goes through the lines after the stretch.
     pub fn keep(self) -> Lines<String>
         ensures { result ≡ self.after }
     {
@@ -762,8 +766,8 @@ fn put_text(text: &mut String, start: usize, end: usize, with: &str)
     }
 }
 
-/// Adds the lines of a text that start behind one of its lines and up to a byte. It answers the units
-/// before the next line, if there is one. After an error nothing has changed.
+/// Adds the lines of a text that start after one of its lines and up to a byte. Returns the UTF-16 units before
+/// the next line, if there is one. After an error nothing has changed.
 fn add_starts(
     lines: &mut Vec<Line>,
     text: &str,
@@ -787,8 +791,8 @@ fn add_starts(
     Ok(0)
 }
 
-/// Brings the lines that stand behind a table to the place of those of a stretch, which come to the end,
-/// and moves the lines behind the stretch.
+/// Makes the table that of the edited text: the lines after the old table take the place of those that started in
+/// the stretch, which come to the end, and the lines after the stretch are moved.
 fn settle(lines: &mut [Line], stretch: Stretch)
     requires kept { stretch.kept ≤ stretch.behind }
     requires behind { stretch.behind ≤ stretch.known }
@@ -801,7 +805,7 @@ fn settle(lines: &mut [Line], stretch: Stretch)
     bring_back(lines, stretch.kept + fresh, stretch.behind - stretch.kept);
 }
 
-/// Moves the lines of a table behind a stretch.
+/// Moves the lines that start after a stretch to where they start in the edited text.
 fn move_behind(lines: &mut [Line], stretch: Stretch)
     requires behind { stretch.behind ≤ stretch.known }
     requires known { stretch.known ≤ length lines.old }
@@ -811,8 +815,8 @@ fn move_behind(lines: &mut [Line], stretch: Stretch)
     move_lines(behind, stretch.end, stretch.new_end, stretch.utf16_idx);
 }
 
-/// Moves lines that start behind a byte to where they start if that is another byte now, and the first
-/// of them stands behind so many UTF-16 units.
+/// Moves lines that start after byte `end` so that they start as far after byte `new_end`, and the first of them
+/// has so many UTF-16 units before it.
 fn move_lines(lines: &mut [Line], end: usize, new_end: usize, utf16_idx: usize)
     ensures { lines.new ≡ map (moved_line end new_end (units_at lines.old) utf16_idx) lines.old }
 {
@@ -825,7 +829,7 @@ fn move_lines(lines: &mut [Line], end: usize, new_end: usize, utf16_idx: usize)
     }
 }
 
-/// Brings the last so many items to the place `at`.
+/// Brings the last `count` items to the place `at`, before the others from there on.
 fn bring_forward<T>(items: &mut [T], at: usize, count: usize)
     requires { at + count ≤ length items.old }
     ensures { let rest = drop at items.old in items.new ≡ take at items.old ++ (drop (length rest - count) rest ++ take (length rest - count) rest) }
@@ -833,7 +837,7 @@ fn bring_forward<T>(items: &mut [T], at: usize, count: usize)
     items[at..].rotate_right(count);
 }
 
-/// Brings so many items from the place `at` to the end.
+/// Brings `count` items from the place `at` to the end.
 fn bring_back<T>(items: &mut [T], at: usize, count: usize)
     requires { at + count ≤ length items.old }
     ensures { let rest = drop at items.old in items.new ≡ take at items.old ++ (drop count rest ++ take count rest) }

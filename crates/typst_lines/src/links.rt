@@ -40,7 +40,7 @@ impl Brackets {
         Ok(())
     }
 
-    /// Takes the innermost bracket away if it is that one.
+    /// Takes the innermost of the awaited brackets away if it is this one, and says whether it is.
     fn close(&mut self, closing: char) -> bool
         ensures turn { spec.closed self.old closing ≡ (if result then Some self.new else None) }
         ensures same { OnFalse result (self.new ≡ self.old) }
@@ -54,7 +54,7 @@ impl Brackets {
         }
     }
 
-    /// Whether a link goes on through the character, which is then before.
+    /// Takes a character into the link if the link goes on with it, and says whether it does.
     fn pass(&mut self, c: char) -> Result<bool, AllocError>
         ensures turn { IfOk result (λ goes_on. spec.after self.old c ≡ (if goes_on then Some self.new else None)) }
         ensures same { IfOk result (λ goes_on. OnFalse goes_on (self.new ≡ self.old)) }
@@ -91,7 +91,7 @@ pub fn link_prefix(alloc: Global, text: &str) -> Result<(&str, bool), AllocError
     Ok((without_last_signs(s.before()), balanced))
 }
 
-/// Eats the longest front of a link, and says whether each bracket is closed.
+/// Eats the longest front of a link, and says whether each of its brackets is closed.
 pub fn eat_front(alloc: Global, s: &mut Scanner<'_>) -> Result<bool, AllocError>
     ensures same_text { OnOk result (s.new.text.now ≡ s.old.text.now) }
     ensures front { OnOk result (place s.new ≡ moved (length (spec.front [] (place s.old).ahead).0) (place s.old)) }
@@ -107,14 +107,14 @@ pub fn eat_front(alloc: Global, s: &mut Scanner<'_>) -> Result<bool, AllocError>
     Ok(brackets.is_empty())
 }
 
-/// The text without the marks of a sentence at its end.
+/// The text without the marks of a sentence that no link ends in, at its end.
 pub fn without_last_signs(text: &str) -> &str
     ensures { chars result.now ≡ spec.without_last_signs (chars text.now) }
 {
     without_last(text, &LastSigns)
 }
 
-/// Whether links can have the character, which is no bracket.
+/// Whether links can have the character, which isn't a bracket.
 fn is_plain(c: char) -> bool
     ensures { result ≡ spec.is_plain c }
 {
@@ -142,7 +142,7 @@ fn is_plain(c: char) -> bool
         )
 }
 
-/// The marks of a sentence that no link ends in.
+/// The set of the marks of a sentence that no link ends in.
 #[derive(Clone, Copy)]
 struct LastSigns;
 

@@ -87,7 +87,7 @@ impl<'a> Scanner<'a> {
         }
     }
 
-    /// The character with so many characters between the cursor and it.
+    /// The character ahead with `n` others between the cursor and it.
     fn nth_ahead(&self, n: usize) -> Option<char>
         ensures { result ≡ slice_get (place self.now).ahead n }
     {
@@ -98,7 +98,7 @@ impl<'a> Scanner<'a> {
         ahead.peek()
     }
 
-    /// The character before with so many characters between it and the cursor.
+    /// The character before the cursor with `n` others between it and the cursor.
     fn nth_before(&self, n: usize) -> Option<char>
         ensures { result ≡ slice_get (place self.now).before n }
     {
@@ -109,7 +109,7 @@ impl<'a> Scanner<'a> {
         before.last()
     }
 
-    /// The character before.
+    /// The character directly before the cursor.
     #[inline]
     pub fn last(&self) -> Option<char>
         ensures { result ≡ slice_get (place self.now).before 0 }
@@ -120,7 +120,7 @@ impl<'a> Scanner<'a> {
         }
     }
 
-    /// Whether a character comes next.
+    /// Whether this character comes next.
     #[inline]
     pub fn at(&self, wanted: char) -> bool
         ensures { result ≡ passes (λ c. c == wanted) (scout 0 (place self.now)) }
@@ -131,7 +131,7 @@ impl<'a> Scanner<'a> {
         }
     }
 
-    /// Whether a character stands directly before.
+    /// Whether this character is directly before the cursor.
     #[inline]
     pub fn is_after(&self, wanted: char) -> bool
         ensures { result ≡ passes (λ c. c == wanted) (slice_get (place self.now).before 0) }
@@ -223,7 +223,7 @@ impl<'a> Scanner<'a> {
         }
     }
 
-    /// Goes back over the character before, and gives it.
+    /// Goes back over the character before the cursor, and gives it.
     #[inline]
     pub fn uneat(&mut self) -> Option<char>
         ensures last { result ≡ slice_get (place self.old).before 0 }

@@ -5,7 +5,7 @@ ghost use Rattle.typst_lines.specs.Identifiers as identifiers;
 use crate::classes::{Classes, is_id_continue, is_id_start};
 use crate::{CharSet, is_newline};
 
-/// What stays on a line.
+/// The set of the characters that aren't newline characters.
 #[derive(Clone, Copy)]
 pub struct InLine;
 
@@ -18,7 +18,7 @@ impl CharSet for InLine {
     }
 }
 
-/// What can start an identifier.
+/// The set of the characters that can start an identifier.
 #[derive(Clone, Copy)]
 pub struct IdStart<'a, C: Classes>(pub &'a C);
 
@@ -31,7 +31,7 @@ impl<C: Classes> CharSet for IdStart<'_, C> {
     }
 }
 
-/// What can continue an identifier.
+/// The set of the characters that can continue an identifier.
 #[derive(Clone, Copy)]
 pub struct IdContinue<'a, C: Classes>(pub &'a C);
 

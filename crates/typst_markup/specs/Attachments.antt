@@ -16,6 +16,7 @@ use Rattle.typst_language.specs.Depth.{deeper}
 abbrev pub both_signs : ChainSet
 both_signs = record { hat = true; underscore = true }
 
+-- whether a token is one of the signs
 abbrev pub is_in : ChainSet → SyntaxKind → Bool
 is_in signs k = (same kind.Hat k && signs.hat) || (same kind.Underscore k && signs.underscore)
 
@@ -23,11 +24,13 @@ is_in signs k = (same kind.Hat k && signs.hat) || (same kind.Underscore k && sig
 abbrev pub without : SyntaxKind → ChainSet → ChainSet
 without k signs = record { hat = signs.hat && not (same kind.Hat k); underscore = signs.underscore && not (same kind.Underscore k) }
 
--- an operand of operators that bind at least so tightly, up to one of some signs; parens around it are no delimiters
+-- an operand, of operators that bind at least so tightly, up to one of some signs; parens around it
+-- aren't delimiters
 unfoldable pub operand : ℕ → ChainSet → Parser (Unit {0})
 operand least signs = node (λ _. keeps unparened) (deeper (MathExpr least signs) tt)
 
--- one of the signs with its operand, which ends at the others
+-- one of the signs with its operand, which ends at the others, if a sign comes; answers the signs
+-- that may still follow
 unfoldable pub attachment_turn : ChainSet → Parser (Bool × ChainSet)
 attachment_turn signs = do
   ahead ← peek
@@ -37,13 +40,13 @@ attachment_turn signs = do
     gives (true, without ahead.kind signs))
       (gives (false, signs))
 
--- each sign with its operand, once at most
+-- each sign with its operand, at most once
 unfoldable pub attachments : Parser (Unit {0})
 attachments = do
   signs ← repeat attachment_turn both_signs
   gives tt
 
--- primes, and attachments behind them unless the expression ends there
+-- primes, and attachments after them unless the expression ends there
 unfoldable pub primes : ChainSet → Parser (Unit {0})
 primes stops = do
   sign ← eat

@@ -1,4 +1,4 @@
--- Delimiters, and what stands between two of them.
+-- Delimiters, and what is between two of them.
 use Rattle.std.specs.Prelude.{ℕ, Bool, ◌||◌, if◌then◌else◌, List, ◌∷◌, codes}
 use Rattle.std.specs.Str.{bytes_eq}
 use Rattle.typst_kinds.specs.declared.kind.SyntaxKind.{SyntaxKind}
@@ -13,10 +13,11 @@ use Rattle.typst_language.specs.Steps.{peek, eat, node}
 use Rattle.typst_language.specs.Expected.{seeing}
 use Rattle.typst_markup.specs.Equations.{is_closer, ends_delimited, math_exprs}
 
--- `[|` and `|]` are shorthands, and other delimiters are text
+-- the kind of a delimiter with this text: `[|` and `|]` are shorthands, others are text
 abbrev pub sign_kind : List ℕ → SyntaxKind
 sign_kind text = if bytes_eq text (codes "[|") || bytes_eq text (codes "|]") then kind.MathShorthand else kind.MathText
 
+-- the kind of the delimiter that is the first of some nodes
 abbrev pub delimiter_kind : List Seen → SyntaxKind
 delimiter_kind (leaf_seen k text ∷ more) = sign_kind text
 delimiter_kind _ = kind.MathText
@@ -48,7 +49,7 @@ delimited_body = node body_shape (do
 unfoldable pub delimiter_if : Bool → Parser (Unit {0})
 delimiter_if comes = pick comes delimiter (gives tt)
 
--- without the second delimiter all is math
+-- delimiters with what is between them; without the second one all is math
 abbrev pub delimited_shape : Bool → Shape
 delimited_shape closed = becomes (if closed then kind.MathDelimited else kind.Math)
 

@@ -13,30 +13,31 @@ use Rattle.typst_language.specs.Steps.{peek, eat, expected, within}
 use Rattle.typst_language.specs.Depth.{is_end, deeper}
 use Rattle.typst_markup.specs.Starts.{begins_statement}
 
--- embedded code ends with its line
+-- how embedded code is read: it ends with its line
 abbrev pub embedded_reading : Reading
 embedded_reading = record { mode = mode.Code; at_newline = newline.Stop }
 
--- a statement takes a semicolon where one comes, and another expression only directly
+-- whether a semicolon belongs to the code: to a statement wherever it comes, to another expression
+-- only directly after it
 abbrev pub takes_semicolon : Bool → SyntaxKind → Bool → Bool
 takes_semicolon is_statement k has_trivia = same kind.Semicolon k && (is_statement || not has_trivia)
 
--- nothing else may follow a statement on its line but a bracket
+-- whether something follows a statement on its line that may not: anything but a bracket or the end
 abbrev pub is_followed : Bool → SyntaxKind → Bool
 is_followed is_statement k = is_statement && not (same kind.RightBracket k || is_end k)
 
--- what ends an expression, or a statement
+-- the end of an expression or of a statement
 unfoldable pub embedded_end : Bool → Parser (Unit {0})
 embedded_end is_statement = do
   ahead ← peek
   pick (takes_semicolon is_statement ahead.kind ahead.has_trivia) eat
       (pick (is_followed is_statement ahead.kind) (expected (codes "semicolon or line break")) (gives tt))
 
--- nothing stands directly behind a hash
+-- there is nothing directly after a hash: trivia or the end comes
 abbrev pub is_bare : SyntaxKind → Bool → Bool
 is_bare k has_trivia = has_trivia || is_end k
 
--- what comes behind a hash: an atomic expression
+-- what comes after a hash: an atomic expression
 unfoldable pub embedded_expr : Parser (Unit {0})
 embedded_expr = do
   ahead ← peek

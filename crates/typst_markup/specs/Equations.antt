@@ -26,7 +26,7 @@ ends_equation k = same kind.Dollar k || is_end k
 abbrev pub is_closer : SyntaxKind → Bool
 is_closer k = same kind.RightBrace k || same kind.RightParen k
 
--- what is delimited also stops at such a one
+-- what is delimited also stops at a delimiter that closes, of any kind
 abbrev pub ends_delimited : SyntaxKind → Bool
 ends_delimited k = is_closer k || ends_equation k
 
@@ -34,11 +34,11 @@ ends_delimited k = is_closer k || ends_equation k
 abbrev pub ends_list : SyntaxKind → Bool
 ends_list k = same kind.RightParen k || ends_equation k
 
--- what stands between two arguments
+-- what is between two arguments
 abbrev pub separates : SyntaxKind → Bool
 separates k = same kind.Comma k || same kind.Semicolon k
 
--- an argument also stops there
+-- an argument also stops at what is between two arguments
 abbrev pub ends_argument : SyntaxKind → Bool
 ends_argument k = separates k || ends_list k
 
@@ -52,13 +52,13 @@ no_signs = record { hat = false; underscore = false }
 unfoldable pub math_expression : Parser (Unit {0})
 math_expression = deeper (MathExpr 0 no_signs) tt
 
--- an expression; what begins none is unexpected
+-- an expression; a token that begins none is unexpected
 unfoldable pub math_item : Parser (Unit {0})
 math_item = do
   ahead ← peek
   pick (among math_expr ahead.kind) math_expression (unexpected [])
 
--- one expression more
+-- one more expression, unless a stop comes; answers how many there are
 unfoldable pub math_turn : (SyntaxKind → Bool) → ℕ → Parser (Bool × ℕ)
 math_turn stops count = do
   ahead ← peek
@@ -76,17 +76,19 @@ math = node (λ _. becomes kind.Math) (math_exprs ends_equation >> gives tt)
 
 -- ---- formulas
 
+-- how a formula is read: newlines don't end it
 abbrev pub math_reading : Reading
 math_reading = record { mode = mode.Math; at_newline = newline.Continue }
 
--- `$ .. $`, read as a formula whatever stands around it; answers whether the second dollar came, behind which the token is asked for as it is read around the formula
+-- `$ .. $`, read as a formula whatever is around it; answers whether the second dollar came, after
+-- which the token is asked for as it is read around the formula
 unfoldable pub between_dollars : Parser Bool
 between_dollars = within (λ _. math_reading) (do
   dollar ← eat
   body ← math
   close_if (same kind.Dollar))
 
--- the same as one node
+-- `$ .. $` as one node
 unfoldable pub equation : Parser (Unit {0})
 equation = do
   closed ← node (encloses kind.Equation) between_dollars

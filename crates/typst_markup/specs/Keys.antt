@@ -14,11 +14,13 @@ use Rattle.typst_markup.specs.declared.keys.Key.TheVariants as key
 
 -- ---- the key of a string
 
--- what begins behind a backslash: how many characters belong to it, and the character that they stand for, if they stand for one
+-- an escape: how many characters belong to it after its backslash, and the character that it stands
+-- for, if it stands for one
 pub record Escape : Type 0 where
   pub len : ℕ
   pub stands_for : Option ℕ
 
+-- an escape with one more character
 abbrev pub one_more : Escape → Escape
 one_more e = record e { len = suc e.len }
 
@@ -26,18 +28,18 @@ one_more e = record e { len = suc e.len }
 abbrev pub character : List ℕ → Option ℕ
 character digits = if is_code_point digits then Some (number_after 16 0 digits) else None
 
--- hexadecimal digits, and a closing brace where one comes
+-- hexadecimal digits, and a closing brace if one comes
 abbrev pub in_braces : List ℕ → Escape
 in_braces cs = record {
   len = if passes (λ c. c == 125) (slice_get cs (prefix_len is_ascii_hexdigit cs)) then prefix_len is_ascii_hexdigit cs + 1 else prefix_len is_ascii_hexdigit cs;
   stands_for = character (take (prefix_len is_ascii_hexdigit cs) cs);
 }
 
--- behind `u`: a character in braces
+-- an escape after `u`: a character in braces
 abbrev pub code_escape : List ℕ → Escape
 code_escape cs = if passes (λ c. c == 123) (slice_get cs 0) then one_more (in_braces (drop 1 cs)) else record { len = 0; stands_for = None }
 
--- a backslash, a quote, `n`, `r`, `t`
+-- what a character stands for after a backslash: a backslash, a quote, `n`, `r` and `t`
 abbrev pub letter_escape : ℕ → Option ℕ
 letter_escape c =
     if c == 92 then Some 92
@@ -47,20 +49,21 @@ letter_escape c =
     else (if c == 116 then Some 9
     else None))))
 
--- what begins behind a backslash
+-- the escape after a backslash
 abbrev pub escape : List ℕ → Escape
 escape [] = record { len = 0; stands_for = None }
 escape (c ∷ cs) = if c == 117 then one_more (code_escape cs) else record { len = 1; stands_for = letter_escape c }
 
--- what is written for it; an escape that stands for nothing stays as it is
+-- what is written for an escape; one that stands for nothing stays as it is
 abbrev pub written : List ℕ → Escape → Option ℕ → List ℕ
 written cs e (Some c) = encode_utf8 c
 written cs e None = 92 ∷ encode_utf8_all (take e.len cs)
 
+-- what is written for the escape that these characters begin with
 abbrev pub escaped : List ℕ → Escape → List ℕ
 escaped cs e = written cs e e.stands_for
 
--- what begins with a character: an escape behind a backslash, or that character alone
+-- what begins with a character: an escape if it is a backslash, or the character alone
 abbrev pub begun : ℕ → List ℕ → Escape
 begun c cs = if c == 92 then escape cs else record { len = 0; stands_for = Some c }
 
@@ -70,6 +73,7 @@ unescaped n [] = []
 unescaped (suc n) (c ∷ cs) = unescaped n cs
 unescaped zero (c ∷ cs) = escaped cs (begun c cs) ++ unescaped (begun c cs).len cs
 
+-- characters without the last one
 abbrev pub without_last : List ℕ → List ℕ
 without_last [] = []
 without_last (c ∷ []) = []
@@ -86,7 +90,7 @@ abbrev pub key_of_one : Seen → Key
 key_of_one (leaf_seen k text) = if same kind.Ident k then key.Name text else (if same kind.Str k then key.Str (string_key text) else key.Other)
 key_of_one (inner_seen k) = key.Other
 
--- the same of the first of several nodes
+-- what the first of several nodes is as a key: a name, a string, or none
 abbrev pub key_of : List Seen → Key
 key_of [] = key.Other
 key_of (s ∷ ss) = key_of_one s

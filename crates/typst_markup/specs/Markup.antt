@@ -39,10 +39,11 @@ ends_term k = same kind.Colon k || ends_block k
 abbrev pub ends_heading : SyntaxKind → Bool
 ends_heading k = same kind.Label k || ends_block k
 
--- what stands between stars or underscores also at these
+-- what is between stars also stops at a star
 abbrev pub ends_strong : SyntaxKind → Bool
 ends_strong k = same kind.Star k || ends_block k
 
+-- what is between underscores also stops at an underscore
 abbrev pub ends_emph : SyntaxKind → Bool
 ends_emph k = same kind.Underscore k || ends_block k
 
@@ -52,11 +53,12 @@ ends_emph k = same kind.Underscore k || ends_block k
 abbrev pub ends : (SyntaxKind → Bool) → ℕ → SyntaxKind → Bool
 ends stops nesting k = if same kind.RightBracket k then stops k && nesting == 0 else stops k
 
--- the expressions of a run are noted
+-- the note of a piece, if the sequence is a run
 unfoldable pub note_piece : Bool → Bool → ℕ → Parser (Unit {0})
 note_piece is_run at_start nesting = pick is_run (note (mark.Piece at_start nesting)) (gives tt)
 
--- one expression, with whether a newline was passed behind it, and the brackets that are open then
+-- one expression, unless a stop comes; answers whether a newline was passed after it, and how many
+-- brackets are open then
 unfoldable pub markup_turn : Bool → (SyntaxKind → Bool) → Bool × ℕ → Parser (Bool × (Bool × ℕ))
 markup_turn is_run stops x = do
   ahead ← peek
@@ -75,7 +77,8 @@ markup_exprs at_start stops = do
     x ← repeat (markup_turn false stops) (at_start || ahead.newlines.any, 0)
     gives tt)
 
--- the expressions of a text or of a content block, at the start of a line: a run, whose first piece is noted before its first look
+-- the expressions of a text or of a content block, from the start of a line: a run, whose first
+-- piece is noted before its first look
 unfoldable pub markup_run : (SyntaxKind → Bool) → Parser (Unit {0})
 markup_run stops = do
   is_deep ← does is_deepest
@@ -89,7 +92,7 @@ markup_run stops = do
 unfoldable pub markup : Bool → (SyntaxKind → Bool) → Parser (Unit {0})
 markup at_start stops = node (λ _. becomes kind.Markup) (markup_exprs at_start stops)
 
--- a sequence as one node with the trivia at both ends; answers whether nothing stands there
+-- a sequence as one node, with the trivia at both ends; answers whether it is empty
 unfoldable pub markup_is_empty : Parser (Unit {0}) → Parser Bool
 markup_is_empty exprs = do
   inside ← node_with_trivia kind.Markup exprs
@@ -97,14 +100,16 @@ markup_is_empty exprs = do
 
 -- ---- expressions
 
+-- a reading with another newline rule
 abbrev pub at_newline : AtNewline → Reading → Reading
 at_newline rule r = record r { at_newline = rule }
 
--- what stands between two delimiters: where the second is missing the first is an error, and where nothing stands between them there is a warning
+-- what is between two delimiters: if the second is missing, the first becomes an error, and if
+-- nothing is between them, there is a warning
 abbrev pub emphasized : SyntaxKind → List ℕ → List ℕ → Bool × Bool → Shape
 emphasized k warning hint x = if x.0 && x.1 then warns k warning hint else encloses k x.0
 
--- what stands between two tokens of a kind, which doesn't go past a parbreak
+-- what is between two tokens of a kind, which doesn't go past a paragraph break
 unfoldable pub delimited : SyntaxKind → (SyntaxKind → Bool) → SyntaxKind → List ℕ → List ℕ → Parser (Unit {0})
 delimited k stops delimiter warning hint = within (at_newline newline.StopParBreak) (do
   x ← node (emphasized k warning hint) (do
@@ -122,17 +127,18 @@ strong = delimited kind.Strong ends_strong kind.Star (codes "no text within star
 abbrev pub emph : Parser (Unit {0})
 emph = delimited kind.Emph ends_emph kind.Underscore (codes "no text within underscores") (codes "using multiple consecutive underscores (e.g. __) has no additional effect")
 
--- a marker and the rest of its line, up to a label
+-- `= ..`: a marker and the rest of its line, up to a label
 unfoldable pub heading : Parser (Unit {0})
 heading = within (at_newline newline.Stop) (node (λ _. becomes kind.Heading) (eat >> markup false ends_heading))
 
--- `- ..`, `+ ..` or `1. ..`: a marker, and what stands in a greater column than it
+-- `- ..`, `+ ..` or `1. ..`: a marker, and what is in a greater column than it
 unfoldable pub item : SyntaxKind → Parser (Unit {0})
 item k = do
   here ← does column
   within (at_newline (newline.RequireColumn here)) (node (λ _. becomes k) (eat >> markup true ends_block))
 
--- a marker with the rest of its line up to a colon, and behind the colon what stands in a greater column than the marker
+-- `/ ..: ..`: a marker with the rest of its line up to a colon, and after the colon what is in a
+-- greater column than the marker
 unfoldable pub term_item : Parser (Unit {0})
 term_item = do
   here ← does column
@@ -141,10 +147,13 @@ term_item = do
     colon ← expect (same kind.Colon) (codes "colon")
     markup true ends_block))
 
+-- how a content block is read, whatever is around it
 abbrev pub markup_reading : Reading
 markup_reading = record { mode = mode.Markup; at_newline = newline.Continue }
 
--- `[ .. ]`, which is markup whatever stands around it: the tokens of the brackets are taken so that nothing is asked behind them: behind the first one its run begins, and behind the second one the token is asked for as it is read around the block
+-- `[ .. ]`, which is markup whatever is around it. After the first bracket nothing is asked before
+-- its run begins, and after the second one the next token is asked for as it is read around the
+-- block
 unfoldable pub content_block : Parser (Unit {0})
 content_block = do
   closed ← node (encloses kind.ContentBlock) (scoped (λ _. markup_reading) (do
@@ -153,21 +162,21 @@ content_block = do
     close_if (same kind.RightBracket)))
   gives tt
 
--- a content block begins directly here, without trivia before it
+-- a content block begins here, without trivia before it
 abbrev pub opens_directly : AtHand → Bool
 opens_directly h = same kind.LeftBracket h.kind && not h.has_trivia
 
--- a content block, if one begins directly here
+-- a content block, if one begins here without trivia before it
 unfoldable pub direct_content : Parser (Unit {0})
 direct_content = do
   ahead ← peek
   pick (opens_directly ahead) (read_block block.Content) (gives tt)
 
--- a marker, and a content block directly after it
+-- `@name`, and a content block directly after it
 unfoldable pub reference : Parser (Unit {0})
 reference = node (λ _. becomes kind.Ref) (eat >> direct_content)
 
--- what the token at hand begins; markers are text where no line begins
+-- what the current token begins; markers are text unless a line begins there
 abbrev pub markup_head : Bool → ℕ → SyntaxKind → MarkupHead
 markup_head at_start nesting kind.LeftBracket = head.Opening
 markup_head at_start nesting kind.RightBracket = if nesting == 0 then head.Stray else head.Closing
@@ -192,7 +201,7 @@ markup_head at_start nesting kind.TermMarker = if at_start then head.TermItem el
 markup_head at_start nesting kind.Colon = head.Plain
 markup_head at_start nesting _ = head.Unexpected
 
--- what is read there, with the brackets that are open behind it
+-- the production for what a token begins; answers how many brackets are open after it
 abbrev pub markup_by : ℕ → MarkupHead → Parser ℕ
 markup_by nesting head.Itself = eat >> gives nesting
 markup_by nesting head.Opening = convert_and_eat kind.Text >> gives (one_more nesting)

@@ -19,29 +19,32 @@ use Rattle.typst_markup.specs.declared.keys.Key.TheVariants as key
 use Rattle.typst_markup.specs.Keys.{key_of}
 use Rattle.typst_markup.specs.Named.{when_named, with_argument}
 
--- what isn't one expression is math
+-- several expressions of an argument, or none, become math; one stays as it is
 abbrev pub value_shape : ℕ → Shape
 value_shape count = if count == 1 then keeps stays else becomes kind.Math
 
+-- a named argument has no value
 abbrev pub is_missing : Bool → ℕ → Bool
 is_missing is_named count = is_named && count == 0
 
--- the expressions of an argument; a named one has some
+-- the expressions of an argument, of which a named one has to have some; answers how many there are
 unfoldable pub argument_exprs : Bool → Parser ℕ
 argument_exprs is_named = do
   count ← math_exprs ends_argument
   said ← pick (is_missing is_named count) (expected (codes "expression")) (gives tt)
   gives count
 
+-- the value of an argument, as one node
 unfoldable pub argument_value : Bool → Parser (Unit {0})
 argument_value is_named = do
   count ← node value_shape (argument_exprs is_named)
   gives tt
 
--- an underscore is no name
+-- a name as it is, but an underscore as the error that an identifier was expected
 abbrev pub name_making : SyntaxKind → Making
 name_making k = if same kind.Underscore k then wanted (codes "identifier") else itself
 
+-- takes the name of an argument
 unfoldable pub eat_name : SyntaxKind → Parser (Unit {0})
 eat_name k = eat_so way.NamedArgument (name_making k)
 
@@ -51,12 +54,12 @@ argument_name k = do
   name ← seeing (eat_name k)
   gives (key_of name.1)
 
--- a name that was seen is an error
+-- a name that was seen becomes an error
 abbrev pub name_change : List (List ℕ) → Key → Change
 name_change names (key.Name name) = when_named names name
 name_change names _ = stays
 
--- a name that is read so, its colon, and a value; answers the name as a key
+-- a name, its colon, and a value; answers the name as a key
 unfoldable pub named_argument : SyntaxKind → List (List ℕ) → Parser Key
 named_argument k names = node (λ key. holds (name_change names key) kind.Named) (do
   key ← argument_name k
@@ -72,7 +75,8 @@ spread_argument = node (λ _. becomes kind.Spread) (eat_so way.SpreadArgument it
 abbrev pub names_argument : SyntaxKind → Bool
 names_argument k = same kind.Ident k || same kind.Underscore k
 
--- one argument: a name or a spread is found where the token at hand begins; answers the names that were seen
+-- one argument: whether a spread or a name begins is looked up where the current token begins;
+-- answers the names that were seen
 unfoldable pub math_argument : List (List ℕ) → Parser (List (List ℕ))
 math_argument names = do
   ahead ← peek
@@ -84,7 +88,7 @@ math_argument names = do
       gives (with_argument names (Some key)))
         (argument_value false >> gives names))
 
--- what stands behind an argument, unless the list ends
+-- the comma or semicolon after an argument, unless the list ends
 unfoldable pub argument_end : Parser (Unit {0})
 argument_end = do
   ahead ← peek
@@ -99,7 +103,7 @@ math_argument_turn names = do
     separator ← argument_end
     gives (true, more))
 
--- `( .. )` behind a name
+-- `( .. )` after a name: the arguments of a call
 unfoldable pub math_arguments : Parser (Unit {0})
 math_arguments = do
   closed ← node (encloses kind.MathArgs) (do

@@ -32,7 +32,7 @@ use Rattle.typst_markup.specs.Delimited.{delimiter, delimited}
 
 -- ---- what an expression begins with
 
--- what the token at hand begins
+-- what the current token begins
 abbrev pub math_head : SyntaxKind → MathHead
 math_head kind.Hash = head.Embedded
 math_head kind.MathIdent = head.Name
@@ -55,30 +55,32 @@ math_head kind.Str = head.Symbol
 math_head kind.Root = head.Root
 math_head _ = head.Missing
 
+-- the class of letters in math
 abbrev pub is_alphabetic : Option MathClass → Bool
 is_alphabetic (Some Alphabetic) = true
 is_alphabetic _ = false
 
--- a letter, also by its class in math, or several letters
+-- a text is a letter, also by its class in math, or several letters
 abbrev pub are_letters : CharClasses → List ℕ → Bool
 are_letters k (c ∷ []) = k.alphabetic c || is_alphabetic (k.math c)
 are_letters k cs = list_all k.alphabetic cs
 
+-- what a text is to a delimiter after it: letters may be called
 abbrev pub text_callee : CharClasses → List Seen → Callee
 text_callee k (leaf_seen kind text ∷ more) = if are_letters k (chars text) then callee.Symbol else callee.Other
 text_callee k _ = callee.Other
 
--- a text, of which letters may be called
+-- a text; answers what it is to a delimiter after it
 unfoldable pub math_text : CharClasses → Parser Callee
 math_text k = do
   seen ← seeing eat
   gives (text_callee k seen.1)
 
--- a root and what it is taken of
+-- a root sign and what the root is taken of
 unfoldable pub root : Parser (Unit {0})
 root = node (λ _. becomes kind.MathRoot) (eat >> operand 2 no_signs)
 
--- what is read there, with what it is to delimiters directly behind it
+-- the production for what a token begins; answers what it is to a delimiter directly after it
 abbrev pub math_by : CharClasses → MathHead → Parser Callee
 math_by k head.Embedded = embedded >> gives callee.Other
 math_by k head.Name = eat >> gives callee.Name
@@ -91,30 +93,33 @@ math_by k head.Symbol = eat >> gives callee.Symbol
 math_by k head.Root = root >> gives callee.Other
 math_by k head.Missing = expected (codes "expression") >> gives callee.Other
 
+-- what an expression begins with
 unfoldable pub math_primary : CharClasses → Parser Callee
 math_primary k = do
   ahead ← peek
   math_by k (math_head ahead.kind)
 
--- ---- what stands behind it
+-- ---- what comes after it
 
--- a paren directly behind it: of a name it begins arguments, of what else may be called what is delimited
+-- what a paren directly after an expression begins: arguments after a name, a delimited part after
+-- what else may be called
 abbrev pub paren_tail : Callee → MathTail
 paren_tail callee.Name = tail.Call
 paren_tail callee.Symbol = tail.Delimited
 paren_tail callee.Other = tail.Nothing
 
--- another delimiter directly behind it
+-- what another delimiter directly after an expression begins: a delimited part, if the expression
+-- may be called
 abbrev pub brace_tail : Callee → MathTail
 brace_tail callee.Name = tail.Delimited
 brace_tail callee.Symbol = tail.Delimited
 brace_tail callee.Other = tail.Nothing
 
--- what only stands directly behind an expression
+-- a tail that has to come directly after its expression
 abbrev pub directly : Bool → MathTail → MathTail
 directly has_trivia t = if has_trivia then tail.Nothing else t
 
--- what the token at hand does to what stands before it
+-- what the current token makes of the expression before it
 abbrev pub tail_at : Callee → SyntaxKind → Bool → MathTail
 tail_at callee kind.Slash has_trivia = tail.Fraction
 tail_at callee kind.Underscore has_trivia = tail.Attachments
@@ -125,7 +130,7 @@ tail_at callee kind.LeftParen has_trivia = directly has_trivia (paren_tail calle
 tail_at callee kind.LeftBrace has_trivia = directly has_trivia (brace_tail callee)
 tail_at callee _ has_trivia = tail.Nothing
 
--- how tightly an operator or a call binds
+-- how tightly an operator or a call binds, by the tail that it begins
 abbrev pub precedence : MathTail → ℕ
 precedence tail.Fraction = 1
 precedence tail.Attachments = 2
@@ -135,10 +140,12 @@ precedence tail.Delimited = 2
 precedence tail.Factorial = 3
 precedence tail.Nothing = 0
 
+-- a tail, if it binds at least so tightly
 abbrev pub bound_tail : ℕ → MathTail → MathTail
 bound_tail least t = if nat_le least (precedence t) then t else tail.Nothing
 
--- what takes an expression into its node, by the signs at which it ends
+-- what the current token makes of the expression before it, which ends at some signs and whose
+-- operators bind at least so tightly
 abbrev pub math_tail : Callee → ℕ → ChainSet → SyntaxKind → Bool → MathTail
 math_tail callee least stops k has_trivia =
     if is_in stops k then tail.Nothing else bound_tail least (tail_at callee k has_trivia)
@@ -147,18 +154,19 @@ math_tail callee least stops k has_trivia =
 unfoldable pub fraction : Parser (Unit {0})
 fraction = eat >> operand 2 no_signs
 
--- what an expression becomes with what is read behind it; parens around what is above a slash are no delimiters
+-- what an expression becomes with what is read after it; parens around what is above a slash aren't
+-- delimiters
 abbrev pub grown_shape : Grown → Shape
 grown_shape grown.Call = becomes kind.MathCall
 grown_shape grown.Math = becomes kind.Math
 grown_shape grown.Fraction = holds unparened kind.MathFrac
 grown_shape grown.Attach = becomes kind.MathAttach
 
--- nothing can be called behind what was read
+-- the answer of a turn: the node that all goes into, which can't be called
 abbrev pub growth : Option Grown → Option Shape × Callee
 growth g = (option_map grown_shape g, callee.Other)
 
--- what is read there
+-- the production for what a token makes of the expression before it
 abbrev pub tail_by : ChainSet → MathTail → Parser (Option Shape × Callee)
 tail_by stops tail.Call = math_arguments >> gives (growth (Some grown.Call))
 tail_by stops tail.Delimited = delimited >> gives (growth (Some grown.Math))
@@ -168,15 +176,18 @@ tail_by stops tail.Primes = primes stops >> gives (growth (Some grown.Attach))
 tail_by stops tail.Factorial = convert_and_eat kind.MathText >> gives (growth (Some grown.Math))
 tail_by stops tail.Nothing = gives (growth None)
 
+-- one turn: what the current token makes of the expression before it
 unfoldable pub math_tail_turn : ℕ → ChainSet → Callee → Parser (Option Shape × Callee)
 math_tail_turn least stops callee = do
   ahead ← peek
   tail_by stops (math_tail callee least stops ahead.kind ahead.has_trivia)
 
--- an expression of operators that bind at least so tightly, up to one of some signs
+-- an expression, of operators that bind at least so tightly, up to one of some signs; answers what
+-- its beginning is to a delimiter
 unfoldable pub math_grown : CharClasses → ℕ → ChainSet → Parser Callee
 math_grown k least stops = grow (math_primary k) (math_tail_turn least stops)
 
+-- an expression, of operators that bind at least so tightly, up to one of some signs
 unfoldable pub math_expr : CharClasses → ℕ → ChainSet → Parser (Unit {0})
 math_expr k least stops = do
   callee ← math_grown k least stops

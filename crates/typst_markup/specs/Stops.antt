@@ -9,6 +9,7 @@ use Rattle.typst_markup.specs.declared.stops.MathStop.TheVariants as math_stop
 use Rattle.typst_markup.specs.Equations.{ends_equation, ends_delimited, ends_argument}
 use Rattle.typst_markup.specs.Markup.{ends_block, ends_term, ends_heading, ends_strong, ends_emph}
 
+-- At which tokens the sequences of markup stop.
 abbrev pub stops_at : Stop → SyntaxKind → Bool
 stops_at stop.End = is_end
 stops_at stop.Block = ends_block
@@ -17,7 +18,7 @@ stops_at stop.Heading = ends_heading
 stops_at stop.Strong = ends_strong
 stops_at stop.Emph = ends_emph
 
--- Where the sequences of formulas stop.
+-- At which tokens the sequences of formulas stop.
 abbrev pub math_stops_at : MathStop → SyntaxKind → Bool
 math_stops_at math_stop.End = is_end
 math_stops_at math_stop.Equation = ends_equation

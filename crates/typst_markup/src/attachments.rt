@@ -26,8 +26,8 @@ fn without(kind: SyntaxKind, signs: ChainSet) -> ChainSet
     }
 }
 
-/// Reads an operand of operators that bind at least so tightly, up to one of some signs. Parens around
-/// it are no delimiters.
+/// Reads an operand of operators that bind at least so tightly, up to one of some signs. Parens around it aren't
+/// delimiters.
 pub(crate) fn operand<L: Levels>(
     g: &L,
     p: &mut Parser<'_>,
@@ -81,7 +81,7 @@ fn attachment_turns<L: Levels>(g: &L, p: &mut Parser<'_>) -> Result<ChainSet, Al
     }
 }
 
-/// Reads each sign with its operand, once at most.
+/// Reads each sign with its operand, at most once.
 pub(crate) fn attachments<L: Levels>(g: &L, p: &mut Parser<'_>) -> Result<(), AllocError>
     requires { L.may_call g.now }
     ensures { Means (L.frame g.now) spec.attachments p.old result p.new }
@@ -90,7 +90,7 @@ pub(crate) fn attachments<L: Levels>(g: &L, p: &mut Parser<'_>) -> Result<(), Al
     Ok(())
 }
 
-/// Reads primes, and attachments behind them unless the expression ends there.
+/// Reads primes, and attachments after them unless the expression ends there.
 pub(crate) fn primes<L: Levels>(
     g: &L,
     p: &mut Parser<'_>,

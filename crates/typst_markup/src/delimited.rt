@@ -1,4 +1,4 @@
-//! Delimiters, and what stands between two of them.
+//! Delimiters, and what is between two of them.
 
 ghost use Rattle.std.specs.Prelude.{◌≡◌, OnOk, IfOk, false, map};
 ghost use Rattle.typst_kinds.specs.Kinds.{is_error};
@@ -66,7 +66,7 @@ fn delimited_body<L: Levels>(g: &L, p: &mut Parser<'_>) -> Result<bool, AllocErr
     Ok(closed)
 }
 
-/// Makes math of what stands between two delimiters.
+/// Makes math of the expressions between two delimiters, if the second one came.
 fn wrap_body(p: &mut Parser<'_>, from: usize, closed: bool) -> Result<(), AllocError>
     ensures { OnOk result (Rewrapped from (spec.body_shape closed) p.old p.new) }
 {
@@ -101,7 +101,7 @@ pub(crate) fn delimited<L: Levels>(g: &L, p: &mut Parser<'_>) -> Result<(), Allo
     Ok(())
 }
 
-/// Makes one node of what was delimited, where the second delimiter may be missing.
+/// Makes one node of delimiters and what is between them, or math if the second delimiter is missing.
 fn wrap_delimited(p: &mut Parser<'_>, from: usize, closed: bool) -> Result<(), AllocError>
     ensures { OnOk result (Rewrapped from (spec.delimited_shape closed) p.old p.new) }
 {

@@ -9,7 +9,7 @@ use std::alloc::AllocError;
 use typst_kinds::{SyntaxKind, SyntaxMode};
 use typst_language::{AtNewline, Levels, Parser, Reading, deeper_code_expr, is_end};
 
-/// A hash and an expression of code.
+/// Reads a hash and an expression of code.
 pub fn embedded<L: Levels>(g: &L, p: &mut Parser<'_>) -> Result<(), AllocError>
     requires { L.may_call g.now }
     ensures { Means (L.frame g.now) spec.embedded p.old result p.new }
@@ -24,7 +24,7 @@ pub fn embedded<L: Levels>(g: &L, p: &mut Parser<'_>) -> Result<(), AllocError>
     Ok(())
 }
 
-/// Reads an atomic expression directly behind a hash.
+/// Reads an atomic expression directly after a hash.
 fn embedded_expr<L: Levels>(g: &L, p: &mut Parser<'_>) -> Result<(), AllocError>
     requires { L.may_call g.now }
     ensures { Means (L.frame g.now) spec.embedded_expr p.old result p.new }
@@ -53,14 +53,15 @@ fn embedded_end<L: Levels>(g: &L, p: &mut Parser<'_>, is_statement: bool) -> Res
     Ok(())
 }
 
-/// Whether nothing stands directly behind a hash.
+/// Whether there is nothing directly after a hash: trivia or the end comes.
 fn is_bare(kind: SyntaxKind, has_trivia: bool) -> bool
     ensures { result ≡ spec.is_bare kind has_trivia }
 {
     has_trivia || is_end(kind)
 }
 
-/// Whether a semicolon belongs to the expression, which may stand behind trivia for a statement.
+/// Whether a semicolon belongs to the code: to a statement also after trivia, to another expression only directly
+/// after it.
 fn takes_semicolon(is_statement: bool, kind: SyntaxKind, has_trivia: bool) -> bool
     ensures { result ≡ spec.takes_semicolon is_statement kind has_trivia }
 {

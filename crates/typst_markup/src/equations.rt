@@ -34,7 +34,7 @@ fn math_expression<L: Levels>(g: &L, p: &mut Parser<'_>) -> Result<(), AllocErro
     Ok(())
 }
 
-/// Reads an expression. What begins none is unexpected.
+/// Reads an expression. A token that begins none is unexpected.
 fn math_item<L: Levels>(g: &L, p: &mut Parser<'_>) -> Result<(), AllocError>
     requires { L.may_call g.now }
     ensures { Means (L.frame g.now) spec.math_item p.old result p.new }
@@ -55,7 +55,7 @@ fn begins_math(kind: SyntaxKind) -> bool
     set::MATH_EXPR.contains(kind)
 }
 
-/// Reads one expression more, unless a stop comes; answers whether it did, and how many there are.
+/// Reads one more expression, unless a stop comes; answers whether it did, and how many there are.
 fn math_turn<L: Levels>(
     g: &L,
     p: &mut Parser<'_>,
@@ -110,7 +110,7 @@ fn math<L: Levels>(g: &L, p: &mut Parser<'_>) -> Result<(), AllocError>
     Ok(())
 }
 
-/// Reads what stands between dollars, and these; answers whether the second one came.
+/// Reads two dollars and what is between them; answers whether the second one came.
 fn between_dollars<L: Levels>(g: &L, p: &mut Parser<'_>) -> Result<bool, AllocError>
     requires { L.may_call g.now }
     ensures { Means (L.frame g.now) spec.between_dollars p.old result p.new }
@@ -131,7 +131,7 @@ fn between_dollars<L: Levels>(g: &L, p: &mut Parser<'_>) -> Result<bool, AllocEr
     Ok(true)
 }
 
-/// `$ .. $`
+/// Reads `$ .. $` as one node.
 pub fn equation<L: Levels>(g: &L, p: &mut Parser<'_>) -> Result<(), AllocError>
     requires { L.may_call g.now }
     ensures { Means (L.frame g.now) spec.equation p.old result p.new }

@@ -41,7 +41,7 @@ fn unquoted(text: &str) -> &str
     last.before()
 }
 
-/// Reads what belongs to a backslash, and writes what they stand for together.
+/// Reads the escape after a backslash, and writes what it stands for.
 fn read_escape(key: &mut String, s: &mut Scanner<'_>) -> Result<(), AllocError>
     ensures key { OnOk result (string_bytes key.new ≡ string_bytes key.old ++ spec.escaped (place s.old).ahead (spec.escape (place s.old).ahead)) }
     ensures moved { place s.new ≡ moved (spec.escape (place s.old).ahead).len (place s.old) }
@@ -56,7 +56,7 @@ fn read_escape(key: &mut String, s: &mut Scanner<'_>) -> Result<(), AllocError>
     Ok(())
 }
 
-/// Reads what belongs to a backslash; answers the character that they stand for.
+/// Reads the escape after a backslash; answers the character that it stands for.
 fn escape(s: &mut Scanner<'_>) -> Option<char>
     ensures stands_for { result ≡ (spec.escape (place s.old).ahead).stands_for }
     ensures moved { place s.new ≡ moved (spec.escape (place s.old).ahead).len (place s.old) }
@@ -69,7 +69,7 @@ fn escape(s: &mut Scanner<'_>) -> Option<char>
     letter_escape(c)
 }
 
-/// What a character stands for behind a backslash.
+/// What a character stands for after a backslash.
 fn letter_escape(c: char) -> Option<char>
     ensures { result ≡ spec.letter_escape c }
 {
@@ -83,7 +83,7 @@ fn letter_escape(c: char) -> Option<char>
     }
 }
 
-/// The hexadecimal digits.
+/// The set of the hexadecimal digits.
 #[derive(Clone, Copy)]
 struct HexDigits;
 
@@ -97,7 +97,7 @@ impl CharSet for HexDigits {
     }
 }
 
-/// Reads what belongs to a backslash and `u`; answers the character that they stand for.
+/// Reads the escape after a backslash and `u`; answers the character that it stands for.
 fn code_escape(s: &mut Scanner<'_>) -> Option<char>
     ensures stands_for { result ≡ (spec.code_escape (place s.old).ahead).stands_for }
     ensures moved { place s.new ≡ moved (spec.code_escape (place s.old).ahead).len (place s.old) }

@@ -51,7 +51,7 @@ pub fn emph<L: Levels>(g: &L, p: &mut Parser<'_>) -> Result<(), AllocError>
     Ok(())
 }
 
-/// What stands between two tokens of a kind.
+/// Reads what is between two tokens of a kind, with these.
 fn delimited<L: Levels>(
     g: &L,
     p: &mut Parser<'_>,
@@ -75,7 +75,8 @@ fn delimited<L: Levels>(
     Ok(())
 }
 
-/// Makes one node of what stands between two delimiters, where the second may be missing.
+/// Makes one node of two delimiters and what is between them. If the second one is missing the first becomes an
+/// error, and if nothing is between them there is a warning.
 fn wrap_emphasized(
     p: &mut Parser<'_>,
     from: usize,
@@ -145,8 +146,8 @@ pub fn term_item<L: Levels>(g: &L, p: &mut Parser<'_>) -> Result<(), AllocError>
     Ok(())
 }
 
-/// One expression of markup, whether at the start of a line, and in how many brackets; answers in how
-/// many brackets what comes next stands.
+/// Reads one expression of markup, at the start of a line or not, and in so many brackets; answers in how many
+/// brackets what comes next is.
 pub fn markup_expr<L: Levels>(
     g: &L,
     p: &mut Parser<'_>,

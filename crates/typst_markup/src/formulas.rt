@@ -38,7 +38,7 @@ fn are_letters<C: Classes>(classes: &C, text: &str) -> bool
     text.chars().all(|c| classes.is_alphabetic(c))
 }
 
-/// What the first of some nodes, which is a text, is to a delimiter behind it.
+/// What the first of some nodes, which is a text, is to a delimiter after it: letters may be called.
 fn text_callee<C: Classes>(classes: &C, nodes: &[SyntaxNode]) -> Callee
     ensures { result ≡ spec.text_callee (C.classes classes.now) (map seen nodes.now) }
 {
@@ -51,7 +51,7 @@ fn text_callee<C: Classes>(classes: &C, nodes: &[SyntaxNode]) -> Callee
     Callee::Other
 }
 
-/// Reads a text, of which letters may be called.
+/// Reads a text; answers what it is to a delimiter after it.
 fn math_text<L: Levels>(g: &L, p: &mut Parser<'_>) -> Result<Callee, AllocError>
     ensures { Means (L.frame g.now) (spec.math_text (L.frame g.now).classes) p.old result p.new }
 {
@@ -61,7 +61,7 @@ fn math_text<L: Levels>(g: &L, p: &mut Parser<'_>) -> Result<Callee, AllocError>
     Ok(text_callee(g, p.given_since(from)))
 }
 
-/// Reads a root and what it is taken of.
+/// Reads a root sign and what the root is taken of.
 fn root<L: Levels>(g: &L, p: &mut Parser<'_>) -> Result<(), AllocError>
     requires { L.may_call g.now }
     ensures { Means (L.frame g.now) spec.root p.old result p.new }
@@ -109,7 +109,7 @@ fn fraction<L: Levels>(g: &L, p: &mut Parser<'_>) -> Result<(), AllocError>
     Ok(())
 }
 
-/// Reads what takes an expression into its node; answers what it becomes.
+/// Reads what the current token makes of the expression before it; answers what all becomes.
 fn math_tail_turn<L: Levels>(
     g: &L,
     p: &mut Parser<'_>,

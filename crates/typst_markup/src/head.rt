@@ -8,7 +8,7 @@ use typst_kinds::SyntaxKind;
 /// What a token begins where an expression of markup is read.
 #[derive(Debug, Clone, Copy, PartialEq, Eq)]
 pub enum MarkupHead {
-    /// A node of its own.
+    /// A token that is an expression by itself.
     Itself,
     /// A bracket that is text, and one more to close.
     Opening,
@@ -36,11 +36,11 @@ pub enum MarkupHead {
     Equation,
     /// Text, since a marker means nothing here.
     Plain,
-    /// Nothing that may stand here.
+    /// A token that may not be here.
     Unexpected,
 }
 
-/// What the token begins, whether at the start of a line, and in how many brackets.
+/// What the token begins, at the start of a line or not, and in so many brackets.
 pub(crate) fn markup_head(at_start: bool, nesting: usize, kind: SyntaxKind) -> MarkupHead
     ensures { result ≡ spec.markup_head at_start nesting kind }
 {

@@ -9,14 +9,14 @@ use std::alloc::{AllocError, Global};
 use typst_kinds::{SyntaxKind, Text};
 use typst_language::SyntaxNode;
 
-/// What stands before the colon of a pair.
+/// What is before the colon of a pair.
 #[derive(Drop)]
 pub enum Key {
     /// An identifier of this name.
     Name(Text),
     /// A string of this key.
     Str(Text),
-    /// Nothing that names something.
+    /// Anything else, which is not a key.
     Other,
 }
 

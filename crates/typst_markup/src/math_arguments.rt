@@ -12,7 +12,7 @@ use std::alloc::AllocError;
 use typst_kinds::{Names, SyntaxKind};
 use typst_language::{Change, Levels, Parser, Way};
 
-/// Reads the expressions of an argument, of which a named one has some; answers how many there are.
+/// Reads the expressions of an argument, of which a named one has to have some; answers how many there are.
 fn argument_exprs<L: Levels>(g: &L, p: &mut Parser<'_>, is_named: bool) -> Result<usize, AllocError>
     requires { L.may_call g.now }
     ensures { Means (L.frame g.now) (spec.argument_exprs is_named) p.old result p.new }
@@ -31,7 +31,7 @@ fn is_missing(is_named: bool, count: usize) -> bool
     is_named && count == 0
 }
 
-/// Reads the value of an argument. What isn't one expression is math.
+/// Reads the value of an argument as one node. Several expressions, or none, become math.
 fn argument_value<L: Levels>(g: &L, p: &mut Parser<'_>, is_named: bool) -> Result<(), AllocError>
     requires { L.may_call g.now }
     ensures { Means (L.frame g.now) (spec.argument_value is_named) p.old result p.new }
@@ -53,7 +53,7 @@ fn wrap_value(p: &mut Parser<'_>, from: usize, count: usize) -> Result<(), Alloc
     Ok(())
 }
 
-/// Reads a name before a colon, or an underscore, which is no name; answers it as a key.
+/// Reads a name before a colon, or an underscore, which isn't a name; answers it as a key.
 fn argument_name<L: Levels>(g: &L, p: &mut Parser<'_>, kind: SyntaxKind) -> Result<Key, AllocError>
     ensures { Means (L.frame g.now) (spec.argument_name kind) p.old result p.new }
 {
@@ -92,7 +92,7 @@ fn named_argument<L: Levels>(
     Ok(key)
 }
 
-/// Makes one node of an argument, whose name may have been seen.
+/// Makes one node of a named argument, whose name becomes an error if it was seen.
 fn wrap_argument(
     p: &mut Parser<'_>,
     from: usize,
@@ -145,7 +145,7 @@ fn math_argument<L: Levels>(g: &L, p: &mut Parser<'_>, names: Names) -> Result<N
     Ok(with_argument(names, key)?)
 }
 
-/// Reads what stands behind an argument, unless the list ends.
+/// Reads the comma or semicolon after an argument, unless the list ends.
 fn argument_end<L: Levels>(g: &L, p: &mut Parser<'_>) -> Result<(), AllocError>
     ensures { Means (L.frame g.now) spec.argument_end p.old result p.new }
 {

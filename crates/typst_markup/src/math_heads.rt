@@ -14,7 +14,7 @@ pub enum MathHead {
     Embedded,
     /// A name.
     Name,
-    /// What stands between delimiters.
+    /// A delimiter with what follows up to one that closes it.
     Delimited,
     /// A delimiter that closes nothing.
     Closer,
@@ -22,17 +22,17 @@ pub enum MathHead {
     Plain,
     /// Text.
     Text,
-    /// A node of its own.
+    /// A token that is an expression by itself.
     Itself,
-    /// A node of its own, which may be called.
+    /// A token that is an expression by itself and may be called.
     Symbol,
     /// A root.
     Root,
-    /// Nothing, and it stays.
+    /// Nothing that begins an expression, and it stays.
     Missing,
 }
 
-/// What the beginning of an expression is to a delimiter directly behind it.
+/// What the beginning of an expression is to a delimiter directly after it.
 #[derive(Debug, Clone, Copy, PartialEq, Eq)]
 pub enum Callee {
     /// A name, which takes arguments in parens and what other delimiters hold.
@@ -43,7 +43,7 @@ pub enum Callee {
     Other,
 }
 
-/// What a token takes an expression that stands before it into.
+/// What a token makes of the expression before it.
 #[derive(Debug, Clone, Copy, PartialEq, Eq)]
 pub enum MathTail {
     /// A call, with arguments in parens.
@@ -54,22 +54,22 @@ pub enum MathTail {
     Fraction,
     /// Attachments.
     Attachments,
-    /// Primes, and attachments behind them.
+    /// Primes, and attachments after them.
     Primes,
     /// Math, with an exclamation mark.
     Factorial,
-    /// Nothing.
+    /// Nothing: the expression ends before the token.
     Nothing,
 }
 
-/// Which node an expression becomes with what was read behind it.
+/// Which node an expression becomes with what was read after it.
 #[derive(Debug, Clone, Copy, PartialEq, Eq)]
 pub enum Grown {
     /// A call.
     Call,
     /// Math.
     Math,
-    /// A fraction. Parens around what is above the slash are no delimiters.
+    /// A fraction. Parens around what is above the slash aren't delimiters.
     Fraction,
     /// An expression with attachments.
     Attach,
@@ -97,8 +97,8 @@ pub(crate) fn math_head(kind: SyntaxKind) -> MathHead
     }
 }
 
-/// What takes an expression into its node that ends at some signs and whose operators bind at least
-/// so tightly: a token behind trivia or directly behind it.
+/// What a token, directly after an expression or after trivia, makes of the expression, which ends at some signs
+/// and whose operators bind at least so tightly.
 pub(crate) fn math_tail(
     callee: Callee,
     least: u8,
@@ -114,7 +114,7 @@ pub(crate) fn math_tail(
     bound_tail(least, tail_at(callee, kind, has_trivia))
 }
 
-/// What binds at least so tightly.
+/// The tail, if it binds at least so tightly.
 fn bound_tail(least: u8, tail: MathTail) -> MathTail
     ensures { result ≡ spec.bound_tail least tail }
 {
@@ -124,7 +124,7 @@ fn bound_tail(least: u8, tail: MathTail) -> MathTail
     MathTail::Nothing
 }
 
-/// How tightly an operator or a call binds.
+/// How tightly an operator or a call binds, by the tail that it begins.
 fn precedence(tail: MathTail) -> u8
     ensures { result ≡ spec.precedence tail }
 {
@@ -136,7 +136,7 @@ fn precedence(tail: MathTail) -> u8
     }
 }
 
-/// What the token does to what stands before it.
+/// What a token makes of the expression before it.
 fn tail_at(callee: Callee, kind: SyntaxKind, has_trivia: bool) -> MathTail
     ensures { result ≡ spec.tail_at callee kind has_trivia }
 {
@@ -151,14 +151,14 @@ fn tail_at(callee: Callee, kind: SyntaxKind, has_trivia: bool) -> MathTail
     }
 }
 
-/// What only stands directly behind an expression.
+/// A tail that has to come directly after its expression.
 fn directly(has_trivia: bool, tail: MathTail) -> MathTail
     ensures { result ≡ spec.directly has_trivia tail }
 {
     if has_trivia { MathTail::Nothing } else { tail }
 }
 
-/// A paren directly behind it.
+/// What a paren directly after an expression begins.
 fn paren_tail(callee: Callee) -> MathTail
     ensures { result ≡ spec.paren_tail callee }
 {
@@ -169,7 +169,7 @@ fn paren_tail(callee: Callee) -> MathTail
     }
 }
 
-/// Another delimiter directly behind it.
+/// What another delimiter directly after an expression begins.
 fn brace_tail(callee: Callee) -> MathTail
     ensures { result ≡ spec.brace_tail callee }
 {

@@ -11,7 +11,7 @@ use std::alloc::AllocError;
 use typst_kinds::{Names, SyntaxKind};
 use typst_language::{Change, Parser};
 
-/// Makes a named argument of an argument that has a name, which may have been seen.
+/// Makes one node of a named argument, whose name becomes an error if it was seen.
 pub fn wrap_named(
     p: &mut Parser<'_>,
     from: usize,
@@ -33,7 +33,7 @@ pub fn wrap_named(
     Ok(())
 }
 
-/// With the name of an argument, if it has one.
+/// The names that were seen, with that of an argument, if it has one.
 pub fn with_argument(names: Names, key: Option<Key>) -> Result<Names, AllocError>
     ensures { IfOk result (λ more. more ≡ spec.with_argument names key) }
 {

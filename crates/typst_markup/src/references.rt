@@ -13,7 +13,7 @@ use std::alloc::AllocError;
 use typst_kinds::{SyntaxKind, SyntaxMode};
 use typst_language::{AtNewline, Block, Levels, Parser, Reading};
 
-/// `[ .. ]`, read as markup whatever stands around it. What comes behind it isn't asked for.
+/// Reads `[ .. ]` as markup, whatever is around it. What comes after it isn't asked for.
 pub fn content_block<L: Levels>(g: &L, p: &mut Parser<'_>) -> Result<(), AllocError>
     requires { L.may_call g.now }
     ensures { MeansLast (L.frame g.now) spec.content_block p.old result p.new }
@@ -31,7 +31,7 @@ pub fn content_block<L: Levels>(g: &L, p: &mut Parser<'_>) -> Result<(), AllocEr
     Ok(())
 }
 
-/// A content block as a unit of its own, which is noted where it begins and where it ends.
+/// Reads a content block as a unit, which is noted where it begins and where it ends.
 fn read_content<L: Levels>(g: &L, p: &mut Parser<'_>) -> Result<(), AllocError>
     requires { L.may_call g.now }
     ensures { MeansOutside (L.frame g.now) (read_block Block.Content) p.old result p.new }
@@ -42,7 +42,7 @@ fn read_content<L: Levels>(g: &L, p: &mut Parser<'_>) -> Result<(), AllocError>
     Ok(())
 }
 
-/// A content block, if one begins directly here.
+/// Reads a content block, if one begins here without trivia before it.
 fn direct_content<L: Levels>(g: &L, p: &mut Parser<'_>) -> Result<(), AllocError>
     requires { L.may_call g.now }
     ensures { MeansOutside (L.frame g.now) spec.direct_content p.old result p.new }
@@ -53,7 +53,7 @@ fn direct_content<L: Levels>(g: &L, p: &mut Parser<'_>) -> Result<(), AllocError
     Ok(())
 }
 
-/// `@name`, and a content block directly after it.
+/// Reads `@name`, and a content block directly after it.
 pub fn reference<L: Levels>(g: &L, p: &mut Parser<'_>) -> Result<(), AllocError>
     requires { L.may_call g.now }
     ensures { MeansOutside (L.frame g.now) spec.reference p.old result p.new }
@@ -65,7 +65,7 @@ pub fn reference<L: Levels>(g: &L, p: &mut Parser<'_>) -> Result<(), AllocError>
     Ok(())
 }
 
-/// Whether a content block begins at the token at hand, without trivia before it.
+/// Whether a content block begins at the current token, without trivia before it.
 pub fn opens_directly(p: &Parser<'_>) -> bool
     ensures { result ≡ spec.opens_directly (told p.now.hand) }
 {

@@ -47,7 +47,7 @@ pub fn markup_run<L: Levels>(g: &L, p: &mut Parser<'_>, stop: Stop) -> Result<()
     Ok(())
 }
 
-/// Reads expressions up to a stop, which are noted in a run; answers what is carried behind the last.
+/// Reads expressions up to a stop, and notes them in a run; answers what is carried after the last.
 fn markup_turns<L: Levels>(
     g: &L,
     p: &mut Parser<'_>,
@@ -69,7 +69,7 @@ fn markup_turns<L: Levels>(
     }
 }
 
-/// Reads one expression, unless a stop comes; answers whether it did, and what is carried behind it.
+/// Reads one expression, unless a stop comes; answers whether it did, and what is carried after it.
 pub fn markup_turn<L: Levels>(
     g: &L,
     p: &mut Parser<'_>,
@@ -90,7 +90,7 @@ pub fn markup_turn<L: Levels>(
     Ok((true, (has_newline, nesting)))
 }
 
-/// Notes that an expression of a run ended, and what comes next may begin one.
+/// Notes, in a run, that an expression ended and the next one may begin.
 fn note_piece<L: Levels>(
     g: &L,
     p: &mut Parser<'_>,
@@ -122,7 +122,7 @@ pub fn markup<L: Levels>(
     Ok(())
 }
 
-/// Reads a sequence as one node with the trivia at both ends; answers whether nothing stood there.
+/// Reads a sequence as one node, with the trivia at both ends; answers whether it is empty.
 pub fn markup_with_trivia<L: Levels>(
     g: &L,
     p: &mut Parser<'_>,
@@ -138,7 +138,8 @@ pub fn markup_with_trivia<L: Levels>(
     Ok(p.wrap(from, SyntaxKind::Markup)?)
 }
 
-/// The same of a run, before which nothing was asked.
+/// Reads a run as one node, with the trivia at both ends; answers whether it is empty. Nothing was asked before
+/// it.
 pub fn run_with_trivia<L: Levels>(g: &L, p: &mut Parser<'_>, stop: Stop) -> Result<bool, AllocError>
     requires { L.may_call g.now }
     ensures { MeansFirst (L.frame g.now) (spec.markup_is_empty (spec.markup_run (stops_at stop))) p.old result p.new }
@@ -149,7 +150,7 @@ pub fn run_with_trivia<L: Levels>(g: &L, p: &mut Parser<'_>, stop: Stop) -> Resu
     Ok(p.wrap(from, SyntaxKind::Markup)?)
 }
 
-/// Whether a sequence ends at this token. It goes on past a bracket that closes one of its own.
+/// Whether a sequence ends at this token. It goes on past a bracket that closes one opened in it.
 fn ends(stop: Stop, nesting: usize, kind: SyntaxKind) -> bool
     ensures { result ≡ spec.ends (stops_at stop) nesting kind }
 {

@@ -13,15 +13,15 @@ use typst_language::{Stops, is_end};
 pub enum Stop {
     /// At the end of what may be read.
     End,
-    /// There, and at the bracket that closes a content block or ends an item.
+    /// At the end, and at the bracket that closes a content block or ends an item.
     Block,
-    /// There, and at a colon, which ends a term.
+    /// Where `Block` stops, and at a colon, which ends a term.
     Term,
-    /// There, and at a label, which ends a heading.
+    /// Where `Block` stops, and at a label, which ends a heading.
     Heading,
-    /// There, and at a star.
+    /// Where `Block` stops, and at a star.
     Strong,
-    /// There, and at an underscore.
+    /// Where `Block` stops, and at an underscore.
     Emph,
 }
 
@@ -52,9 +52,9 @@ fn ends_block(kind: SyntaxKind) -> bool
 pub enum MathStop {
     /// At the end of what may be read.
     End,
-    /// There, and at the dollar that closes a formula.
+    /// At the end, and at the dollar that closes a formula.
     Equation,
-    /// There, and at what closes a delimited part.
+    /// Where a formula stops, and at what closes a delimited part.
     Delimited,
     /// Where a formula stops, and at what ends an argument of a call.
     Argument,
@@ -94,7 +94,7 @@ pub fn ends_list(kind: SyntaxKind) -> bool
     kind == SyntaxKind::RightParen || ends_equation(kind)
 }
 
-/// Whether this token stands between two arguments.
+/// Whether this token separates two arguments.
 pub fn separates(kind: SyntaxKind) -> bool
     ensures { result ≡ math.separates kind }
 {

@@ -14,12 +14,15 @@ use Rattle.typst_parser.specs.Held.{Held}
 abbrev pub change_of : List ℕ → Range ℕ → List ℕ → Change
 change_of text range new = record { front = chars (take range.start text); old = chars (drop range.start (take range.end text)); new = chars new; rest = chars (drop range.end text) }
 
--- With records an edit answers the first candidate that passes and finds numbers, as its range in the new text; where there is none, and without records, it answers the whole new text, numbered in the file of the root.
+-- With records an edit answers the first candidate that passes and finds numbers, as its range in
+-- the new text; if there is none, and without records, it answers the whole new text, numbered in
+-- the file of the root.
 pub record Answers {C : Type 0} (k : CharClasses) (old new : Held C) (replace : Range ℕ) (with : List ℕ) (range : Range ℕ) : Type 0 where
   pub recorded : old.has_records ≡ true → (let c = change_of old.text replace with in IsAnswer k c.front c.old c.new c.rest (candidates k c old.root) old.root new.root range)
   pub unrecorded : old.has_records ≡ false → (range ≡ record { start = 0; end = length new.text }) × (numbered_in (file_of old.root) (tree k (chars new.text)) ≡ Some new.root)
 
--- Another text is put in place by one edit, of what the two texts don't have in common at the front and at the end.
+-- Another text takes a text's place by one edit, of what the two don't have in common at the front
+-- and at the end.
 abbrev pub AnswersText : {C : Type 0} → CharClasses → Held C → Held C → List ℕ → Range ℕ → Type 0
 AnswersText k old new text range =
     let ends = common_ends old.text text in

@@ -22,7 +22,8 @@ use Rattle.typst_parser.specs.declared.replacement.Replacement.{Replacement}
 abbrev pub at_path : List ℕ → found.Candidate → Candidate
 at_path path c = record { is_block = c.is_block; path = path; from = c.from; to = c.to; start = c.start; end = c.end }
 
--- What is asked of candidates speaks of a change: of its new text, and of the two numbers that decide the test of looks, by a tree and its units.
+-- What is asked of candidates is of this change: of its new text, and of the two numbers that
+-- decide the test of looks, by a tree and its units.
 pub record Speaks {C : Type 0} (k : CharClasses) (c : Change) (q : Asked C) (root : Tree) (units : Units) : Type 0 where
   pub text : IsUtf8 q.new.now
   pub makes : Makes c q.new.now q.edit
@@ -34,7 +35,9 @@ pub record Speaks {C : Type 0} (k : CharClasses) (c : Change) (q : Asked C) (roo
 abbrev pub IsReady : {C : Type 0} → CharClasses → Change → Attempt C → Type 0
 IsReady {C} k c a = Speaks k c a.asked.now a.root.now a.records.now.units
 
--- A part takes a candidate's place: put from its first child on, its nodes do what the candidate's do; it ends at the shifted end, and with its entries in the place of the old ones the units are those of the new text.
+-- A part takes a candidate's place: put from its first child on, its nodes do what the candidate's
+-- do; it ends at the shifted end, and with its entries in place of the old ones the units are those
+-- of the new text.
 pub record IsPart (k : CharClasses) (c : Change) (root : Tree) (d : Candidate) (p : Part) : Type 0 where
   pub nodes : List Tree
   pub gives : Gives k c.front c.old c.new c.rest d nodes
@@ -45,11 +48,11 @@ pub record IsPart (k : CharClasses) (c : Change) (root : Tree) (d : Candidate) (
   pub within : p.to < length (entries_in k (text_before c))
   pub units : units_of (log k (text_after c)) ≡ spliced p.from p.to p.entries.units.entries (units_of (log k (text_before c)))
 
--- A candidate doesn't pass.
+-- A candidate doesn't pass: no nodes meet its test.
 abbrev pub Fails : CharClasses → Change → Candidate → Type 0
 Fails k c d = (ts : List Tree) → Gives k c.front c.old c.new c.rest d ts → ⊥
 
--- It is found of a candidate whether it passes: where nothing takes its place, it doesn't.
+-- It was decided whether a candidate passes: a part takes its place, or it doesn't pass.
 abbrev pub Decides : CharClasses → Change → Tree → Candidate → Option Part → Type 0
 Decides k c root d (Some p) = IsPart k c root d p
 Decides k c root d None = Fails k c d

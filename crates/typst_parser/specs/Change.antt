@@ -10,20 +10,24 @@ use Rattle.typst_edits.specs.Answer as answer
 use Rattle.typst_edits.specs.Grammar.{tree, log}
 use Rattle.typst_parser.specs.declared.replacement.Replacement.{Replacement}
 
--- what stands before the replaced stretch, the stretch, what takes its place, and the rest
+-- an edit of a text: what is before the replaced stretch, the stretch, what takes its place, and
+-- the rest
 pub record Change : Type 0 where
   pub front : List ℕ
   pub old : List ℕ
   pub new : List ℕ
   pub rest : List ℕ
 
+-- the text before the edit
 abbrev pub text_before : Change → List ℕ
 text_before c = c.front ++ (c.old ++ c.rest)
 
+-- the text after the edit
 abbrev pub text_after : Change → List ℕ
 text_after c = c.front ++ (c.new ++ c.rest)
 
--- A replacement, in bytes, makes a text this one; both are texts that a machine word counts.
+-- A replacement, in bytes, makes this change, and `new` is the new text; a machine word counts both
+-- texts.
 pub record Makes (c : Change) (new : List ℕ) (e : Replacement) : Type 0 where
   pub is : chars new ≡ text_after c
   pub start : e.start ≡ width c.front
@@ -37,6 +41,6 @@ pub record Holds (k : CharClasses) (c : Change) (root : Tree) (units : Units) : 
   pub tree_is : bare root ≡ bare (tree k (text_before c))
   pub units_are : units ≡ units_of (log k (text_before c))
 
--- the candidates of the edit
+-- the candidates of the edit, by the tree of the text before it
 abbrev pub candidates : CharClasses → Change → Tree → List Candidate
 candidates k c root = answer.candidates k (text_before c) (width c.front) (width (c.front ++ c.old)) root

@@ -24,25 +24,25 @@ pub record IsNumberedIn (file : ℕ) (t : Tree) : Type 0 where
   pub order : AreInOrder (numbers_of t)
   pub few : nodes t < 2 ^ 47
 
--- the same, or no node has a number where there is no file
+-- each node has a number of the file, or if there is no file, no node has one
 abbrev pub AreNumbered : Option ℕ → Tree → Type 0
 AreNumbered None t = All (λ n. n.head.span ≡ None) (places t)
 AreNumbered (Some file) t = IsNumberedIn file t
 
--- where there is a file, the numbers are in order
+-- the numbers are in order, if there is a file
 abbrev pub AreOrdered : Option ℕ → Tree → Type 0
 AreOrdered None t = Unit {0}
 AreOrdered (Some file) t = AreInOrder (numbers_of t)
 
--- the tree numbered over all numbers of the file, if they are enough; without numbers where there is
+-- the tree numbered over all numbers of the file, if they are enough; without numbers if there is
 -- no file
 abbrev pub numbered_in : Option ℕ → Tree → Option Tree
 numbered_in None t = Some (synthesized None t)
 numbered_in (Some file) t = numberized file 2 (2 ^ 47) t
 
--- THE HEADLINE. The tree is, spans aside, the tree that the written grammar gives to the whole present
--- text, and its leaves joined are that text. Its nodes are numbered in order. The line table is that of
--- the text: lines are seen as their text alone, with the table made anew
+-- THE HEADLINE. The tree is, spans aside, the tree that the written grammar gives to the whole
+-- present text, and its leaves joined are that text. Its nodes are numbered in order. The line
+-- table is that of the text, since contracts see lines as their text alone
 pub record Headline {C : Type 0} (k : CharClasses) (s : Held C) : Type 0 where
   pub tree : bare s.root ≡ bare (tree k (chars s.text))
   pub leaves : text_of s.root ≡ s.text

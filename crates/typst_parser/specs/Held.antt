@@ -3,8 +3,8 @@ use Rattle.std.specs.Prelude.{ℕ, Bool, List, refl}
 use Rattle.std.specs.Coded.{Coded, code_by, coded×, coded_ℕ, coded_bool, coded_list}
 use Rattle.typst_tree.specs.Tree.{Tree, tree_code}
 
--- its file, its text, its tree with spans, its class value, and whether it has records, which it has
--- from its making by `new` or its first edit on
+-- what contracts see of a source: its file, its text, its tree with spans, its class value, and
+-- whether it has records, which it has from its making by `new` or its first edit on
 pub record Held (C : Type 0) : Type 0 where
   pub id : ℕ
   pub text : List ℕ
@@ -12,7 +12,7 @@ pub record Held (C : Type 0) : Type 0 where
   pub classes : C
   pub has_records : Bool
 
--- a source is stored as the tuple of these
+-- how a source is stored in ghost fields
 abbrev pub held_code : {C : Type 0} → Coded C → Coded (Held C)
 held_code {C} code =
     code_by (ℕ × (List ℕ × (Tree × (C × Bool)))) (coded× coded_ℕ (coded× (coded_list coded_ℕ) (coded× tree_code (coded× code coded_bool))))

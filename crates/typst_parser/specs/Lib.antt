@@ -6,7 +6,7 @@ pub mod Answers
 pub mod Tried
 pub mod Find
 pub mod Found
--- What an edit reads anew.
+-- What an edit reads again.
 pub mod Change
 pub mod Attempt
 pub mod Steps

@@ -12,17 +12,18 @@ use Rattle.typst_parser.specs.declared.replacement.Replacement.{Replacement}
 use Rattle.typst_parser.specs.Held.{Held}
 use Rattle.typst_parser.specs.Headline.{Headline, file_of, numbered_in}
 
--- where there is a file, the numbers below each node stand between its number and its upper end
+-- the numbers below each node are between its number and its upper end, if there is a file
 abbrev pub IsPlacedBy : Option ℕ → Tree → Type 0
 IsPlacedBy None t = Unit {0}
 IsPlacedBy (Some file) t = IsNumbered t
 
--- and those of the root among the numbers that nodes can have
+-- the numbers below each node are between its number and its upper end, and those of the root among
+-- the numbers that nodes can have, if there is a file
 abbrev pub IsPlaced : Option ℕ → Tree → Type 0
 IsPlaced None t = Unit {0}
 IsPlaced (Some file) t = IsNumbered t × (1 ≤ number_of t.head.span) × (upper_at t.head ≤ 2 ^ 47)
 
--- These are the units of a text's reading, which a machine word counts.
+-- These are the units of a text's reading, and a machine word counts the text.
 pub record AreUnits (k : CharClasses) (text : List ℕ) (units : Units) : Type 0 where
   pub are : units ≡ units_of (log k (chars text))
   pub fits : length text < 2 ^ 64 - 1
@@ -33,7 +34,7 @@ pub record Records {C : Type 0} (k : CharClasses) (s : Held C) (units : Units) :
   pub placed : IsPlaced (file_of s.root) s.root
   pub are : AreUnits k s.text units
 
--- In a text a stretch was replaced, whose ends are on character boundaries.
+-- A stretch of a text was replaced by another text, between character boundaries.
 pub record IsEdited (old new : List ℕ) (e : Replacement) : Type 0 where
   pub with : List ℕ
   pub utf8_old : IsUtf8 old

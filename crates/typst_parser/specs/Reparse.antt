@@ -1,4 +1,4 @@
--- What an edit answers that reads a part of the new text.
+-- What an edit answers for which a part of the new text is read.
 use Rattle.std.specs.Prelude.{◌≡◌, ℕ, ◌+◌, Bool, true, false, List, length, map, take, Option, Some, None}
 use Rattle.std.specs.declared.ops.Range.{Range}
 use Rattle.typst_lines.specs.Classes.{CharClasses}
@@ -22,7 +22,8 @@ use Rattle.typst_parser.specs.declared.attempt.Asked.{Asked}
 use Rattle.typst_parser.specs.declared.attempt.Part.{Part}
 use Rattle.typst_parser.specs.declared.attempt.Serving.{Serving}
 
--- The first candidate that passes and whose nodes find numbers took its place, in the tree and in the units; the tree is that of the new text, spans aside.
+-- The first candidate that passes and whose nodes find numbers was put in its place, in the tree
+-- and in the units; the tree is that of the new text, spans aside.
 pub record Takes (k : CharClasses) (c : Change) (was now : Tree) (units : Units) (range : Range ℕ) : Type 0 where
   pub answer : IsAnswer k c.front c.old c.new c.rest (candidates k c was) was now range
   pub tree_is : bare now ≡ bare (tree k (text_after c))
@@ -32,37 +33,38 @@ pub record Takes (k : CharClasses) (c : Change) (was now : Tree) (units : Units)
 abbrev pub NonePasses : CharClasses → Change → Tree → Type 0
 NonePasses k c was = Every (Refused k c.front c.old c.new c.rest was) (candidates k c was)
 
--- ---- some candidates (of private clauses)
+-- ---- some candidates (for private clauses)
 
--- Candidates of the code are the first of an edit's.
+-- These candidates of the code are the first of an edit's.
 abbrev pub AreFirst : CharClasses → Change → Tree → Candidates → Type 0
 AreFirst k c root found = map (spelled found.path.items) found.items.items ≡ take (length found.items.items) (candidates k c root)
 
--- They are those of an edit that is asked of them.
+-- These candidates are the first of the edit that is asked of them.
 pub record CanTakeFirst {C : Type 0} (k : CharClasses) (q : Asked C) (root : Tree) (units : Units) (found : Candidates) : Type 0 where
   pub change : Change
   pub speaks : Speaks k change q root units
   pub first : AreFirst k change root found
 
--- None of the first so many passes whose nodes find numbers.
+-- Of the first so many candidates none passes whose nodes find numbers.
 abbrev pub NonePassesOf : CharClasses → Change → Tree → ℕ → Type 0
 NonePassesOf k c was n = Every (Refused k c.front c.old c.new c.rest was) (take n (candidates k c was))
 
--- One took its place before which there is none, or there is none among so many.
+-- A candidate was put in its place before which there is none such, or there is none such among the
+-- first so many.
 abbrev pub TakesFirst : CharClasses → Change → Tree → Tree → Units → ℕ → Option (Range ℕ) → Type 0
 TakesFirst k c was now units n None = NonePassesOf k c was n
 TakesFirst k c was now units n (Some range) = Takes k c was now units range
 
--- ---- one candidate (of private clauses)
+-- ---- one candidate (for private clauses)
 
--- A candidate of an edit that is asked of it, and a reading that serves it.
+-- The candidate is one of the edit that is asked of it, and a reading serves it.
 pub record CanTake {C : Type 0} (k : CharClasses) (q : Asked C) (root : Tree) (units : Units) (path : List ℕ) (d : code.Candidate) (s : Option Serving) : Type 0 where
   pub change : Change
   pub speaks : Speaks k change q root units
   pub among : Among (at_path path d) (candidates k change root)
   pub serves : ServesFor k change root path d s
 
--- A candidate passed, and what it gives took its place, up to a byte of the new text.
+-- A candidate passed, and what it gives was put in its place, up to a byte of the new text.
 pub record HasTaken (k : CharClasses) (c : Change) (d : Candidate) (was now : Tree) (units : Units) (end : ℕ) : Type 0 where
   pub nodes : List Tree
   pub gives : Gives k c.front c.old c.new c.rest d nodes
@@ -70,12 +72,12 @@ pub record HasTaken (k : CharClasses) (c : Change) (d : Candidate) (was now : Tr
   pub shifted : end + width c.old ≡ d.end + width c.new
   pub units_are : units ≡ units_of (log k (text_after c))
 
--- It took its place, or is refused.
+-- A candidate was put in its place, or is refused.
 abbrev pub TakesPlace : CharClasses → Change → Candidate → Tree → Tree → Units → Option ℕ → Type 0
 TakesPlace k c d was now units None = Refused k c.front c.old c.new c.rest was d
 TakesPlace k c d was now units (Some end) = HasTaken k c d was now units end
 
--- A part was put in the place of children, or its nodes find no numbers.
+-- A part was put in place of children, or its nodes find no numbers and nothing changed.
 abbrev pub Puts : List ℕ → ℕ → ℕ → Part → Tree → Tree → Units → Units → Bool → Type 0
 Puts path from to p was now units units_now true = (replaced_at path from to p.nodes.items was ≡ Some now) × (units_now ≡ spliced p.from p.to p.entries.units.entries units)
 Puts path from to p was now units units_now false = (replaced_at path from to p.nodes.items was ≡ None) × (now ≡ was) × (units_now ≡ units)

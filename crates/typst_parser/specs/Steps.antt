@@ -1,4 +1,4 @@
--- What an attempt finds step by step (of private clauses).
+-- What an attempt finds step by step (for private clauses).
 use Rattle.std.specs.Prelude.{◌≡◌, ◌↔◌, ◌⊎◌, ℕ, suc, ◌+◌, ◌-◌, ◌<◌, ◌≤◌, ◌^◌, Bool, true, false, List, [], ◌∷◌, ◌++◌, length, take, Option, Some, None}
 use Rattle.typst_kinds.specs.declared.mode.SyntaxMode.{SyntaxMode}
 use Rattle.typst_lines.specs.Classes.{CharClasses}
@@ -49,30 +49,33 @@ entries_of start p = entries_by start p.notes.items ++ block_end (last_start sta
 abbrev pub place_before : List Entry → ℕ → cursors.Place
 place_before es number = record { entries = es; number = number }
 
--- Pieces begin and end at these entries, and looks have to begin behind the stretch from this one on, or from one that is none.
+-- Pieces begin and end at these entries, and looks have to begin after the stretch from this entry
+-- on, or if there is no such entry, from none on.
 abbrev pub AreBounds : List Entry → ℕ → ℕ → ℕ → Option Bounds → Type 0
 AreBounds es from to looks None = ⊥
 AreBounds es from to looks (Some b) = (b.from ≡ place_before es from) × (b.to ≡ place_before es to) × ((b.looks ≡ looks) ⊎ ((b.looks ≡ length es) × (length es ≤ looks)))
 
--- So many pieces were read that fewer end before a byte.
+-- So many pieces were read, and fewer of them end before a byte.
 pub record HasReadSome (k : CharClasses) (r : Reading) (end : ℕ) (any : Bool) (p : PieceReader) : Type 0 where
   pub count : ℕ
   pub read : HasRead k r.levels r.which r.carried r.place count p
   pub some : any ≡ true ↔ 0 < count
   pub before : (j : ℕ) → j < count → byte_behind k r j < end
 
--- They end at the byte or behind it, or their run ends.
+-- Pieces were read that end at a byte or after it, or up to the end of their run.
 pub record HasReadTo (k : CharClasses) (r : Reading) (end : ℕ) (any : Bool) (p : PieceReader) : Type 0 where
   pub has : HasReadSome k r end any p
   pub stopped : (end ≤ byte_behind k r has.count) ⊎ IsOver k r.levels r.which r.carried r.place has.count
 
--- More pieces end at a later byte, behind the run's end there are none, and each ends at a byte of the machine.
+-- More pieces end at a later byte, no pieces come after the run's end, and each ends at a byte of
+-- the machine.
 pub record Grows (k : CharClasses) (r : Reading) : Type 0 where
   pub rises : (m j : ℕ) → m < j → AllGo (read_by k r j) → byte_behind k r m < byte_behind k r j
   pub over : (m j : ℕ) → IsOver k r.levels r.which r.carried r.place m → AllGo (read_by k r j) → j ≤ m
   pub fits : (m : ℕ) → byte_behind k r m < 2 ^ 64
 
--- So many pieces, behind old ones or not, end where those do that ended at a byte before the bytes `old` became the bytes `new`, and meet what is there.
+-- So many pieces, after old ones or not, end where those do that ended at the byte `end` before the
+-- bytes `old` became the bytes `new`, and meet what is there.
 pub record Fit (k : CharClasses) (es : List Entry) (r : Reading) (old new end to : ℕ) (led : Type 0) (y : Bool × ℕ) (m : ℕ) : Type 0 where
   pub go : AllGo (read_by k r m)
   pub shifted : byte_behind k r m + old ≡ end + new
@@ -80,7 +83,8 @@ pub record Fit (k : CharClasses) (es : List Entry) (r : Reading) (old new end to
 
 -- ---- a reading that serves a run
 
--- A reading serves a run: it began with a candidate of the edit at the run's path, before which all looks end before the stretch, and so many pieces of it were read.
+-- A reading serves a run: it began with a candidate of the edit at the run's path, before which all
+-- looks end before the stretch, and has read so many pieces.
 pub record Serves (k : CharClasses) (c : Change) (root : Tree) (path : List ℕ) (depth : ℕ) (which : RunKind) (levels entry : ℕ) (s : Serving) : Type 0 where
   pub depth_is : s.first.depth ≡ depth
   pub pieces : s.first.is_block ≡ false
@@ -91,10 +95,10 @@ pub record Serves (k : CharClasses) (c : Change) (root : Tree) (path : List ℕ)
   pub count : ℕ
   pub read : HasRead k levels which found.carried (moved found.at (text_with c.front c.new c.rest)) count s.reader
   pub some : s.any ≡ true ↔ 0 < count
-  -- fewer end before the last candidate does for which it went on
+  -- fewer pieces end before the end of the last candidate that it went on for
   pub less : (j : ℕ) → j < count → byte_behind k (reading_of found) j + width c.old < s.last + width c.new
 
--- It serves the run of the candidates at a path.
+-- A reading serves the run of the candidates at a path.
 pub record ServesRun (k : CharClasses) (c : Change) (root : Tree) (path : List ℕ) (depth : ℕ) (s : Serving) : Type 0 where
   pub which : RunKind
   pub levels : ℕ
@@ -102,22 +106,24 @@ pub record ServesRun (k : CharClasses) (c : Change) (root : Tree) (path : List �
   pub run : RunOf (entries_in k (text_before c)) root path which levels entry
   pub serves : Serves k c root path depth which levels entry s
 
--- It is one that does, or there is none.
+-- A reading serves the run of the candidates at a path, or there is no reading.
 abbrev pub ServesOr : CharClasses → Change → Tree → List ℕ → ℕ → Option Serving → Type 0
 ServesOr k c root path depth None = Unit {0}
 ServesOr k c root path depth (Some s) = ServesRun k c root path depth s
 
--- It can go on for a candidate: one as deep, which begins where it began or earlier, and ends where the last one did or later.
+-- A reading can go on for a candidate: one as deep, which begins where it began or earlier, and
+-- ends where the last one did or later.
 pub record GoesOn (d : code.Candidate) (s : Serving) : Type 0 where
   pub depth : s.first.depth ≡ d.depth
   pub start : d.start ≤ s.first.start
   pub end : s.last ≤ d.end
 
+-- A reading serves the run of a candidate and can go on for it, or there is no reading.
 abbrev pub ServesFor : CharClasses → Change → Tree → List ℕ → code.Candidate → Option Serving → Type 0
 ServesFor k c root path d None = Unit {0}
 ServesFor k c root path d (Some s) = ServesRun k c root path d.depth s × GoesOn d s
 
--- A candidate of an edit that is ready, and a reading that serves it.
+-- The candidate is one of an edit that is ready, and a reading serves it.
 pub record CanServe {C : Type 0} (k : CharClasses) (a : Attempt C) (path : List ℕ) (d : code.Candidate) (s : Option Serving) : Type 0 where
   pub change : Change
   pub ready : IsReady k change a
@@ -126,7 +132,7 @@ pub record CanServe {C : Type 0} (k : CharClasses) (a : Attempt C) (path : List 
 
 -- ---- a run
 
--- Of a candidate it is known what is found of it as pieces of a run, and a reading serves it.
+-- A candidate is pieces of a run: what is found of it is known, and a reading serves it.
 pub record Reads {C : Type 0} (k : CharClasses) (c : Change) (a : Attempt C) (path : List ℕ) (d : code.Candidate) (r : Run) (s : Option Serving) : Type 0 where
   pub ready : IsReady k c a
   pub among : Among (at_path path d) (candidates k c a.root.now)
@@ -136,7 +142,7 @@ pub record Reads {C : Type 0} (k : CharClasses) (c : Change) (a : Attempt C) (pa
   pub found : FoundRun k c.front c.old c.new c.rest (at_path path d) r.kind r.levels r.first
   pub serves : ServesFor k c a.root.now path d s
 
--- It begins at this place, before which all looks end before the stretch.
+-- A candidate begins at this place, before which all looks end before the stretch.
 pub record BeginsThere (k : CharClasses) (c : Change) (path : List ℕ) (d : code.Candidate) (r : Run) (f : FoundRun k c.front c.old c.new c.rest (at_path path d) r.kind r.levels r.first) (at : cursors.Place) : Type 0 where
   pub is : at ≡ place_before (entries_in k (text_before c)) f.from
   pub before : f.from < front_in k c.front c.old c.rest
@@ -151,7 +157,7 @@ abbrev pub ServesNow : CharClasses → Change → Tree → List ℕ → code.Can
 ServesNow k c root path d r None = ⊥
 ServesNow k c root path d r (Some s) = Serves k c root path d.depth r.kind r.levels r.first s × GoesOn d s
 
--- Pieces were read that pass.
+-- Pieces were read that pass for a candidate.
 pub record IsPassing (k : CharClasses) (c : Change) (root : Tree) (path : List ℕ) (d : code.Candidate) (run : Run) (f : FoundRun k c.front c.old c.new c.rest (at_path path d) run.kind run.levels run.first) (p : Passing) : Type 0 where
   pub from : p.bounds.from ≡ place_before (entries_in k (text_before c)) f.from
   pub to : p.bounds.to ≡ place_before (entries_in k (text_before c)) f.to
@@ -165,20 +171,22 @@ pub record IsPassing (k : CharClasses) (c : Change) (root : Tree) (path : List �
   pub some : p.any ≡ true ↔ ((d.start < p.first.start) ⊎ (0 < count))
   pub read : ArePieces k run.levels run.kind begun.carried (moved begun.at (text_with c.front c.new c.rest)) count p.pieces
 
+-- It was decided of a candidate: pieces were read that pass, or it doesn't pass.
 abbrev pub Settles : (k : CharClasses) (c : Change) (root : Tree) (path : List ℕ) (d : code.Candidate) (run : Run) → FoundRun k c.front c.old c.new c.rest (at_path path d) run.kind run.levels run.first → Option Passing → Type 0
 Settles k c root path d run f None = Fails k c (at_path path d)
 Settles k c root path d run f (Some p) = IsPassing k c root path d run f p
 
 -- ---- a block's run
 
--- A run is that of a content block above a candidate.
+-- A run is that of the content block above a candidate.
 pub record IsRunOf (k : CharClasses) (c : Change) (root : Tree) (d : Candidate) (f : FoundInner k c.front c.old c.new c.rest root d) (run : Run) : Type 0 where
   pub kind : run.kind ≡ of.Block
   pub at : run.at ≡ start_at (take (length d.path - 1) d.path) 0 root
   pub levels : run.levels ≡ f.levels
   pub first : run.first ≡ suc f.opens
 
--- Of a candidate it is known what is found of it as pieces of a content block's run, and a reading serves it.
+-- A candidate is pieces of a content block's run: what is found of it is known, and a reading
+-- serves it.
 pub record ReadsInner {C : Type 0} (k : CharClasses) (c : Change) (a : Attempt C) (path : List ℕ) (d : code.Candidate) (run : Run) (s : Option Serving) : Type 0 where
   pub ready : IsReady k c a
   pub among : Among (at_path path d) (candidates k c a.root.now)
@@ -188,7 +196,8 @@ pub record ReadsInner {C : Type 0} (k : CharClasses) (c : Change) (a : Attempt C
   pub is : IsRunOf k c a.root.now (at_path path d) found run
   pub serves : ServesFor k c a.root.now path d s
 
--- A part has the nodes of pieces, which are put from a child on, and takes the place of the entries behind one up to another, for those of a block that was read by itself from a byte on.
+-- A part has the nodes of pieces, which are put from a child on, and the entries of a block that
+-- was read by itself from a byte on, which take the place of those after one up to another.
 pub record IsWithBlock (k : CharClasses) (z : Place) (at levels : ℕ) (mode : SyntaxMode) (from to first : ℕ) (p : ReadPart) (part : Part) : Type 0 where
   pub nodes : part.nodes ≡ p.nodes
   pub first_is : part.first ≡ first
@@ -199,6 +208,7 @@ pub record IsWithBlock (k : CharClasses) (z : Place) (at levels : ℕ) (mode : S
   pub is_read : IsBlock k levels block.Content mode z read
   pub entries : part.entries.units.entries ≡ entries_of at read
 
+-- The part of pieces with the entries of their block was made.
 abbrev pub HasBlock : CharClasses → Place → ℕ → ℕ → SyntaxMode → ℕ → ℕ → ℕ → ReadPart → Option Part → Type 0
 HasBlock k z at levels read_as from to first p None = ⊥
 HasBlock k z at levels read_as from to first p (Some part) = IsWithBlock k z at levels read_as from to first p part

@@ -14,12 +14,13 @@ use Rattle.typst_parser.specs.declared.replacement.Replacement.{Replacement}
 abbrev pub change_by : {old new : List ℕ} {e : Replacement} → IsEdited old new e → Change
 change_by {old} {new} {e} h = change_of old (record { start = e.start; end = e.old_end }) h.with
 
--- Where a part was read the source has the new text; else nothing changed.
+-- If a part was read, the source has the new text; else nothing changed.
 abbrev pub Tries : {C : Type 0} → CharClasses → Held C → Held C → List ℕ → Option (Range ℕ) → Type 0
 Tries k old new text (Some range) = Edits k old new text range
 Tries k old new text None = new ≡ old
 
--- What is read is the answer of an edit; where nothing is read and there are records, no candidate passes whose nodes find numbers, but for a text that no machine word counts.
+-- What is read is the answer of an edit. If nothing is read and there are records, no candidate
+-- passes whose nodes find numbers, unless the text is one that no machine word counts.
 abbrev pub Decides : {C : Type 0} → CharClasses → Held C → Held C → List ℕ → Change → Option (Range ℕ) → Type 0
 Decides k old new text c (Some range) = (old.has_records ≡ true) × IsAnswer k c.front c.old c.new c.rest (candidates k c old.root) old.root new.root range
 Decides k old new text c None = old.has_records ≡ true → length text < 2 ^ 64 - 1 → NonePasses k c old.root

@@ -33,13 +33,13 @@ use typst_tree::SyntaxNode;
 /// What takes a candidate's place.
 #[derive(Drop)]
 pub(crate) struct Part {
-    /// The nodes,
+    /// The nodes that are put in place.
     pub nodes: Vec<SyntaxNode>,
-    /// the first of the children in whose place they are put,
+    /// The first of the children in whose place they are put.
     pub first: usize,
-    /// where they end in the new text, in bytes,
+    /// Where the nodes end in the new text, in bytes.
     pub end: usize,
-    /// and the entries that take the place of those behind the one numbered `from` up to the one
+    /// The entries that take the place of those after the one numbered `from` up to the one
     /// numbered `to`.
     pub entries: Records,
     pub from: usize,
@@ -50,22 +50,22 @@ pub(crate) struct Part {
 #[derive(Clone, Copy)]
 struct Run {
     kind: RunKind,
-    /// Where its text or its block begins, in bytes.
+    /// Where the run's text or block begins, in bytes.
     at: usize,
     /// How many levels are left for what is called in it.
     levels: usize,
-    /// The number of its first entry.
+    /// The number of the run's first entry.
     first: usize,
 }
 
 /// Where among the entries pieces of a run begin and end.
 #[derive(Drop)]
 struct Bounds<'a> {
-    /// The place before the entry at which they begin,
+    /// The place before the entry at which the pieces begin.
     from: Cursor<'a>,
-    /// that before the entry at which they end,
+    /// The place before the entry at which they end.
     to: Cursor<'a>,
-    /// and from which entry on all looks have to begin behind the stretch.
+    /// From which entry on all looks have to begin after the stretch.
     looks: usize,
 }
 
@@ -74,13 +74,13 @@ struct Bounds<'a> {
 #[derive(Drop)]
 pub(crate) struct Serving<'s> {
     reader: PieceReader<'s>,
-    /// Whether it has read a piece,
+    /// Whether it has read a piece.
     any: bool,
-    /// the candidate with which it began,
+    /// The candidate with which it began.
     first: Candidate,
-    /// the number of the entry there,
+    /// The number of the entry at which it began.
     from: usize,
-    /// and where the last candidate ends in the old text for which it went on, in bytes.
+    /// Where the last candidate that it went on for ends in the old text, in bytes.
     last: usize,
 }
 
@@ -91,22 +91,22 @@ struct Passing<'a> {
     pieces: ReadPart,
     /// Whether there are any, read or left in place before them.
     any: bool,
-    /// The candidate with which their reading began,
+    /// The candidate with which their reading began.
     first: Candidate,
-    /// and the number of the entry there.
+    /// The number of the entry at which their reading began.
     from: usize,
 }
 
 /// What is asked of each candidate of an edit.
 #[derive(Drop)]
 pub(crate) struct Asked<'a, C> {
-    /// The new text,
+    /// The new text.
     pub new: &'a str,
-    /// what was replaced,
+    /// What was replaced.
     pub edit: Replacement,
-    /// how many of the first entries stand before the stretch, with all looks up to them,
+    /// How many of the first entries are before the stretch, with all looks up to them.
     pub front: usize,
-    /// and from which entry on all looks behind begin behind it.
+    /// From which entry on all looks after it begin after the stretch.
     pub rear: usize,
     pub classes: &'a C,
 }
@@ -114,16 +114,16 @@ pub(crate) struct Asked<'a, C> {
 /// An edit of a text, which is asked of its candidates whether they pass.
 #[derive(Drop)]
 pub(crate) struct Attempt<'a, 's, C> {
-    /// The tree of the old text,
+    /// The tree of the old text.
     pub root: &'a SyntaxNode,
-    /// its units,
+    /// The units of the old text.
     pub records: &'a Records,
-    /// and what is asked.
+    /// What is asked of the candidates.
     pub asked: &'a Asked<'s, C>,
 }
 
 impl<'a, 's, C: Classes> Attempt<'a, 's, C> {
-    /// What takes the candidate's place, if it passes.
+    /// What takes the candidate's place, or `None` if it doesn't pass.
     pub(crate) fn read(
         &self,
         alloc: Global,
@@ -163,15 +163,15 @@ impl<'a, 's, C: Classes> Attempt<'a, 's, C> {
         }
     }
 
-    /// Whether all looks before one entry end before the stretch, and those behind another begin
-    /// behind it.
+    /// Whether all looks before one entry end before the stretch, and those after another begin
+    /// after it.
     fn looks_pass(&self, from: usize, to: usize) -> bool
         ensures { IsTrue result ↔ ((from < self.now.asked.now.front) × (self.now.asked.now.rear ≤ to)) }
     {
         from < self.asked.front && self.asked.rear <= to
     }
 
-    /// The number behind that of an entry.
+    /// The number after that of an entry.
     fn behind(&self, number: usize) -> usize
         requires { number < length self.now.records.now.units.entries }
         ensures { result ≡ suc number }
@@ -183,7 +183,7 @@ impl<'a, 's, C: Classes> Attempt<'a, 's, C> {
 
     // ---- blocks
 
-    /// What takes the place of a candidate that is a block, if it passes.
+    /// What takes the place of a candidate that is a block, or `None` if it doesn't pass.
     fn read_block(&self, alloc: Global, candidate: Candidate) -> Result<Option<Part>, AllocError>
         requires block { candidate.is_block ≡ true }
         requires tries { (path : List ℕ) × CanTry (C.classes self.now.asked.now.classes.now) self.now (at_path path candidate) }
@@ -258,7 +258,7 @@ impl<'a, 's, C: Classes> Attempt<'a, 's, C> {
         })
     }
 
-    /// What takes the place of a candidate that is pieces of the text's own run, if it passes.
+    /// What takes the place of a candidate that is pieces of the text's own run, or `None` if it doesn't pass.
     fn read_top(
         &self,
         alloc: Global,
@@ -282,7 +282,7 @@ impl<'a, 's, C: Classes> Attempt<'a, 's, C> {
         Ok(Some(part))
     }
 
-    /// What takes the place of a candidate that is pieces of a content block's run, if it passes.
+    /// What takes the place of a candidate that is pieces of a content block's run, or `None` if it doesn't pass.
     fn read_inner(
         &self,
         alloc: Global,
@@ -303,7 +303,7 @@ impl<'a, 's, C: Classes> Attempt<'a, 's, C> {
         self.with_block(alloc, run, passing)
     }
 
-    /// The pieces of a run that take a candidate's place, if it passes.
+    /// The pieces of a run that take a candidate's place, or `None` if it doesn't pass.
     fn passing(
         &self,
         alloc: Global,
@@ -335,7 +335,7 @@ impl<'a, 's, C: Classes> Attempt<'a, 's, C> {
         Ok(None)
     }
 
-    /// The reading that serves the run, or one that begins with the candidate, at a place.
+    /// The reading that serves the run, or else one that begins with the candidate, at a place.
     fn serving(
         &self,
         alloc: Global,
@@ -410,8 +410,8 @@ impl<'a, 's, C: Classes> Attempt<'a, 's, C> {
         Some(Bounds { from, to, looks })
     }
 
-    /// From which entry on all looks have to begin behind the stretch, where the entry of a number is all
-    /// that a run has: the one where its block ends, and none at a text's end.
+    /// From which entry on all looks have to begin after the stretch, if no piece of the run comes after the entry
+    /// of this number: from the one where its block ends, or from none, at a text's end.
     fn looks_at_end(&self, kind: RunKind, number: usize) -> Option<usize>
         requires within { number < length self.now.records.now.units.entries }
         requires fits { end_of 0 self.now.records.now.units.entries < 2 ^ 64 }
@@ -461,8 +461,8 @@ impl<'a, 's, C: Classes> Attempt<'a, 's, C> {
 }
 
 impl Serving<'_> {
-    /// Whether it can go on for a candidate: it is of the same run, begins where the reading did or earlier, and
-    /// ends where the last one did or later.
+    /// Whether the reading can go on for a candidate: it is of the same run, begins where the reading did or
+    /// earlier, and ends where the last one did or later.
     pub(crate) fn goes_on(&self, candidate: Candidate) -> bool
         ensures { result ≡ true → GoesOn candidate self.now }
     {
@@ -479,7 +479,7 @@ impl Serving<'_> {
         self.any || candidate.start < self.first.start
     }
 
-    /// Reads on for a candidate until the pieces end at a byte or behind it, or their run ends.
+    /// Reads on for a candidate until the pieces end at a byte or after it, or their run ends.
     fn read_to<C: Classes>(
         &mut self,
         candidate: Candidate,
@@ -500,8 +500,8 @@ impl Serving<'_> {
         Ok(())
     }
 
-    /// Whether it ends at the byte where the candidate ends now, and may stand there before the entry behind a
-    /// place.
+    /// Whether the pieces read end at the byte where the candidate ends now, and may be there before the entry
+    /// that follows a place.
     fn fits(&self, candidate: Candidate, kind: RunKind, to: &Cursor<'_>, target: usize) -> bool
         requires { to.now.number < length to.now.entries }
         ensures { (y : Bool × ℕ) (m : ℕ) → SaysPiece to.now.entries to.now.number y → (self.now.any ≡ true ↔ 0 < m) → (result ≡ true ↔ ((self.now.reader.end ≡ target) × MeetsOn to.now.entries kind to.now.number (candidate.start < self.now.first.start) m y self.now.reader.carried)) }
@@ -548,7 +548,7 @@ fn above(path: &[usize]) -> Option<&[usize]>
     Some(&path[..path.len() - 1])
 }
 
-/// Whether no piece of its run stands behind the entry behind a place.
+/// Whether no piece of the run comes after the entry that follows a place.
 fn is_last(place: &Cursor<'_>) -> bool
     requires { place.now.number < length place.now.entries }
     ensures { IsTrue result ↔ IsLast place.now.entries place.now.number }
@@ -580,7 +580,7 @@ fn has_both(any: bool, from: &Cursor<'_>) -> bool
     false
 }
 
-/// Whether pieces that carry this at their end may stand before the entry behind a place.
+/// Whether pieces that carry this at their end may be before the entry that follows a place.
 fn meets(kind: RunKind, to: &Cursor<'_>, any: bool, carried: Carried) -> bool
     requires { to.now.number < length to.now.entries }
     ensures { (y : Bool × ℕ) (a b m : ℕ) → SaysPiece to.now.entries to.now.number y → (any ≡ true ↔ ((a < b) ⊎ (0 < m))) → (result ≡ true ↔ MeetsOn to.now.entries kind to.now.number (a < b) m y carried) }
@@ -641,8 +641,7 @@ fn part_of_pieces(alloc: Global, passing: Passing<'_>) -> Result<Part, AllocErro
     })
 }
 
-/// The entries of a block that was read by itself, which begins at the byte `start`, behind the one where
-/// it begins.
+/// The entries of a block that was read by itself, without the one where it begins, which is at the byte `start`.
 fn entries_of_block(alloc: Global, start: usize, read: &ReadPart) -> Result<Records, AllocError>
     requires start { start < 2 ^ 64 - 1 }
     requires fits { AllFit read.now.notes.items }

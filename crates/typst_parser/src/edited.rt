@@ -1,4 +1,4 @@
-//! Reading of an edited text what the edit may have changed.
+//! Reads of an edited text what the edit may have changed.
 
 ghost use Rattle.std.specs.Prelude.{◌≡◌, ℕ, ◌<◌, ◌≤◌, ◌^◌, Some, None, IfOk, IfSome, OnOk, OnErr, List, length, take, true};
 ghost use Rattle.typst_tree.specs.Order.{AreInOrder, IsNumbered, numbers_of};
@@ -19,15 +19,15 @@ use typst_lines::Classes;
 use typst_tree::SyntaxNode;
 
 /// How many candidates are looked up at first. The first one nearly always passes, and these few are found
-/// around the edit; to find all goes from there to the ends of each run that the edit stands in.
+/// around the edit; to find all goes from there to the ends of each run that the edit is in.
 const FEW: usize = 4;
 
-/// How many bytes on each side of an edit pieces of runs are looked up at first. Those around an edit lie within a few
-/// hundred bytes; the further pieces of a long run cost more than all else that an edit does.
+/// How many bytes on each side of an edit pieces of runs are looked up at first. Those around an edit lie within a
+/// few hundred bytes; the further pieces of a long run cost more than all else that an edit does.
 const REACH: usize = 1000;
 
 /// Reads of an edited text the first candidate that passes and whose nodes find numbers, and puts its
-/// nodes and units in place. Answers its range in the new text, in bytes, or `None` where there is
+/// nodes and units in place. Answers its range in the new text, in bytes, or `None` if there is
 /// none: then the tree and the units stay as they were.
 pub fn reparse<C: Classes>(
     alloc: Global,
@@ -48,7 +48,7 @@ pub fn reparse<C: Classes>(
     reparse_near(alloc, root, records, new, edit, classes)
 }
 
-/// The same, from where the records have their anchor.
+/// Does what `reparse` does, from where the records have their anchor.
 fn reparse_near<C: Classes>(
     alloc: Global,
     root: &mut SyntaxNode,
@@ -92,9 +92,9 @@ fn reparse_near<C: Classes>(
     take_first(alloc, root, records, &asked, &all, tried)
 }
 
-/// Puts what takes the place of the first candidate there that passes and whose nodes find numbers, of these
-/// from the one numbered `from` on; answers its range in the new text, in bytes, or `None` where there is none.
-/// Then, and where there is no memory, nothing changes.
+/// Puts what takes the place of the first candidate there that passes and whose nodes find numbers, among those
+/// from the one numbered `from` on; answers its range in the new text, in bytes, or `None` if there is none. In
+/// that case, and if memory is refused, nothing changes.
 fn take_first<C: Classes>(
     alloc: Global,
     root: &mut SyntaxNode,
@@ -134,7 +134,7 @@ fn serving_of<'s>(serving: Option<Serving<'s>>, candidate: Candidate) -> Option<
     None
 }
 
-/// The first steps of a path, so many or all.
+/// The first `depth` steps of a path, or all.
 fn front_of(path: &[usize], depth: usize) -> &[usize]
     ensures { result.now ≡ take depth path.now }
 {
@@ -145,8 +145,8 @@ fn front_of(path: &[usize], depth: usize) -> &[usize]
     }
 }
 
-/// Puts what takes the candidate's place there, if it passes and its nodes find numbers; answers where it
-/// ends in the new text. Else nothing changes.
+/// Puts what takes the candidate's place there, if it passes and its nodes find numbers; answers where it ends in
+/// the new text. Else nothing changes.
 fn take_place<'s, C: Classes>(
     alloc: Global,
     root: &mut SyntaxNode,
@@ -177,8 +177,8 @@ fn take_place<'s, C: Classes>(
     Ok(None)
 }
 
-/// Puts a part in a candidate's place; answers false where its nodes find no numbers. Then, and where
-/// there is no memory, nothing changes.
+/// Puts a part in a candidate's place; answers false if its nodes find no numbers. In that case, and if memory is
+/// refused, nothing changes.
 fn put(
     root: &mut SyntaxNode,
     records: &mut Records,

@@ -2,25 +2,25 @@
 //! The parser layer of Typst, as programs use it.
 //!
 //! - [`parse`] makes the syntax tree of a text of markup. Any text has one; errors, warnings and hints
-//!   stand in the tree, and its leaves joined are the text. [`parse_code`] does the same of code,
+//!   are in the tree, and its leaves joined are the text. [`parse_code`] does the same of code,
 //!   and [`parse_math`] of a formula.
 //!   [`parse_noted`] gives a text's [`Noted`]: its tree with what was looked at for it, and a [`Note`] for
 //!   each [`Mark`] at which a piece or a [`Block`] begins or ends.
 //! - A tree is a [`SyntaxNode`] of some [`SyntaxKind`], with its [`Diagnostic`]s and its [`Span`];
-//!   [`LinkedNode`] is a node with what stands round it.
-//! - [`highlight`] tells the [`Tag`] that a node is shown by, and [`highlight_html`] writes a tree's text
+//!   [`LinkedNode`] is a node that knows what is around it.
+//! - [`highlight`] gives the [`Tag`] that a node is shown by, and [`highlight_html`] writes a tree's text
 //!   as HTML. [`tag_stretches`] gives the text as stretches, each a [`Tagged`] with its tag.
 //! - A [`Source`] holds a text with its lines and its numbered tree from edit to edit, finds nodes by
-//!   their spans and tells which bytes they stand for; [`SourceError`] is why one can't be made or edited.
+//!   their spans and says which bytes they are; [`SourceError`] is why one can't be made or edited.
 //! - What characters are letters, digits and word characters is asked of a value of [`Classes`];
-//!   [`UnicodeClasses`] answers by Unicode. [`is_id_start`], [`is_id_continue`] and [`is_ident`] tell by
+//!   [`UnicodeClasses`] answers by Unicode. [`is_id_start`], [`is_id_continue`] and [`is_ident`] say by
 //!   such a value what an identifier is, and [`is_valid_label_literal_id`] what a label can be named.
 //! - [`link_prefix`] finds the link that a text begins with.
 //! - [`Lines`] finds lines, columns and UTF-16 positions in a text; [`is_newline`] and
-//!   [`split_newlines`] tell where lines end.
+//!   [`split_newlines`] say where lines end.
 //!
-//! Positions are in bytes where nothing else is said. What makes a value takes the allocator, and answers
-//! `AllocError` where memory is refused.
+//! Positions are in bytes unless said otherwise. What makes a value takes the allocator, and answers
+//! `AllocError` if memory is refused.
 #![tactic(auto)]
 
 mod attempt;

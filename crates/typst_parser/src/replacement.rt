@@ -5,8 +5,8 @@
 pub struct Replacement {
     /// Where the stretch begins.
     pub start: usize,
-    /// Where it ended.
+    /// Where the stretch ended.
     pub old_end: usize,
-    /// Where it ends now.
+    /// Where the stretch ends now.
     pub new_end: usize,
 }

@@ -54,7 +54,7 @@ impl<C: Classes> Model for Source<C> {
     ghost invariant = { λ a. a.has_records ≡ true → Records (C.classes a.classes) (record { id = a.id; text = a.lines; root = a.root; classes = a.classes; has_records = a.has_records }) a.records.units };
 }
 
-/// Numbers a tree over all numbers of a file, or takes its numbers away where there is none.
+/// Numbers a tree over all numbers of a file, or takes its numbers away if there is no file.
 fn number(root: &mut SyntaxNode, file: Option<FileId>) -> Result<(), SourceError>
     ensures numbers { MatchResult result (λ _. numbered_in file root.old ≡ Some root.new) (λ e. (e ≡ SourceError.SpanNumbers) × (numbered_in file root.old ≡ None)) }
     ensures order { OnOk result (AreOrdered file root.new) }
@@ -67,14 +67,14 @@ fn number(root: &mut SyntaxNode, file: Option<FileId>) -> Result<(), SourceError
     Ok(())
 }
 
-/// The tree of a text, numbered in a file, or without numbers where there is none, and its units.
+/// The tree of a text, numbered in a file, or without numbers if there is none, and its units.
 #[derive(Drop)]
 struct Parsed {
     root: SyntaxNode,
     records: Records,
 }
 
-/// The tree of a text, numbered in a file, or without numbers where there is none.
+/// The tree of a text, numbered in a file, or without numbers if there is none, and the text's units.
 fn parse_anew<C: Classes>(
     alloc: Global,
     text: &str,
@@ -100,8 +100,8 @@ fn parse_anew<C: Classes>(
 }
 
 impl<C: Classes + Drop> Source<C> {
-    /// The source of a text of a file. It refuses for want of memory, or where the tree has more
-    /// nodes than there are numbers.
+    /// The source of a text of a file. It fails for lack of memory, or if the tree has more nodes than there are
+    /// numbers.
     pub fn new(
         alloc: Global,
         id: FileId,
@@ -128,7 +128,7 @@ impl<C: Classes + Drop> Source<C> {
         })
     }
 
-    /// The source of a text that is of no file: its file is 1. It refuses where `new` does.
+    /// The source of a text that is of no file: its file is 1. It fails where `new` does.
     pub fn detached(alloc: Global, text: String, classes: C) -> Result<Source<C>, SourceError>
         ensures made { IfOk result (λ s. (s.id ≡ 1) × (s.text ≡ string_bytes text) × (s.classes ≡ classes) × (s.has_records ≡ true)) }
         ensures headline { IfOk result (λ s. Headline (C.classes s.classes) s) }
@@ -141,9 +141,9 @@ impl<C: Classes + Drop> Source<C> {
         }
     }
 
-    /// The source of a text with a tree that the caller made. Nothing is asked of the tree until the
-    /// first edit, which parses the whole text and numbers the new tree in the file that the span of
-    /// this root names, or not at all where it names none.
+    /// The source of a text with a tree that the caller made. Nothing is required of the tree until the first
+    /// edit, which parses the whole text and numbers the new tree in the file that the span of this root names, or
+    /// not at all if it names none.
     pub fn with_root(
         alloc: Global,
         id: FileId,
@@ -170,7 +170,7 @@ impl<C: Classes> Source<C> {
     ghost use Rattle.typst_parser.specs.Find.{top, found, range_of, FindsOwn, GivesOwn};
     ghost use Rattle.typst_parser.specs.Found.{linked_in};
 
-    /// The tree.
+    /// The root of the syntax tree.
     pub fn root(&self) -> &SyntaxNode
         ensures value { result.now ≡ self.now.root }
         ensures headline { self.now.has_records ≡ true → Headline (C.classes self.now.classes) self.now }
@@ -178,7 +178,7 @@ impl<C: Classes> Source<C> {
         &self.root
     }
 
-    /// The file.
+    /// The file that the text is of.
     pub fn id(&self) -> FileId
         ensures { result ≡ self.now.id }
     {
@@ -199,14 +199,14 @@ impl<C: Classes> Source<C> {
         &self.lines
     }
 
-    /// The headline holds of each source with records.
+    /// For proofs: the headline holds of each source with records.
     fn keeps_headline(&self)
         ensures { self.now.has_records ≡ true → Headline (C.classes self.now.classes) self.now }
     {
         let _ = &self.root;
     }
 
-    /// The root as a linked node, where its nodes can be counted.
+    /// The root as a linked node, if its nodes can be counted.
     fn top(&self) -> Option<LinkedNode<'_>>
         ensures { linked_in result ≡ top self.now.root }
     {
@@ -220,7 +220,8 @@ impl<C: Classes> Source<C> {
         }
     }
 
-    /// The first node with a span; none for a detached span and one of another file.
+    /// The first node with a span; none for a detached span and one of another file. Costs what `LinkedNode::find`
+    /// costs from the root.
     pub fn find(&self, span: Span) -> Option<LinkedNode<'_>>
         ensures first { linked_in result ≡ found self.now.id span self.now.root }
         ensures own { self.now.has_records ≡ true → file_of self.now.root ≡ Some self.now.id → FindsOwn span self.now.root (linked_in result) }
@@ -229,7 +230,7 @@ impl<C: Classes> Source<C> {
         self.first_with(span)
     }
 
-    /// The first node with a span, where that is of the source's file.
+    /// The first node with a span, if that is of the source's file.
     fn first_with(&self, span: Span) -> Option<LinkedNode<'_>>
         ensures { linked_in result ≡ found self.now.id span self.now.root }
     {
@@ -239,8 +240,8 @@ impl<C: Classes> Source<C> {
         self.top()?.find(span)
     }
 
-    /// The bytes of the node with a number, or a range within them; none where no node has the
-    /// number, or where the range passes the node's end.
+    /// The bytes of the node with a number, or a range within them; none if no node has the number, or if the
+    /// range passes the node's end.
     pub fn range(&self, number: SpanNumber, sub_range: Option<SubRange>) -> Option<Range<usize>>
         ensures first { result ≡ range_of number sub_range self.now.root }
         ensures own { self.now.has_records ≡ true → file_of self.now.root ≡ Some self.now.id → GivesOwn number sub_range self.now.root result }
@@ -263,9 +264,9 @@ impl<C: Classes> Source<C> {
         Some(range.start + sub.start()..range.start + sub.end())
     }
 
-    /// Puts a text in the place of a range of bytes, whose ends are on character boundaries. It
-    /// answers the range of the new text that was parsed anew, and refuses for want of memory, or
-    /// where the new tree has more nodes than there are numbers.
+    /// Puts a text in the place of a range of bytes, whose ends are on character boundaries. It answers the range
+    /// of the new text that was parsed again, and fails for lack of memory, or if the new tree has more nodes than
+    /// there are numbers.
     pub fn edit(&mut self, replace: Range<usize>, with: &str) -> Result<Range<usize>, SourceError>
         requires start { IsCharBoundary self.old.text replace.start }
         requires end { IsCharBoundary self.old.text replace.end }
@@ -287,8 +288,8 @@ impl<C: Classes> Source<C> {
         Ok(self.read_whole(start..end, with)?)
     }
 
-    /// Makes the edit by reading the first candidate that passes and whose nodes find numbers. Where there is
-    /// none, or there are no records, nothing changes.
+    /// Makes the edit by reading the first candidate that passes and whose nodes find numbers. If there is none,
+    /// or there are no records, nothing changes.
     fn read_part(
         &mut self,
         replace: Range<usize>,
@@ -372,8 +373,8 @@ impl<C: Classes> Source<C> {
         Ok(0..end)
     }
 
-    /// Makes another text the text, by an edit of what the two don't have in common at the front and
-    /// at the end. Where the texts are equal it answers `0..0` and changes nothing.
+    /// Makes another text the text, by an edit of what the two don't have in common at the front and at the end.
+    /// If the texts are equal it answers `0..0` and changes nothing.
     pub fn replace(&mut self, new: &str) -> Result<Range<usize>, SourceError>
         ensures text { OnOk result (self.new.text ≡ new.now) }
         ensures same { self.old.text ≡ new.now → (result ≡ Ok (record { start = 0; end = 0 })) × (self.new ≡ self.old) }
@@ -396,7 +397,7 @@ impl<C: Classes> Source<C> {
 }
 
 impl<C: Classes + Copy> Source<C> {
-    /// The same source again: to any calls it answers what this one does, want of memory aside.
+    /// A copy: to any calls it answers what this one does, lack of memory aside.
     pub fn try_clone(&self) -> Result<Source<C>, AllocError>
         ensures { IfOk result (λ s. s ≡ self.now) }
     {

@@ -10,12 +10,13 @@ abbrev pub width : Encoding → ℕ → ℕ
 width Utf8 c = len_utf8 c
 width Utf16 c = if nat_lt c 0x1_0000 then 1 else 2
 
--- what the first characters measure in one way, which are as many as measure no more than a number in another
+-- how wide the first characters are, measured one way: as many as are no wider than a number,
+-- measured another way
 abbrev pub measured : (ℕ → ℕ) → (ℕ → ℕ) → ℕ → List ℕ → ℕ
 measured size by most [] = 0
 measured size by most (c ∷ cs) = if nat_le (by c) most then size c + measured size by (most - by c) cs else 0
 
--- how many bytes of a line stand before a column: those of whole characters, and no more than the line has
+-- how many bytes of a line are before a column: those of whole characters, and no more than the line has
 unfoldable pub bytes_before : Encoding → List ℕ → ℕ → ℕ
 bytes_before encoding line column = measured len_utf8 (width encoding) column (chars line)
 

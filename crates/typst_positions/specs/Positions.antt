@@ -6,7 +6,8 @@ use Rattle.typst_positions.specs.Starts.{line_at, line_starts}
 use Rattle.typst_positions.specs.declared.columns.Encoding.{Encoding}
 use Rattle.typst_positions.specs.declared.positions.Position.{Position}
 
--- the byte at a column of the line that starts at a byte, and the text's end where there's no such line
+-- the byte at a column of the line that starts at a byte, or the text's end if there is no such
+-- line
 abbrev pub byte_in : Encoding → List ℕ → ℕ → Option ℕ → ℕ
 byte_in encoding text column None = length text
 byte_in encoding text column (Some start) = start + bytes_before encoding (line_at text start) column
@@ -39,7 +40,7 @@ pub record IsEdit (old new : List ℕ) (replace : Range ℕ) (len : ℕ) : Type 
   pub front : take replace.start new ≡ take replace.start old
   pub back : drop (replace.start + len) new ≡ drop replace.end old
 
--- lines started there in the text of which this one was made so
+-- these were the line starts of the text that this one was made of by such an edit
 pub record IsEdited (starts : List ℕ) (new : List ℕ) (replace : Range ℕ) (len : ℕ) : Type 0 where
   pub old : List ℕ
   pub table : starts ≡ line_starts old

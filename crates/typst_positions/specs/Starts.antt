@@ -2,7 +2,7 @@
 use Rattle.std.specs.Prelude.{ℕ, zero, suc, ◌+◌, ◌-◌, ◌^◌, min, Bool, true, ◌&&◌, ◌||◌, ◌==◌, not, nat_le, List, ◌++◌, filter, map, length, take, drop, slice_index, count_by}
 use Rattle.std.specs.List.{range_with_len, take_while}
 
--- a line starts at the text's start, behind an LF, and behind a CR that no LF follows
+-- a line starts at the text's start, after an LF, and after a CR that no LF follows
 abbrev pub starts_line : List ℕ → ℕ → Bool
 starts_line text zero = true
 starts_line text (suc at) = slice_index text at == 10 || (slice_index text at == 13 && not (slice_index text (suc at) == 10))
@@ -23,11 +23,12 @@ is_line_end c = c == 10 || c == 13
 unfoldable pub line_at : List ℕ → ℕ → List ℕ
 line_at text start = take_while (λ c. not (is_line_end c)) (drop start text)
 
--- a number that is as far behind one number as another is behind a second, as far as it fits 64 bits
+-- a number moved so that it is as far after `to` as it was after `from`, as far as it fits 64 bits
 abbrev pub shifted : ℕ → ℕ → ℕ → ℕ
 shifted from to at = min (at - from + to) (2 ^ 64 - 1)
 
--- some starts with others put between: those up to one byte stay, and those past another are moved by the way to a third
+-- some starts with others put between: those up to `before` stay, and those past `end` are moved so
+-- that they are as far after `to`
 abbrev pub replaced : ℕ → ℕ → ℕ → List ℕ → List ℕ → List ℕ
 replaced before end to between starts =
     take (count_by (λ start. nat_le start before) starts) starts ++ (between ++ map (shifted end to) (drop (count_by (λ start. nat_le start end) starts) starts))

@@ -24,7 +24,7 @@ impl Encoding {
     }
 }
 
-/// How many bytes of a line stand before a column: those of whole characters, and no more than the line
+/// How many bytes of a line are before a column: those of whole characters, and no more than the line
 /// has.
 pub(crate) fn bytes_before(line: &str, encoding: Encoding, column: usize) -> usize
     ensures { result ≡ spec.bytes_before encoding line.now column }
@@ -41,7 +41,7 @@ pub(crate) fn column_of(line: &str, encoding: Encoding, bytes: usize) -> usize
     plain + width_within(&line[plain..], encoding, bytes - plain)
 }
 
-/// The same as `bytes_before`, character by character.
+/// How many bytes of a line are before a column, as `bytes_before` says, character by character.
 fn bytes_within(line: &str, encoding: Encoding, column: usize) -> usize
     ensures value { result ≡ spec.bytes_before encoding line.now column }
     ensures within { result ≤ length line.now }
@@ -59,7 +59,7 @@ fn bytes_within(line: &str, encoding: Encoding, column: usize) -> usize
     bytes
 }
 
-/// The same as `column_of`, character by character.
+/// How wide the whole characters among the first bytes of a line are, as `column_of` says, character by character.
 fn width_within(line: &str, encoding: Encoding, bytes: usize) -> usize
     ensures value { result ≡ spec.column_of encoding line.now bytes }
     ensures within { result ≤ length line.now }
@@ -77,8 +77,8 @@ fn width_within(line: &str, encoding: Encoding, bytes: usize) -> usize
     width
 }
 
-/// So many of the first bytes as are asked for, if these are ASCII, which is tested many bytes at a time,
-/// and none if they aren't.
+/// As many of the first bytes as are asked for, if these are ASCII, which is tested many bytes at a time, and none
+/// if they aren't.
 fn plain_front(line: &str, most: usize) -> usize
     ensures { IsPlainFront line.now most result }
 {

@@ -47,8 +47,9 @@ impl Positions {
         self.starts.len()
     }
 
-    /// The byte at a position of the text. A column past its line's end is that end, before the CR or LF;
-    /// one inside a character is where the character starts; a line past the last one is the text's end.
+    /// The byte at a position of the text. A column past its line's end is that end, before the CR or LF; one
+    /// inside a character is where the character starts; a line past the last one is the text's end. Goes through
+    /// the line.
     pub fn to_byte(&self, text: &str, encoding: Encoding, position: Position) -> usize
         requires { self.now ≡ line_starts text.now }
         ensures value { result ≡ spec.byte_at encoding text.now position }
@@ -61,7 +62,7 @@ impl Positions {
     }
 
     /// The position of a byte of the text. Inside a character it is that of the character, inside a CR LF
-    /// that of the CR, and past the text that of its end.
+    /// that of the CR, and past the text that of its end. Goes through the line.
     pub fn to_position(&self, text: &str, encoding: Encoding, byte: usize) -> Position
         requires { self.now ≡ line_starts text.now }
         ensures value { result ≡ spec.position_of encoding text.now byte }
@@ -76,7 +77,7 @@ impl Positions {
     }
 
     /// Where the lines start once a range of the text was replaced by so many bytes, which made this text.
-    /// The starts before the range stay, those behind it are moved, and what was put between is read.
+    /// The starts before the range stay, those after it are moved, and what was put between is read.
     /// After an error nothing has changed.
     pub fn edit(&mut self, text: &str, range: Range<usize>, len: usize) -> Result<(), AllocError>
         requires { spec.IsEdited self.old text.now range len }

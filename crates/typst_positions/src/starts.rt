@@ -17,7 +17,7 @@ pub(crate) fn table(alloc: Global, text: &[u8]) -> Result<Vec<usize>, AllocError
     Ok(starts)
 }
 
-/// Adds where lines start behind one byte and up to another.
+/// Adds where lines start after one byte and up to another.
 pub(crate) fn push_starts(
     starts: &mut Vec<usize>,
     text: &[u8],
@@ -56,7 +56,7 @@ fn next_end(text: &[u8], from: usize, to: usize) -> Option<usize>
     Some(from + length)
 }
 
-/// Whether a line ends behind an LF or a CR.
+/// Whether a line ends with this LF or CR, and not with an LF after the CR.
 fn ends_line(text: &[u8], end: usize) -> bool
     requires within { end < length text.now }
     requires end { spec.is_line_end (slice_index text.now end) ≡ true }
@@ -94,7 +94,8 @@ pub(crate) fn count_to(starts: &[usize], most: usize) -> usize
     starts.partition_point(|start| *start <= most)
 }
 
-/// Puts numbers between those up to one and those past another, and moves these by the way to a third.
+/// Puts numbers between those up to `before` and those past `end`, which are moved so that they are as far after
+/// `to`.
 pub(crate) fn replace(
     starts: &mut Vec<usize>,
     before: usize,
@@ -131,7 +132,7 @@ fn splice(
     Ok(())
 }
 
-/// Moves the numbers from an index on by the way from one number to another.
+/// Moves the numbers from an index on, so that they are as far after `to` as they were after `from`.
 fn shift(starts: &mut Vec<usize>, first: usize, from: usize, to: usize)
     requires { first ≤ vec_len starts.old }
     ensures { starts.new.items ≡ take first starts.old.items ++ map (spec.shifted from to) (drop first starts.old.items) }

@@ -19,11 +19,11 @@ unfoldable pub number_after : ℕ → ℕ → List ℕ → ℕ
 number_after base n [] = n
 number_after base n (c ∷ cs) = number_after base (base * n + digit_value c) cs
 
--- A number with one digit of the base more, where it is one and the number is below 2 ^ 64.
+-- A number with one digit of the base more, if it is one and the number is below 2 ^ 64.
 abbrev pub with_digit : ℕ → ℕ → ℕ → Option ℕ
 with_digit base n c = if nat_lt (digit_value c) base && nat_lt (base * n + digit_value c) (2 ^ 64) then Some (base * n + digit_value c) else None
 
--- The number that digits of the base write, where they are such digits and it is below 2 ^ 64.
+-- The number that digits of the base write, if they are such digits and it is below 2 ^ 64.
 abbrev pub number : ℕ → List ℕ → Option ℕ
 number base digits = if list_all (λ c. nat_lt (digit_value c) base) digits && nat_lt (number_after base 0 digits) (2 ^ 64) then Some (number_after base 0 digits) else None
 

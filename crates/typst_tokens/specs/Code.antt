@@ -36,6 +36,7 @@ dot = peek 1 (λ c.
     if passes is_ascii_digit c then dotted
     else dots)
 
+-- `=` comes next: `==`, `=>`, or the sign alone.
 unfoldable pub equals : Reader Memory Token
 equals = eat (if_next (λ c. c == 61) (answer (plain kind.EqEq)) (if_next (λ c. c == 62) (answer (plain kind.Arrow)) (answer (plain kind.Eq))))
 

@@ -39,24 +39,26 @@ space mode ends = record { kind = if is_parbreak mode ends then kind.Parbreak el
 unfoldable pub whitespace : SyntaxMode → Reader Memory Token
 whitespace mode = eat_run (is_space mode) (λ cs. answer (space mode (line_ends false cs)))
 
--- `#!` comes next, and what stands on its line.
+-- `#!` comes next, and what is on its line.
 unfoldable pub shebang : Reader Memory Token
 shebang = eat_run in_line (λ _. answer (plain kind.Shebang))
 
--- `//` comes next, and what stands on its line.
+-- `//` comes next, and what is on its line.
 unfoldable pub line_comment : Reader Memory Token
 line_comment = eat_run in_line (λ _. answer (plain kind.LineComment))
 
--- At `*/` the innermost comment ends, and at `/*` one begins; no character is of two of these.
+-- At `*/` the innermost comment ends, and at `/*` one begins; no character is part of two of these.
 abbrev pub comment_turn : ℕ → ℕ → ℕ → Turn Memory
 comment_turn before depth c =
     if before == 42 && c == 47 then (if depth == 0 then last blank else go (comment 0 (depth - 1)))
     else (if before == 47 && c == 42 then go (comment 0 (depth + 1)) else go (comment c depth))
 
+-- A step through a block comment.
 abbrev pub comment_step : Memory → ℕ → Turn Memory
 comment_step (comment before depth) c = comment_turn before depth c
 comment_step _ c = leave
 
+-- The machine that takes a block comment from after its `/*` on.
 abbrev pub in_comment : Machine Memory
 in_comment = by_character comment_step
 

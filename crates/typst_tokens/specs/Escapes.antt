@@ -11,7 +11,8 @@ use Rattle.typst_tokens.specs.declared.token.Token.{Token}
 use Rattle.typst_tokens.specs.declared.token.Fault.TheVariants as fault
 use Rattle.typst_tokens.specs.Memory.{Memory}
 
--- After `\u{` and its letters and digits: `}` ends an escape, which names a character.
+-- After `\u{` and its letters and digits: `}` has to end the escape, and they have to name a
+-- character.
 unfoldable pub code_point : List ℕ → Reader Memory Token
 code_point digits = if_next (λ c. c == 125) (answer (if is_code_point digits then plain kind.Escape else faulty fault.InvalidEscape)) (answer (faulty fault.UnclosedEscape))
 

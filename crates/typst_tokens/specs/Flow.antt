@@ -1,4 +1,4 @@
--- What flows on in a plain text whatever stands before it, by the character that follows.
+-- What flows on in a plain text whatever is before it, by the character that follows.
 use Rattle.std.specs.Prelude.{ℕ, Bool, not, ◌||◌, ◌&&◌, ◌==◌, Option}
 use Rattle.std.specs.Char.{is_ascii_alphanumeric}
 use Rattle.typst_lines.specs.Place.{passes}

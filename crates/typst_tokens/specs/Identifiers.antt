@@ -12,7 +12,8 @@ use Rattle.typst_tokens.specs.Memory.{Memory}
 use Rattle.typst_tokens.specs.Token.{plain}
 use Rattle.typst_tokens.specs.declared.token.Token.{Token}
 
--- The keyword that a name is, by its first character and the bytes of the others.
+-- The kind of a name that is a keyword of code, `true` or `false`, by the name's bytes; nothing for
+-- any other name.
 abbrev pub keyword : List ℕ → Option SyntaxKind
 keyword name =
     if bytes_eq name (codes "none") then Some kind.None
@@ -39,12 +40,12 @@ keyword name =
     else (if bytes_eq name (codes "as") then Some kind.As
     else None)))))))))))))))))))))
 
--- A name that is no keyword.
+-- A name that isn't a keyword: `_`, or an identifier.
 abbrev pub named : List ℕ → Token
 named name = plain (if bytes_eq name (codes "_") then kind.Underscore else kind.Ident)
 
--- Behind the first character of a name, with the others: directly after `@`, and directly after a dot
--- that no other dot stands before, a keyword is an identifier.
+-- After the first character of a name that is a keyword, with its other characters: directly after
+-- `@`, and directly after a single dot, it is an identifier.
 unfoldable pub keyword_or_name : List ℕ → SyntaxKind → Reader Memory Token
 keyword_or_name rest k = glance 1 (λ before.
     if passes (λ c. c == 64) before then skip (length rest) (answer (plain kind.Ident))

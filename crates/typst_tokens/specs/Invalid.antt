@@ -9,14 +9,15 @@ use Rattle.typst_tokens.specs.declared.token.Fault.{Fault}
 use Rattle.typst_tokens.specs.declared.token.Fault.TheVariants as fault
 use Rattle.typst_tokens.specs.declared.token.Token.{Token}
 
+-- The next character is an error with this fault.
 abbrev pub wrong : Fault → Reader Memory Token
 wrong f = eat (answer (faulty f))
 
--- With a certain character behind it it would be an operator of other languages.
+-- The next character is an error: of an operator of other languages, if `second` comes after it.
 unfoldable pub foreign : ℕ → Reader Memory Token
 foreign second = eat (if_next (λ c. c == second) (answer (faulty fault.InvalidOperator)) (answer (faulty fault.InvalidCharacter)))
 
--- The character comes next: directly behind a hash it is an error alone, and else `&&`, `||` and `~=`
+-- The character comes next: directly after a hash it is an error alone, and else `&&`, `||` and `~=`
 -- are errors in one piece.
 unfoldable pub invalid : ℕ → Reader Memory Token
 invalid c = glance 0 (λ before.

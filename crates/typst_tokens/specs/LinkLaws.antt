@@ -8,6 +8,6 @@ use Rattle.typst_tokens.specs.Reader.{exec}
 use Rattle.typst_tokens.specs.Token.{plain, faulty}
 use Rattle.typst_tokens.specs.declared.token.Fault.TheVariants as fault
 
--- What stands behind the scheme of a link is the link that the characters ahead begin with.
+-- What is after the scheme of a link is the link that the characters ahead begin with.
 abbrev pub LinkIsPrefix : Type 0
 LinkIsPrefix = (p : Place) → exec link p ≡ (let r = link_prefix p.ahead in (if r.1 then plain kind.Link else faulty fault.UnbalancedLink, moved (length r.0) p))

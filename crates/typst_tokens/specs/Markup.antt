@@ -22,7 +22,7 @@ use Rattle.typst_tokens.specs.Memory.{Memory}
 unfoldable pub dot : CharClasses → Reader Memory Token
 dot k = eat (at_word 0 (codes "..") (skip 2 (answer (plain kind.Shorthand))) (text k))
 
--- Whether a marker may end there: at the end, at whitespace or at a comment.
+-- Whether a marker may end here: at the end, at whitespace or at a comment.
 abbrev pub marker_end : {M A : Type 0} → (Bool → Reader M A) → Reader M A
 marker_end go_on = peek 0 (λ c. elim c [
   | None ↦ go_on true
@@ -30,23 +30,23 @@ marker_end go_on = peek 0 (λ c. elim c [
       if c == 47 then peek 1 (λ d. go_on (passes (among (codes "/*")) d)) else go_on (is_whitespace c)
 ])
 
--- A marker where it may end here, else what is left of a text.
+-- A marker if it may end here, else what is left of a text.
 unfoldable pub marker_or_text : CharClasses → SyntaxKind → Reader Memory Token
 marker_or_text k kind = marker_end (λ ends. if ends then answer (plain kind) else text k)
 
--- A sign comes next that is a marker where it may end, and else begins a text.
+-- A sign comes next that is a marker if it may end after it, and else begins a text.
 unfoldable pub marker : CharClasses → SyntaxKind → Reader Memory Token
 marker k kind = eat (marker_or_text k kind)
 
 -- After one hyphen: two more, one more, a question mark and, which stays ahead, a numeric character
--- make it a shorthand.
+-- make it a shorthand; else it is a list marker or begins a text.
 unfoldable pub hyphen : CharClasses → Reader Memory Token
 hyphen k =
     if_next (λ c. c == 45) (if_next (λ c. c == 45) (answer (plain kind.Shorthand)) (answer (plain kind.Shorthand)))
     (if_next (λ c. c == 63) (answer (plain kind.Shorthand))
     (peek 0 (λ c. if passes k.numeric c then answer (plain kind.Shorthand) else marker_or_text k kind.ListMarker)))
 
--- A hyphen comes next.
+-- A hyphen comes next: a shorthand, a list marker or a text.
 unfoldable pub minus : CharClasses → Reader Memory Token
 minus k = eat (hyphen k)
 
@@ -56,12 +56,12 @@ emphasis k kind = glance 0 (λ before.
     if passes k.word before then peek 1 (λ after. if passes k.word after then text_from k else sign kind)
     else sign kind)
 
--- Equals signs come next: all of them are a marker where it may end.
+-- Equals signs come next: all of them are a marker if it may end after them.
 unfoldable pub heading : CharClasses → Reader Memory Token
 heading k = eat_run (λ c. c == 61) (λ _. marker_or_text k kind.HeadingMarker)
 
--- Digits come next: with a dot they are a marker where they write a u64 and it may end, and else
--- they begin a text, the dot in it.
+-- Digits come next: with a dot they are a marker if they write a number below 2 ^ 64 and it may end
+-- there, and else they begin a text, the dot in it.
 unfoldable pub numbering : CharClasses → Reader Memory Token
 numbering k = eat_run is_ascii_digit (λ digits. if_next (λ c. c == 46)
     (if is_u64 digits then marker_or_text k kind.EnumMarker else text k) (text k))

@@ -29,7 +29,7 @@ with_suffix k suffix =
     if length suffix == 0 then plain k
     else (if is_unit suffix then plain kind.Numeric else faulty (fault.Number number_fault.UnknownSuffix))
 
--- The token of what stands before a suffix, by the suffix's bytes.
+-- The token of a number, by what is before its suffix, and the suffix's bytes.
 abbrev pub numbered : Numeral → List ℕ → Token
 numbered (numeral.Valid k) suffix = with_suffix k suffix
 numbered (numeral.Based b) suffix = if length suffix == 0 then plain kind.Int else faulty (fault.Number (number_fault.Suffix b))
@@ -39,23 +39,24 @@ numbered (numeral.Invalid f) suffix = faulty (fault.Number f)
 unfoldable pub suffixed : Numeral → Reader Memory Token
 suffixed n = eat_run in_suffix (λ suffix. answer (numbered n (encode_utf8_all suffix)))
 
--- An exponent has at least one digit.
+-- A number with these digits of an exponent, which needs at least one.
 abbrev pub with_exponent : List ℕ → Numeral
 with_exponent digits = if length digits == 0 then numeral.Invalid number_fault.Exponent else numeral.Valid kind.Float
 
+-- The digits of an exponent, and a suffix.
 unfoldable pub exponent_digits : Reader Memory Token
 exponent_digits = eat_run is_ascii_digit (λ digits. suffixed (with_exponent digits))
 
--- They may have a sign.
+-- The digits of an exponent, with or without a sign before them.
 unfoldable pub signed_digits : Reader Memory Token
 signed_digits = if_next (λ c. c == 43) exponent_digits (if_next (λ c. c == 45) exponent_digits exponent_digits)
 
--- An exponent begins with `e` or `E`, but `em` is a suffix.
+-- An exponent, if one comes next: it begins with `e` or `E`, but `em` is a suffix.
 unfoldable pub exponent : Numeral → Reader Memory Token
 exponent n = at_word 0 (codes "em") (suffixed n) (if_next (λ c. c == 101) signed_digits (if_next (λ c. c == 69) signed_digits (suffixed n)))
 
--- Behind its first digits a decimal number has a dot and more digits, where the dot comes before
--- neither another one nor what starts an identifier.
+-- After its first digits a decimal number may have a dot and more digits, unless another dot or
+-- what starts an identifier follows the dot.
 unfoldable pub fraction : CharClasses → Numeral → Reader Memory Token
 fraction k n = at_word 0 (codes "..") (exponent n) (peek 1 (λ c.
     if passes (is_id_start k) c then exponent n
@@ -65,32 +66,35 @@ fraction k n = at_word 0 (codes "..") (exponent n) (peek 1 (λ c.
 abbrev pub is_i64 : ℕ → List ℕ → Bool
 is_i64 radix digits = passes (λ n. nat_lt n (2 ^ 63)) (number radix digits)
 
--- A decimal integer past that is a Float.
+-- A decimal integer by its digits: from 2 ^ 63 on it is a Float.
 abbrev pub whole : List ℕ → Numeral
 whole digits = numeral.Valid (if is_i64 10 digits then kind.Int else kind.Float)
 
+-- Digits come next, and begin a decimal number.
 unfoldable pub decimal : CharClasses → Reader Memory Token
 decimal k = eat_run is_ascii_digit (λ digits. fraction k (whole digits))
 
--- A dot and digits.
+-- A dot and digits come next, which are a number.
 unfoldable pub dotted : Reader Memory Token
 dotted = eat (eat_run is_ascii_digit (λ _. exponent (numeral.Valid kind.Float)))
 
--- What is taken for digits: letters too where the base is sixteen.
+-- What is taken for digits of a base: letters too if it is sixteen.
 abbrev pub is_digit_of : Base → ℕ → Bool
 is_digit_of Binary c = is_ascii_digit c
 is_digit_of Octal c = is_ascii_digit c
 is_digit_of Hexadecimal c = is_ascii_alphanumeric c
 
+-- A number of a base, which needs digits, of that base, and is below 2 ^ 63.
 abbrev pub based : Base → List ℕ → Numeral
 based b digits =
     if length digits == 0 then numeral.Invalid (number_fault.NoDigits b)
     else (if is_i64 (radix_of b) digits then numeral.Based b else numeral.Invalid (number_fault.WrongDigits b))
 
--- Behind `0b`, `0o` or `0x`.
+-- `0b`, `0o` or `0x` comes next, before the digits of a base.
 unfoldable pub in_base : Base → Reader Memory Token
 in_base b = skip 2 (eat_run (is_digit_of b) (λ digits. suffixed (based b digits)))
 
+-- A zero comes next, which may begin `0b`, `0o` or `0x`.
 unfoldable pub zero_first : CharClasses → Reader Memory Token
 zero_first k = peek 1 (λ c.
     if passes (λ c. c == 98) c then in_base Binary
@@ -98,6 +102,6 @@ zero_first k = peek 1 (λ c.
     else (if passes (λ c. c == 120) c then in_base Hexadecimal
     else decimal k)))
 
--- A digit comes next.
+-- A digit comes next, and begins a number.
 unfoldable pub number_token : CharClasses → ℕ → Reader Memory Token
 number_token k c = if c == 48 then zero_first k else decimal k

@@ -12,7 +12,7 @@ either alone pairs c next = alone c || pairs c next
 abbrev pub bytes_pass : (ℕ → Option ℕ → Bool) → ℕ → ℕ → Bool
 bytes_pass test c next = is_ascii c && (is_ascii next && test c (Some next))
 
--- whether each of four bytes passes before the byte behind it
+-- whether each of four bytes passes before the byte after it
 abbrev pub four_pass : (ℕ → Option ℕ → Bool) → List ℕ → ℕ → Bool
 four_pass test bytes at =
     let passes : ℕ → ℕ → Bool = λ i j. bytes_pass test (slice_index bytes i) (slice_index bytes j) in
@@ -28,10 +28,10 @@ abbrev pub pairs_len : (ℕ → Option ℕ → Bool) → List ℕ → ℕ
 pairs_len test [] = 0
 pairs_len test (c ∷ cs) = if test c (slice_get cs 0) then suc (pairs_len test cs) else 0
 
--- the place after the longest such run
+-- the place after the longest run of such characters
 abbrev pub past_pairs : (ℕ → Option ℕ → Bool) → Place → Place
 past_pairs test z = moved (pairs_len test z.ahead) z
 
--- such a run and what ends it were looked at, and the run was eaten
+-- a run of such characters and what ends it were looked at, and the run was eaten
 abbrev pub went_past_pairs : (ℕ → Option ℕ → Bool) → Sight → Sight
 went_past_pairs test v = let n = pairs_len test v.place.ahead in went n (saw (suc n) v)

@@ -15,14 +15,16 @@ abbrev pub fence_turn : ℕ → ℕ → ℕ → Turn Memory
 fence_turn wanted found c =
     if c == 96 then (if found + 1 == wanted then last blank else go (fence wanted (found + 1))) else go (fence wanted 0)
 
+-- A step through a raw text.
 abbrev pub fence_step : Memory → ℕ → Turn Memory
 fence_step (fence wanted found) c = fence_turn wanted found c
 fence_step _ c = leave
 
+-- The machine that takes a raw text from after its first backticks on.
 abbrev pub in_raw : Machine Memory
 in_raw = by_character fence_step
 
--- At the end a text is closed where nothing is wanted any more.
+-- The token of a raw text: it is closed if no backticks are wanted any more.
 abbrev pub raw_end : Memory → Token
 raw_end blank = plain kind.Raw
 raw_end _ = faulty fault.UnclosedRaw

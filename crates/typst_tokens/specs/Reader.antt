@@ -4,39 +4,46 @@ use Rattle.std.specs.Prelude.{◌≡◌, ℕ, zero, suc, ◌+◌, ◌-◌, max, 
 use Rattle.typst_lines.specs.Place.{Place, moved, scout, passes, run, past}
 use Rattle.std.specs.List.{prefix_len}
 
--- how many places before and ahead were looked at, of the text with one mark before its first character and one after its last
+-- how many places before and ahead were looked at, of the text with one mark before its first
+-- character and one after its last
 pub record Look : Type 0 where
   pub back : ℕ
   pub front : ℕ
 
+-- nothing is looked at
 abbrev pub no_look : Look
 no_look = record { back = 0; front = 0 }
 
+-- all that either look sees
 abbrev pub both : Look → Look → Look
 both l m = record { back = max l.back m.back; front = max l.front m.front }
 
+-- a look that goes at least so far back and ahead
 abbrev pub widened : ℕ → ℕ → Look → Look
 widened back front l = both (record { back = back; front = front }) l
 
--- the same stretch, from one character before: who eats a character looks at it
+-- a look, as seen from one character before: who eats a character looks at it
 abbrev pub from_before : List ℕ → Look → Look
 from_before [] l = record { back = l.back; front = max 1 l.front }
 from_before (c ∷ ahead) l = record { back = l.back - 1; front = suc l.front }
 
--- the same stretch, from n characters before
+-- a look, as seen from n characters before
 abbrev pub from_far : ℕ → Look → Look
 from_far n l = record { back = l.back - n; front = n + l.front }
 
+-- the look after n characters are eaten, as seen from before them
 abbrev pub skip_look : ℕ → List ℕ → Look → Look
 skip_look zero ahead l = l
 skip_look (suc n) [] l = from_before [] l
 skip_look (suc n) (c ∷ ahead) l = from_before (c ∷ ahead) (skip_look n ahead l)
 
+-- the place after some characters, the nearest first, and before others
 abbrev pub place : List ℕ → List ℕ → Place
 place before ahead = record { before = before; ahead = ahead }
 
 -- ---- questions at one place
 
+-- questions about the characters around one place
 pub data Step (A : Type 0) : Type 0 where
   -- nothing more is asked
   turn : A → Step A
@@ -45,17 +52,19 @@ pub data Step (A : Type 0) : Type 0 where
   -- the character before
   see_back : (Option ℕ → Step A) → Step A
 
+-- what the questions are answered at a place
 abbrev pub ask : {A : Type 0} → Step A → Place → A
 ask (turn a) p = a
 ask (see n k) p = ask (k (scout n p)) p
 ask (see_back k) p = ask (k (slice_get p.before 0)) p
 
+-- the look of the questions at a place
 abbrev pub glimpse : {A : Type 0} → Step A → Place → Look
 glimpse (turn a) p = no_look
 glimpse (see n k) p = widened 0 (suc n) (glimpse (k (scout n p)) p)
 glimpse (see_back k) p = widened 1 0 (glimpse (k (slice_get p.before 0)) p)
 
--- a word that stands n places ahead is looked at up to the first character that differs
+-- asks for a word n places ahead, up to the first character that differs
 abbrev pub see_word : {A : Type 0} → ℕ → List ℕ → Step A → Step A → Step A
 see_word n [] found other = found
 see_word n (c ∷ word) found other = see n (λ d. if passes (λ d. d == c) d then see_word (suc n) word found other else other)
@@ -84,6 +93,7 @@ spanned m state before (c ∷ ahead) =
     elim (ask (m state) (place before (c ∷ ahead)))
     [ leave ↦ ([], state) | last after ↦ (c ∷ [], after) | go after ↦ (let r = spanned m after (c ∷ before) ahead in (c ∷ r.0, r.1)) ]
 
+-- the look of a machine at a place
 abbrev pub span_look : {M : Type 0} → Machine M → M → List ℕ → List ℕ → Look
 span_look m state before [] = record { back = 0; front = 1 }
 span_look m state before (c ∷ ahead) =
@@ -92,7 +102,7 @@ span_look m state before (c ∷ ahead) =
 
 -- ---- readers
 
--- the machines of a reader keep things of one type in mind
+-- what a reader asks and eats before it answers. Its machines keep things of one type in mind
 pub data Reader (M A : Type 0) : Type 0 where
   -- nothing more is asked
   answer : A → Reader M A
@@ -111,7 +121,7 @@ pub data Reader (M A : Type 0) : Type 0 where
   -- goes past the longest run of characters that pass
   eat_run : (ℕ → Bool) → (List ℕ → Reader M A) → Reader M A
 
--- the answer, and the place that it was given at
+-- what a reader answers, and the place that it answers at
 abbrev pub exec : {M A : Type 0} → Reader M A → Place → A × Place
 exec (answer a) p = (a, p)
 exec (peek n k) p = exec (k (scout n p)) p
@@ -122,7 +132,7 @@ exec (see_run test k) p = exec (k (run test p)) p
 exec (skip n r) p = exec r (moved n p)
 exec (eat_run test k) p = exec (k (run test p)) (past test p)
 
--- how many characters were eaten
+-- how many characters a reader eats
 abbrev pub eaten : {M A : Type 0} → Reader M A → Place → ℕ
 eaten (answer a) p = 0
 eaten (peek n k) p = eaten (k (scout n p)) p
@@ -133,6 +143,7 @@ eaten (see_run test k) p = eaten (k (run test p)) p
 eaten (skip n r) p = min n (length p.ahead) + eaten r (moved n p)
 eaten (eat_run test k) p = prefix_len test p.ahead + eaten (k (run test p)) (past test p)
 
+-- the look of a reader: how far it looks back and ahead of a place before it answers
 abbrev pub look : {M A : Type 0} → Reader M A → Place → Look
 look (answer a) p = no_look
 look (peek n k) p = widened 0 (suc n) (look (k (scout n p)) p)
@@ -153,7 +164,7 @@ eat_span m state k = span m state (λ cs after. skip (length cs) (k after))
 abbrev pub if_next : {M A : Type 0} → (ℕ → Bool) → Reader M A → Reader M A → Reader M A
 if_next test found other = peek 0 (λ c. if passes test c then eat found else other)
 
--- whether a word stands n places ahead
+-- asks whether a word is n places ahead
 abbrev pub at_word : {M A : Type 0} → ℕ → List ℕ → Reader M A → Reader M A → Reader M A
 at_word n [] found other = found
 at_word n (c ∷ word) found other = peek n (λ d. if passes (λ d. d == c) d then at_word (suc n) word found other else other)
@@ -163,12 +174,12 @@ abbrev pub marked : List ℕ → List (Option ℕ)
 marked [] = None ∷ []
 marked (c ∷ cs) = Some c ∷ marked cs
 
--- two places agree on a look
+-- two places have the same characters and marks in a look
 pub record Agree (l : Look) (p q : Place) : Type 0 where
   pub before : take l.back (marked p.before) ≡ take l.back (marked q.before)
   pub ahead : take l.front (marked p.ahead) ≡ take l.front (marked q.ahead)
 
--- what was read is the same
+-- a reader answers the same at two places, eats as many characters, and has the same look
 pub record SameReading {M A : Type 0} (r : Reader M A) (p q : Place) : Type 0 where
   pub answers : (exec r p).0 ≡ (exec r q).0
   pub lengths : eaten r p ≡ eaten r q

@@ -65,6 +65,7 @@ saw n v = record v { reach = max v.reach (far n v.place) }
 abbrev pub saw_back : ℕ → Sight → Sight
 saw_back n v = record v { least = min v.least (near n v.place) }
 
+-- a look at the place was taken
 abbrev pub saw_by : Look → Sight → Sight
 saw_by l v = record v { reach = max v.reach (far l.front v.place); least = min v.least (near l.back v.place) }
 
@@ -81,16 +82,17 @@ abbrev pub word_reach : ℕ → List ℕ → Place → ℕ → ℕ
 word_reach n [] z reach = reach
 word_reach n (c ∷ word) z reach = if passes (λ d. d == c) (scout n z) then word_reach (suc n) word z (max reach (far (suc n) z)) else max reach (far (suc n) z)
 
+-- a word n places ahead was looked at, up to the first character that differs
 abbrev pub saw_word : ℕ → List ℕ → Sight → Sight
 saw_word n word v = record v { reach = word_reach n word v.place v.reach }
 
--- the answer of questions at one place, and what was looked at for it
+-- what questions are answered at one place, and what was looked at for it
 abbrev pub regard : {A : Type 0} → Step A → Sight → A × Sight
 regard (turn a) v = (a, v)
 regard (see n k) v = regard (k (scout n v.place)) (saw (suc n) v)
 regard (see_back k) v = regard (k (slice_get v.place.before 0)) (saw_back 1 v)
 
--- the answer of a reader, where it was given, and what was looked at for it
+-- what a reader answers, where, and what was looked at for it
 abbrev pub sight : {M A : Type 0} → Reader M A → Sight → A × Sight
 sight (answer a) v = (a, v)
 sight (peek n k) v = sight (k (scout n v.place)) (saw (suc n) v)
@@ -105,5 +107,6 @@ sight (eat_run test k) v = sight (k (run test v.place)) (went_past test v)
 
 -- ---- how it is stored
 
+-- how a sight is stored in ghost fields
 abbrev pub sight_code : Coded Sight
 sight_code = code_by (Place × (ℕ × ℕ)) (coded× place_code (coded× coded_ℕ coded_ℕ)) (λ v. (v.place, (v.reach, v.least))) (λ p. record { place = p.0; reach = p.1.0; least = p.1.1 }) (λ _. refl)

@@ -15,14 +15,16 @@ abbrev pub string_turn : Bool → ℕ → Turn Memory
 string_turn true c = go (quoted false)
 string_turn false c = if c == 34 then last blank else go (quoted (c == 92))
 
+-- A step through a string.
 abbrev pub string_step : Memory → ℕ → Turn Memory
 string_step (quoted escaped) c = string_turn escaped c
 string_step _ c = leave
 
+-- The machine that takes a string from after its first quotation mark on.
 abbrev pub in_string : Machine Memory
 in_string = by_character string_step
 
--- At the end a string is closed where nothing is wanted any more.
+-- The token of a string: it is closed if its second quotation mark came.
 abbrev pub string_end : Memory → Token
 string_end blank = plain kind.Str
 string_end _ = faulty fault.UnclosedString

@@ -19,7 +19,7 @@ use Rattle.typst_tokens.specs.Memory.{Memory}
 abbrev pub may_stop : ℕ → Bool
 may_stop c = is_whitespace c || among (codes "\\/[]~<>") c || among (codes "-.'\":`") c || among (codes "*_h$@#") c
 
--- Whether the text goes on through a character, or leaves it.
+-- A text goes on through a character, or leaves it.
 abbrev pub on : Bool → Step (Turn Memory)
 on goes = turn (if goes then go blank else leave)
 
@@ -35,10 +35,11 @@ text_step k c =
     else (if c == 64 then see 1 (λ d. on (not (passes (is_name k) d)))
     else on (not (may_stop c)))))))
 
+-- The machine that takes a plain text of markup.
 abbrev pub in_text : CharClasses → Machine Memory
 in_text k memory = see 0 (λ c. elim c [ None ↦ turn leave | Some c ↦ text_step k c ])
 
--- What is left of a text.
+-- What is left of a plain text.
 unfoldable pub text : CharClasses → Reader Memory Token
 text k = eat_span (in_text k) blank (λ _. answer (plain kind.Text))
 

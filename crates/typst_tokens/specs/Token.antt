@@ -11,7 +11,7 @@ use Rattle.typst_tokens.specs.declared.token.Fault.{Fault}
 abbrev pub plain : SyntaxKind → Token
 plain k = record { fault = None; kind = k; newline = false }
 
--- An error.
+-- An error token with this fault.
 abbrev pub faulty : Fault → Token
 faulty f = record { fault = Some f; kind = kind.Error; newline = false }
 

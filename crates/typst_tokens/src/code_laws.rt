@@ -2,7 +2,7 @@
 ghost use Rattle.typst_lines.specs.Classes.{CharClasses};
 ghost use Rattle.typst_tokens.specs.CodeLaws as law;
 
-/// The frame law of the tokens of code.
+/// The frame law of the tokens of code: a token, its length and its look depend on the look alone.
 pub fn code_frame_law()
     ensures { law.CodeFrame }
 {}
@@ -12,7 +12,7 @@ pub fn code_goes_on()
     ensures { law.CodeGoesOn }
 {}
 
-/// How far some tokens of code are looked for.
+/// The looks of some tokens of code.
 pub fn looks_of_code()
     ensures { (beyond : CharClasses) → law.CodeLooks beyond }
 {}

@@ -7,7 +7,7 @@ ghost use Rattle.typst_tokens.specs.Sight.{hull_of};
 use crate::hull::Hull;
 use typst_lines::{Scanner, is_newline};
 
-/// How many characters stand between the last newline character before, or the text's start, and
+/// How many characters are between the last newline character before, or the text's start, and
 /// here; and what was looked at for it.
 #[inline(never)]
 pub fn column(s: &Scanner<'_>) -> (usize, Hull)

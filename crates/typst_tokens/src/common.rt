@@ -35,7 +35,7 @@ fn line_ends(text: &str) -> usize
     count_newlines(text)
 }
 
-/// The same, counted.
+/// How many lines end in the text, counted character by character.
 fn count_newlines(text: &str) -> usize
     ensures { result ≡ spec.line_ends false (chars text.now) }
 {
@@ -61,6 +61,7 @@ fn is_parbreak(mode: SyntaxMode, ends: usize) -> bool
     }
 }
 
+/// Whitespace: the whole run that comes next.
 #[inline(always)]
 #[tactic(auto, unfolding(crate::specs::Common::whitespace))]
 pub fn whitespace(s: &mut Cursor<'_>, mode: SyntaxMode) -> Token
@@ -78,6 +79,7 @@ pub fn whitespace(s: &mut Cursor<'_>, mode: SyntaxMode) -> Token
     }
 }
 
+/// A shebang: `#!` and the rest of its line.
 #[tactic(auto, unfolding(crate::specs::Common::shebang))]
 pub fn shebang(s: &mut Cursor<'_>) -> Token
     ensures { Reads spec.shebang s.old result s.new }
@@ -86,6 +88,7 @@ pub fn shebang(s: &mut Cursor<'_>) -> Token
     Token::plain(SyntaxKind::Shebang)
 }
 
+/// A line comment: `//` and the rest of its line.
 #[tactic(auto, unfolding(crate::specs::Common::line_comment))]
 pub fn line_comment(s: &mut Cursor<'_>) -> Token
     ensures { Reads spec.line_comment s.old result s.new }
@@ -94,6 +97,7 @@ pub fn line_comment(s: &mut Cursor<'_>) -> Token
     Token::plain(SyntaxKind::LineComment)
 }
 
+/// A block comment: `/*` and all up to its `*/`, or to the end. Comments nest.
 #[tactic(auto, unfolding(crate::specs::Common::block_comment))]
 pub fn block_comment(s: &mut Cursor<'_>) -> Token
     ensures { Reads spec.block_comment s.old result s.new }
@@ -119,6 +123,7 @@ pub fn block_comment(s: &mut Cursor<'_>) -> Token
     Token::plain(SyntaxKind::BlockComment)
 }
 
+/// `*/` where no comment is open, an error.
 #[tactic(auto, unfolding(crate::specs::Common::comment_end))]
 pub fn comment_end(s: &mut Cursor<'_>) -> Token
     ensures { Reads spec.comment_end s.old result s.new }

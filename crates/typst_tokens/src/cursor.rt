@@ -19,13 +19,13 @@ use typst_lines::{CharSet, Scanner, ScannerExt};
 #[derive(Drop)]
 pub struct Cursor<'a> {
     s: Scanner<'a>,
-    /// Where they end, in bytes from the text's start.
+    /// Where the bytes that were looked at end, in bytes from the text's start.
     reach: usize,
-    /// Where they begin, in bytes from the mark before the text.
+    /// Where the bytes that were looked at begin, in bytes from the mark before the text.
     least: usize,
-    /// From where on the end of a line is known, in bytes,
+    /// From where on the end of a line is known, in bytes.
     line_from: usize,
-    /// and that end.
+    /// Where that line ends, in bytes.
     line_end: usize,
 }
 
@@ -51,7 +51,7 @@ impl<'a> Cursor<'a> {
         Cursor::on_line(s, LineEnd::of_text(s.string()))
     }
 
-    /// The same, where the end of a line of the text is known.
+    /// A cursor at the scanner's place, which looked at nothing yet, and knows where a line of the text ends.
     pub fn on_line(s: Scanner<'a>, line: LineEnd<'a>) -> Cursor<'a>
         requires { line.text.now ≡ s.text.now }
         ensures { result ≡ spec.fresh (place s.entry) }
@@ -65,7 +65,7 @@ impl<'a> Cursor<'a> {
         }
     }
 
-    /// The end of a line that is known.
+    /// The line of the text whose end the cursor knows.
     pub fn line(&self) -> LineEnd<'a>
         ensures { result.text.now ≡ spec.text_of self.now.place }
     {
@@ -114,7 +114,7 @@ impl<'a> Cursor<'a> {
         c
     }
 
-    /// The character before.
+    /// The character directly before the cursor.
     #[inline]
     pub fn last(&mut self) -> Option<char>
         ensures last { result ≡ slice_get self.old.place.before 0 }
@@ -126,7 +126,7 @@ impl<'a> Cursor<'a> {
         c
     }
 
-    /// The character before the last.
+    /// The second character before the cursor.
     #[inline]
     pub fn second_last(&mut self) -> Option<char>
         ensures second_last { result ≡ slice_get self.old.place.before 1 }
@@ -139,7 +139,7 @@ impl<'a> Cursor<'a> {
         c
     }
 
-    /// The character two before the last.
+    /// The third character before the cursor.
     #[inline]
     pub fn third_last(&mut self) -> Option<char>
         ensures third_last { result ≡ slice_get self.old.place.before 2 }
@@ -206,7 +206,7 @@ impl<'a> Cursor<'a> {
         found
     }
 
-    /// Whether the word of ASCII bytes stands after the next character.
+    /// Whether the word of ASCII bytes comes after the next character.
     pub fn word_after(&mut self, word: &[u8]) -> bool
         ensures found { result ≡ word_at 1 word.now self.old.place }
         ensures sight { self.new ≡ spec.saw_word 1 word.now self.old }
@@ -227,7 +227,7 @@ impl<'a> Cursor<'a> {
         self.s
     }
 
-    /// All characters up to the end, and the one that comes next there, were looked at.
+    /// Says that all characters up to `end`, and the one that comes next there, were looked at.
     #[inline]
     pub fn saw_to(&mut self, end: &Scanner<'a>)
         ensures sight { (n : ℕ) → place end.now ≡ moved n self.old.place → self.new ≡ spec.saw (suc n) self.old }
@@ -261,7 +261,7 @@ impl<'a> Cursor<'a> {
         end.since(&start)
     }
 
-    /// A scanner where the line ends.
+    /// A scanner at the end of the line.
     fn end_of_line(&mut self) -> Scanner<'a>
         ensures place { place result ≡ past in_line self.old.place }
         ensures text { result.text.now ≡ spec.text_of self.old.place }
@@ -316,7 +316,7 @@ impl<'a> Cursor<'a> {
     }
 }
 
-/// Where a look ends that read this character last, or the mark behind the text.
+/// Where a look ends that read this character last, or the mark after the text.
 #[inline(always)]
 fn end_of(s: &Scanner<'_>, c: Option<char>) -> usize
     ensures { result ≡ spec.position (place s.now) + (if is_none c then 1 else 0) }

@@ -44,7 +44,7 @@ fn keyword_or_name(s: &mut Cursor<'_>, rest: &str, kind: SyntaxKind) -> SyntaxKi
     kind
 }
 
-/// The kind of a name that is no keyword, by its first character and the others.
+/// The kind of a name that isn't a keyword, by its first character and the others.
 #[inline(always)]
 fn named(first: char, rest: &str) -> SyntaxKind
     ensures { plain result ≡ spec.named (first ∷ rest.now) }
@@ -55,7 +55,7 @@ fn named(first: char, rest: &str) -> SyntaxKind
     SyntaxKind::Ident
 }
 
-/// The keyword of the first character and the others.
+/// The kind of a name with this first character and these others that is a keyword, `true` or `false`.
 fn keyword(first: char, rest: &str) -> Option<SyntaxKind>
     ensures { result ≡ spec.keyword (first ∷ rest.now) }
 {

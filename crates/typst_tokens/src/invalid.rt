@@ -4,7 +4,7 @@ ghost use Rattle.typst_tokens.specs.Reads.{Reads};
 
 use crate::{Cursor, Fault, Token};
 
-/// The character comes next.
+/// An error: the character, which comes next, begins no token of code.
 #[inline(always)]
 #[tactic(auto, unfolding(crate::specs::Invalid::invalid))]
 pub(crate) fn invalid(s: &mut Cursor<'_>, c: char) -> Token
@@ -28,7 +28,7 @@ fn wrong(s: &mut Cursor<'_>, fault: Fault) -> Token
     Token::faulty(fault)
 }
 
-/// An operator of other languages where the second character follows.
+/// An error: an operator of other languages if the second character follows, or else the next character alone.
 #[tactic(auto, unfolding(crate::specs::Invalid::foreign))]
 fn foreign(s: &mut Cursor<'_>, second: char) -> Token
     ensures { Reads (spec.foreign second) s.old result s.new }

@@ -7,9 +7,9 @@ ghost use Rattle.typst_tokens.specs.Line.{IsLineEnd};
 #[derive(Clone, Copy)]
 pub struct LineEnd<'a> {
     pub(crate) text: &'a str,
-    /// The first of the two, in bytes from the text's start.
+    /// From where on no line ends, in bytes from the text's start.
     pub(crate) from: usize,
-    /// The second.
+    /// Where the line ends, in bytes from the text's start.
     pub(crate) end: usize,
     ghost is: { IsLineEnd text.now from end },
 }

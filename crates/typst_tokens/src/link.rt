@@ -10,7 +10,7 @@ use typst_kinds::SyntaxKind;
 use typst_lines::classes::Classes;
 use typst_lines::links::{eat_front, without_last_signs};
 
-/// A link where the scheme of one comes next, or a text that `h` begins.
+/// A link if the scheme of one comes next, or a text that `h` begins.
 #[tactic(auto, unfolding(crate::specs::Link::link_or_text))]
 pub(crate) fn link_or_text<C: Classes>(
     alloc: Global,
@@ -29,7 +29,7 @@ pub(crate) fn link_or_text<C: Classes>(
     Ok(text(s, classes))
 }
 
-/// What is left of a link, behind its scheme. Memory is taken only where there are brackets.
+/// What is left of a link, after its scheme. Memory is taken only where there are brackets.
 fn link(alloc: Global, s: &mut Cursor<'_>) -> Result<Token, AllocError>
     ensures { IfOk result (λ token. Reads spec.link s.old token s.new) }
 {

@@ -19,7 +19,7 @@ use std::alloc::{AllocError, Global};
 use typst_kinds::SyntaxKind;
 use typst_lines::classes::Classes;
 
-/// A token that begins with the character, which comes next.
+/// A token that begins with the character, which comes next. Memory is taken only for the brackets of a link.
 #[inline(always)]
 #[tactic(auto, unfolding(crate::specs::Markup::markup))]
 pub fn markup<C: Classes>(
@@ -74,7 +74,7 @@ fn minus<C: Classes>(s: &mut Cursor<'_>, classes: &C) -> Token
     hyphen(s, classes)
 }
 
-/// What a hyphen begins, after it.
+/// What a hyphen begins, from after it on: a shorthand, a list marker or a text.
 #[tactic(auto, unfolding(crate::specs::Markup::hyphen))]
 fn hyphen<C: Classes>(s: &mut Cursor<'_>, classes: &C) -> Token
     ensures { Reads (spec.hyphen (C.classes classes.now)) s.old result s.new }
@@ -143,7 +143,7 @@ fn marker<C: Classes>(s: &mut Cursor<'_>, kind: SyntaxKind, classes: &C) -> Toke
     marker_or_text(s, kind, classes)
 }
 
-/// A marker that was eaten where it may end here, else what is left of a text.
+/// A marker that was eaten if it may end here, else what is left of a text.
 #[tactic(auto, unfolding(crate::specs::Markup::marker_or_text))]
 fn marker_or_text<C: Classes>(s: &mut Cursor<'_>, kind: SyntaxKind, classes: &C) -> Token
     ensures { Reads (spec.marker_or_text (C.classes classes.now) kind) s.old result s.new }

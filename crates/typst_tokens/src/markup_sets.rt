@@ -5,7 +5,8 @@ ghost use Rattle.typst_tokens.specs.Text.{may_stop};
 ghost use Rattle.typst_tokens.specs.Pairs.{bytes_pass};
 ghost use Rattle.typst_lines.specs.Sets.{among};
 
-/// What each byte is in a text, in bits: 1 for what is text in any case, 2 for a space, 4 for an `h`. Bytes past ASCII are none of these.
+/// What each byte is in a text, in bits: 1 for what is text in any case, 2 for a space, 4 for an `h`. Bytes past
+/// ASCII are none of these.
 const ROLES: [u8; 256] = [
     1, 1, 1, 1, 1, 1, 1, 1, 1, 0, 0, 0, 0, 0, 1, 1, 1, 1, 1, 1, 1, 1, 1, 1, 1, 1, 1, 1, 1, 1, 1, 1,
     2, 1, 0, 0, 0, 1, 1, 0, 1, 1, 0, 1, 1, 0, 0, 0, 1, 1, 1, 1, 1, 1, 1, 1, 1, 1, 0, 1, 0, 1, 0, 1,
@@ -17,7 +18,8 @@ const ROLES: [u8; 256] = [
     0, 0, 0, 0, 0, 0, 0, 0, 0, 0, 0, 0, 0, 0, 0, 0, 0, 0, 0, 0, 0, 0, 0, 0, 0, 0, 0, 0, 0, 0, 0, 0,
 ];
 
-/// What is text before each byte, in the same bits: a space before a letter or a digit, an `h` before all but a `t`.
+/// What is text before each byte, in the bits of `ROLES`: a space before a letter or a digit, an `h` before all
+/// but a `t`.
 const FOLLOWED: [u8; 256] = [
     5, 5, 5, 5, 5, 5, 5, 5, 5, 5, 5, 5, 5, 5, 5, 5, 5, 5, 5, 5, 5, 5, 5, 5, 5, 5, 5, 5, 5, 5, 5, 5,
     5, 5, 5, 5, 5, 5, 5, 5, 5, 5, 5, 5, 5, 5, 5, 5, 7, 7, 7, 7, 7, 7, 7, 7, 7, 7, 5, 5, 5, 5, 5, 5,

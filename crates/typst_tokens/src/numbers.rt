@@ -17,18 +17,18 @@ use typst_kinds::SyntaxKind;
 use typst_lines::CharSet;
 use typst_lines::classes::{Classes, is_id_start};
 
-/// What stands before the suffix of a number.
+/// What is before the suffix of a number.
 #[derive(Debug, Clone, Copy, PartialEq, Eq)]
 pub enum Numeral {
     /// A number of the kind.
     Valid(SyntaxKind),
     /// A number of the base, which takes no suffix.
     Based(Base),
-    /// No number.
+    /// Not a number.
     Invalid(NumberFault),
 }
 
-/// What a suffix is made of.
+/// The set of the characters of suffixes.
 #[derive(Clone, Copy)]
 struct InSuffix;
 
@@ -64,7 +64,7 @@ fn zero_first<C: Classes>(s: &mut Cursor<'_>, classes: &C) -> Token
     }
 }
 
-/// A number behind `0b`, `0o` or `0x`.
+/// A number after `0b`, `0o` or `0x`.
 #[tactic(auto, unfolding(crate::specs::Numbers::in_base))]
 fn in_base(s: &mut Cursor<'_>, base: Base) -> Token
     ensures { Reads (spec.in_base base) s.old result s.new }
@@ -74,7 +74,7 @@ fn in_base(s: &mut Cursor<'_>, base: Base) -> Token
     suffixed(s, based(base, digits))
 }
 
-/// What is taken for digits of a base.
+/// The set of what is taken for digits of a base.
 #[derive(Clone, Copy)]
 pub struct DigitsOf(pub Base);
 
@@ -141,7 +141,7 @@ pub(crate) fn dotted(s: &mut Cursor<'_>) -> Token
     exponent(s, Numeral::Valid(SyntaxKind::Float))
 }
 
-/// What is left of a decimal number behind its first digits.
+/// What is left of a decimal number after its first digits.
 #[tactic(auto, unfolding(crate::specs::Numbers::fraction))]
 fn fraction<C: Classes>(s: &mut Cursor<'_>, first: Numeral, classes: &C) -> Token
     ensures { Reads (spec.fraction (C.classes classes.now) first) s.old result s.new }
@@ -159,7 +159,7 @@ fn fraction<C: Classes>(s: &mut Cursor<'_>, first: Numeral, classes: &C) -> Toke
     exponent(s, first)
 }
 
-/// Whether two dots come next, so that a dot is none of the number's.
+/// Whether two dots come next, so that the first isn't the number's.
 fn range_follows(s: &mut Cursor<'_>) -> bool
     ensures { (found other : Reader Memory Token) → sight (at_word 0 (codes "..") found other) s.old ≡ sight (if result then found else other) s.new }
 {
@@ -229,7 +229,7 @@ fn with_exponent(digits: &str) -> Numeral
     Numeral::Valid(SyntaxKind::Float)
 }
 
-/// The suffix of a number, which is one with it.
+/// A number, by what is before its suffix, with the suffix that comes next.
 #[tactic(auto, unfolding(crate::specs::Numbers::suffixed))]
 fn suffixed(s: &mut Cursor<'_>, before: Numeral) -> Token
     ensures { Reads (spec.suffixed before) s.old result s.new }

@@ -21,7 +21,7 @@ pub trait PairSet: CharSet {
 }
 
 /// Goes past the longest run of characters that are in either set. Gives the character that ends
-/// it, and a scanner behind that one.
+/// it, and a scanner after that one.
 #[inline(always)]
 pub(crate) fn past_pairs<'a, P: PairSet>(
     s: &mut Scanner<'a>,
@@ -47,8 +47,8 @@ pub(crate) fn past_pairs<'a, P: PairSet>(
     }
 }
 
-/// Goes past characters of ASCII as long as their bytes tell that each is in either set: first by fours,
-/// so that the text's end is looked for once in four bytes.
+/// Goes past characters of ASCII as long as their bytes show that each is in either set: first by fours, so that
+/// the text's end is looked for once in four bytes.
 #[inline(always)]
 fn past_ascii<P: PairSet>(s: &mut Scanner<'_>, set: &P)
     ensures past { spec.past_pairs (spec.either (P.CharSet.members set.now) (P.PairSet.before set.now)) (place s.new)
@@ -67,7 +67,7 @@ fn past_ascii<P: PairSet>(s: &mut Scanner<'_>, set: &P)
     s.jump(at);
 }
 
-/// Whether four bytes tell that each is in either set before the one behind it.
+/// Whether four bytes show that each is in either set before the one after it.
 #[inline(always)]
 fn four_pass<P: PairSet>(bytes: &[u8], at: usize, set: &P) -> bool
     requires { at + 4 < length bytes.now }

@@ -6,7 +6,7 @@ ghost use Rattle.typst_tokens.specs.Characters as spec;
 use typst_kinds::SyntaxMode;
 use typst_lines::{CharSet, Scanner, is_newline};
 
-/// The whitespace of a mode.
+/// The set of a mode's whitespace.
 #[derive(Clone, Copy)]
 pub struct Whitespace(pub SyntaxMode);
 
@@ -19,7 +19,7 @@ impl CharSet for Whitespace {
     }
 }
 
-/// ASCII letters and digits.
+/// The set of the ASCII letters and digits.
 #[derive(Clone, Copy)]
 pub struct AsciiAlphanumeric;
 
@@ -34,7 +34,7 @@ impl CharSet for AsciiAlphanumeric {
     }
 }
 
-/// ASCII digits.
+/// The set of the ASCII digits.
 #[derive(Clone, Copy)]
 pub struct AsciiDigits;
 

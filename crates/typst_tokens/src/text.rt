@@ -51,7 +51,7 @@ impl<C: Classes> PairSet for Flow<'_, C> {
     }
 }
 
-/// What is left of a text.
+/// What is left of a plain text, as its token.
 #[inline(always)]
 pub(crate) fn text<C: Classes>(s: &mut Cursor<'_>, classes: &C) -> Token
     ensures { Reads (spec.text (C.classes classes.now)) s.old result s.new }

@@ -41,7 +41,7 @@ pub enum NumberFault {
     NoDigits(Base),
     /// Digits that the base doesn't have, or a number that isn't below 2^63.
     WrongDigits(Base),
-    /// A suffix behind a number of the base.
+    /// A suffix after a number of the base.
     Suffix(Base),
 }
 
@@ -62,11 +62,11 @@ pub enum Fault {
     UnclosedLabel,
     /// A string without its closing quotation mark.
     UnclosedString,
-    /// A number.
+    /// A number with this fault.
     Number(NumberFault),
     /// A character that no token of code begins with.
     InvalidCharacter,
-    /// Such a character directly behind a hash.
+    /// A character that no token of code begins with, directly after a hash.
     HashedCharacter,
     /// An operator of other languages: `&&`, `||` or `~=`.
     InvalidOperator,
@@ -75,7 +75,7 @@ pub enum Fault {
 /// A token, aside from its text.
 #[derive(Debug, Clone, Copy, PartialEq, Eq)]
 pub struct Token {
-    /// What is wrong with it, where it is an error.
+    /// What is wrong with it, if it is an error.
     pub fault: Option<Fault>,
     /// What the token is.
     pub kind: SyntaxKind,
@@ -98,7 +98,7 @@ impl Token {
         }
     }
 
-    /// An error.
+    /// An error token with this fault.
     #[inline]
     pub fn faulty(fault: Fault) -> Token
         ensures { result ≡ faulty fault }

@@ -1,4 +1,4 @@
--- Where steps upwards and sideways go from, and what lies beside it (of private clauses).
+-- Where steps upwards and sideways go from, and what lies beside that (for private clauses).
 use Rattle.std.specs.Prelude.{◌≡◌, ℕ, ◌+◌, ◌≤◌, drop, Option}
 use Rattle.std.specs.Option.{option_map}
 use Rattle.typst_tree.specs.Tree.{Tree, nodes, places}
@@ -22,14 +22,14 @@ pub record IsBranch (a : LinkedNode) (b : Branch) : Type 0 where
   pub from : b.tree.number ≤ a.number
   pub to : a.number + nodes a.node.now ≤ b.tree.number + nodes b.tree.node.now
 
--- no node above the one with the number n has a long row and ends behind the number k
+-- no node above the one with the number n has a long row and ends after the number k
 abbrev pub EndsBy : Tree → ℕ → ℕ → Type 0
 EndsBy root n k = (o : Tree) (m : ℕ) → IsFork root n o m → m + nodes o ≤ k
 
--- the first leaf that counts from the number m on
+-- the first leaf that is neither trivia nor an error, from the number m on
 abbrev pub leaf_after : Tree → ℕ → Option At
 leaf_after root m = option_map (at root) (first_at (is_leaf_from 0) m 0 (drop m (places root)))
 
--- the last leaf that counts below the number m
+-- the last leaf that is neither trivia nor an error, below the number m
 abbrev pub leaf_until : Tree → ℕ → Option At
 leaf_until root m = option_map (at root) (last_leaf m 0 (places root))

@@ -1,23 +1,23 @@
--- What is left of a walk in preorder (of private clauses).
+-- What is left of a walk in preorder (for private clauses).
 use Rattle.std.specs.Prelude.{◌≡◌, ◌<◌, List, [], ◌∷◌, ◌++◌, length, All}
 use Rattle.typst_tree.specs.Tree.{forest}
 use Rattle.typst_tree.specs.Preorder.{Visited, row}
 use Rattle.typst_tree.specs.declared.preorder.Row.{Row}
 
--- what is left of a row
+-- the visits that are left in a row
 abbrev pub left : Row → List Visited
 left r = row r.offset r.depth (forest r.trees.now)
 
--- what is left of the rows above it, of which the last one comes first
+-- the visits that are left in the rows above, of which the last one comes first
 abbrev pub left_above : List Row → List Visited
 left_above [] = []
 left_above (r ∷ rs) = left_above rs ++ left r
 
--- a row isn't passed
+-- a row has trees left
 abbrev pub HasTrees : Row → Type 0
 HasTrees r = 0 < length r.trees.now
 
--- no row above is passed, and the row of the next node is passed at the end alone
+-- each row above has trees left, and the row of the next node has none only at the walk's end
 pub record IsReady (here : Row) (above : List Row) : Type 0 where
   pub ends : length here.trees.now ≡ 0 → length above ≡ 0
   pub have_trees : All HasTrees above

@@ -13,7 +13,7 @@ expected_error thing t =
     advised (hint_with None (keyword_hint (text_of t))) (error_of (expected_message thing (name_of t.head.kind)) (text_of t))
     else error_of (expected_message thing (name_of t.head.kind)) (text_of t)
 
--- the tree as such an error. An error stays as it is
+-- the tree as an error that says what was expected. An error stays as it is
 abbrev pub made_expected : List ℕ → Tree → Tree
 made_expected thing t = if is_error t.head.kind then t else expected_error thing t
 

@@ -7,7 +7,7 @@ use Rattle.typst_tree.specs.Tree.{Forest, none, more, Tree, count, nodes}
 abbrev pub IsStretch : ℕ → ℕ → Type 0
 IsStretch a e = a < e → (2 ≤ a) × (e ≤ 2 ^ 47)
 
--- how many numbers each of n nodes gets of p: half of its share where that leaves one
+-- the stride at which n nodes share p numbers: half of each one's share, or all of it if half is 0
 abbrev pub stride : ℕ → ℕ → ℕ
 stride p n = if p / (2 * n) == 0 then p / n else p / (2 * n)
 
@@ -16,8 +16,8 @@ abbrev pub placed : ℕ → ℕ → ℕ → ℕ → Head → Head
 placed file s a e h =
     if h.is_inner then record h { span = Some (file, a + s / 2); upper = e } else record h { span = Some (file, (a + e) / 2); upper = 0 }
 
--- trees one after another from a on, each in a stretch of s numbers for each of its nodes. The
--- children of a node stand behind the first share of its stretch, at the stride of that stretch
+-- trees one after another from a on, each in a stretch of s numbers for each of its nodes. A node's
+-- children come after the first share of its stretch, at the stride of that stretch
 abbrev pub numbered_forest : ℕ → ℕ → ℕ → Forest → Forest
 numbered_forest file s a none = none
 numbered_forest file s a (more h ks r) =
@@ -30,7 +30,7 @@ abbrev pub numbered : ℕ → ℕ → ℕ → Tree → Tree
 numbered file a p t =
     let s = stride p (nodes t) in record { head = placed file s a (a + p) t.head; kids = numbered_forest file s (a + s) t.kids }
 
--- the tree with its nodes numbered in a..e, where they are no more than that
+-- the tree with its nodes numbered in a..e, if they are no more than that
 abbrev pub numberized : ℕ → ℕ → ℕ → Tree → Option Tree
 numberized file a e t = if nat_le (nodes t) (e - a) then Some (numbered file a (e - a) t) else None
 

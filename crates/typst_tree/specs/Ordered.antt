@@ -17,7 +17,8 @@ begins_past m (more h ks r) = nat_lt m (number_of h.span)
 abbrev pub IsKey : (ℕ → ℕ → Tree → Bool) → ℕ → Type 0
 IsKey p m = (n a : ℕ) (t : Tree) → IsTrue (p n a t) → number_of t.head.span ≡ m
 
--- the tree of the index i begins at the key or before it, or is the first, and the next begins past it (of private clauses)
+-- the tree of the index i begins at the key or before it, or is the first, and the next begins past
+-- it (for private clauses)
 pub record IsLastUpTo (m : ℕ) (row : List Tree) (i : ℕ) : Type 0 where
   pub within : i < length row
   pub begins : 0 < i → begins_past m (forest (drop i row)) ≡ false

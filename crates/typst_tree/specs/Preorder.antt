@@ -1,10 +1,11 @@
--- What a walk through a tree in preorder comes to.
+-- The visits of a walk through a tree in preorder.
 use Rattle.std.specs.Prelude.{ℕ, ◌+◌, List, [], ◌∷◌, ◌++◌, length, refl}
 use Rattle.std.specs.Coded.{Coded, code_by, coded×, coded_ℕ, coded_list}
 use Rattle.typst_tree.specs.Tree.{Forest, none, more, Tree, tree_code, text_of, saturated}
 use Rattle.typst_tree.specs.declared.preorder.Visit.{Visit}
 
--- a node that a walk comes to, the byte where it begins, and how many levels it is below the node that the walk began with
+-- a visit: a node, the byte where it begins, and how many levels it is below the node that the walk
+-- began with
 pub record Visited : Type 0 where
   pub node : Tree
   pub offset : ℕ
@@ -20,7 +21,8 @@ visits_code =
 abbrev pub visited : Visit → Visited
 visited v = record { node = v.node.now; offset = v.offset; depth = v.depth }
 
--- trees that stand side by side from a byte on: of each its root, then those below its root, then those of the next tree
+-- trees that are side by side from a byte on: of each its root, then those below its root, then
+-- those of the next tree
 abbrev pub row : ℕ → ℕ → Forest → List Visited
 row offset depth none = []
 row offset depth (more h ks r) =
@@ -31,6 +33,6 @@ row offset depth (more h ks r) =
 abbrev pub walk : ℕ → Tree → List Visited
 walk offset t = row offset 0 (more t.head t.kids none)
 
--- the nodes below one that was come to
+-- the visits of the nodes below a visited one
 abbrev pub below : Visited → List Visited
 below v = row (saturated (v.offset + length v.node.head.text)) (saturated (v.depth + 1)) v.node.kids

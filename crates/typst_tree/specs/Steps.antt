@@ -11,9 +11,11 @@ pub record At : Type 0 where
   pub root : Tree
   pub number : ℕ
 
+-- the node itself
 abbrev pub node_of : At → Tree
 node_of a = unwrap_or (slice_get (places a.root) a.number) a.root
 
+-- the node's kind
 abbrev pub kind_of : At → SyntaxKind
 kind_of a = (node_of a).head.kind
 
@@ -41,28 +43,31 @@ first_of_all p a = option_map (at a.root) (first_at p 0 0 (places a.root))
 abbrev pub first_below : (ℕ → ℕ → Tree → Bool) → At → Option At
 first_below p a = option_map (at a.root) (first_at p a.number (start_of a) (places (node_of a)))
 
+-- the node that has this one among its children
 abbrev pub parent : At → Option At
 parent a = first_of_all (has_child a.number) a
 
+-- the node's children, in order
 abbrev pub children : At → List At
 children a = map (at a.root) (numbers (a.number + 1) (node_of a).kids)
 
+-- whether the second node, of the same row, comes after the first and isn't trivia
 abbrev pub is_sibling_after : At → At → Bool
 is_sibling_after a b = nat_lt a.number b.number && not (is_trivia (kind_of b))
 
--- the first of the parent's children after the node that is no trivia
+-- the first of the parent's children after the node that isn't trivia
 abbrev pub next_sibling : At → Option At
 next_sibling a = option_and_then (λ p. find (is_sibling_after a) (children p)) (parent a)
 
--- the last leaf that counts before the node
+-- the last leaf before the node that is neither trivia nor an error
 abbrev pub prev_leaf : At → Option At
 prev_leaf a = option_map (at a.root) (last_leaf a.number 0 (places a.root))
 
--- the first leaf that counts behind the node and all that is below it
+-- the first leaf that is neither trivia nor an error after the node and all that is below it
 abbrev pub next_leaf : At → Option At
 next_leaf a = first_of_all (is_leaf_from (a.number + nodes (node_of a))) a
 
--- the first leaf that counts within the node
+-- the first leaf within the node that is neither trivia nor an error
 abbrev pub leftmost_leaf : At → Option At
 leftmost_leaf a = first_below (is_leaf_from 0) a
 
@@ -83,7 +88,7 @@ abbrev pub SpansDiffer : List Tree → Type 0
 SpansDiffer ts =
     (i j : ℕ) (t u : Tree) → slice_get ts i ≡ Some t → slice_get ts j ≡ Some u → t.head.span ≡ u.head.span → i ≡ j
 
--- a node within another is the one that its own span finds there, where spans differ
+-- where spans differ, the span of a node within another one finds that node
 abbrev pub FindsOwn : Option (ℕ × ℕ) → At → Option At → Type 0
 FindsOwn span a found =
     (i : ℕ) (t : Tree) → SpansDiffer (places (node_of a)) → slice_get (places (node_of a)) i ≡ Some t → t.head.span ≡ span → found ≡ Some (at a.root (a.number + i))

@@ -20,25 +20,30 @@ pub record Tree : Type 0 where
   pub head : Head
   pub kids : Forest
 
+-- the first half of a pair of codes
 abbrev first : Gv → Gv
 first gnil = gnil
 first (gnum n) = gnil
 first (gcons a b) = a
 
+-- the second half of a pair of codes
 abbrev rest : Gv → Gv
 rest gnil = gnil
 rest (gnum n) = gnil
 rest (gcons a b) = b
 
+-- a code is a pair
 abbrev IsCons : Gv → Type 0
 IsCons gnil = ⊥
 IsCons (gnum n) = ⊥
 IsCons (gcons a b) = Unit {0}
 
+-- a forest as a code: the first tree's head and children, and the rest
 abbrev code_of : Forest → Gv
 code_of none = gnil
 code_of (more h ks r) = gcons (head_code.code h) (gcons (code_of ks) (code_of r))
 
+-- forests with the same code are the same
 pub code_one_to_one : (f g : Forest) → code_of f ≡ code_of g → f ≡ g
 code_one_to_one none none p = refl
 code_one_to_one none (more h ks r) p = absurd (subst IsCons (sym p) tt)
@@ -48,9 +53,11 @@ code_one_to_one (more h ks r) (more h' ks' r') p = λ i.
     (code_one_to_one ks ks' (ap (λ g. first (rest g)) p) i)
     (code_one_to_one r r' (ap (λ g. rest (rest g)) p) i)
 
+-- how a forest is stored in ghost fields
 abbrev pub forest_code : Coded Forest
 forest_code = record { code = code_of; inj = code_one_to_one }
 
+-- how a tree is stored in ghost fields
 abbrev pub tree_code : Coded Tree
 tree_code =
     code_by (Head × Forest) (coded× head_code forest_code) (λ t. (t.head, t.kids)) (λ p. record { head = p.0; kids = p.1 })
@@ -106,6 +113,7 @@ places t = t ∷ preorder t.kids
 abbrev pub saturated : ℕ → ℕ
 saturated n = min n (2 ^ 64 - 1)
 
+-- no tree of some has more nodes than all of them together
 pub most_le-count : (ts : List Tree) → most (λ t. nodes t + 1) ts ≤ count (forest ts) + 1
 most_le-count [] = omega arith
 most_le-count (t ∷ ts) = omega (arith, most_le-count ts)

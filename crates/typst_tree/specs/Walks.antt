@@ -9,16 +9,18 @@ abbrev pub texts : List Tree → List ℕ
 texts [] = []
 texts (t ∷ ts) = t.head.text ++ texts ts
 
--- the numbers of trees that stand side by side, where the first has the number n
+-- the numbers of trees that are side by side, where the first has the number n
 abbrev pub numbers : ℕ → Forest → List ℕ
 numbers n none = []
 numbers n (more h ks r) = n ∷ numbers (n + 1 + count ks) r
 
--- of nodes in preorder, numbered from n on and beginning at byte a, the first that passes a test of number, offset and node
+-- of nodes in preorder, numbered from n on and beginning at byte a, the first that passes a test of
+-- number, offset and node
 abbrev pub first_at : (ℕ → ℕ → Tree → Bool) → ℕ → ℕ → List Tree → Option ℕ
 first_at p n a [] = None
 first_at p n a (t ∷ ts) = if p n (saturated a) t then Some n else first_at p (n + 1) (a + length t.head.text) ts
 
+-- there is no tree
 abbrev pub is_childless : Forest → Bool
 is_childless none = true
 is_childless (more h ks r) = false
@@ -27,6 +29,7 @@ is_childless (more h ks r) = false
 abbrev pub is_leaf : Tree → Bool
 is_leaf t = is_childless t.kids && (not (is_trivia t.head.kind) && not (is_error t.head.kind))
 
+-- the first number if there is one, or else the second
 abbrev pub if_none : Option ℕ → Option ℕ → Option ℕ
 if_none None y = y
 if_none (Some x) y = Some x
@@ -48,6 +51,7 @@ is_leaf_from k n a t = nat_le k n && is_leaf t
 abbrev pub holds_byte : ℕ → ℕ → ℕ → Tree → Bool
 holds_byte b n a t = is_childless t.kids && (nat_le a b && nat_lt b (saturated (a + length (text_of t))))
 
+-- whether two spans are the same
 abbrev pub same_place : Option (ℕ × ℕ) → Option (ℕ × ℕ) → Bool
 same_place None None = true
 same_place None (Some q) = false
@@ -58,6 +62,7 @@ same_place (Some p) (Some q) = (p.0 == q.0) && (p.1 == q.1)
 abbrev pub has_span : Option (ℕ × ℕ) → ℕ → ℕ → Tree → Bool
 has_span span n a t = same_place t.head.span span
 
+-- whether a span has the number m
 abbrev pub is_numbered : ℕ → Option (ℕ × ℕ) → Bool
 is_numbered m None = false
 is_numbered m (Some p) = p.1 == m
@@ -66,7 +71,8 @@ is_numbered m (Some p) = p.1 == m
 abbrev pub has_number : ℕ → ℕ → ℕ → Tree → Bool
 has_number m n a t = is_numbered m t.head.span
 
--- one of several nodes, with those below it: xs begins with the number n and the byte a, and holds ys from the number k and the byte b on
+-- of several nodes one with those below it: xs begins with the number n and at byte a, and holds ys
+-- from the number k and byte b on
 pub record Within (n a : ℕ) (xs : List Tree) (k b : ℕ) (ys : List Tree) : Type 0 where
   pub front : List Tree
   pub back : List Tree

@@ -14,7 +14,7 @@ use crate::order::before_index;
 use crate::search::is_leaf;
 
 /// A node that was found among another one and those below it: its number, by how many bytes it begins
-/// behind the other one, and what is known of the way to it if no row on the way to the other one is long.
+/// after the other one, and what is known of the way to it if no row on the way to the other one is long.
 #[derive(Clone, Copy)]
 pub struct Found<'a> {
     pub node: &'a SyntaxNode,
@@ -38,8 +38,8 @@ impl<'a> Found<'a> {
         }
     }
 
-    /// The same node, found among a node and those below it, where it was found among the child with this
-    /// index. That node has this number.
+    /// This node as it is found among the node `over`, which has this number, where it was found among the child
+    /// of `over` with this index.
     fn below(self, over: &SyntaxNode, number: usize, index: usize) -> Found<'a>
         requires counted { number + nodes over.now < 2 ^ 64 - 1 }
         requires child { IsBelowChild over.now number index (in_order_of self.known) self }
@@ -57,7 +57,7 @@ impl<'a> Found<'a> {
         }
     }
 
-    /// A node that was found among this one, found where this one was found.
+    /// A node that was found among this one, as it is found where this one was found.
     fn with(self, inner: Found<'a>) -> Found<'a>
         requires { IsUnder self inner }
         ensures number { result.number ≡ inner.entry.number }
@@ -74,7 +74,7 @@ impl<'a> Found<'a> {
     }
 
     /// The child of this node that the node with the number `wanted` is or is below, found among it. It goes
-    /// through the children behind that one.
+    /// through the children after that one.
     fn child_over(self, wanted: usize) -> Found<'a>
         requires counted { self.number + nodes self.node.now < 2 ^ 64 - 1 }
         requires from { self.number < wanted }
@@ -146,9 +146,10 @@ impl<'a> Found<'a> {
         }
     }
 
-    /// The same, where there are about so many levels on the way to the node before that number.
+    /// The last leaf as `last_leaf` finds it, where there are about so many levels on the way to the node before
+    /// that number.
     ///
-    /// What stands half of the levels down is searched by a call, and then what stands before it.
+    /// What is half of the levels down is searched by a call, and then what is before it.
     #[cycle(last_leaf)]
     fn last_before(self, before: usize, levels: usize) -> Option<Found<'a>>
         requires counted { self.number + nodes self.node.now < 2 ^ 64 - 1 }
@@ -179,7 +180,8 @@ impl<'a> Found<'a> {
         None
     }
 
-    /// Looks for it among this node and those below it, back to a child that has more than `heavy` nodes.
+    /// Looks for the last leaf with a number below `before` among this node and those below it, back to a child
+    /// that has more than `heavy` nodes.
     #[cycle(last_leaf)]
     fn look_back(self, before: usize, heavy: usize) -> Seen<'a>
         requires counted { self.number + nodes self.node.now < 2 ^ 64 - 1 }
@@ -211,7 +213,7 @@ impl<'a> Found<'a> {
         Seen::Nothing
     }
 
-    /// The same in a small tree.
+    /// The last leaf as `last_leaf` finds it, in a small tree.
     fn last_small(self, before: usize) -> Option<Found<'a>>
         requires { self.number + nodes self.node.now < 2 ^ 64 - 1 }
         ensures { FindsLast self.entry before result }
@@ -263,9 +265,9 @@ impl<'a> Found<'a> {
 enum Seen<'a> {
     /// The leaf that is looked for.
     Leaf(Found<'a>),
-    /// A heavy child, and nothing behind it.
+    /// A heavy child, and nothing after it.
     Heavy(Found<'a>),
-    /// Nothing.
+    /// No leaf that is looked for.
     Nothing,
 }
 

@@ -18,17 +18,17 @@ pub enum Reach {
     Open,
     /// The place in the first long row on the way is known.
     Placed,
-    /// Nothing.
+    /// Nothing of the way is known.
     Lost,
 }
 
-/// What is known of the way to a node: the index of the tree in the first long row on the way that the
-/// node is or is below, and by how many numbers and bytes the node is behind that tree. Where one of them
-/// is too large, nothing is known.
+/// What is known of the way to a node: the index of the tree in the first long row on the way that the node is or
+/// is below, and by how many numbers and bytes the node is after that tree. If one of them is too large, nothing
+/// is known.
 ///
-/// A linked node has 8 bytes for it. So `word` is the index times 8 and three bits: two for what `reach`
-/// tells, and the lowest for whether the tree's numbers are known to be in order. Only `open`, `lost`,
-/// `at_index` and the readers below speak of it.
+/// A linked node has 8 bytes for it. So `word` is the index times 8 and three bits: two for what `reach` says, and
+/// the lowest for whether the tree's numbers are known to be in order. Only `open`, `lost`, `at_index` and the
+/// readers below read and write it.
 #[derive(Clone, Copy)]
 pub struct Known {
     word: u32,
@@ -36,7 +36,7 @@ pub struct Known {
     pub begins: u16,
 }
 
-/// The lowest bit.
+/// The lowest bit of a word, 1 for yes.
 #[inline(always)]
 fn bit(in_order: bool) -> u32
     ensures { result ≡ bit in_order }
@@ -45,7 +45,7 @@ fn bit(in_order: bool) -> u32
 }
 
 impl Known {
-    /// That no row on the way is long.
+    /// No row on the way is long.
     #[tactic(auto, unfolding(crate::specs::Follows::told))]
     #[inline(always)]
     pub fn open(in_order: bool) -> Known
@@ -59,7 +59,7 @@ impl Known {
         }
     }
 
-    /// Nothing of the way.
+    /// Nothing is known of the way.
     #[tactic(auto, unfolding(crate::specs::Follows::told))]
     #[inline(always)]
     fn lost(in_order: bool) -> Known
@@ -139,7 +139,7 @@ impl Known {
         }
     }
 
-    /// What is known of this node or one below it, so many numbers and bytes behind it.
+    /// What is known of the way to this node or one below it, so many numbers and bytes after it.
     #[inline(always)]
     pub fn behind(self, numbers: usize, bytes: usize) -> Known
         ensures in_order { in_order_of result ≡ in_order_of self }
@@ -153,7 +153,7 @@ impl Known {
         }
     }
 
-    /// The same place, so many numbers and bytes further behind its tree.
+    /// The place of a node so many numbers and bytes further after its tree in the long row.
     #[inline(always)]
     fn further(self, numbers: usize, bytes: usize) -> Known
         requires { reach_of self ≡ reach.Placed }
@@ -177,7 +177,7 @@ impl Known {
     }
 
     /// What is known of a child of this node: the one with this index in its row, so many numbers and bytes
-    /// behind.
+    /// after.
     #[inline(always)]
     pub fn of_child(self, is_long: bool, index: usize, numbers: usize, bytes: usize) -> Known
         ensures in_order { in_order_of result ≡ in_order_of self }
@@ -190,7 +190,7 @@ impl Known {
         }
     }
 
-    /// What is known of a node, so many numbers and bytes behind this one, where `way` is known of the way from
+    /// What is known of a node, so many numbers and bytes after this one, where `way` is known of the way from
     /// here on.
     pub fn then(self, way: Known, numbers: usize, bytes: usize) -> Known
         ensures in_order { in_order_of way ≡ in_order_of self → in_order_of result ≡ in_order_of self }

@@ -11,8 +11,7 @@ pub fn replaces_text()
     ensures { law.ReplacesText }
 {}
 
-/// A node that isn't numbered anew keeps its number, and only those are that find no room between
-/// their neighbours.
+/// A node outside the stretch of children that is numbered again keeps its number.
 pub fn keeps_others()
     ensures { law.KeepsOthers }
 {}

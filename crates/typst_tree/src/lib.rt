@@ -1,7 +1,7 @@
-//! The nodes of Typst's syntax tree, and nodes with what stands round them.
+//! The nodes of Typst's syntax tree, and nodes that know what is around them.
 //!
-//! Contracts see a node as plain data, a `Tree` of `specs/Tree.antt`: a head (kind, text, span,
-//! diagnostics) and the children.
+//! Contracts see a node as plain data, a `Tree` of `specs/Tree.antt`: a head (kind, text, span, diagnostics) and
+//! the children.
 #![tactic(auto)]
 
 mod back;

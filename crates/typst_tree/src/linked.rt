@@ -1,4 +1,4 @@
-//! Nodes with what stands round them.
+//! Nodes that know what is around them: parents, siblings and leaves.
 
 ghost use Rattle.std.specs.Prelude.{◌≡◌, ◌+◌, ◌^◌, ◌<◌, ◌-◌, nat_lt, true, drop, length, take};
 ghost use Rattle.typst_tree.specs.Tree.{nodes, forest, places, preorder, trees, count};
@@ -19,7 +19,7 @@ use typst_kinds::{Span, SpanNumber, SyntaxKind};
 ///
 /// It holds the tree's root, the node, the node's number in the root's preorder, its offset, whether
 /// the tree's numbers are known to be in order, and its place in the first long row on the way from the
-/// root, where that is known: 40 bytes, `Copy`, and no memory is taken. A row of more than 128 children is
+/// root, if that is known: 40 bytes, `Copy`, and no memory is taken. A row of more than 128 children is
 /// long. What reads the node itself takes a constant time. A step upwards or sideways walks down from
 /// the root, a step downwards from the node; each says what it goes through. To go through a
 /// node means a constant time, and what a step says it passes over is never looked into.
@@ -28,7 +28,7 @@ use typst_kinds::{Span, SpanNumber, SyntaxKind};
 /// that row. The place is known of what `children` and `leaf_at` give, from the root or from within the row,
 /// and of what a step within the row leads to. It isn't known of what `find`, `find_number` or
 /// `leftmost_leaf` found from above the row, nor of what `next_leaf` led to from outside of it, nor of a node
-/// that is by 2^16 numbers or bytes or more behind its tree in the row, nor where that tree has an index of
+/// that is by 2^16 numbers or bytes or more after its tree in the row, nor where that tree has an index of
 /// 2^29 or more: then a step goes through the row.
 #[derive(Clone, Copy)]
 pub struct LinkedNode<'a> {
@@ -61,7 +61,7 @@ pub struct LinkedChildren<'a> {
     ghost holds: { Holds root.now parent.number parent.offset (nodes parent.node.now) parent.known },
 }
 
-/// What the children of a node take of it.
+/// What the children of a node need to know of it.
 #[derive(Clone, Copy)]
 struct Parent<'a> {
     node: &'a SyntaxNode,
@@ -186,7 +186,7 @@ impl<'a> LinkedNode<'a> {
         }
     }
 
-    /// What its children take of it.
+    /// What the children of this node need to know of it.
     #[inline(always)]
     fn as_parent(self) -> Parent<'a>
         ensures node { result.node.now ≡ self.entry.node.now }
@@ -223,7 +223,7 @@ impl<'a> LinkedNode<'a> {
         }
     }
 
-    /// Where its nodes end: the number behind them.
+    /// The number after this node and those below it.
     fn end(self) -> usize
         ensures { result ≡ self.entry.number + nodes self.entry.node.now }
     {
@@ -242,7 +242,7 @@ impl<'a> LinkedNode<'a> {
         child_over(self.spot(), number)
     }
 
-    /// The first node on the way from the root to this one that has a long row, if it ends behind the number
+    /// The first node on the way from the root to this one that has a long row, if it ends after the number
     /// `least`: the way is gone no further than that.
     fn fork(self, least: usize) -> Option<LinkedNode<'a>>
         ensures { MatchOption result (EndsBy self.entry.root.now self.entry.number least) (λ o. (o.root.now ≡ self.entry.root.now) × IsFork self.entry.root.now self.entry.number o.node.now o.number) }
@@ -287,7 +287,7 @@ impl<'a> LinkedNode<'a> {
         owner.child_over(self.number)
     }
 
-    /// The tree of the first long row on the way to this node, where there is one whose owner ends behind the
+    /// The tree of the first long row on the way to this node, where there is one whose owner ends after the
     /// number `least`.
     fn branch(self, least: usize) -> Option<Branch<'a>>
         ensures { MatchOption result (EndsBy self.entry.root.now self.entry.number least) (λ branch. IsBranch self.entry branch) }
@@ -404,7 +404,7 @@ impl<'a> LinkedNode<'a> {
         }
     }
 
-    /// The parent's kind, or `None` at the root. Takes what `parent` takes.
+    /// The parent's kind, or `None` at the root. Costs what `parent` costs.
     pub fn parent_kind(self) -> Option<SyntaxKind>
         ensures { result ≡ option_map kind_of (parent (linked self.entry)) }
     {
@@ -412,7 +412,7 @@ impl<'a> LinkedNode<'a> {
         Some(parent.kind())
     }
 
-    /// The first leaf that is neither trivia nor an error behind this node and all below it.
+    /// The first leaf that is neither trivia nor an error after this node and all below it.
     ///
     /// Goes through the children of each node above this one, and the nodes from the end of this
     /// one to the leaf. What ends before that is passed over.
@@ -433,7 +433,7 @@ impl<'a> LinkedNode<'a> {
             .first(&Search::LeafFrom(branch.above.parent.end()))
     }
 
-    /// The first leaf that counts behind this node, in its parent.
+    /// The first leaf that is neither trivia nor an error after this node, in its parent.
     fn leaf_behind(self, above: Above<'a>) -> Option<LinkedNode<'a>>
         requires { IsAbove self above }
         ensures { leaf_after self.entry.root.now (self.entry.number + nodes self.entry.node.now) ≡ option_or (option_map linked result) (leaf_after self.entry.root.now (above.entry.parent.number + nodes above.entry.parent.node.now)) }
@@ -485,7 +485,8 @@ impl<'a> LinkedNode<'a> {
         self.top().last_leaf(branch.above.parent.number)
     }
 
-    /// The last leaf that counts and has a lower number than this, among this node and those below it.
+    /// The last leaf that is neither trivia nor an error and has a number below `before`, among this node and
+    /// those below it.
     fn last_leaf(self, before: usize) -> Option<LinkedNode<'a>>
         requires from { self.number ≤ before }
         requires to { before ≤ self.number + nodes self.node.now }
@@ -495,7 +496,7 @@ impl<'a> LinkedNode<'a> {
         Some(self.with_found(leaf))
     }
 
-    /// The last leaf that counts before this node, in its parent.
+    /// The last leaf that is neither trivia nor an error before this node, in its parent.
     fn leaf_before(self, above: Above<'a>) -> Option<LinkedNode<'a>>
         requires { IsAbove self above }
         ensures { leaf_until self.entry.root.now self.entry.number ≡ option_or (option_map linked result) (leaf_until self.entry.root.now above.entry.parent.number) }
@@ -547,9 +548,9 @@ impl<'a> LinkedNode<'a> {
 
     /// The first node with this span, among this node and those below it.
     ///
-    /// From `ordered` it goes through the children of this node and of each on the way to the
-    /// found one, and passes over what ends before the span's number; else through all nodes
-    /// before the found one, since nothing tells what numbers are below a node.
+    /// From `ordered` it goes through the children of this node and of each on the way to the found one, and
+    /// passes over what ends before the span's number; else through all nodes before the found one, since nothing
+    /// says what numbers are below a node.
     pub fn find(self, span: Span) -> Option<LinkedNode<'a>>
         ensures first { option_map linked result ≡ find_span span (linked self.entry) }
         ensures own { FindsOwn span (linked self.entry) (option_map linked result) }
@@ -557,8 +558,7 @@ impl<'a> LinkedNode<'a> {
         self.first(&Search::Spanned(span))
     }
 
-    /// The first node whose span has this number, among this node and those below it. Takes what
-    /// `find` takes.
+    /// The first node whose span has this number, among this node and those below it. Costs what `find` costs.
     pub fn find_number(self, number: SpanNumber) -> Option<LinkedNode<'a>>
         ensures { option_map linked result ≡ find_number number (linked self.entry) }
     {
@@ -580,14 +580,14 @@ impl<'a> LinkedNode<'a> {
         }
     }
 
-    /// Whether a child of the same parent comes after this one and is no trivia.
+    /// Whether a child of the same parent comes after this one and isn't trivia.
     fn is_before(self, child: LinkedNode<'a>) -> bool
         ensures { result ≡ is_sibling_after (linked self.entry) (linked child.entry) }
     {
         self.number < child.number && !child.kind().is_trivia()
     }
 
-    /// The next sibling that is no trivia. Goes through the children of each node above this one.
+    /// The next sibling that isn't trivia. Goes through the children of each node above this one.
     pub fn next_sibling(self) -> Option<LinkedNode<'a>>
         ensures { option_map linked result ≡ next_sibling (linked self.entry) }
     {
@@ -595,7 +595,7 @@ impl<'a> LinkedNode<'a> {
         self.next_among(self.row(above))
     }
 
-    /// The first of some siblings that comes after this node and is no trivia.
+    /// The first of some siblings that comes after this node and isn't trivia.
     fn next_among(self, row: LinkedChildren<'a>) -> Option<LinkedNode<'a>>
         ensures { option_map linked result ≡ find (is_sibling_after (linked self.entry)) (left row.entry) }
     {
@@ -607,7 +607,7 @@ impl<'a> LinkedNode<'a> {
         None
     }
 
-    /// The node and its siblings behind it.
+    /// The node and its siblings after it.
     fn row(self, above: Above<'a>) -> LinkedChildren<'a>
         requires { IsAbove self above }
         ensures { left result ≡ drop above.entry.index (children (linked above.entry.parent)) }
@@ -622,7 +622,7 @@ impl<'a> LinkedNode<'a> {
         }
     }
 
-    /// The kind of the next sibling that is no trivia. Takes what `next_sibling` takes.
+    /// The kind of the next sibling that isn't trivia. Costs what `next_sibling` costs.
     pub fn next_sibling_kind(self) -> Option<SyntaxKind>
         ensures { result ≡ option_map kind_of (next_sibling (linked self.entry)) }
     {

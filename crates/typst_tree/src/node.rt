@@ -190,7 +190,8 @@ impl SyntaxNode {
         let _ = &self.own;
     }
 
-    /// The same node again, with its spans. Nodes on the way down by the heaviest children wait in a list.
+    /// A copy of the node and all below it, with their spans. Nodes on the way down by the heaviest children wait
+    /// in a list.
     #[cycle(clone)]
     pub fn try_clone(&self) -> Result<SyntaxNode, AllocError>
         ensures { IfOk result (λ t. t ≡ self.now) }
@@ -216,7 +217,7 @@ impl SyntaxNode {
         Ok(copy)
     }
 
-    /// The same of a small tree, with a call for each child.
+    /// A copy of a small tree, with a call for each child.
     fn clone_small(&self) -> Result<SyntaxNode, AllocError>
         ensures { IfOk result (λ t. t ≡ self.now) }
     {
@@ -232,7 +233,7 @@ impl SyntaxNode {
         })
     }
 
-    /// Copies of the children but that of index `last`, where there is one.
+    /// Copies of the children except the one with the index `last`, if there is one.
     #[cycle(clone)]
     fn clone_kids_but(&self, last: usize) -> Result<Vec<SyntaxNode>, AllocError>
         ensures { IfOk result (λ kids. kids.items ≡ remove (trees self.now.kids) last) }
@@ -259,7 +260,7 @@ impl SyntaxNode {
         })
     }
 
-    /// The length of the node's text in bytes, or the largest `usize` where it is longer.
+    /// The length of the node's text in bytes, or the largest `usize` if it is longer.
     #[cycle(len)]
     #[inline(always)]
     pub fn len(&self) -> usize
@@ -273,7 +274,7 @@ impl SyntaxNode {
         }
     }
 
-    /// The same, added up from the leaves.
+    /// The length of the text, added up from the leaves.
     #[cycle(len)]
     #[cold]
     fn added_len(&self) -> usize
@@ -296,7 +297,7 @@ impl SyntaxNode {
         }
     }
 
-    /// How many nodes the tree has, this one counted, or the largest `usize` where they are more.
+    /// How many nodes the tree has, this one counted, or the largest `usize` if they are more.
     #[cycle(descendants)]
     #[inline(always)]
     pub fn descendants(&self) -> usize
@@ -310,7 +311,7 @@ impl SyntaxNode {
         }
     }
 
-    /// The same, added up from the nodes.
+    /// The number of nodes, added up.
     #[cycle(descendants)]
     #[cold]
     fn added_descendants(&self) -> usize
@@ -395,7 +396,7 @@ impl SyntaxNode {
     }
 
     /// Whether the text is as long as that of another node, and the nodes are as many, by the counts
-    /// that both keep: where they aren't, nothing else needs a look.
+    /// that both keep: if they aren't, nothing else needs a look.
     #[inline]
     fn is_as_large(&self, other: &SyntaxNode) -> bool
         ensures { bare self.now ≡ bare other.now → result ≡ true }
@@ -481,7 +482,7 @@ impl SyntaxNode {
         }
     }
 
-    /// Changes the kind of child `i` alone, where there is one. An error stays as it is.
+    /// Changes the kind of child `i` alone, if there is one. An error stays as it is.
     pub fn convert_child_to_kind(&mut self, i: usize, kind: SyntaxKind)
         requires { is_error kind ≡ false }
         ensures { self.new ≡ at_child (with_kind kind) i self.old }

@@ -26,7 +26,8 @@ pub(crate) fn stride(room: u64, count: u64) -> u64
     if half == 0 { room / count } else { half }
 }
 
-/// The same for one node, as most nodes are leaves: it takes no division by a number that varies.
+/// How many numbers one node gets of `room`. Most nodes are leaves, and this takes no division by a number that
+/// varies.
 fn stride_of_one(room: u64) -> u64
     requires { 0 < room }
     ensures value { result ≡ stride room 1 }
@@ -133,7 +134,8 @@ impl SyntaxNode {
         }
     }
 
-    /// The same of a small tree. In place, so that a node without children costs no call.
+    /// Numbers the nodes of a small tree in the stretch of `room` numbers from `start` on. In place, so that a
+    /// node without children costs no call.
     #[cycle(number_small)]
     #[inline(always)]
     fn number_small(&mut self, id: &FileId, start: u64, room: u64)
@@ -149,7 +151,7 @@ impl SyntaxNode {
         self.number_kids(id, start, room);
     }
 
-    /// The same of a small tree, child by child.
+    /// Numbers the nodes of a small tree in the stretch of `room` numbers from `start` on, child by child.
     #[cycle(number_small)]
     #[inline(never)]
     fn number_kids(&mut self, id: &FileId, start: u64, room: u64)
@@ -168,10 +170,10 @@ impl SyntaxNode {
         }
     }
 
-    /// Gives the nodes of the tree numbers of a file within a stretch, in preorder, or changes
-    /// nothing where they are more than the stretch has.
+    /// Gives the nodes of the tree numbers of a file within a stretch, in preorder, or changes nothing if they are
+    /// more than the stretch has numbers.
     ///
-    /// A node's number is the place that its error messages and later edits go by.
+    /// Error messages and later edits find a node by its number.
     pub fn numberize(&mut self, id: FileId, within: Range<u64>) -> Result<(), SourceError>
         requires { IsStretch within.start within.end }
         ensures numbers { MatchResult result (λ _. numberized id within.start within.end self.old ≡ Some self.new)

@@ -13,7 +13,7 @@ ghost use Rattle.typst_tree.specs.Ordered.{number_at, IsKey, IsLastUpTo};
 use crate::SyntaxNode;
 use crate::search::{Passed, Search, Spot, first_in};
 
-/// The number of the tree of an index in a row, or the end where there is none.
+/// The number of the tree of an index in a row, or the end if there is none.
 fn number_at(row: &[SyntaxNode], index: usize, end: Option<u64>) -> Option<u64>
     ensures { result ≡ number_at row.now index end }
 {
@@ -23,7 +23,7 @@ fn number_at(row: &[SyntaxNode], index: usize, end: Option<u64>) -> Option<u64>
     }
 }
 
-/// Whether the node's own number is below the next one, where there is one.
+/// Whether the node's own number is below the next one, if there is one.
 fn is_before(node: &SyntaxNode, next: Option<u64>) -> bool
     ensures { IsTrue result ↔ IfSome next (λ n. number_of node.now.head.span < n) }
 {
@@ -33,7 +33,7 @@ fn is_before(node: &SyntaxNode, next: Option<u64>) -> bool
     }
 }
 
-/// Whether the numbers of a tree are in order and below the end, where there is one.
+/// Whether the numbers of a tree are in order and below the end, if there is one.
 ///
 /// A node's number is the least of its tree, so the end of each child is the number of the next one, which is
 /// known before the children are gone through. The loop goes on with the child of the most nodes: each of the
@@ -92,7 +92,7 @@ fn last_up_to(row: &[SyntaxNode], key: u64) -> usize
 }
 
 /// How many nodes the children of a node may have, one with another, for the node's length to be asked for.
-/// Where that isn't kept, it is added up anew, and so from no more than these.
+/// If that isn't kept, it is added up again, and so from no more than these.
 const MANY: usize = 64;
 
 /// The number and the offset of the tree of an index in a row, of which the first has this number and
@@ -116,7 +116,8 @@ fn summed_to(row: &[SyntaxNode], number: usize, offset: usize, index: usize) -> 
     }
 }
 
-/// The same from the row's end on, where the row has so many nodes and so many bytes.
+/// The number and the offset of the tree of an index in a row, added up from the row's end, where the row has so
+/// many nodes and so many bytes.
 fn summed_back_to(
     row: &[SyntaxNode],
     number: usize,
@@ -148,8 +149,8 @@ fn summed_back_to(
     }
 }
 
-/// The number and the offset of the child of an index of a node, which has this number and offset, by way
-/// of the siblings on that side where they are fewer.
+/// The number and the offset of the child of an index of a node, which has this number and offset. They are added
+/// up from the side that has fewer siblings.
 pub fn before_index(
     node: &SyntaxNode,
     row: &[SyntaxNode],
@@ -212,7 +213,7 @@ fn first_in_order<'a>(
     first_in_order(&row[index], passed.number, passed.offset, search, key)
 }
 
-/// `first_in`, by the way that the numbers show where they are in order.
+/// `first_in`, by the way that the numbers show if they are in order.
 pub fn find_in<'a>(
     node: &'a SyntaxNode,
     number: usize,

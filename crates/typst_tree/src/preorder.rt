@@ -5,18 +5,18 @@ use std::alloc::{AllocError, Global};
 use std::marker::Model;
 use std::slice;
 
-/// A node that a walk has come to.
+/// A node that a walk visits.
 #[derive(Clone, Copy)]
 pub struct Visit<'a> {
     /// The node.
     pub node: &'a SyntaxNode,
-    /// Where the node begins, in bytes, or the largest `usize` where it begins behind that.
+    /// Where the node begins, in bytes, or the largest `usize` if it begins after that.
     pub offset: usize,
     /// How many levels the node is below the one that the walk began with.
     pub depth: usize,
 }
 
-/// What is left of trees that stand side by side: where the first one begins, in bytes, and how deep their roots
+/// What is left of trees that are side by side: where the first one begins, in bytes, and how deep their roots
 /// are. Without a tree it is passed.
 #[derive(Clone, Copy)]
 struct Row<'a> {
@@ -25,11 +25,11 @@ struct Row<'a> {
     depth: usize,
 }
 
-/// The nodes of a tree that a walk has still to come to, each before its children.
+/// The nodes of a tree that a walk has still to visit, each before its children.
 ///
-/// A walk doesn't call itself, whatever the depth of the tree. It holds what is left of each row on the way to
-/// the next node, but for rows that are passed: no more rows than there are levels, and one row where each node
-/// is the last child of its parent. Each step takes a constant time.
+/// A walk doesn't call itself, whatever the depth of the tree. It holds what is left of each row on the way to the
+/// next node, except rows that are passed: no more rows than there are levels, and one row where each node is the
+/// last child of its parent. Each step takes a constant time.
 #[derive(Drop)]
 pub struct Preorder<'a> {
     /// The row of the next node.
@@ -88,7 +88,7 @@ impl<'a> Preorder<'a> {
         }
     }
 
-    /// The next node, and none at the end. Where memory is refused, the walk is as before.
+    /// The next node, or `None` at the end. If memory is refused, the walk is as before.
     pub fn next(&mut self) -> Result<Option<Visit<'a>>, AllocError>
         ensures ok { IfOk result (λ visit. YieldsFirstBy visited (λ left. left) self.old visit self.new) }
         ensures err { OnErr result (self.new ≡ self.old) }
@@ -112,7 +112,7 @@ impl<'a> Row<'a> {
     ghost use Rattle.typst_tree.specs.Preorder.{visited, below};
     ghost use Rattle.typst_tree.specs.LeftRows.{HasTrees, IsReady, left, left_above};
 
-    /// The children of a node.
+    /// The children of a visited node.
     fn below(visit: Visit<'a>) -> Row<'a>
         ensures { left result ≡ below (visited visit.entry) }
     {
@@ -128,7 +128,7 @@ impl<'a> Row<'a> {
         }
     }
 
-    /// The root of the first tree, and the row behind that tree.
+    /// The root of the first tree, and the row after that tree.
     fn split_first(self) -> Option<(Visit<'a>, Row<'a>)>
         ensures { MatchOption result (length self.entry.trees.now ≡ 0) (λ split. left self.entry ≡ visited split.0 ∷ (below (visited split.0) ++ left split.1)) }
     {
@@ -161,7 +161,7 @@ impl<'a> Row<'a> {
         }
     }
 
-    /// Adds this row to those above the next one, but for one that is passed: so a way down the last trees of
+    /// Adds this row to those above the next one, except one that is passed: so a way down the last trees of
     /// rows takes no room.
     fn keep_above(self, above: &mut Vec<Row<'a>>) -> Result<(), AllocError>
         requires { All HasTrees above.old.items }

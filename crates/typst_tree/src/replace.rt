@@ -11,7 +11,7 @@ use crate::numbers::{number_part, stride};
 use std::ops::Range;
 use typst_kinds::{FileId, Own, SourceError, SyntaxKind};
 
-/// The children that are numbered anew, by their places before the replacement, and where their
+/// The children that are numbered again, by their places before the replacement, and where their
 /// numbers begin and how many each of their nodes gets.
 #[derive(Clone, Copy)]
 struct Stretch {
@@ -21,14 +21,14 @@ struct Stretch {
     stride: u64,
 }
 
-/// What one or several trees come to: the length of their text and how many nodes they have.
+/// The length of the text of one or several trees, and how many nodes they have.
 #[derive(Clone, Copy)]
 struct Counts {
     len: usize,
     nodes: usize,
 }
 
-/// What a node on a path comes to less and what more, where the node at the path's end is exchanged.
+/// What the counts of the nodes on a path lose and get, where the node at the path's end is exchanged.
 #[derive(Clone, Copy)]
 struct Swap {
     gone: Counts,
@@ -54,7 +54,7 @@ fn totals(kids: &[SyntaxNode]) -> Counts
     Counts { len, nodes }
 }
 
-/// The same of the children `from..to` alone.
+/// The lengths and the counts of nodes of the children `from..to`, added up.
 fn totals_within(kids: &[SyntaxNode], from: usize, to: usize) -> Counts
     requires order { from ≤ to }
     requires within { to ≤ length kids.now }
@@ -121,7 +121,7 @@ fn end_of(own: &Own, kids: &[SyntaxNode], at: usize) -> u64
     }
 }
 
-/// The child behind the last of `by` children after `to`, or the number of children.
+/// The child after the last of `by` children after `to`, or the number of children.
 fn right_of(kids: &[SyntaxNode], to: usize, by: usize) -> usize
     requires { to ≤ length kids.now }
     ensures { result ≡ right_of kids.now to by }
@@ -147,7 +147,7 @@ fn wanted(kids: &[SyntaxNode], from: usize, to: usize, fresh: &[SyntaxNode], by:
     between.saturating_add(before).saturating_add(after)
 }
 
-/// How many numbers there are for them.
+/// How many numbers there are for the nodes that `wanted` counts.
 fn room(own: &Own, kids: &[SyntaxNode], from: usize, to: usize, by: usize) -> u64
     requires { to ≤ length kids.now }
     ensures value { result ≡ room own.now.head kids.now from to by }
@@ -158,7 +158,7 @@ fn room(own: &Own, kids: &[SyntaxNode], from: usize, to: usize, by: usize) -> u6
     end_of(own, kids, right).saturating_sub(start_of(own, kids, left))
 }
 
-/// Whether there are enough.
+/// Whether there are as many numbers as `wanted` counts nodes.
 fn has_room(
     own: &Own,
     kids: &[SyntaxNode],
@@ -174,7 +174,7 @@ fn has_room(
     wanted(kids, from, to, fresh, by) as u64 <= room(own, kids, from, to, by)
 }
 
-/// Whether `by` children on each side of `from..to` are all.
+/// Whether `by` children on each side of `from..to` are all that there are.
 fn is_all(kids: &[SyntaxNode], from: usize, to: usize, by: usize) -> bool
     requires { to ≤ length kids.now }
     ensures { result ≡ is_all kids.now from to by }
@@ -182,7 +182,7 @@ fn is_all(kids: &[SyntaxNode], from: usize, to: usize, by: usize) -> bool
     from <= by && kids.len() - to <= by
 }
 
-/// By how many children on each side the stretch that is numbered anew grows.
+/// By how many children on each side the stretch that is numbered again grows; `None` if all are too few.
 fn growth(
     own: &Own,
     kids: &[SyntaxNode],
@@ -209,7 +209,7 @@ fn growth(
     None
 }
 
-/// The stretch of children that is numbered anew with `fresh` in place of `from..to`.
+/// The stretch of children that is numbered again with `fresh` in place of `from..to`; `None` if there is no room.
 fn fit(
     own: &Own,
     kids: &[SyntaxNode],
@@ -288,7 +288,7 @@ fn swap_children(
     exchange(own, kids, id, from + front, to - back, new)
 }
 
-/// Counts the text and the nodes of an inner node anew, after its children changed.
+/// Counts the text and the nodes of an inner node again, after its children changed.
 fn renew(own: &mut Own, kids: &[SyntaxNode])
     requires { own.old.head.is_inner ≡ false → 1 < own.old.descendants }
     ensures { own.new ≡ record { head = own.old.head; len = kept (length (own.old.head.text ++ joined (forest kids.now))); descendants = kept (1 + count (forest kids.now)) } }
@@ -301,8 +301,8 @@ fn renew(own: &mut Own, kids: &[SyntaxNode])
     );
 }
 
-/// The same where children that came to `gone` made way for ones that come to `come`: all are
-/// counted anew only where the node keeps no exact counts.
+/// Sets the counts of an inner node after children of the counts `gone` were replaced by ones of the counts
+/// `come`. All are counted again only where the node keeps no exact counts.
 fn recount(own: &mut Own, kids: &[SyntaxNode], gone: Counts, come: Counts)
     requires inner { own.old.head.is_inner ≡ false → 1 < own.old.descendants }
     requires shorter { own.old.len < 2 ^ 32 - 1 → gone.len ≤ own.old.len }
@@ -324,7 +324,7 @@ fn recount(own: &mut Own, kids: &[SyntaxNode], gone: Counts, come: Counts)
 }
 
 impl SyntaxNode {
-    /// What the whole tree comes to.
+    /// The length of the whole tree's text, and how many nodes it has.
     fn counts(&self) -> Counts
         ensures len { result.len ≡ saturated (length (text_of self.now)) }
         ensures nodes { result.nodes ≡ saturated (nodes self.now) }
@@ -388,7 +388,8 @@ impl SyntaxNode {
         Ok(())
     }
 
-    /// Whether the length and the count of nodes that are kept are the tree's: of all below it they are, too.
+    /// Whether the length and the count of nodes that are kept are the tree's. If so, those of all nodes below it
+    /// are too.
     fn keeps_exact_counts(&self) -> bool
         ensures len { result ≡ true → length (text_of self.now) < 2 ^ 32 - 1 }
         ensures nodes { result ≡ true → nodes self.now < 2 ^ 32 - 1 }
@@ -449,7 +450,7 @@ impl SyntaxNode {
     }
 
     /// Exchanges the node that `path` leads to for another one. Counts are set on the way down, so that nothing is
-    /// left to do behind the call in the last place, and it takes no frame of the stack for a level.
+    /// left to do after the call in the last place, and it takes no frame of the stack for a level.
     fn swap_at(&mut self, path: &[usize], node: &mut SyntaxNode, swap: &Swap)
         requires short { length (text_of self.old) < 2 ^ 32 - 1 }
         requires few { nodes self.old < 2 ^ 32 - 1 }
@@ -497,7 +498,7 @@ impl SyntaxNode {
     ///
     /// Nodes that are the same, spans aside, at the front or at the end of old and new children
     /// stay as they are. The others get numbers between those of their neighbours, and where
-    /// there are too few, 1, 2, 4, .. children on each side are numbered anew with them.
+    /// there are too few, 1, 2, 4, .. children on each side are numbered again with them.
     pub fn replace_at(
         &mut self,
         path: &[usize],

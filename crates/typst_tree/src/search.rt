@@ -119,7 +119,7 @@ pub struct Kid<'a> {
     pub index: usize,
 }
 
-/// How many trees of a row are passed over, and the number and the offset of what is behind them.
+/// How many trees of a row are passed over, and the number and the offset of what is after them.
 #[derive(Clone, Copy)]
 pub struct Passed {
     pub index: usize,
@@ -128,7 +128,7 @@ pub struct Passed {
 }
 
 impl Passed {
-    /// None of the children of a node, which has this number and offset.
+    /// Before the first child of a node, which has this number and offset.
     #[inline(always)]
     fn front(node: &SyntaxNode, number: usize, offset: usize) -> Passed
         requires { number < 2 ^ 64 - 1 }
@@ -143,7 +143,7 @@ impl Passed {
         }
     }
 
-    /// The next tree, which is this one.
+    /// The next tree, which has to be `node`, with its place.
     pub fn tree<'a>(&self, node: &'a SyntaxNode) -> Kid<'a>
         ensures node { result.spot.node.now ≡ node.now }
         ensures number { result.spot.number ≡ self.now.number }
@@ -160,7 +160,7 @@ impl Passed {
         }
     }
 
-    /// With the next tree, which is this one.
+    /// After the next tree, which has to be `tree`.
     pub fn behind(&self, tree: &SyntaxNode) -> Passed
         requires index { self.now.index < 2 ^ 64 - 1 }
         requires counted { self.now.number + nodes tree.now < 2 ^ 64 - 1 }
@@ -175,7 +175,7 @@ impl Passed {
         }
     }
 
-    /// Without the last tree, which is this one.
+    /// Before the last of the trees that were passed over, which has to be `tree`.
     pub fn before(self, tree: &SyntaxNode) -> Passed
         requires index { 0 < self.index }
         requires counted { nodes tree.now ≤ self.number }
@@ -192,8 +192,8 @@ impl Passed {
     }
 }
 
-/// Passes over children at the front of a long row, which end by a byte. It goes on from both ends of the row
-/// by turns until one of them has come to the byte.
+/// Passes over children at the front of a long row that end at or before a byte. It goes on from both ends of the
+/// row by turns until one of them has reached the byte.
 fn passed_by_turns(over: Spot, row: &[SyntaxNode], byte: usize) -> Passed
     requires counted { over.number + nodes over.node.now < 2 ^ 64 - 1 }
     requires row { forest row.now ≡ over.node.now.kids }
@@ -306,18 +306,18 @@ enum Look<'a> {
     Found(Spot<'a>),
     /// A heavy child, and nothing before it.
     Heavy(Spot<'a>),
-    /// Nothing.
+    /// No node that is looked for.
     Nothing,
 }
 
 // A search has few frames of the stack, however deep the tree is, and takes no memory. A child is heavy if it has
 // more than half of its parent's nodes: at most one is. A call goes into each other child, and so into half as many
-// nodes at the most. A loop goes on with the heavy one. What stands behind heavy children has to wait until nothing
+// nodes at the most. A loop goes on with the heavy one. What is after heavy children has to wait until nothing
 // was found in them, and is then gone through from below, level by level.
 //
 // All that is known meanwhile is the number from which on the search goes on: what is found has that or a larger one.
 impl<'a> Spot<'a> {
-    /// Where its nodes end: the number behind them.
+    /// The number after this node and those below it.
     fn end(&self) -> usize
         requires { self.now.number + nodes self.now.node.now < 2 ^ 64 - 1 }
         ensures { result ≡ self.now.number + nodes self.now.node.now }
@@ -358,10 +358,11 @@ impl<'a> Spot<'a> {
         }
     }
 
-    /// The same among the nodes below, where there are about so many levels on the way to the number `least`.
+    /// The first node that is looked for below this one, where there are about so many levels on the way to the
+    /// number `least`.
     ///
-    /// What stands half of the levels down is searched by a call, and then what stands behind it: so each level is
-    /// walked down to as often as the levels can be halved, and as many calls wait for each other.
+    /// What is half of the levels down is searched by a call, and then what is after it: so each level is walked
+    /// down to as often as the levels can be halved, and as many calls wait for each other.
     #[cycle(first_from)]
     fn first_behind(&self, search: &Search, least: usize, levels: usize) -> Option<Spot<'a>>
         requires counted { self.now.number + nodes self.now.node.now < 2 ^ 64 - 1 }
@@ -393,8 +394,8 @@ impl<'a> Spot<'a> {
         None
     }
 
-    /// Looks for it below this node, where none has a number below `least`, up to a child that has more than
-    /// `heavy` nodes.
+    /// Looks for the first node that `search` wants below this one, where none has a number below `least`, up to a
+    /// child that has more than `heavy` nodes.
     #[cycle(first_from)]
     fn look(&self, search: &Search, least: usize, heavy: usize) -> Look<'a>
         requires counted { self.now.number + nodes self.now.node.now < 2 ^ 64 - 1 }

@@ -72,8 +72,8 @@ fn write_line_ends(writer: &mut Writer) -> Result<(), AllocError> {
     writer.end_array()
 }
 
-/// Writes the result that a line of `ndjson` is about, in the file of that address. `Invalid` where it is no
-/// such line.
+/// Writes the result that a line of `ndjson` is about, in the file of that address; `Invalid` if it isn't such a
+/// line.
 pub fn write_result(writer: &mut Writer, uri: &str, line: &Value) -> Result<(), Error>
     ensures before { OnOk result (writer.new.before ≡ writer.old.before) }
     ensures tokens { OnOk result (spec.WritesResult uri.now (value_view line.now) writer.old.tokens writer.new.tokens) }
@@ -95,7 +95,7 @@ fn write_object(writer: &mut Writer, uri: &str, told: &Told, hints: &[Value]) ->
     Ok(())
 }
 
-/// Writes what an error or a warning tells, by which rule, and its place.
+/// Writes what an error or a warning says, by which rule, and its place.
 fn write_told(writer: &mut Writer, uri: &str, rule: &str, told: &Told) -> Result<(), AllocError>
     ensures before { OnOk result (writer.new.before ≡ writer.old.before) }
     ensures tokens { OnOk result (writer.new.tokens ≡ writer.old.tokens ++ spec.told_members uri.now rule.now told.now) }

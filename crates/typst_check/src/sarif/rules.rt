@@ -5,9 +5,9 @@ use super::told::Told;
 /// A kind of messages.
 #[derive(Debug, Clone, Copy)]
 pub struct Rule {
-    /// Its name; messages of most kinds begin with it.
+    /// The rule's name; messages of most kinds begin with it.
     pub id: &'static str,
-    /// What it says, in a sentence.
+    /// What messages of this kind say, in a sentence.
     pub meaning: &'static str,
 }
 

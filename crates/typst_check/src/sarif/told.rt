@@ -1,4 +1,4 @@
-//! An error or a warning, as a line of `ndjson` tells of it.
+//! An error or a warning, as a line of `ndjson` gives it.
 
 ghost use Rattle.std.specs.Prelude.{◌≡◌, IfOk, Some, codes};
 ghost use Rattle.json.specs.Find.{get};
@@ -8,7 +8,7 @@ ghost use Rattle.typst_check.specs.Told as spec;
 
 use json::{Error, Value};
 
-/// The lines and columns between which something stands. Both are counted from 1, columns in UTF-16 units.
+/// The lines and columns between which something is. Both are counted from 1, columns in UTF-16 units.
 #[derive(Debug, Clone, Copy, PartialEq, Eq)]
 pub struct Region {
     pub start_line: u64,
@@ -27,7 +27,7 @@ pub struct Told<'a> {
 }
 
 impl<'a> Told<'a> {
-    /// What a line tells. `Invalid` where the line lacks a part of it.
+    /// What a line says; `Invalid` if a part of it is missing.
     pub fn of_line(line: &Value<'a>) -> Result<Told<'a>, Error>
         ensures { IfOk result (λ told. spec.IsToldBy (value_view line.now) told) }
     {
@@ -39,7 +39,7 @@ impl<'a> Told<'a> {
     }
 }
 
-/// The region that a line names. `Invalid` where the line has no such numbers.
+/// The region that a line names; `Invalid` if the line has no such numbers.
 fn region_of(line: &Value) -> Result<Region, Error>
     ensures { IfOk result (λ region. spec.IsRegionOf (value_view line.now) region) }
 {
@@ -53,7 +53,7 @@ fn region_of(line: &Value) -> Result<Region, Error>
     })
 }
 
-/// The hints of a line. `Invalid` where the line has no list of them.
+/// The hints of a line; `Invalid` if the line has no list of them.
 pub fn hints_of<'v, 'a>(line: &'v Value<'a>) -> Result<&'v [Value<'a>], Error>
     ensures { IfOk result (λ hints. get (codes "hints") (value_view line.now) ≡ Some (array (items_view hints.now))) }
 {
