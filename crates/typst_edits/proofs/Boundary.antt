@@ -194,7 +194,22 @@ module _ (l : Level) (stops : SyntaxKind → Bool) (x : Bool × ℕ) (z : Place)
   pub turn-known : (run l (markup_turn true stops x) z s).value.0 ≡ true → KnownAt (run l (markup_turn true stops x) z s).state
   turn-known h = known-by (ends stops x.1 ahead.kind) refl h
 
+  going-by : (b : Bool) → ends stops x.1 ahead.kind ≡ b → (run l (markup_turn true stops x) z s).value.0 ≡ true → ends stops x.1 ahead.kind ≡ false
+  going-by true e h = let f : true ≡ false = sym h ∙ stopped-is e in cc
+  going-by false e h = e
+
+  -- one that goes on isn't stopped
+  pub going-on : (run l (markup_turn true stops x) z s).value.0 ≡ true → ends stops x.1 ahead.kind ≡ false
+  going-on h = going-by (ends stops x.1 ahead.kind) refl h
+
 -- ---- several pieces
+
+-- where they end, trivia are known
+pub known-made : (l : Level) (stops : SyntaxKind → Bool) (n : ℕ) (x : Bool × ℕ) (z : Place) (s : Point) → (let m = λ (y : Bool × ℕ). run l (markup_turn true stops y) in KnownAt s → AllGo (made m n x z s) → KnownAt (end_of x s (made m n x z s)).state)
+known-made l stops zero x z s known g = known
+known-made l stops (suc n) x z s known g =
+    let o = run l (markup_turn true stops x) z s in
+    known-made l stops n o.value.1 (moved o.taken z) o.state (turn-known l stops x z s (first-of o.value.0 (nat_lt 0 o.taken) g.0)) g.1
 
 later-ends : (asks ls looks : List Ask) (a b : ℕ) (x : Bool × ℕ) (s : Point) → Ends asks b x s looks → Ends (ls ++ shift a asks) (a + b) x s looks
 later-ends asks ls looks a b x s e =

@@ -30,7 +30,6 @@ use Rattle.typst_edits.proofs.InnerCandidates.{inner-candidate-law}
 use Rattle.typst_edits.proofs.InnerWorth.{inner-worth-law}
 use Rattle.typst_edits.proofs.MarkupCandidates.{Alone, Own, node-every, run-own}
 use Rattle.typst_edits.proofs.NoteNumbers.{go-fewer}
-use Rattle.typst_edits.proofs.Root.{within}
 use Rattle.typst_edits.proofs.RootCandidates.{cuts-of-text, of-the-root, root-candidate-law}
 use Rattle.typst_edits.proofs.RootPieces.{take-past, behind-zero}
 use Rattle.typst_edits.proofs.RootWorth.{root-worth-law}
@@ -93,7 +92,7 @@ no-piece k front old new rest root c m past t u same chosen pieces path end h th
     let here = there.here in
     let cut = to-cut cuts.cuts 0 kids (width front) (width (front ++ old)) o.more order (omega (arith, to, all, parts, here)) in
     let b = cuts.each c.end (subst (λ b. is_among b cuts.cuts ≡ true) (sym ends_is) cut) in
-    let go = go-fewer (piece_at k) (within k) b.index cuts.count (true, 0) z (lead k z).state b.few cuts.go in
+    let go = go-fewer (piece_at k) b.index cuts.count (true, 0) z (lead k z).state b.few cuts.go in
     let e = end_at k 0 z in
     let gap : gap_of e.state.known ≡ t.gap = ap gap_of h.known in
     let ends = behind-zero (e.taken + 0) t.gap _ h.ends in

@@ -1,41 +1,39 @@
 -- A tree where some pieces of its run are read again: one stretch of its children exchanged.
-use Rattle.std.proofs.Common.{◌≡◌, inl, inr, ℕ, zero, suc, ◌+◌, ◌-◌, ◌<◌, ◌≤◌, ◌==◌, Bool, true, false, nat_lt, List, [], ◌∷◌, ◌++◌, length, take, drop, length-append, append_assoc, Some, refl, ap, sym, ◌∙◌, subst, arith}
+use Rattle.std.proofs.Common.{◌≡◌, inl, inr, ℕ, zero, suc, ◌+◌, ◌-◌, ◌<◌, ◌≤◌, Bool, true, nat_lt, List, [], ◌∷◌, ◌++◌, length, take, drop, length-append, append_assoc, Some, refl, ap, sym, ◌∙◌, subst, arith}
 use Rattle.typst_kinds.specs.declared.kind.SyntaxKind.{SyntaxKind}
 use Rattle.typst_kinds.specs.declared.kind.SyntaxKind.TheVariants as kind
 use Rattle.typst_lines.specs.Place.{Place, moved}
 use Rattle.typst_tree.specs.Tree.{Tree, forest, trees, inner_of}
 use Rattle.typst_lines.specs.Classes.{CharClasses}
-use Rattle.typst_language.specs.declared.calls.Block.{Block}
-use Rattle.typst_language.specs.Calls.{Call}
-use Rattle.typst_language.specs.Calls.Call.{MarkupExpr}
 use Rattle.typst_language.specs.declared.reading.Reading.{Reading}
 use Rattle.typst_language.specs.Depth.{is_end}
-use Rattle.typst_language.specs.Hand.{told, len_at, hand_at}
+use Rattle.typst_language.specs.Hand.{hand_at}
 use Rattle.typst_language.specs.Point.{Trivia, Point}
 use Rattle.typst_language.specs.Shape.{hinted}
 use Rattle.typst_language.specs.Steps.{flush_trivia}
 use Rattle.typst_language.specs.Syntax.{◌>>=◌}
 use Rattle.typst_language.specs.Syntax.Parser.{repeat}
-use Rattle.typst_language.specs.Meaning.{Outcome, Meaning, Level, plain, less, standing, joined, hand_of, run}
+use Rattle.typst_language.specs.Meaning.{Outcome, Meaning, Level, plain, less, standing, joined, run}
 use Rattle.typst_language.specs.Sound.{Tidy, Backs}
 use Rattle.typst_language.proofs.Backs.{backs-joined}
-use Rattle.typst_language.proofs.Ends.{hand-takes}
-use Rattle.typst_language.proofs.Knot.{Sane, sane-at, sane-run, sane-meaning, sane-block}
+use Rattle.typst_language.proofs.Knot.{sane-at, sane-run}
 use Rattle.typst_language.proofs.Places.{less-append, less-none}
-use Rattle.typst_grammar.specs.Markup.{ends, markup_turn, markup_head}
+use Rattle.typst_grammar.specs.Markup.{markup_turn, markup_head}
 use Rattle.typst_grammar.specs.Grammar.{rules, max_depth, level_at, start_of, tree}
 use Rattle.typst_edits.specs.Children.{exchanged, Settles, with_children, together, read_from, standing_before, nodes_with, ChildrenLaw, BackLaw}
 use Rattle.typst_edits.specs.Edit.{text_with}
-use Rattle.typst_edits.specs.Joint.{minds, place_from, onwards_from}
+use Rattle.typst_edits.specs.Joint.{minds, place_from, onwards_from, text_run}
 use Rattle.typst_edits.specs.RunTrees.{given}
 use Rattle.typst_edits.specs.Runs.{made, piece_at, AllGo, end_of, lead, pieces, end_at, pieces_from, end_from}
-use Rattle.typst_edits.proofs.Boundary.{KnownAt, first-of, stopped-is, turn-known}
+use Rattle.typst_edits.proofs.Boundary.{KnownAt, first-of, going-on, known-made}
 use Rattle.typst_edits.proofs.Edit.{trees-of}
-use Rattle.typst_edits.proofs.Joint.{joint-law, onwards-is, takes-call, known-is}
-use Rattle.typst_edits.proofs.Led.{behind_trivia, same-judged, before_trivia, Led, led-joined, Takes}
+use Rattle.typst_edits.proofs.Joint.{joint-law, onwards-is, known-is, text-taking}
+use Rattle.typst_edits.proofs.Led.{behind_trivia, before_trivia, Led, led-joined}
 use Rattle.typst_edits.proofs.RunTrees.{standing-chain, standing-still, tree-is}
 use Rattle.typst_edits.proofs.Runs.{chain-state}
-use Rattle.typst_edits.proofs.Turns.{takes-turn, end-by}
+use Rattle.typst_edits.proofs.Turns.{Taking, turn-led}
+use Rattle.typst_edits.specs.Heads.{first_place, read_by}
+use Rattle.typst_edits.specs.Sequence.{Sequence, turn_of, first_of, first_end, then_of, then_end}
 
 -- ---- stretches of nodes
 
@@ -76,31 +74,9 @@ pub record Gives (o : Outcome (Unit {0})) : Type 0 where
   pub few : o.state.empties < length o.nodes
 
 -- a run on a level where each expression takes the token at hand
-module _ (l : Level) (sd : (c : Call) → Sane (l.deeper c)) (sb : (b : Block) → Sane (l.blocks b)) (deep : (l.levels == 0) ≡ false) (stops : SyntaxKind → Bool) (end_stops : stops kind.End ≡ true)
-    (call : (h : Reading) (z : Place) (t : Trivia) (x : Bool × ℕ) → 0 < len_at l.classes h.mode (moved t.gap z) → Takes h z t t (minds (markup_head x.0 x.1 (hand_at l.classes h (Some t) z).kind)) (l.deeper (MarkupExpr x.0 x.1))) where
+module _ (l : Level) (stops : SyntaxKind → Bool) (taking : Taking l stops) where
   abbrev turn : Bool × ℕ → Meaning (Bool × (Bool × ℕ))
   turn x = run l (markup_turn true stops x)
-
-  -- where the pieces end, these trivia are known
-  pub known-behind : (n : ℕ) (x : Bool × ℕ) (z : Place) (s : Point) → KnownAt s → AllGo (made turn n x z s) → KnownAt (end_of x s (made turn n x z s)).state
-  known-behind zero x z s known g = known
-  known-behind (suc n) x z s known g =
-      let o = turn x z s in
-      known-behind n o.value.1 (moved o.taken z) o.state (turn-known l stops x z s (first-of o.value.0 (nat_lt 0 o.taken) g.0)) g.1
-
-  pub goes-on : (x : Bool × ℕ) (z : Place) (s : Point) (b : Bool) → ends stops x.1 (told (hand_of l z s)).kind ≡ b → (turn x z s).value.0 ≡ true → ends stops x.1 (told (hand_of l z s)).kind ≡ false
-  goes-on x z s true e h = let f : true ≡ false = sym h ∙ stopped-is l stops x z s e in cc
-  goes-on x z s false e h = e
-
-  -- a turn that goes on gives the trivia before it, and takes the token behind them
-  pub turn-led : (x : Bool × ℕ) (z : Place) (r h : Reading) (e : ℕ) (a : Bool) (t : Trivia) → (let s = before_trivia r h e a t in ends stops x.1 (told (hand_of l z s)).kind ≡ false
-      → Led t t.nodes (minds (markup_head x.0 x.1 (hand_at l.classes h (Some t) z).kind)) (turn x z s) (turn x (moved t.gap z) (before_trivia r h e a (behind_trivia t))))
-  unfolding hand_at
-  turn-led x z r h e a t go =
-      let s = before_trivia r h e a t in
-      let some = hand-takes l.classes h (Some t) z (end-by stops end_stops x.1 (told (hand_of l z s)).kind go) in
-      let trims = minds (markup_head x.0 x.1 (hand_at l.classes h (Some t) z).kind) in
-      takes-turn l sd sb h z t t (same-judged h t) deep stops x trims (call h z t x some) go r e e a a (λ p. refl)
 
   gives-before : (n : ℕ) (x : Bool × ℕ) (z : Place) (r h : Reading) (e : ℕ) (a : Bool) (t : Trivia) → (let s = before_trivia r h e a t in let os = made turn (suc n) x z s in AllGo os → Gives (together (end_of x s os).state os))
   gives-before n x z r h e a t g =
@@ -109,11 +85,11 @@ module _ (l : Level) (sd : (c : Call) → Sane (l.deeper c)) (sb : (b : Block) �
       let y = moved o.taken z in
       let os = made turn n o.value.1 y o.state in
       let q = together (end_of o.value.1 o.state os).state os in
-      let go = goes-on x z s (ends stops x.1 (told (hand_of l z s)).kind) refl (first-of o.value.0 (nat_lt 0 o.taken) g.0) in
+      let go = going-on l stops x z s (first-of o.value.0 (nat_lt 0 o.taken) g.0) in
       let trims = minds (markup_head x.0 x.1 (hand_at l.classes h (Some t) z).kind) in
       let c = turn x (moved t.gap z) (before_trivia r h e a (behind_trivia t)) in
-      let one : Led t t.nodes trims o c = turn-led x z r h e a t go in
-      let tidy = tidy-together turn (λ v. (sane-run l sd sb (markup_turn true stops v)).backs) n o.value.1 y o.state in
+      let one : Led t t.nodes trims o c = turn-led l stops taking x z r h e a t go in
+      let tidy = tidy-together turn (λ v. (sane-run l taking.calls_sane taking.blocks_sane (markup_turn true stops v)).backs) n o.value.1 y o.state in
       let all = led-joined t t.nodes trims o c q one (subst (λ p. Tidy p q) one.state tidy) in
       let few = all.few in
       let long : length (joined o q).nodes ≡ length (t.nodes ++ all.rest) = ap length all.nodes in
@@ -134,11 +110,11 @@ pub record Apart (p o : Outcome (Unit {0})) : Type 0 where
   pub hints : p.hints ≡ []
   pub few : o.back ≤ length p.nodes
 
-pub made-none : {A : Type 0} (m : A → Meaning (Bool × A)) (n : ℕ) (x : A) (z : Place) (s : Point) → n ≡ 0 → made m n x z s ≡ []
+made-none : {A : Type 0} (m : A → Meaning (Bool × A)) (n : ℕ) (x : A) (z : Place) (s : Point) → n ≡ 0 → made m n x z s ≡ []
 made-none m zero x z s e = refl
 made-none m (suc n) x z s e = absurd (omega (arith, e))
 
-pub settled : {A : Type 0} (n : ℕ) (s : Point) (os : List (Outcome (Bool × A))) (o : Outcome (Unit {0})) → Settles n o → (n ≡ 0 → os ≡ []) → (0 < n → Gives (together s os)) → o.back ≤ (together s os).state.empties → Apart (together s os) o
+settled : {A : Type 0} (n : ℕ) (s : Point) (os : List (Outcome (Bool × A))) (o : Outcome (Unit {0})) → Settles n o → (n ≡ 0 → os ≡ []) → (0 < n → Gives (together s os)) → o.back ≤ (together s os).state.empties → Apart (together s os) o
 settled zero s os o (inl some) none gives back = absurd (omega (arith, some))
 settled zero s os o (inr e) none gives back = record { hints = ap (λ us. (together s us).hints) (none refl); few = omega (arith, e) }
 settled (suc n) s os o h none gives back = let g = gives (omega arith) in let few = g.few in record { hints = g.hints; few = omega (arith, few, back) }
@@ -153,21 +129,34 @@ stretch-is ts rest p o t g hints nodes =
     ∙ ap (λ us. us ++ o.nodes) (less-inside o.back before p.nodes g.few) ∙ ap (λ us. (before ++ own) ++ us) nodes
     ∙ append_assoc before own (t.nodes ++ rest) ∙ ap (λ us. before ++ us) (sym (append_assoc own t.nodes rest))
 
+-- ---- pieces of a run that is read so
+
+module _ (r : Sequence) (taking : Taking r.level r.stops) (known : KnownAt r.point) where
+  run-gives : (i n : ℕ) → AllGo (first_of i r) → AllGo (then_of i n r) → 0 < n → Gives (read_by i n r)
+  run-gives i n g h some =
+      let e = first_end i r in
+      gives-pieces r.level r.stops taking n e.value (first_place i r) e.state some (known-made r.level r.stops i (true, 0) r.place r.point known g) h
+
+  -- with what is behind them
+  pub run-apart : (i n : ℕ) (o : Outcome (Unit {0})) → Settles n o → o.back ≤ (then_end i n r).state.empties → AllGo (first_of i r) → AllGo (then_of i n r) → Apart (read_by i n r) o
+  run-apart i n o some few g h =
+      let e = first_end i r in
+      let f = then_end i n r in
+      let same = ap (λ (s : Point). s.empties) (chain-state (then_of i n r) (plain (tt {0}) f.state)) in
+      settled n f.state (then_of i n r) o some (λ none. made-none (turn_of r) n e.value (first_place i r) e.state none) (run-gives i n g h) (omega (arith, few, same))
+
 -- ---- the run of a text
 
 module _ (k : CharClasses) where
   abbrev top : Level
   top = level_at k max_depth
 
-  pub top-known : (i : ℕ) (z : Place) → AllGo (pieces k i z) → KnownAt (end_at k i z).state
+  pub text-known : (z : Place) → KnownAt (lead k z).state
   unfolding run
-  top-known i z g = known-behind top (sane-meaning (rules k) k max_depth) (sane-block (rules k) k max_depth) refl is_end refl (λ h y t x some. takes-call k 255 h y t t (same-judged h t) x some) i (true, 0) z (lead k z).state (record { trivia = _; is = refl }) g
+  text-known z = record { trivia = _; is = refl }
 
-  pub top-gives : (i n : ℕ) (z : Place) → AllGo (pieces k i z) → AllGo (pieces_from k i n z) → 0 < n → Gives (read_from k i n z)
-  unfolding run
-  top-gives i n z g h some =
-      let e = end_at k i z in
-      gives-pieces top (sane-meaning (rules k) k max_depth) (sane-block (rules k) k max_depth) refl is_end refl (λ r y t x more. takes-call k 255 r y t t (same-judged r t) x more) n e.value (moved e.taken z) e.state some (top-known i z g) h
+  pub top-known : (i : ℕ) (z : Place) → AllGo (pieces k i z) → KnownAt (end_at k i z).state
+  top-known i z g = known-made top is_end i (true, 0) z (lead k z).state (text-known z) g
 
   -- what is behind takes back no more than stands there
   pub behind-back : (i n : ℕ) (z : Place) → (onwards_from k i n z).back ≤ (end_from k i n z).state.empties
@@ -177,19 +166,6 @@ module _ (k : CharClasses) where
       let back = tidy.back in
       let is = ap (λ (o : Outcome (Unit {0})). o.back) (onwards-is k i n z) in
       omega (arith, back, is)
-
-  top-back : (i n : ℕ) (z : Place) → (onwards_from k i n z).back ≤ (read_from k i n z).state.empties
-  top-back i n z =
-      let f = end_from k i n z in
-      let state : (read_from k i n z).state ≡ f.state = chain-state (pieces_from k i n z) (plain (tt {0}) f.state) in
-      let back = behind-back i n z in
-      let same = ap (λ (s : Point). s.empties) state in
-      omega (arith, back, same)
-
-  top-apart : (i n : ℕ) (z : Place) → Settles n (onwards_from k i n z) → AllGo (pieces k i z) → AllGo (pieces_from k i n z) → Apart (read_from k i n z) (onwards_from k i n z)
-  top-apart i n z some g h =
-      let e = end_at k i z in
-      settled n (end_from k i n z).state (pieces_from k i n z) (onwards_from k i n z) some (λ none. made-none (piece_at k) n e.value (moved e.taken z) e.state none) (top-gives i n z g h) (top-back i n z)
 
 pub children-law : ChildrenLaw
 children-law k front old new rest i n m past t u h some more same =
@@ -209,11 +185,11 @@ children-law k front old new rest i n m past t u h some more same =
     let made_tree = λ (us : List Tree). inner_of kind.Markup (forest us) in
     let was : tree k (front ++ (old ++ rest)) ≡ made_tree (before ++ (olds ++ x.rest)) =
     tree-is k (front ++ (old ++ rest)) i n h.first_go h.old_go ∙ ap (λ us. made_tree (standing o us)) (given-together (end_from k i n z).state (pieces_from k i n z) ts)
-    ∙ ap made_tree (stretch-is ts x.rest p o t (top-apart k i n z some h.first_go h.old_go) x.hints x.nodes) in
+    ∙ ap made_tree (stretch-is ts x.rest p o t (run-apart (text_run k z) (text-taking k) (text-known k z) i n o some (behind-back k i n z) h.first_go h.old_go) x.hints x.nodes) in
     let now : tree k (front ++ (new ++ rest)) ≡ made_tree (before ++ (news ++ x.rest)) =
     tree-is k (front ++ (new ++ rest)) i m new_first h.new_go ∙ ap (λ os. made_tree (standing v (given (pieces_from k i m w) (given os [])))) kept.first
     ∙ ap (λ us. made_tree (standing v us)) (given-together (end_from k i m w).state (pieces_from k i m w) ts)
-    ∙ ap made_tree (stretch-is ts x.rest q v u (top-apart k i m w more new_first h.new_go) x.hints_now x.nodes_now)
+    ∙ ap made_tree (stretch-is ts x.rest q v u (run-apart (text_run k w) (text-taking k) (text-known k w) i m v more (behind-back k i m w) new_first h.new_go) x.hints_now x.nodes_now)
     ∙ ap (λ b. made_tree (less b ts ++ (news ++ x.rest))) same in
     let first = length before in
     record {

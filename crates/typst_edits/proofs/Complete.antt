@@ -32,6 +32,7 @@ use Rattle.typst_edits.specs.Occurrences.{Spots, joined_spots, goes, last_spot, 
 use Rattle.typst_edits.specs.Spot.{Spot, valued, then_spot, after_spot, rehole, sunk_spot, closed_spot}
 use Rattle.typst_edits.proofs.Every.{Every, every-append, every-map}
 use Rattle.typst_edits.proofs.Wrap.{every-weaker}
+use Rattle.typst_edits.proofs.Edit.{among}
 
 -- ---- one of several
 
@@ -314,10 +315,6 @@ module _ (r : Rules) (k : CharClasses) where
 
 -- ---- of a text
 
-pub every-among : {X : Type 0} (P : X → Type 0) (x : X) (xs : List X) → Among x xs → Every P xs → P x
-every-among P x ys (this xs) h = h.0
-every-among P x ys (that y xs i) h = every-among P x xs i h.1
-
 lost-among : (ask : Ask) (ls : List Ask) → Any (λ l. l ≡ ask) ls → Among ask ls
 lost-among ask [] i = elim i [ ]
 lost-among ask (l ∷ ls) (inl e) = subst (λ u. Among u (l ∷ ls)) e (this ls)
@@ -335,7 +332,7 @@ chosen-among ask (c ∷ cs) (inr i) = let r = chosen-among ask cs i in record { 
 
 pub complete-law : CompleteLaw
 unfolding blocks_of_text lost_of_text
-complete-law k text ask i = said (every-among (One (level_spots (rules k) k max_depth whole z s) (level_lost (rules k) k max_depth whole z s)) ask _ i (covered-level (rules k) k max_depth whole z s))
+complete-law k text ask i = said (among (One (level_spots (rules k) k max_depth whole z s) (level_lost (rules k) k max_depth whole z s)) ask _ i (covered-level (rules k) k max_depth whole z s))
   where
     z : Place
     z = start_of text

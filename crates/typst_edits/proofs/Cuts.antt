@@ -1,17 +1,16 @@
 -- Behind more pieces of a run the next token begins further on.
-use Rattle.std.proofs.Common.{◌≡◌, ℕ, zero, suc, ◌+◌, ◌<◌, ◌≤◌, Bool, true, List, length, take, refl, ap, sym, arith}
+use Rattle.std.proofs.Common.{◌≡◌, ℕ, zero, suc, ◌+◌, ◌<◌, ◌≤◌, Bool, true, List, length, take, ap, sym, arith, nat_lt}
 use Rattle.typst_lines.specs.Classes.{CharClasses}
 use Rattle.typst_lines.specs.Place.{Place, moved}
 use Rattle.typst_tokens.specs.Sight.{width}
-use Rattle.typst_language.specs.Hand.{told}
-use Rattle.typst_language.specs.Point.{Point, gap_of, point_of}
+use Rattle.typst_language.specs.Point.{gap_of, point_of}
 use Rattle.typst_language.specs.Steps.{peek}
-use Rattle.typst_language.specs.Meaning.{Meaning, bound, hand_of, start_point, run}
+use Rattle.typst_language.specs.Meaning.{Meaning, bound, start_point, run}
 use Rattle.typst_language.specs.Sound.{Within}
 use Rattle.typst_language.proofs.Knot.{sane-at, sane-run}
 use Rattle.typst_language.proofs.Places.{ahead-left, moved-sum}
 use Rattle.typst_grammar.specs.declared.part.RunKind.TheVariants as of
-use Rattle.typst_grammar.specs.Markup.{ends, markup_turn, markup_reading}
+use Rattle.typst_grammar.specs.Markup.{markup_turn, markup_reading}
 use Rattle.typst_grammar.specs.Pieces.{stops_of, first_look}
 use Rattle.typst_grammar.specs.Grammar.{rules, max_depth, start_of}
 use Rattle.typst_edits.specs.BlockRuns.{bracket, run_at, opened_at}
@@ -19,14 +18,14 @@ use Rattle.typst_edits.specs.InnerBytes.{inner_end}
 use Rattle.typst_edits.specs.InnerPiecesTest.{level_in, end_alone}
 use Rattle.typst_edits.specs.Joint.{text_run}
 use Rattle.typst_edits.specs.NumberedNotes.{cut_behind, CutsLaw, InnerCutsLaw}
-use Rattle.typst_edits.specs.Runs.{made, AllGo, End, end_of, end_at, pieces, start}
+use Rattle.typst_edits.specs.Runs.{AllGo, End, end_at, pieces, start}
 use Rattle.typst_edits.specs.Sequence.{Sequence, turn_of, first_of, first_end}
 use Rattle.typst_edits.specs.Spot.{Spot}
 use Rattle.typst_edits.proofs.BlockRuns.{sane as in-sane}
-use Rattle.typst_edits.proofs.Boundary.{made-add, looks_in, each-ends}
-use Rattle.typst_edits.proofs.Leading.{Leads, text-leads, block-leads, turn-fronts, not-over, known-from}
+use Rattle.typst_edits.proofs.Boundary.{made-add, looks_in, each-ends, first-of, going-on, known-made}
+use Rattle.typst_edits.proofs.Leading.{Leads, text-leads, block-leads, turn-fronts}
 use Rattle.typst_edits.proofs.NumberedNotes.{cut-from}
-use Rattle.typst_edits.proofs.NoteNumbers.{go-fewer, go-next, turns-within, take-longer}
+use Rattle.typst_edits.proofs.NoteNumbers.{go-fewer, go-next, turns-within, take-longer, least-taken}
 
 module _ (r : Sequence) (leads : Leads r) where
   abbrev turn : Bool × ℕ → Meaning (Bool × (Bool × ℕ))
@@ -41,20 +40,15 @@ module _ (r : Sequence) (leads : Leads r) where
       let e = first_end i r in
       let w = moved e.taken r.place in
       let o = turn e.value w e.state in
-      let there = known-from r leads i (true, 0) r.place r.point leads.known (go-fewer turn within i (suc i) (true, 0) r.place r.point (omega arith) g) in
-      let go = go-next turn within i (true, 0) r.place r.point g in
-      let not_stopped = not-over r leads e.value w e.state (ends r.stops e.value.1 (told (hand_of r.level w e.state)).kind) refl go in
+      let there = known-made r.level r.stops i (true, 0) r.place r.point leads.known (go-fewer turn i (suc i) (true, 0) r.place r.point (omega arith) g) in
+      let go = go-next turn i (true, 0) r.place r.point g in
+      let not_stopped = going-on r.level r.stops e.value w e.state (first-of o.value.0 (nat_lt 0 o.taken) go) in
       let past = (turn-fronts r leads e.value w e.state there.trivia there.is not_stopped).some in
       let gap = ap gap_of there.is in
       let one : suc i ≡ i + 1 = omega arith in
       let next = ap (λ n. (first_end n r).taken) one in
       let sum = ap (λ (u : End (Bool × ℕ)). u.taken) (made-add turn (looks_in r) (each-ends r) i 1 (true, 0) r.place r.point) in
       omega (arith, past, gap, next, sum)
-
-  least-taken : (i n : ℕ) (x : Bool × ℕ) (z : Place) (s : Point) → i ≤ n → (end_of x s (made turn i x z s)).taken ≤ (end_of x s (made turn n x z s)).taken
-  least-taken zero n x z s l = omega arith
-  least-taken (suc i) zero x z s l = absurd (omega (arith, l))
-  least-taken (suc i) (suc n) x z s l = let o = turn x z s in let more = least-taken i n o.value.1 (moved o.taken z) o.state (omega (arith, l)) in omega (arith, more)
 
   cut-least : (i : ℕ) (e : End (Bool × ℕ)) → e.taken ≤ cut_behind i e
   cut-least zero e = omega arith
@@ -66,8 +60,8 @@ module _ (r : Sequence) (leads : Leads r) where
 
   pub tokens-rise : (i j : ℕ) → i < j → AllGo (first_of j r) → (first_end i r).taken + gap_of (first_end i r).state.known < cut_behind j (first_end j r)
   tokens-rise i j l g =
-      let next = next-cut i (go-fewer turn within (suc i) j (true, 0) r.place r.point (omega (arith, l)) g) in
-      let more = least-taken (suc i) j (true, 0) r.place r.point (omega (arith, l)) in
+      let next = next-cut i (go-fewer turn (suc i) j (true, 0) r.place r.point (omega (arith, l)) g) in
+      let more = least-taken turn (suc i) j (true, 0) r.place r.point (omega (arith, l)) in
       let there = cut-least j (first_end j r) in
       omega (arith, next, more, there)
 

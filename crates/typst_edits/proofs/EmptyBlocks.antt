@@ -37,12 +37,15 @@ use Rattle.typst_edits.specs.Spot.{lowered, unit_at}
 use Rattle.typst_edits.proofs.BlockRuns.{content-is}
 use Rattle.typst_edits.proofs.BlockLog.{block-log}
 use Rattle.typst_edits.proofs.Bytes.{noted-more}
-use Rattle.typst_edits.proofs.EmptyRuns.{Knows, hand-gap, asked-knows, flushed-knows, passed-kind, Looks, begin-each, begin-one, token_look, looks-hand, looks-append, unmoved, run-stopped, onwards-looks, Never, none-flush}
+use Rattle.typst_edits.proofs.EmptyRuns.{Knows, hand-gap, asked-knows, flushed-knows, passed-kind, Looks, begin-each, begin-one, token_look, looks-hand, looks-append, unmoved, run-stopped, onwards-looks, Never, none-flush, end-any}
 use Rattle.typst_edits.proofs.Every.{every-append}
 use Rattle.typst_edits.proofs.Forward.{token-still}
 use Rattle.typst_edits.proofs.InnerBytes.{asks_before, content-asks}
 use Rattle.typst_edits.proofs.Marks.{AllMarks, marks-append, marks-by, marks-shift, marks-lowered, none-hand, NoteOf, noted-each}
 use Rattle.typst_edits.proofs.Text.{content-reads}
+use Rattle.typst_edits.proofs.Sides.{count-append, count-shift, count-none}
+use Rattle.typst_edits.proofs.PieceAsks.{lifted-count}
+use Rattle.typst_edits.specs.Splice.{notes_in}
 
 -- ---- looks
 
@@ -142,11 +145,6 @@ module _ (k : CharClasses) (levels : ℕ) (z : Place) (s : Point) where
       looks-append (token_look l y) o.asks _ (onwards-looks the_run (true, 0) y p h stops)
       (unmoved (token_look l y) o.taken _ (onwards-taken the_run (true, 0) y p h stops) (closing-looks t known e))
 
-  stops-by : (b c : Bool) → (if b then (c && 0 == 0) else c) ≡ true → c ≡ true
-  stops-by true true e = refl
-  stops-by true false e = absurd (cc)
-  stops-by false c e = e
-
   -- the token at which it ends looks back at nothing
   pub end-still : (t : Trivia) → the_run.point.known ≡ Some t → IsEmpty the_run → (token_look l (moved t.gap the_run.place)).back ≡ 0
   end-still t known e =
@@ -155,40 +153,14 @@ module _ (k : CharClasses) (levels : ℕ) (z : Place) (s : Point) where
       let h = run-knows t known in
       let g = hand_at k markup_reading (Some t) y in
       let alike : hand_of l y p ≡ g = (λ i. hand_at k (h.held i) (known i) y) in
-      let ends_it : ends_block g.kind ≡ true = stops-by (same kind.RightBracket g.kind) (ends_block g.kind) (ap (λ (a : Hand). ends ends_block 0 a.kind) (sym alike) ∙ e) in
+      let ends_it : ends_block g.kind ≡ true = end-any (same kind.RightBracket g.kind) (ends_block g.kind) (0 == 0) (ap (λ (a : Hand). ends ends_block 0 a.kind) (sym alike) ∙ e) in
       let w = moved t.gap y in
       token-still k w.before w.ahead (ap ends_block (sym (hand-token k mode.Markup t y)) ∙ ends_it)
 
 -- ---- one note
 
--- how many marks there are
-abbrev marks_in : List Ask → ℕ
-marks_in [] = 0
-marks_in (looked at look ∷ asks) = marks_in asks
-marks_in (marked at gap fewer m s ∷ asks) = suc (marks_in asks)
-
-count-append : (xs ys : List Ask) → marks_in (xs ++ ys) ≡ marks_in xs + marks_in ys
-count-append [] ys = omega arith
-count-append (looked at look ∷ xs) ys = count-append xs ys
-count-append (marked at gap fewer m s ∷ xs) ys = omega (arith, count-append xs ys)
-
-count-shift : (n : ℕ) (xs : List Ask) → marks_in (shift n xs) ≡ marks_in xs
-count-shift n [] = refl
-count-shift n (looked at look ∷ xs) = count-shift n xs
-count-shift n (marked at gap fewer m s ∷ xs) = ap suc (count-shift n xs)
-
-count-lowered : (n : ℕ) (xs : List Ask) → marks_in (lowered n xs) ≡ marks_in xs
-count-lowered n [] = refl
-count-lowered n (looked at look ∷ xs) = count-lowered n xs
-count-lowered n (marked at gap fewer m s ∷ xs) = ap suc (count-lowered n xs)
-
-count-none : (xs : List Ask) → AllMarks Never xs → marks_in xs ≡ 0
-count-none [] h = refl
-count-none (looked at look ∷ xs) h = count-none xs h
-count-none (marked at gap fewer m s ∷ xs) h = absurd h.0
-
 -- as many notes come to be as there are marks
-noted-count : (lv : ℕ) (z : Place) (asks : List Ask) (h : Log) (ns ms : List Note) → h.notes ≡ Some ns → (logged lv z h asks).notes ≡ Some ms → length ms ≡ length ns + marks_in asks
+noted-count : (lv : ℕ) (z : Place) (asks : List Ask) (h : Log) (ns ms : List Note) → h.notes ≡ Some ns → (logged lv z h asks).notes ≡ Some ms → length ms ≡ length ns + notes_in asks
 noted-count lv z [] h ns ms e f = let same : ns ≡ ms = cc in omega (arith, ap length same)
 noted-count lv z (looked at look ∷ asks) h ns ms e f = noted-count lv z asks (with_hull (hull_of look (moved at z)) h) ns ms e f
 noted-count lv z (marked at gap fewer m s ∷ asks) h ns ms e f =
@@ -227,7 +199,7 @@ Begins f at fewer m p = (fewer ≡ f) × (m ≡ mark.Piece true 0)
 -- there is one mark, and it says so
 record Single (f : ℕ) (asks : List Ask) : Type 0 where
   each : AllMarks (Begins f) asks
-  size : marks_in asks ≡ 1
+  size : notes_in asks ≡ 1
 
 single-in : (xs ys : List Ask) (n : ℕ) (s : State) → AllMarks Never xs → AllMarks Never ys → Single 0 (xs ++ shift n (marked 0 0 0 (mark.Piece true 0) s ∷ ys))
 single-in xs ys n s a b =
@@ -245,7 +217,7 @@ single-lowered f n asks h =
     let lower : (at fewer : ℕ) (m : Mark) (p : State) → Begins 0 at fewer m p → Begins f at (f + fewer) m p = λ at fewer m p i. (omega (arith, i.0), i.1) in
     record {
       each = marks-shift P n (lowered f asks) (marks-lowered P f asks (marks-by (Begins 0) (λ at fewer m p. P at (f + fewer) m p) lower asks h.each));
-      size = count-shift n (lowered f asks) ∙ (count-lowered f asks ∙ h.size);
+      size = lifted-count n f asks ∙ h.size;
     }
 
 module _ (k : CharClasses) (levels : ℕ) (z : Place) (s : Point) where

@@ -210,10 +210,10 @@ module _ (k : CharClasses) (text : List ℕ) where
         levels = refl;
       }
 
-end-by : (b c : Bool) → (if b then (c && 0 == 0) else c) ≡ true → c ≡ true
-end-by true true e = refl
-end-by true false e = absurd (cc)
-end-by false c e = e
+pub end-any : (b c d : Bool) → (if b then (c && d) else c) ≡ true → c ≡ true
+end-any true true d e = refl
+end-any true false d e = absurd (cc)
+end-any false c d e = e
 
 -- at the text's end no token looks back
 pub end-look : (k : CharClasses) (b a : List ℕ) → a ≡ [] → (look (token k mode.Markup) (record { before = b; ahead = a })).back ≡ 0
@@ -233,7 +233,7 @@ empty-text-law k front old rest past t e known =
     let y = moved t.gap z in
     let h = hand_of r.level z r.point in
     let last : y.ahead ≡ [] = ap (λ n. (moved n z).ahead) (sym (hand-gap r.level z t.gap r.point (record { held = refl; trivia = t; known = known; gap = refl })))
-    ∙ hand-ends k mode.Markup r.point.known z (end-by (same kind.RightBracket h.kind) (is_end h.kind) e) in
+    ∙ hand-ends k mode.Markup r.point.known z (end-any (same kind.RightBracket h.kind) (is_end h.kind) (0 == 0) e) in
     let none : (token_look r.level y).back ≡ 0 = end-look k y.before y.ahead last in
     let asked = onwards-looks r (true, 0) (moved t.gap z) s (record { held = refl; trivia = _; known = refl; gap = refl }) stops in
     record {

@@ -26,12 +26,3 @@ every-if P false xs ys h k = k refl
 pub every-any : {X : Type 0} (xs : List X) → Every (λ x. Unit {0}) xs
 every-any [] = tt
 every-any (x ∷ xs) = (tt, every-any xs)
-
--- one of them
-pub data Among {X : Type 0} (x : X) : List X → Type 0 where
-  this : (xs : List X) → Among x (x ∷ xs)
-  that : (y : X) (xs : List X) → Among x xs → Among x (y ∷ xs)
-
-pub among : {X : Type 0} (P : X → Type 0) (x : X) (xs : List X) → Among x xs → Every P xs → P x
-among P x ys (this xs) h = h.0
-among P x ys (that y xs i) h = among P x xs i h.1

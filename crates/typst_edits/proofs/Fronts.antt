@@ -44,7 +44,7 @@ use Rattle.typst_grammar.specs.Embedded.{embedded}
 use Rattle.typst_grammar.specs.Equations.{between_dollars, equation}
 use Rattle.typst_grammar.specs.Grammar.{rules}
 use Rattle.typst_edits.specs.Joint.{minds}
-use Rattle.typst_edits.proofs.Led.{before_trivia, none-less, drop-front, some-text, take-front, less-behind}
+use Rattle.typst_edits.proofs.Led.{before_trivia, none-less, drop-front, some-text, take-front, less-behind, no-back}
 use Rattle.typst_edits.proofs.RunTrees.{hinted-none}
 
 -- ---- nodes
@@ -254,10 +254,6 @@ module _ (l : Level) (sd : (c : Call) → Sane (l.deeper c)) (sb : (b : Block) �
           few = few-node (is_error tree.head.kind) (text_of tree) s 1 full (omega arith);
           none = no-back trims e;
         }
-      where
-        no-back : (trims : Bool) (e : ℕ) → trims ≡ false → (if trims then e else 0) ≡ 0
-        no-back true e f = cc
-        no-back false e f = refl
 
     begins-making : (trims : Bool) (making : Making) → Begins h z t trims (run l (eat_making trims making))
     unfolding eat_making

@@ -1,5 +1,5 @@
 -- An expression that isn't expected gives one error behind the trivia, and only such a one takes back the empty errors before it.
-use Rattle.std.proofs.Common.{◌≡◌, ℕ, zero, suc, ◌<◌, ◌==◌, ne_eqb, Bool, true, false, if◌then◌else◌, ◌&&◌, nat_lt, List, [], ◌∷◌, ◌++◌, length, drop, length-append, append_assoc, Some, None, refl, ap, sym, ◌∙◌, subst, arith}
+use Rattle.std.proofs.Common.{◌≡◌, ℕ, zero, suc, ◌<◌, ◌==◌, Bool, true, false, if◌then◌else◌, ◌&&◌, nat_lt, List, [], ◌∷◌, ◌++◌, length, drop, length-append, append_assoc, Some, None, refl, ap, sym, ◌∙◌, subst, arith}
 use borrow.Author.Tests.{lt-ltb}
 use Rattle.typst_kinds.specs.Kinds.{is_error}
 use Rattle.typst_kinds.specs.declared.kind.SyntaxKind.{SyntaxKind}
@@ -8,13 +8,11 @@ use Rattle.typst_lines.specs.Place.{Place, moved}
 use Rattle.typst_lines.specs.Classes.{CharClasses}
 use Rattle.typst_tree.specs.Diagnostic.{hint_with}
 use Rattle.typst_tree.specs.Tree.{Tree, text_of, error_of, made_error, advised, all_advised}
-use Rattle.typst_language.specs.declared.calls.Block.{Block}
-use Rattle.typst_language.specs.Calls.{Call}
 use Rattle.typst_language.specs.Calls.Call.{MarkupExpr}
 use Rattle.typst_language.specs.declared.reading.Reading.{Reading}
 use Rattle.typst_language.specs.Ask.{Ask}
 use Rattle.typst_language.specs.Depth.{anywhere, too_deep, deeper}
-use Rattle.typst_language.specs.Hand.{AtHand, told, len_at, hand_at}
+use Rattle.typst_language.specs.Hand.{AtHand, told, hand_at}
 use Rattle.typst_language.specs.Knot.{meaning_of}
 use Rattle.typst_language.specs.Point.{Trivia, Point, pending}
 use Rattle.typst_language.specs.Shape.{hinted}
@@ -25,13 +23,13 @@ use Rattle.typst_language.specs.Syntax.Op.{takes}
 use Rattle.typst_language.specs.Syntax.Parser.{gives, does, next, pick, repeat, calls}
 use Rattle.typst_language.specs.Meaning.{Outcome, Meaning, Level, plain, less, standing, joined, repeated, hand_of, hand_asks_of, taken_node, run}
 use Rattle.typst_language.proofs.HintedNodes.{hinted-append}
-use Rattle.typst_language.proofs.Knot.{Sane, sane-run, sane-meaning, sane-block, sane-plain}
+use Rattle.typst_language.proofs.Knot.{sane-run}
 use Rattle.typst_language.proofs.Places.{less-none}
 use Rattle.typst_language.proofs.Within.{on_both}
 use Rattle.typst_grammar.specs.head.MarkupHead.{MarkupHead}
 use Rattle.typst_grammar.specs.head.MarkupHead.TheVariants as head
 use Rattle.typst_grammar.specs.Markup.{ends, ends_block, note_piece, markup_turn, markup_head, markup_by, markup_expr}
-use Rattle.typst_grammar.specs.Grammar.{rules, level_at, max_depth}
+use Rattle.typst_grammar.specs.Grammar.{rules, level_at}
 use Rattle.typst_language.specs.Sound.{Tidy, Backs}
 use Rattle.typst_edits.specs.Children.{together}
 use Rattle.typst_edits.specs.BlockRuns.{inner_run}
@@ -40,14 +38,15 @@ use Rattle.typst_edits.specs.Joint.{minds, text_run}
 use Rattle.typst_edits.specs.Occurrences.{goes}
 use Rattle.typst_edits.specs.Runs.{made, AllGo, end_of}
 use Rattle.typst_edits.specs.Sequence.{Sequence, turn_of, first_of, first_end, then_of, then_end, then_place}
-use Rattle.typst_edits.proofs.Boundary.{KnownAt, turn-goes, first-of}
-use Rattle.typst_edits.proofs.Children.{goes-on, known-behind, turn-led, tidy-together}
-use Rattle.typst_edits.proofs.Joint.{takes-call, known-is}
-use Rattle.typst_edits.proofs.Led.{none-less, none-of, drop-front, before_trivia, same-judged, led-joined, Takes}
+use Rattle.typst_edits.proofs.Boundary.{KnownAt, turn-goes, first-of, going-on, known-made}
+use Rattle.typst_edits.proofs.Children.{tidy-together}
+use Rattle.typst_edits.proofs.Joint.{known-is, text-taking}
+use Rattle.typst_edits.proofs.Led.{none-less, none-of, drop-front, before_trivia, same-judged, led-joined}
 use Rattle.typst_edits.proofs.Meeting.{ends-alike}
 use Rattle.typst_edits.proofs.Outcomes.{hints-first}
 use Rattle.typst_edits.proofs.RunTrees.{standing-still}
-use Rattle.typst_edits.proofs.Turns.{turn_tail, turn_at, one-turn, stopped-back, some-token, led-behind}
+use Rattle.typst_edits.proofs.Turns.{turn_tail, turn_at, one-turn, stopped-back, led-behind, Taking, turn-led}
+use Rattle.typst_edits.proofs.InnerJoint.{block-taking}
 
 -- ---- nodes that begin with an error
 
@@ -208,8 +207,7 @@ pub record MindsAlone {A : Type 0} (p : Point) (o : Outcome A) : Type 0 where
 
 -- ---- any run
 
-module _ (l : Level) (sd : (c : Call) → Sane (l.deeper c)) (sb : (b : Block) → Sane (l.blocks b)) (deep : (l.levels == 0) ≡ false) (stops : SyntaxKind → Bool) (end_stops : stops kind.End ≡ true)
-    (call : (h : Reading) (z : Place) (t : Trivia) (x : Bool × ℕ) → 0 < len_at l.classes h.mode (moved t.gap z) → Takes h z t t (minds (markup_head x.0 x.1 (hand_at l.classes h (Some t) z).kind)) (l.deeper (MarkupExpr x.0 x.1)))
+module _ (l : Level) (stops : SyntaxKind → Bool) (taking : Taking l stops)
     (wrong : (r h : Reading) (e : ℕ) (a : Bool) (z : Place) (t : Trivia) (x : Bool × ℕ) → minds (markup_head x.0 x.1 (hand_at l.classes h (Some t) z).kind) ≡ true → Erring t (l.deeper (MarkupExpr x.0 x.1) z (before_trivia r h e a t))) where
   abbrev turn : Bool × ℕ → Meaning (Bool × (Bool × ℕ))
   turn x = run l (markup_turn true stops x)
@@ -218,7 +216,7 @@ module _ (l : Level) (sd : (c : Call) → Sane (l.deeper c)) (sb : (b : Block) �
   onward x = run l (repeat (markup_turn true stops) x >>= λ _. flush_trivia)
 
   abbrev backs : {A : Type 0} (p : Parser A) → Backs (run l p)
-  backs p = (sane-run l sd sb p).backs
+  backs p = (sane-run l taking.calls_sane taking.blocks_sane p).backs
 
   module _ (x : Bool × ℕ) (z : Place) (r h : Reading) (e : ℕ) (a : Bool) (t : Trivia) where
     abbrev at : Point
@@ -233,7 +231,7 @@ module _ (l : Level) (sd : (c : Call) → Sane (l.deeper c)) (sb : (b : Block) �
     -- a turn that minds leaves no empty error
     no-empties : ends stops x.1 (told (hand_of l z at)).kind ≡ false → Erring t one → one.state.empties ≡ 0
     no-empties go err =
-        let led = turn-led l sd sb deep stops end_stops call x z r h e a t go in
+        let led = turn-led l stops taking x z r h e a t go in
         let few = led.few in
         let same = ap (λ (s : Point). s.empties) led.state in
         let both : t.nodes ++ led.rest ≡ t.nodes ++ err.error ∷ [] = sym led.nodes ∙ err.nodes in
@@ -253,17 +251,17 @@ module _ (l : Level) (sd : (c : Call) → Sane (l.deeper c)) (sb : (b : Block) �
       tidy = tidy-together turn (λ v. backs (markup_turn true stops v)) n one.value.1 (moved one.taken z) one.state
 
       go : ends stops x.1 (told (hand_of l z at)).kind ≡ false
-      go = goes-on l sd sb deep stops end_stops call x z at (ends stops x.1 (told (hand_of l z at)).kind) refl (first-of one.value.0 (nat_lt 0 one.taken) g.0)
+      go = going-on l stops x z at (first-of one.value.0 (nat_lt 0 one.taken) g.0)
 
       pieces-mild : trims ≡ false → (joined one q).back ≡ 0
       pieces-mild mild =
-          let led = turn-led l sd sb deep stops end_stops call x z r h e a t go in
+          let led = turn-led l stops taking x z r h e a t go in
           let all = led-joined t t.nodes trims one _ q led (subst (λ p. Tidy p q) led.state tidy) in
           all.back ∙ all.none mild
 
       pieces-wrong : trims ≡ true → WrongFirst t (joined one q).nodes
       pieces-wrong mind =
-          let err = erring-turn l r h e a z t deep stops x (wrong r h e a z t x mind) go in
+          let err = erring-turn l r h e a z t taking.level_left stops x (wrong r h e a z t x mind) go in
           let none = no-empties go err in
           let back = tidy.back in
           wrong-standing t one.nodes q (erring-wrong t one err) (omega (arith, none, back))
@@ -272,8 +270,7 @@ module _ (l : Level) (sd : (c : Call) → Sane (l.deeper c)) (sb : (b : Block) �
     onward-mild : ends stops x.1 (told (hand_of l z at)).kind ≡ false → trims ≡ false → (onward x z at).back ≡ 0
     unfolding hand_at
     onward-mild go mild =
-        let some = some-token l sd sb deep stops end_stops h z t t (same-judged h t) x r e e a a go in
-        let led = led-behind l sd sb deep stops end_stops h z t t (same-judged h t) x r e e a a trims (call h z t x some) (λ p. refl) go in
+        let led = led-behind l stops taking h z t t (same-judged h t) x r e e a a (λ p. refl) go in
         led.back ∙ led.none mild
 
     flush-back : (w : Place) (p : Point) → (run l flush_trivia w p).back ≡ 0
@@ -283,9 +280,9 @@ module _ (l : Level) (sd : (c : Call) → Sane (l.deeper c)) (sb : (b : Block) �
     onward-wrong : ends stops x.1 (told (hand_of l z at)).kind ≡ false → trims ≡ true → WrongFirst t (onward x z at).nodes
     unfolding run
     onward-wrong go mind =
-        let err = erring-turn l r h e a z t deep stops x (wrong r h e a z t x mind) go in
+        let err = erring-turn l r h e a z t taking.level_left stops x (wrong r h e a z t x mind) go in
         let none = no-empties go err in
-        let led = turn-led l sd sb deep stops end_stops call x z r h e a t go in
+        let led = turn-led l stops taking x z r h e a t go in
         let some = led.some in
         let taken = led.taken in
         let g : goes one ≡ true = ap (λ b. b && nat_lt 0 one.taken) (turn-goes l stops x z at go) ∙ lt-ltb 0 one.taken (omega (arith, some, taken)) in
@@ -293,7 +290,7 @@ module _ (l : Level) (sd : (c : Call) → Sane (l.deeper c)) (sb : (b : Block) �
         let tidy_rest = backs (repeat (markup_turn true stops) one.value.1) (moved one.taken z) one.state in
         let back = tidy_rest.back in
         let w = wrong-standing t one.nodes p (erring-wrong t one err) (omega (arith, none, back)) in
-        let is : repeated turn x z at ≡ joined one p = one-turn turn (λ v. (sane-run l sd sb (markup_turn true stops v)).within) x z at g in
+        let is : repeated turn x z at ≡ joined one p = one-turn turn (λ v. (sane-run l taking.calls_sane taking.blocks_sane (markup_turn true stops v)).within) x z at g in
         let rest = repeated turn x z at in
         let first : WrongFirst t rest.nodes = subst (λ (o : Outcome (Bool × ℕ)). WrongFirst t o.nodes) (sym is) w in
         wrong-standing t rest.nodes (run l flush_trivia (moved rest.taken z) rest.state) first (flush-back (moved rest.taken z) rest.state)
@@ -325,7 +322,7 @@ module _ (l : Level) (sd : (c : Call) → Sane (l.deeper c)) (sb : (b : Block) �
         ((λ some right. not-both (minded x z here) _ (λ m. wrong-behind t _ (pieces-wrong x z r h e a t n g m)) right), (λ mild. pieces-mild x z r h e a t n g mild))
 
     back-here : (b : Bool) → over x z here ≡ b → (over x z here ≡ false → minded x z here ≡ false) → (onward x z here).back ≡ 0
-    back-here true o mild = stopped-back l sd sb deep stops end_stops x z here o
+    back-here true o mild = stopped-back l stops taking x z here o
     back-here false o mild = onward-mild x z r h e a t o (mild o)
 
     onward-here : Onward x z here
@@ -342,8 +339,8 @@ module _ (l : Level) (sd : (c : Call) → Sane (l.deeper c)) (sb : (b : Block) �
   alone-here x z r h e a t g mind =
       let s = before_trivia r h e a t in
       let o = turn x z s in
-      let open_there : ends stops x.1 (told (hand_of l z s)).kind ≡ false = goes-on l sd sb deep stops end_stops call x z s (ends stops x.1 (told (hand_of l z s)).kind) refl (first-of o.value.0 (nat_lt 0 o.taken) g) in
-      let err = erring-turn l r h e a z t deep stops x (wrong r h e a z t x mind) open_there in
+      let open_there : ends stops x.1 (told (hand_of l z s)).kind ≡ false = going-on l stops x z s (first-of o.value.0 (nat_lt 0 o.taken) g) in
+      let err = erring-turn l r h e a z t taking.level_left stops x (wrong r h e a z t x mind) open_there in
       record { error = err.error; is = err.is; nodes = err.nodes; none = no-empties x z r h e a t open_there err }
 
   pub minds-alone : (x : Bool × ℕ) (z : Place) (p : Point) → KnownAt p → goes (turn x z p) ≡ true → minded x z p ≡ true → MindsAlone p (turn x z p)
@@ -352,8 +349,7 @@ module _ (l : Level) (sd : (c : Call) → Sane (l.deeper c)) (sb : (b : Block) �
 
 -- ---- the laws
 
-module _ (r : Sequence) (sd : (c : Call) → Sane (r.level.deeper c)) (sb : (b : Block) → Sane (r.level.blocks b)) (deep : (r.level.levels == 0) ≡ false) (end_stops : r.stops kind.End ≡ true)
-    (call : (h : Reading) (z : Place) (t : Trivia) (x : Bool × ℕ) → 0 < len_at r.level.classes h.mode (moved t.gap z) → Takes h z t t (minds (markup_head x.0 x.1 (hand_at r.level.classes h (Some t) z).kind)) (r.level.deeper (MarkupExpr x.0 x.1)))
+module _ (r : Sequence) (taking : Taking r.level r.stops)
     (wrong : (g h : Reading) (e : ℕ) (a : Bool) (z : Place) (t : Trivia) (x : Bool × ℕ) → minds (markup_head x.0 x.1 (hand_at r.level.classes h (Some t) z).kind) ≡ true → Erring t (r.level.deeper (MarkupExpr x.0 x.1) z (before_trivia g h e a t)))
     (known : KnownAt r.point) where
   pub headed : (i n : ℕ) → AllGo (first_of i r) → AllGo (then_of i n r) → Headed r i n
@@ -361,27 +357,27 @@ module _ (r : Sequence) (sd : (c : Call) → Sane (r.level.deeper c)) (sb : (b :
       let l = r.level in
       let e = first_end i r in
       let f = then_end i n r in
-      let first_known = known-behind l sd sb deep r.stops end_stops call i (true, 0) r.place r.point known g in
-      let then_known = known-behind l sd sb deep r.stops end_stops call n e.value (first_place i r) e.state first_known h in
-      let p = pieces-facts l sd sb deep r.stops end_stops call wrong n e.value (first_place i r) e.state first_known h in
-      let o = onward-facts l sd sb deep r.stops end_stops call wrong f.value (then_place i n r) f.state then_known in
+      let first_known = known-made l r.stops i (true, 0) r.place r.point known g in
+      let then_known = known-made l r.stops n e.value (first_place i r) e.state first_known h in
+      let p = pieces-facts l r.stops taking wrong n e.value (first_place i r) e.state first_known h in
+      let o = onward-facts l r.stops taking wrong f.value (then_place i n r) f.state then_known in
       record { first = p.0; pieces_back = p.1; next = o.0; behind_back = o.1 }
 
   -- where pieces of it begin with one that minds
   pub lone-piece : (i : ℕ) → AllGo (first_of i r) → AllGo (then_of i 1 r) → minds_at r (first_place i r) (first_end i r) ≡ true → MindsAlone (first_end i r).state (turn_of r (first_end i r).value (first_place i r) (first_end i r).state)
   lone-piece i g h mind =
       let e = first_end i r in
-      minds-alone r.level sd sb deep r.stops end_stops call wrong e.value (first_place i r) e.state (known-behind r.level sd sb deep r.stops end_stops call i (true, 0) r.place r.point known g) h.0 mind
+      minds-alone r.level r.stops taking wrong e.value (first_place i r) e.state (known-made r.level r.stops i (true, 0) r.place r.point known g) h.0 mind
 
 pub head-law : HeadLaw
 unfolding run
 head-law k z i n g h =
-    headed (text_run k z) (sane-meaning (rules k) k max_depth) (sane-block (rules k) k max_depth) refl refl (λ r y t x some. takes-call k 255 r y t t (same-judged r t) x some) (erring-call k 255) (record { trivia = _; is = refl }) i n g h
+    headed (text_run k z) (text-taking k) (erring-call k 255) (record { trivia = _; is = refl }) i n g h
 
 pub inner-head-law : InnerHeadLaw
 unfolding run
 inner-head-law k levels z s i n g h =
-    headed (inner_run k levels z s) (sane-meaning (rules k) k (suc levels)) (λ b. sane-plain tt) (ne_eqb (suc levels) 0 (omega arith)) refl (λ r y t x some. takes-call k levels r y t t (same-judged r t) x some) (erring-call k levels) (record { trivia = _; is = refl }) i n g h
+    headed (inner_run k levels z s) (block-taking k levels) (erring-call k levels) (record { trivia = _; is = refl }) i n g h
 
 -- no errors are minded where the law of heads says so
 unminded : (b : Bool) → b ≡ false → b ≡ true → {A : Type 0} → A
@@ -411,10 +407,10 @@ pub text-lone : (k : CharClasses) (z : Place) (i : ℕ) → (let r = text_run k 
     → MindsAlone (first_end i r).state (turn_of r (first_end i r).value (first_place i r) (first_end i r).state))
 unfolding run
 text-lone k z i g h mind =
-    lone-piece (text_run k z) (sane-meaning (rules k) k max_depth) (sane-block (rules k) k max_depth) refl refl (λ r y t x some. takes-call k 255 r y t t (same-judged r t) x some) (erring-call k 255) (record { trivia = _; is = refl }) i g h mind
+    lone-piece (text_run k z) (text-taking k) (erring-call k 255) (record { trivia = _; is = refl }) i g h mind
 
 pub inner-lone : (k : CharClasses) (levels : ℕ) (z : Place) (s : Point) (i : ℕ) → (let r = inner_run k levels z s in AllGo (first_of i r) → AllGo (then_of i 1 r) → minds_at r (first_place i r) (first_end i r) ≡ true
     → MindsAlone (first_end i r).state (turn_of r (first_end i r).value (first_place i r) (first_end i r).state))
 unfolding run
 inner-lone k levels z s i g h mind =
-    lone-piece (inner_run k levels z s) (sane-meaning (rules k) k (suc levels)) (λ b. sane-plain tt) (ne_eqb (suc levels) 0 (omega arith)) refl (λ r y t x some. takes-call k levels r y t t (same-judged r t) x some) (erring-call k levels) (record { trivia = _; is = refl }) i g h mind
+    lone-piece (inner_run k levels z s) (block-taking k levels) (erring-call k levels) (record { trivia = _; is = refl }) i g h mind

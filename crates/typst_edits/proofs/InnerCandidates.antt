@@ -1,5 +1,5 @@
 -- A candidate in a content block: where its children stand among the bytes, and that it begins well.
-use Rattle.std.proofs.Common.{◌≡◌, inl, inr, ℕ, zero, suc, ◌+◌, ◌-◌, ◌<◌, ◌≤◌, ◌==◌, ne_eqb, if◌then◌else◌, Bool, true, false, List, [], ◌∷◌, ◌++◌, length, take, length-append, append_assoc, Option, None, Some, refl, ap, sym, ◌∙◌, subst, arith}
+use Rattle.std.proofs.Common.{◌≡◌, inl, inr, ℕ, zero, suc, ◌+◌, ◌-◌, ◌<◌, ◌≤◌, ne_eqb, if◌then◌else◌, Bool, true, false, List, [], ◌∷◌, ◌++◌, length, take, length-append, append_assoc, Option, None, Some, refl, ap, sym, ◌∙◌, subst, arith}
 use Rattle.typst_kinds.specs.declared.kind.SyntaxKind.TheVariants as kind
 use Rattle.typst_kinds.specs.Head.{inner_head}
 use Rattle.typst_lines.specs.Place.{Place, moved}
@@ -9,16 +9,13 @@ use Rattle.typst_tree.specs.Tree.{Tree, Forest, none, more, forest, trees, joine
 use Rattle.typst_tokens.specs.Sight.{width}
 use Rattle.typst_language.specs.declared.calls.Block.TheVariants as block
 use Rattle.typst_language.specs.declared.calls.Note.{Note}
-use Rattle.typst_language.specs.declared.reading.Reading.{Reading}
-use Rattle.typst_language.specs.Hand.{len_at}
-use Rattle.typst_language.specs.Meaning.{Outcome, start_point, run}
+use Rattle.typst_language.specs.Meaning.{Outcome, run}
 use Rattle.typst_language.specs.Point.{Trivia, point_of, gap_of, pending}
-use Rattle.typst_language.proofs.Knot.{sane-meaning, sane-plain}
 use Rattle.typst_language.proofs.Leaves.{texts}
 use Rattle.typst_candidates.specs.Units.{cuts_in, top_cuts}
 use Rattle.typst_candidates.specs.Candidates.{Child, laid, child_at, is_among, begins, Candidate, of_run, run_in}
-use Rattle.typst_grammar.specs.Markup.{ends_block, markup_turn, markup_reading}
-use Rattle.typst_grammar.specs.Grammar.{rules, max_depth, start_of, whole, log, tree}
+use Rattle.typst_grammar.specs.Markup.{ends_block}
+use Rattle.typst_grammar.specs.Grammar.{max_depth, start_of, log, tree}
 use Rattle.typst_edits.specs.Answer.{candidates}
 use Rattle.typst_edits.specs.BlockRuns.{inner, run_at, opened_at}
 use Rattle.typst_edits.specs.Children.{Settles}
@@ -41,21 +38,15 @@ use Rattle.typst_edits.specs.Spot.{Spot, unit_at}
 use Rattle.typst_edits.specs.RootPieces.{StandsAt}
 use Rattle.typst_edits.specs.InnerCandidates.{InnerCandidateLaw}
 use Rattle.typst_edits.proofs.BareCandidates.{bare-candidates-law}
-use Rattle.typst_edits.proofs.BlockRuns.{sane as in-sane}
-use Rattle.typst_edits.proofs.Boundary.{looks_in, each-ends, made-add, go-add}
+use Rattle.typst_edits.proofs.Boundary.{looks_in, each-ends, made-add, go-add, known-made}
 use Rattle.typst_edits.proofs.Blocks.{ends}
 use Rattle.typst_edits.proofs.CandidateEnds.{stretch, Quiet, GivesAt, GivesOne, Parted, parted, begun}
-use Rattle.typst_edits.proofs.Children.{known-behind}
-use Rattle.typst_edits.proofs.Clear.{Clear, clear-level}
-use Rattle.typst_edits.proofs.Content.{content-begun}
 use Rattle.typst_edits.proofs.Edit.{among, trees-of}
 use Rattle.typst_edits.proofs.Fitting.{same-here}
 use Rattle.typst_edits.proofs.Heads.{inner-lone}
-use Rattle.typst_edits.proofs.InnerChildren.{opens-by, inner-back-law, tree-by-block}
+use Rattle.typst_edits.proofs.InnerChildren.{opens-by, inner-back-law, tree-by-block, begun-at}
 use Rattle.typst_edits.proofs.InnerCuts.{BlockCuts, cuts-of-block}
 use Rattle.typst_edits.proofs.Leading.{Plain, leading-inner-law, plain-block}
-use Rattle.typst_edits.proofs.Joint.{takes-call}
-use Rattle.typst_edits.proofs.Led.{same-judged}
 use Rattle.typst_edits.proofs.NoneBack.{inner-onwards-is}
 use Rattle.typst_edits.proofs.NoteNumbers.{go-fewer}
 use Rattle.typst_edits.proofs.QuietTrivia.{inner-quiet}
@@ -63,7 +54,6 @@ use Rattle.typst_edits.proofs.MarkupCandidates.{InMarkup, descend, of-run}
 use Rattle.typst_edits.proofs.Placed.{left_text}
 use Rattle.typst_edits.proofs.RootPieces.{take-past}
 use Rattle.typst_edits.proofs.SpotPlaces.{spot-place}
-use Rattle.typst_edits.proofs.Text.{content-reads}
 use Rattle.typst_edits.proofs.Walk.{length-texts}
 use Rattle.typst_edits.proofs.Widths.{width-append}
 use Rattle.typst_edits.proofs.BlockPlaces.{early-by as sooner, late-by as further}
@@ -132,10 +122,7 @@ module _ (k : CharClasses) (levels : ℕ) (text : List ℕ) (c : Spot (Unit {0})
       let z = start_of text in
       let s = point_of c.start in
       let y = moved c.at z in
-      let clear = among (Clear k z) c _ chosen (clear-level (rules k) k max_depth whole z (start_point markup_reading) tt) in
-      let reads = content-reads k text c chosen levels name left z in
-      let begun = content-begun (inner k levels) (sane-meaning (rules k) k (suc levels)) (λ b. sane-plain tt) y s refl (clear.clear z (same-here c.before z)) (subst (λ (a : Outcome (Unit {0})). 0 < a.taken) reads some) in
-      (opens-by k levels y s begun).empties
+      (opens-by k levels y s (begun-at k levels text c chosen name left z (same-here c.before z) some)).empties
 
   -- its bracket, its markup with the children of its run, and what stands behind that
   node-shape : LeadingInner k levels text c 0 0 first-trivia.trivia
@@ -333,17 +320,14 @@ module _ (k : CharClasses) (levels : ℕ) (front old rest : List ℕ) (s : Spot 
   one-known g =
       let e = first_end i r in
       let l = inner k levels in
-      let sd = sane-meaning (rules k) k (suc levels) in
-      let deep : (suc levels == 0) ≡ false = ne_eqb (suc levels) 0 (omega arith) in
-      let call = λ (h : Reading) (y : Place) (v : Trivia) (x : Bool × ℕ) (more : 0 < len_at k h.mode (moved v.gap y)). takes-call k levels h y v v (same-judged h v) x more in
-      let first = known-behind l sd (λ b. sane-plain tt) deep ends_block refl call i (true, 0) r.place r.point (record { trivia = _; is = refl }) first_go in
-      let one = known-behind l sd (λ b. sane-plain tt) deep ends_block refl call 1 e.value (moved e.taken r.place) e.state first g in
+      let first = known-made l ends_block i (true, 0) r.place r.point (record { trivia = _; is = refl }) first_go in
+      let one = known-made l ends_block 1 e.value (moved e.taken r.place) e.state first g in
       record { trivia = one.trivia; is = one.is }
 
   one-goes : 0 < n → AllGo (then_of i 1 r)
   one-goes there =
       let e = first_end i r in
-      go-fewer (turn_of r) (λ x. (in-sane k levels (markup_turn true ends_block x)).within) 1 n e.value (moved e.taken r.place) e.state (omega (arith, there)) old_go
+      go-fewer (turn_of r) 1 n e.value (moved e.taken r.place) e.state (omega (arith, there)) old_go
 
   gives-one : (own : BlockCuts k levels whole_text s (width (take s.at whole_text))) → 0 < n → GivesOne r own.cuts from kids i begin
   gives-one own there =

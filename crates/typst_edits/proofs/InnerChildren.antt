@@ -1,5 +1,5 @@
 -- A tree where some pieces of a content block's run are read again: one stretch of the children of the block's markup exchanged.
-use Rattle.std.proofs.Common.{◌≡◌, ℕ, suc, ◌+◌, ◌<◌, ◌≤◌, ◌==◌, ne_eqb, Bool, true, false, if◌then◌else◌, nat_lt, List, [], ◌∷◌, ◌++◌, length, take, drop, codes, refl, ap, sym, ◌∙◌, subst, arith}
+use Rattle.std.proofs.Common.{◌≡◌, ℕ, suc, ◌+◌, ◌-◌, ◌<◌, ◌≤◌, Bool, true, false, if◌then◌else◌, nat_lt, List, [], ◌∷◌, ◌++◌, length, take, drop, codes, refl, ap, sym, ◌∙◌, subst, arith}
 use Rattle.typst_kinds.specs.declared.kind.SyntaxKind.TheVariants as kind
 use Rattle.typst_kinds.specs.Kinds.{same}
 use borrow.Author.Tests.{le-ltb}
@@ -37,20 +37,21 @@ use Rattle.typst_edits.specs.Sequence.{Sequence, turn_of, first_of, first_end, t
 use Rattle.typst_edits.specs.Spot.{Spot, last_node, unit_at}
 use Rattle.typst_edits.proofs.BlockRuns.{sane, content_by, split, split-taken, split-state}
 use Rattle.typst_edits.proofs.Blocks.{ends, last-is}
-use Rattle.typst_edits.proofs.Children.{exchanged-is, tidy-together, given-together, Gives, known-behind, gives-pieces, settled, made-none, stretch-is}
+use Rattle.typst_edits.proofs.Children.{exchanged-is, tidy-together, given-together, stretch-is, run-apart}
 use Rattle.typst_edits.proofs.Clear.{Clear, clear-level}
 use Rattle.typst_edits.proofs.Content.{Begun, again, content-begun}
 use Rattle.typst_edits.proofs.Edit.{among, before-same, trees-of, alter-at, replaced-plug}
 use Rattle.typst_edits.proofs.Enclosed.{opener-takes}
 use Rattle.typst_edits.proofs.Fitting.{same-here}
 use Rattle.typst_edits.proofs.Inside.{Lawful}
-use Rattle.typst_edits.proofs.InnerJoint.{onward-fronted, first-same, inner-joint-law}
-use Rattle.typst_edits.proofs.Joint.{takes-call}
+use Rattle.typst_edits.proofs.InnerJoint.{onward-fronted, first-same, inner-joint-law, block-taking}
 use Rattle.typst_edits.proofs.Law.{inside-level}
-use Rattle.typst_edits.proofs.Led.{none-of, same-judged}
+use Rattle.typst_edits.proofs.Led.{none-of}
 use Rattle.typst_edits.proofs.RunTrees.{standing-none, standing-still, standing-chain}
-use Rattle.typst_edits.proofs.Runs.{chain-state}
 use Rattle.typst_edits.proofs.Text.{content-reads}
+use Rattle.typst_edits.proofs.Boundary.{KnownAt}
+use Rattle.typst_language.specs.Ask.{SameIn}
+use Rattle.typst_language.specs.declared.calls.Block.TheVariants as block
 
 -- ---- what leaves the nodes before it as they are
 
@@ -307,18 +308,9 @@ module _ (k : CharClasses) (levels : ℕ) (c : Spot (Unit {0})) (z : Place) wher
   abbrev run_here : Sequence
   run_here = run_at k levels c z
 
-  deep : (suc levels == 0) ≡ false
-  deep = ne_eqb (suc levels) 0 (omega arith)
-
-  in-gives : (i n : ℕ) → AllGo (first_of i run_here) → AllGo (then_of i n run_here) → 0 < n → Gives (read_in k levels i n c z)
+  run-known : KnownAt run_here.point
   unfolding run
-  in-gives i n g h some =
-      let l = inner k levels in
-      let r = run_here in
-      let e = first_end i r in
-      let sd = sane-meaning (rules k) k (suc levels) in
-      let known = known-behind l sd (λ b. sane-plain tt) deep ends_block refl (λ a y t x more. takes-call k levels a y t t (same-judged a t) x more) i (true, 0) r.place r.point (record { trivia = _; is = refl }) g in
-      gives-pieces l sd (λ b. sane-plain tt) deep ends_block refl (λ a y t x more. takes-call k levels a y t t (same-judged a t) x more) n e.value (moved e.taken r.place) e.state some known h
+  run-known = record { trivia = _; is = refl }
 
   pub in-behind : (i n : ℕ) → (onwards_in k levels i n c z).back ≤ (then_end i n run_here).state.empties
   unfolding run
@@ -329,14 +321,6 @@ module _ (k : CharClasses) (levels : ℕ) (c : Spot (Unit {0})) (z : Place) wher
       let one = (sane k levels (repeat (markup_turn true ends_block) f.value)).backs (then_place i n r) f.state in
       let two = (sane k levels flush_trivia).backs (moved (((first_end i r).taken + f.taken) + rest.taken) r.place) rest.state in
       (backs-joined f.state rest (tail_at k levels i n c z) one two).back
-
-  in-back : (i n : ℕ) → (onwards_in k levels i n c z).back ≤ (read_in k levels i n c z).state.empties
-  in-back i n =
-      let f = then_end i n run_here in
-      let state : (read_in k levels i n c z).state ≡ f.state = chain-state (then_of i n run_here) (plain (tt {0}) f.state) in
-      let back = in-behind i n in
-      let same_empties = ap (λ (a : Point). a.empties) state in
-      omega (arith, back, same_empties)
 
   -- what stands in the run, by the pieces and all behind them
   pub kids-are : (i n : ℕ) (t : Trivia) (rest : List Tree) → Settles n (onwards_in k levels i n c z) → AllGo (first_of i run_here) → AllGo (then_of i n run_here) → (onwards_in k levels i n c z).hints ≡ [] → (onwards_in k levels i n c z).nodes ≡ t.nodes ++ rest
@@ -349,7 +333,7 @@ module _ (k : CharClasses) (levels : ℕ) (c : Spot (Unit {0})) (z : Place) wher
       let ts = given os [] in
       ap (standing u) (standing-chain os (chain ps q) [] ∙ standing-chain ps q ts) ∙ sym (standing-joined q u (given ps ts))
       ∙ ap (standing (joined q u)) (given-together (then_end i n run_here).state ps ts)
-      ∙ stretch-is ts rest (read_in k levels i n c z) (onwards_in k levels i n c z) t (settled n (then_end i n run_here).state ps (onwards_in k levels i n c z) some (λ e. made-none (turn_of run_here) n (first_end i run_here).value (moved (first_end i run_here).taken run_here.place) (first_end i run_here).state e) (in-gives i n g h) (in-back i n)) hints nodes
+      ∙ stretch-is ts rest (read_in k levels i n c z) (onwards_in k levels i n c z) t (run-apart run_here (block-taking k levels) run-known i n (onwards_in k levels i n c z) some (in-behind i n) g h) hints nodes
 
 -- ---- the law
 
@@ -358,27 +342,31 @@ pub record BothOpen (k : CharClasses) (levels : ℕ) (z w : Place) (c : Spot (Un
   pub old_opens : Opens k levels (moved c.at z) (point_of c.start)
   pub new_opens : Opens k levels (moved c.at w) (point_of c.start)
 
+-- where a block takes something and all before it shows the same, it begins by its bracket
+pub begun-at : (k : CharClasses) (levels : ℕ) (text : List ℕ) (c : Spot (Unit {0})) → Among c (blocks_of_text k text) → c.name ≡ block.Content → max_depth - c.fewer ≡ suc levels → (w : Place) → SameIn c.before (start_of text) w → 0 < (unit_at c w).taken
+    → Begun (inner k levels) (moved c.at w) (point_of c.start)
+unfolding blocks_of_text
+begun-at k levels text c chosen name left w same some =
+    let z = start_of text in
+    let clear = among (Clear k z) c _ chosen (clear-level (rules k) k max_depth whole z (start_point markup_reading) tt) in
+    let reads = content-reads k text c chosen levels name left w in
+    content-begun (inner k levels) (sane-meaning (rules k) k (suc levels)) (λ b. sane-plain tt) (moved c.at w) (point_of c.start) refl (clear.clear w same) (subst (λ (a : Outcome (Unit {0})). 0 < a.taken) reads some)
+
 pub both-open : (k : CharClasses) (levels : ℕ) (front old new rest : List ℕ) (c : Spot (Unit {0})) (i n m past : ℕ) (t u : Trivia) → Among c (blocks_of_text k (front ++ (old ++ rest)))
     → PassesInnerJoint k levels front old new rest c i n m past t u → BothOpen k levels (text_with front old rest) (text_with front new rest) c
-unfolding blocks_of_text
 both-open k levels front old new rest c i n m past t u chosen h =
     let z = text_with front old rest in
     let w = text_with front new rest in
     let s = point_of c.start in
-    let y = moved c.at z in
-    let v = moved c.at w in
-    let kept = inner-joint-law k levels front old new rest c i n m past t u chosen h in
-    let clear = among (Clear k z) c _ chosen (clear-level (rules k) k max_depth whole z (start_point markup_reading) tt) in
-    let reads = content-reads k (front ++ (old ++ rest)) c chosen levels h.pieces.name h.pieces.level in
+    let passes = (inner-joint-law k levels front old new rest c i n m past t u chosen h).passes in
     let starts = h.pieces.starts in
-    let ends_old = kept.passes.ends in
-    let ends_new = kept.passes.shifted in
-    let some_old : 0 < (unit_at c z).taken = omega (arith, starts, ends_old) in
-    let some_new : 0 < (unit_at c w).taken = omega (arith, starts, ends_new) in
-    let sd = sane-meaning (rules k) k (suc levels) in
-    let begun_old = content-begun (inner k levels) sd (λ b. sane-plain tt) y s refl (clear.clear z (same-here c.before z)) (subst (λ (a : Outcome (Unit {0})). 0 < a.taken) (reads z) some_old) in
-    let begun_new = content-begun (inner k levels) sd (λ b. sane-plain tt) v s refl (clear.clear w (before-same c.before front old new rest h.pieces.looks.before)) (subst (λ (a : Outcome (Unit {0})). 0 < a.taken) (reads w) some_new) in
-    record { old_opens = opens-by k levels y s begun_old; new_opens = opens-by k levels v s begun_new }
+    let ends_old = passes.ends in
+    let ends_new = passes.shifted in
+    let begun = begun-at k levels (front ++ (old ++ rest)) c chosen h.pieces.name h.pieces.level in
+    record {
+      old_opens = opens-by k levels (moved c.at z) s (begun z (same-here c.before z) (omega (arith, starts, ends_old)));
+      new_opens = opens-by k levels (moved c.at w) s (begun w (before-same c.before front old new rest h.pieces.looks.before) (omega (arith, starts, ends_new)));
+    }
 
 -- a text's tree, by a block's node
 pub tree-by-block : (k : CharClasses) (front old rest : List ℕ) (c : Spot (Unit {0})) → Among c (blocks_of_text k (front ++ (old ++ rest))) → (x : Tree) → c.node ≡ x → tree k (front ++ (old ++ rest)) ≡ inner_of kind.Markup (forest (plug c.hole x))

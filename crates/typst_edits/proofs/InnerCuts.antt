@@ -170,7 +170,7 @@ pub few-go : {A : Type 0} (m : A → Meaning (Bool × A)) → ((x : A) → Withi
     → (let f = end_of x s (made m count x z s) in goes (m f.value (moved f.taken z) f.state) ≡ false) → j ≤ count
 few-go m within count j x z s true e h over =
     let less : count < j = ltb-true count j e in
-    let go = go-next m within count x z s (go-fewer m within (suc count) j x z s (omega (arith, less)) h) in
+    let go = go-next m count x z s (go-fewer m (suc count) j x z s (omega (arith, less)) h) in
     absurd (let no = sym go ∙ over in cc)
 few-go m within count j x z s false e h over = ltb-false count j e
 

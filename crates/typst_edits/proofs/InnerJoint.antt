@@ -1,5 +1,5 @@
 -- The law of an edit inside some pieces of a content block's run that leaves other trivia or other errors behind them.
-use Rattle.std.proofs.Common.{◌≡◌, ℕ, suc, ◌+◌, ◌<◌, ◌==◌, ne_eqb, Bool, true, false, if◌then◌else◌, [], ◌∷◌, List, ◌++◌, length, Some, refl, ap, sym, ◌∙◌, subst, arith}
+use Rattle.std.proofs.Common.{◌≡◌, ℕ, suc, ◌+◌, ◌<◌, ne_eqb, Bool, true, false, if◌then◌else◌, [], ◌∷◌, List, ◌++◌, length, Some, refl, ap, sym, ◌∙◌, subst, arith}
 use Rattle.typst_kinds.specs.declared.kind.SyntaxKind.TheVariants as kind
 use Rattle.typst_kinds.specs.Kinds.{same, is_error}
 use Rattle.typst_lines.specs.Place.{Place, moved}
@@ -20,41 +20,39 @@ use Rattle.typst_language.specs.Meaning.{Outcome, plain, joined, entered, left, 
 use Rattle.typst_language.proofs.Knot.{sane-meaning, sane-plain}
 use Rattle.typst_language.proofs.Looks.{same_in-shift, same_in-first, same_in-second}
 use Rattle.typst_language.proofs.Places.{moved-sum}
-use Rattle.typst_grammar.specs.Markup.{ends_block, markup_turn, markup_head, markup_reading}
+use Rattle.typst_grammar.specs.Markup.{ends_block, markup_turn, markup_reading}
 use Rattle.typst_grammar.specs.Grammar.{rules}
 use Rattle.typst_edits.specs.BlockRuns.{EndsBefore, inner, look_again, bracket, inner_lead, inner_run, content_with, run_at, tail_at, close_at}
 use Rattle.typst_edits.specs.Edit.{text_with, Passes}
 use Rattle.typst_edits.specs.InnerJoint.{onwards_in, onwards_past, left_past, InnerJointLaw}
-use Rattle.typst_edits.specs.Joint.{minds, passed, Exchanged, Meets}
+use Rattle.typst_edits.specs.Joint.{passed, Exchanged, Meets}
 use Rattle.typst_edits.specs.Runs.{AllGo, End, asks_of, chain}
 use Rattle.typst_edits.specs.Sequence.{turn_of, first_of, first_end, then_of, then_end, then_place, rest_of}
 use Rattle.typst_edits.specs.Spot.{Spot, ended, unit_at}
 use Rattle.typst_edits.proofs.BlockRuns.{split-taken, sane, content-split, content-taken, bracket-same, seq_by, first-by}
 use Rattle.typst_edits.proofs.Edit.{before-same, after-same, same_in-to}
 use Rattle.typst_edits.proofs.Joint.{exchanged, takes-call, known-is}
-use Rattle.typst_edits.proofs.Led.{behind_trivia, same-judged, before_trivia, same-renewed, kind-behind, asks-behind}
+use Rattle.typst_edits.proofs.Led.{behind_trivia, before_trivia, same-renewed, kind-behind, asks-behind}
 use Rattle.typst_edits.proofs.Meeting.{ReadAs, read-as, read-made, judged-alike, Met, met}
 use Rattle.typst_edits.proofs.Outcomes.{shift-zero}
 use Rattle.typst_edits.proofs.Runs.{moved-three, moved-four}
 use Rattle.typst_edits.proofs.Text.{block-law, content-reads}
-use Rattle.typst_edits.proofs.Turns.{Fronted, fronted-behind, KnownFlush, flush-known}
+use Rattle.typst_edits.proofs.Turns.{Fronted, KnownFlush, flush-known, Taking, fronted-same}
 
 -- with nothing known of the trivia behind it
 abbrev pub forgets : Outcome Bool → Outcome Bool
 forgets o = record o { state = forgot o.state }
 
 module _ (k : CharClasses) (levels : ℕ) where
-  some-level : (suc levels == 0) ≡ false
-  some-level = ne_eqb (suc levels) 0 (omega arith)
+  pub block-taking : Taking (inner k levels) ends_block
+  block-taking = record { calls_sane = sane-meaning (rules k) k (suc levels); blocks_sane = λ c. sane-plain tt; level_left = ne_eqb (suc levels) 0 (omega arith); end_stops = refl; takes = takes-call k levels }
 
   -- all behind some pieces of a block's run, up to its closing bracket
   abbrev pub onward : Bool × ℕ → Place → Point → Outcome (Unit {0})
   onward x = run (inner k levels) (repeat (markup_turn true ends_block) x >>= λ _. flush_trivia)
 
   pub onward-fronted : (h : Reading) (z : Place) (t : Trivia) (x : Bool × ℕ) (r : Reading) (e : ℕ) (a : Bool) → Fronted t t.nodes (onward x z (before_trivia r h e a t)) (onward x (moved t.gap z) (before_trivia r h e a (behind_trivia t)))
-  onward-fronted h z t x r e a =
-      fronted-behind (inner k levels) (sane-meaning (rules k) k (suc levels)) (λ c. sane-plain tt) some-level ends_block refl h z t t (same-judged h t) x r e e a a
-      (minds (markup_head x.0 x.1 (hand_at k h (Some t) z).kind)) (λ some. takes-call k levels h z t t (same-judged h t) x some) (λ go p. refl)
+  onward-fronted = fronted-same (inner k levels) ends_block block-taking
 
   -- the pieces of a block are read as markup
   pub block-read : (i n : ℕ) (z : Place) (s : Point) → ReadAs markup_reading (then_end i n (inner_run k levels z s)).state
@@ -71,7 +69,7 @@ module _ (k : CharClasses) (levels : ℕ) where
   pub block-met : (p : Place) (q : Point) (y v : Place) (e f : End (Bool × ℕ)) (t u : Trivia) → Meets (inner_run k levels p q) y e f t u → ReadAs markup_reading e.state → ReadAs markup_reading f.state
       → SameIn (onward e.value (moved t.gap y) (passed t e.state)).asks (moved t.gap y) (moved u.gap v) → Met (inner_run k levels p q) y v e f t u
   block-met p q y v e f t u g read read_now shown =
-      met (inner_run k levels p q) (sane-meaning (rules k) k (suc levels)) (λ c. sane-plain tt) some-level refl (λ h x a b alike i some. takes-call k levels h x a b alike i some) y v e f t u g read read_now shown
+      met (inner_run k levels p q) block-taking y v e f t u g read read_now shown
 
   -- ---- the closing bracket
 
@@ -231,7 +229,7 @@ inner-joint-law k levels front old new rest c i n m past t u among h =
     let at_new = ap (λ (o : Outcome (Unit {0})). o.state) is_new in
     let read_tail : ReadAs markup_reading tail_old.state = subst (ReadAs markup_reading) (sym at_old) (read-as markup_reading es _ read_old ((sane_on e.value).rests y es)) in
     let read_tail_new : ReadAs markup_reading tail_new.state = subst (ReadAs markup_reading) (sym at_new) (read-as markup_reading js _ read_new ((sane_on j.value).rests v js)) in
-    let flush_of = λ (x : Bool × ℕ) (p : Place) (a : Point). flush-known (inner k levels) (sane-meaning (rules k) k (suc levels)) (λ l. sane-plain tt) (some-level k levels) ends_block refl x p a in
+    let flush_of = λ (x : Bool × ℕ) (p : Place) (a : Point). flush-known (inner k levels) ends_block (block-taking k levels) x p a in
     let flush_old : KnownFlush tail_old.state = subst (λ a. KnownFlush a) (sym at_old) (flush_of e.value y es) in
     let flush_new : KnownFlush tail_new.state = subst (λ a. KnownFlush a) (sym at_new) (flush_of j.value v js) in
     -- the closing bracket

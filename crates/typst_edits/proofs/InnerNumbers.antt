@@ -1,5 +1,5 @@
 -- The number of a note where pieces of a content block's run end.
-use Rattle.std.proofs.Common.{◌≡◌, ℕ, suc, ◌+◌, ◌-◌, ◌<◌, ◌≤◌, ◌==◌, eq-eqb, Bool, true, false, List, [], ◌∷◌, ◌++◌, length, take, length-append, append_assoc, refl, ap, sym, ◌∙◌, subst, arith}
+use Rattle.std.proofs.Common.{◌≡◌, ℕ, suc, ◌+◌, ◌-◌, ◌<◌, ◌≤◌, ◌==◌, eq-eqb, Bool, true, false, List, [], ◌∷◌, ◌++◌, length, take, length-append, append_assoc, ap, sym, ◌∙◌, subst, arith}
 use Rattle.typst_lines.specs.Place.{Place, moved}
 use Rattle.typst_lines.specs.Classes.{CharClasses}
 use Rattle.typst_tokens.specs.Sight.{width}
@@ -11,11 +11,11 @@ use Rattle.typst_language.specs.Shape.Making.{itself}
 use Rattle.typst_language.specs.Steps.{peek}
 use Rattle.typst_language.specs.Syntax.Op.{takes}
 use Rattle.typst_language.specs.Syntax.Parser.{does}
-use Rattle.typst_language.specs.Meaning.{Outcome, start_point, entered, hand_of, asked, run}
+use Rattle.typst_language.specs.Meaning.{entered, hand_of, asked, run}
 use Rattle.typst_language.proofs.Knot.{sane-meaning, sane-plain}
 use Rattle.typst_language.proofs.Places.{ahead-left}
 use Rattle.typst_grammar.specs.Markup.{ends_block, markup_turn, markup_reading}
-use Rattle.typst_grammar.specs.Grammar.{rules, max_depth, start_of, whole, parsed, log}
+use Rattle.typst_grammar.specs.Grammar.{rules, max_depth, start_of, log}
 use Rattle.typst_edits.specs.BlockRuns.{inner, look_first, look_again, bracket, run_at, opened_at}
 use Rattle.typst_edits.specs.Edit.{Among}
 use Rattle.typst_edits.specs.InnerBytes.{inner_end}
@@ -27,15 +27,13 @@ use Rattle.typst_edits.specs.Runs.{AllGo}
 use Rattle.typst_edits.specs.Sequence.{Sequence, turn_of, first_of, first_end}
 use Rattle.typst_edits.specs.Spot.{Spot, unit_at}
 use Rattle.typst_edits.proofs.BlockRuns.{sane as in-sane}
-use Rattle.typst_edits.proofs.Clear.{Clear, clear-level}
-use Rattle.typst_edits.proofs.Content.{again, content-begun}
-use Rattle.typst_edits.proofs.Edit.{among}
+use Rattle.typst_edits.proofs.Content.{again}
 use Rattle.typst_edits.proofs.Fitting.{same-here}
 use Rattle.typst_edits.proofs.NoteNumbers.{level-append, numbered-at, neither, go-fewer, more-taken, turns-within, take-longer}
 use Rattle.typst_edits.proofs.Rising.{take-more, rising-law}
 use Rattle.typst_edits.proofs.Spots.{if-true}
-use Rattle.typst_edits.proofs.Text.{content-reads}
 use Rattle.typst_edits.proofs.CandidateEnds.{some-by as positive}
+use Rattle.typst_edits.proofs.InnerChildren.{begun-at}
 
 -- ---- notes in order
 
@@ -112,11 +110,8 @@ module _ (k : CharClasses) (levels : ℕ) (text : List ℕ) (c : Spot (Unit {0})
   unfolding blocks_of_text run
   bracket-some some =
       let l = inner k levels in
-      let o = parsed k max_depth text in
       let sd = sane-meaning (rules k) k (suc levels) in
-      let clear = among (Clear k z0) c _ chosen (clear-level (rules k) k max_depth whole z0 (start_point markup_reading) tt) in
-      let reads = content-reads k text c chosen levels name left z0 in
-      let begun = content-begun l sd (λ b. sane-plain tt) y0 s0 refl (clear.clear z0 (same-here c.before z0)) (subst (λ (a : Outcome (Unit {0})). 0 < a.taken) reads some) in
+      let begun = begun-at k levels text c chosen name left z0 (same-here c.before z0) some in
       let s1 = asked (hand_of l y0 s0) s0 in
       let one : hand_of l y0 s1 ≡ hand_of l y0 s0 = again l sd (λ b. sane-plain tt) y0 s0 in
       let two : hand_of l y0 (look_again k levels y0 s0).state ≡ hand_of l y0 s0 = again l sd (λ b. sane-plain tt) y0 s1 ∙ one in
@@ -185,11 +180,11 @@ inner-number-law k levels text c i chosen name left g n p inside =
     let long = ap length split in
     let sum = length-append mids (p.note ∷ mores) in
     let fits : j ≤ n.count = omega (arith, all, long, sum) in
-    let go_j : AllGo (first_of j r) = go-fewer m within j n.count (true, 0) r.place r.point fits n.go in
+    let go_j : AllGo (first_of j r) = go-fewer m j n.count (true, 0) r.place r.point fits n.go in
     let at_j = (first_end j r).taken in
     let room_j = run-room k levels text c chosen name left bracket_some j in
     let here_before = here.says.before in
     let number = neither j i
-    (λ l. (let less_taken = more-taken m within j i (true, 0) r.place r.point l g in let more = take-longer (a + at_j) (a + at_i) text (omega (arith, less_taken)) room_i in omega (arith, more, before, here_before)))
-    (λ l. (let less_taken = more-taken m within i j (true, 0) r.place r.point l go_j in let more = take-longer (a + at_i) (a + at_j) text (omega (arith, less_taken)) room_j in omega (arith, more, before, here_before))) in
+    (λ l. (let less_taken = more-taken m j i (true, 0) r.place r.point l g in let more = take-longer (a + at_j) (a + at_i) text (omega (arith, less_taken)) room_i in omega (arith, more, before, here_before)))
+    (λ l. (let less_taken = more-taken m i j (true, 0) r.place r.point l go_j in let more = take-longer (a + at_i) (a + at_j) text (omega (arith, less_taken)) room_j in omega (arith, more, before, here_before))) in
     record { mid = b.mid; more = w.more; earlier = b.earlier; inner = w.is; number = number }

@@ -1,13 +1,12 @@
 -- Pieces in a content block that pass the test: a candidate's place is that of their nodes.
-use Rattle.std.proofs.Common.{◌≡◌, ◌⊎◌, inr, ℕ, zero, suc, ◌+◌, ◌-◌, ◌<◌, ◌==◌, ne_eqb, if◌then◌else◌, Bool, true, false, List, [], ◌∷◌, ◌++◌, length, take, drop, length-append, Some, refl, ap, sym, ◌∙◌, subst, arith}
+use Rattle.std.proofs.Common.{◌≡◌, ◌⊎◌, inr, ℕ, zero, suc, ◌+◌, ◌-◌, ◌<◌, ◌==◌, ne_eqb, if◌then◌else◌, Bool, true, false, List, [], ◌∷◌, ◌++◌, length, take, drop, Some, refl, ap, sym, ◌∙◌, subst, arith}
 use Rattle.typst_lines.specs.Place.{Place, moved}
 use Rattle.typst_lines.specs.Classes.{CharClasses}
 use Rattle.typst_tree.specs.Tree.{Tree}
 use Rattle.typst_tokens.specs.Sight.{width}
 use Rattle.typst_language.specs.declared.calls.Block.TheVariants as block
-use Rattle.typst_language.specs.Meaning.{Outcome, less}
+use Rattle.typst_language.specs.Meaning.{Outcome}
 use Rattle.typst_language.specs.Point.{Trivia, gap_of, point_of}
-use Rattle.typst_language.proofs.Places.{less-none}
 use Rattle.typst_candidates.specs.Candidates.{Candidate}
 use Rattle.typst_grammar.specs.Grammar.{max_depth, tree}
 use Rattle.typst_edits.specs.BlockRuns.{run_at, opened_at, tail_at, close_at}
@@ -34,7 +33,7 @@ use Rattle.typst_edits.proofs.InnerJoint.{inner-fronted}
 use Rattle.typst_edits.proofs.Leading.{leading-inner-law}
 use Rattle.typst_edits.proofs.LeadingTrivia.{inner-leading-trivia-law}
 use Rattle.typst_edits.proofs.NoneBack.{inner-none-back-law, inner-none-behind-law}
-use Rattle.typst_edits.proofs.RootPieces.{take-past, drop-some, drop-none, same-place, nothing-left, first-is, put-there}
+use Rattle.typst_edits.proofs.RootPieces.{take-past, drop-some, drop-none, same-place, nothing-left, first-is, put-there, end-place, nodes-left}
 use Rattle.typst_edits.proofs.BlockRuns.{split-taken}
 use Rattle.typst_edits.proofs.Text.{content-reads}
 
@@ -104,9 +103,6 @@ module _ (k : CharClasses) (levels : ℕ) (front old new rest : List ℕ) (s : S
             (λ over. opens-alike (is_over i n r) m (then_end i n r).value (then_end i m q).value h.agrees over);
       }
 
-  nodes-of : (i m : ℕ) (u : Trivia) → (onwards_in k levels i m s (text_with front new rest)).back ≡ 0 → nodes_in k levels i m u s (text_with front new rest) ≡ (read_in k levels i m s (text_with front new rest)).nodes ++ u.nodes
-  nodes-of i m u e = let ts = (read_in k levels i m s (text_with front new rest)).nodes in ap (λ b. less b ts ++ u.nodes) e ∙ ap (λ us. us ++ u.nodes) (less-none ts)
-
   module _ (c : Candidate) (i n m past : ℕ) (t u : Trivia) (around : Around front old rest s) (h : PassesPieces k front old new rest own i n m past t u) (well : BeginsWellIn k levels text s c i n) where
     abbrev z : Place
     z = text_with front old rest
@@ -117,24 +113,14 @@ module _ (k : CharClasses) (levels : ℕ) (front old new rest : List ℕ) (s : S
     abbrev last : ℕ
     last = first + length (nodes_in k levels i n t s z)
 
-    end-place : (led : LeadingInner k levels text s i n t) → kids_in s.node ≡ led.kids → markup_from k levels text s ≡ led.from → c.end ≡ token_byte text (inner_both k levels i n s z) → (b : Bool) → is_over i n (run_at k levels s z) ≡ b → c.to ≡ last
-    end-place led kids from end false over =
-        let there = subst (λ b. StandsAt led.from led.kids c.to b) end (subst (λ f. StandsAt f led.kids c.to c.end) from (subst (λ ts. StandsAt (markup_from k levels text s) ts c.to c.end) kids (well.next over))) in
-        same-place led.from led.kids c.to (token_byte text (inner_both k levels i n s z)) _ there (led.next over)
-    end-place led kids from end true over =
-        let before = standing_in k levels i n s z in
-        let own_nodes = nodes_in k levels i n t s z in
-        let all = well.last over ∙ ap length kids ∙ ap length led.children ∙ ap (λ us. length (before ++ (own_nodes ++ us))) (led.last over) in
-        let one = length-append before (own_nodes ++ []) in
-        let two = length-append own_nodes [] in
-        omega (arith, all, one, two)
-
     last-place : (led : LeadingInner k levels text s i n t) → kids_in s.node ≡ led.kids → markup_from k levels text s ≡ led.from → c.end ≡ width (front ++ (old ++ take past rest)) → c.to ≡ last
     last-place led kids from end =
         let f = inner_both k levels i n s z in
         let gap : gap_of f.state.known ≡ t.gap = ap gap_of h.known in
         let sum : f.taken + gap_of f.state.known ≡ (length front + length old) + past = ap (λ g. f.taken + g) gap ∙ h.ends in
-        end-place led kids from (end ∙ sym (ap width (take-past front old rest past (f.taken + gap_of f.state.known) sum))) (is_over i n (run_at k levels s z)) refl
+        let stands = λ (over : is_over i n (run_at k levels s z) ≡ false). subst (λ x. StandsAt x led.kids c.to c.end) from (subst (λ ts. StandsAt (markup_from k levels text s) ts c.to c.end) kids (well.next over)) in
+        end-place led.from led.kids (standing_in k levels i n s z) (nodes_in k levels i n t s z) led.behind c.to c.end (token_byte text f) (is_over i n (run_at k levels s z)) led.children
+        (end ∙ sym (ap width (take-past front old rest past (f.taken + gap_of f.state.known) sum))) stands led.next (λ over. well.last over ∙ ap length kids) led.last
 
     led : (0 < n ⊎ (onwards_in k levels i n s z).back ≡ 0) → LeadingInner k levels text s i n t
     led some =
@@ -158,7 +144,7 @@ inner-pieces-law k levels front old new rest s among name level c zero n m past 
     let none = nothing-left (read_in k levels 0 n s z).back [] refl back.back in
     let from : c.from ≡ length (standing_in k levels 0 n s z) = first-is c.from (length (standing_in k levels 0 n s z)) up.1 none in
     let news : nodes_in k levels 0 m u s w ≡ nodes_now r 0 m u w =
-    nodes-of k levels front old new rest s among name level 0 m u behind.back_now ∙ sym (drop-none (0 == 0) (trivia_in k levels 0 s w) ((read_in k levels 0 m s w).nodes ++ u.nodes) refl) in
+    nodes-left (onwards_in k levels 0 m s w) (read_in k levels 0 m s w) u.nodes behind.back_now ∙ sym (drop-none (0 == 0) (trivia_in k levels 0 s w) ((read_in k levels 0 m s w).nodes ++ u.nodes) refl) in
     let was = tree k (front ++ (old ++ rest)) in
     let to_markup = path_of s.hole ++ 1 ∷ [] in
     put-there c to_markup (length (standing_in k levels 0 n s z)) (length (standing_in k levels 0 n s z) + length (nodes_in k levels 0 n t s z)) _ _ was kept.tree_now news from to path
@@ -188,7 +174,7 @@ inner-pieces-law k levels front old new rest s among name level c (suc j) n m pa
     (subst (λ f. StandsAt f leading.kids c.from c.start) (sym leading.begins) (subst (λ ts. StandsAt (markup_from k levels text s) ts c.from c.start) kids (well.first some))) in
     let from : c.from ≡ first + trivia_in k levels i s z = same-place leading.from leading.kids c.from (token_byte text e) (first + trivia_in k levels i s z) there (leading.first (well.starts some).0) in
     let news : drop (trivia_in k levels i s z) (nodes_in k levels i m u s w) ≡ nodes_now r i m u w = ap (λ l. drop l (nodes_in k levels i m u s w)) (sym kept.trivia_same)
-    ∙ ap (drop (trivia_in k levels i s w)) (nodes-of k levels front old new rest s among name level i m u behind.back_now)
+    ∙ ap (drop (trivia_in k levels i s w)) (nodes-left (onwards_in k levels i m s w) (read_in k levels i m s w) u.nodes behind.back_now)
     ∙ sym (drop-some (i == 0) (trivia_in k levels i s w) ((read_in k levels i m s w).nodes ++ u.nodes) more) in
     let was = tree k text in
     let to_markup = path_of s.hole ++ 1 ∷ [] in

@@ -104,7 +104,7 @@ module _ (ordered : InOrderLaw) (k : CharClasses) (levels : ℕ) (text : List �
   in-turn x = (in-sane k levels (markup_turn true ends_block x)).within
 
   goes-up-to : (i : ℕ) → i ≤ n.count → AllGo (first_of i (run_at k levels s z0))
-  goes-up-to i l = let r = run_at k levels s z0 in go-fewer (turn_of r) in-turn i n.count (true, 0) r.place r.point l n.go
+  goes-up-to i l = let r = run_at k levels s z0 in go-fewer (turn_of r) i n.count (true, 0) r.place r.point l n.go
 
   -- fewer notes are made in so many pieces than in the block
   few-notes : (i : ℕ) → AllGo (first_of i (run_at k levels s z0)) → notes_in (asks_of (first_of i (run_at k levels s z0))) < length n.inner

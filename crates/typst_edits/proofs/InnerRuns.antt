@@ -200,7 +200,7 @@ module _ (k : CharClasses) (levels : ℕ) (front old rest : List ℕ) (s : Spot 
   over = inner-over k levels text s own.count own.go own.over
 
   rises : (i j : ℕ) → i < j → j ≤ own.count → byte i < byte j
-  rises i j less few = inner-tokens k levels text s i j less (go-fewer (turn_of q) (λ x. (in-sane k levels _).within) j own.count (true, 0) q.place q.point few own.go)
+  rises i j less few = inner-tokens k levels text s i j less (go-fewer (turn_of q) j own.count (true, 0) q.place q.point few own.go)
 
   -- where pieces behind others end
   both-end : (i n j : ℕ) → i + n ≡ j → token_byte text (inner_both k levels i n s z) ≡ byte j

@@ -1,5 +1,5 @@
 -- The units of a text with an edit inside some pieces of a content block's run.
-use Rattle.std.proofs.Common.{◌≡◌, ◌&&◌, if◌then◌else◌, ℕ, zero, suc, ◌+◌, ◌<◌, Bool, true, false, List, [], ◌∷◌, ◌++◌, length, append_assoc, append-nil, Some, None, refl, ap, sym, ◌∙◌, subst, arith}
+use Rattle.std.proofs.Common.{◌≡◌, ◌&&◌, if◌then◌else◌, ℕ, zero, suc, ◌+◌, ◌<◌, Bool, true, false, List, [], ◌∷◌, ◌++◌, length, append_assoc, Some, None, refl, ap, sym, ◌∙◌, subst, arith}
 use Rattle.std.proofs.lemmas.List.{map-append}
 use Rattle.typst_kinds.specs.declared.mode.SyntaxMode.TheVariants as mode
 use Rattle.typst_candidates.specs.Entries.{units_of, spliced}
@@ -10,10 +10,9 @@ use Rattle.typst_language.specs.Tokens.{token}
 use Rattle.typst_language.specs.Ask.{Ask, SameIn, shift, shift_one}
 use Rattle.typst_language.specs.Ask.Ask.{looked}
 use Rattle.typst_language.specs.Hand.{AtHand, len_at, at_trivia, column_look, column_asks, ahead, asks_by, ahead_asks, hand_asks}
-use Rattle.typst_language.specs.declared.calls.Mark.TheVariants as mark
 use Rattle.typst_language.specs.Log.{no_log, logged}
 use Rattle.typst_language.specs.Meaning.{Outcome, hand_asks_of, start_point, run}
-use Rattle.typst_language.specs.Point.{Trivia, Point, point_of, gap_of, state_of}
+use Rattle.typst_language.specs.Point.{Trivia, Point, point_of, gap_of}
 use Rattle.typst_language.specs.Steps.{peek}
 use Rattle.typst_language.proofs.Looks.{same_in-shift, same_in-first, same_in-second}
 use Rattle.typst_language.proofs.Places.{moved-sum}
@@ -24,7 +23,7 @@ use Rattle.typst_edits.specs.Edit.{text_with, AllEndBy, AllBeginIn}
 use Rattle.typst_edits.specs.InnerJoint.{onwards_past, left_past}
 use Rattle.typst_edits.specs.InnerSplice.{note_at, looks_next, own_of, end_note_in, pieces_log_in, InnerSpliceLaw, AroundSpliceLaw}
 use Rattle.typst_edits.specs.Joint.{passed}
-use Rattle.typst_edits.specs.Runs.{AllGo, End, end_of, asks_of, chain}
+use Rattle.typst_edits.specs.Runs.{AllGo, asks_of, chain}
 use Rattle.typst_edits.specs.Sequence.{Sequence, first_of, first_end, then_of, then_end, then_place, rest_of}
 use Rattle.typst_edits.specs.Splice.{Noting, noting, notes_in, token_start, entries_from}
 use Rattle.typst_edits.specs.Spot.{unit_at, lowered}
@@ -39,7 +38,7 @@ use Rattle.typst_edits.proofs.InTurn.{logged-lowered}
 use Rattle.typst_edits.proofs.Joint.{known-is}
 use Rattle.typst_edits.proofs.Led.{before_trivia}
 use Rattle.typst_edits.proofs.Outcomes.{shift-twice}
-use Rattle.typst_edits.proofs.PieceAsks.{lifted, lifted-append, lifted_note, lifted-count, lifted-ends, lifted-shift, begins-lowered, begins-both, begins-further, next-none, Cut, cut, Plain, side-in}
+use Rattle.typst_edits.proofs.PieceAsks.{lifted, lifted-append, lifted_note, lifted-count, lifted-ends, lifted-shift, begins-lowered, begins-both, begins-further, next-none, Cut, cut, again as again-any, Plain, side-in}
 use Rattle.typst_edits.proofs.Reached.{Reached}
 use Rattle.typst_edits.proofs.Resumed.{block-reached}
 use Rattle.typst_edits.proofs.RunSplice.{first_look, first-shift, unshifted, noted-last, noted-first, end-marked, onwards-begin}
@@ -104,10 +103,6 @@ module _ (k : CharClasses) (levels : ℕ) where
   unfolding run
   hands-same y v s h = ap (λ (o : Outcome AtHand). o.asks) ((sane k levels peek).framed y v s h)
 
-  -- the note where pieces end there
-  abbrev note_by : End (Bool × ℕ) → Noting
-  note_by e = record { at = e.taken; gap = gap_of e.state.known; fewer = 0; mark = mark.Piece e.value.0 e.value.1; state = state_of e.state }
-
   -- what is asked up to the note where i pieces end, where this is the note and this comes before it
   record Again (i : ℕ) (early : List Ask) (p : Noting) (w : Place) (d : Outcome (Unit {0})) : Type 0 where
     note : note_at (seq_by k levels d w) d.state i ≡ p
@@ -115,29 +110,13 @@ module _ (k : CharClasses) (levels : ℕ) where
 
   again : (i : ℕ) (z w : Place) (b : Outcome (Unit {0})) (c : Cut (seq_by k levels b z) b.state (lead_by b z).asks i) → first_of i (seq_by k levels b w) ≡ first_of i (seq_by k levels b z)
       → (0 < i → SameIn ((lead_by b z).asks ++ asks_of (first_of i (seq_by k levels b z))) (moved b.taken z) (moved b.taken w)) → Again i c.early (note_at (seq_by k levels b z) b.state i) w b
-  again zero z w b c e h = record { note = refl; is = ap (λ u. piece_mark 0 (true, 0) b.state ∷ u) (append-nil (lead_by b w).asks) ∙ ap (λ u. u ++ piece_mark 0 (true, 0) b.state ∷ (lead_by b w).asks) (sym (c.none refl)) }
-  again (suc j) z w b c e h =
-      let r = seq_by k levels b z in
-      let q = seq_by k levels b w in
+  again i z w b c e h =
       let y = moved b.taken z in
       let v = moved b.taken w in
       let o = lead_by b z in
-      let os = first_of (suc j) r in
-      let shown = h (omega arith) in
-      let led : lead_by b w ≡ o = (sane k levels peek).framed y v b.state (same_in-first o.asks _ y v shown) in
-      let end_is : first_end (suc j) q ≡ first_end (suc j) r = ap (λ (l : Outcome AtHand). end_of (true, 0) l.state (first_of (suc j) q)) led ∙ ap (end_of (true, 0) o.state) e in
-      let a = first_end (suc j) r in
-      let p = noting (note_at r b.state (suc j)) in
-      let looks = looks_next r o.asks (suc j) in
-      let hand = hand_asks_of (inner k levels) (moved a.taken y) a.state in
-      let all_shown : SameIn (c.early ++ p ∷ looks) y v = subst (λ u. SameIn u y v) c.is (tt, shown) in
-      let looks_shown : SameIn hand (moved a.taken y) (moved a.taken v) = same_in-shift a.taken hand y v (same_in-second c.early (p ∷ looks) y v all_shown).1 in
-      let hand_is : hand_asks_of (inner k levels) (moved a.taken v) a.state ≡ hand = hands-same (moved a.taken y) (moved a.taken v) a.state looks_shown in
-      let looks_is : looks_next q (lead_by b w).asks (suc j) ≡ looks = ap (λ (x : End (Bool × ℕ)). shift x.taken (hand_asks_of (inner k levels) (moved x.taken v) x.state)) end_is ∙ ap (shift a.taken) hand_is in
-      record {
-        note = ap (λ (x : End (Bool × ℕ)). note_by x) end_is;
-        is = ap (λ (l : Outcome AtHand). piece_mark 0 (true, 0) b.state ∷ (l.asks ++ asks_of (first_of (suc j) q))) led ∙ ap (λ us. piece_mark 0 (true, 0) b.state ∷ (o.asks ++ asks_of us)) e ∙ c.is ∙ ap (λ u. c.early ++ p ∷ u) (sym looks_is);
-      }
+      let led = λ (some : 0 < i). (sane k levels peek).framed y v b.state (same_in-first o.asks _ y v (h some)) in
+      let a = again-any (seq_by k levels b z) (seq_by k levels b w) b.state o.asks (lead_by b w).asks i c e (λ some. ap (λ (l : Outcome AtHand). l.state) (led some)) (λ some. ap (λ (l : Outcome AtHand). l.asks) (led some)) h hands-same in
+      record { note = a.note; is = a.is }
 
   -- what is asked of a block, by its pieces and what is behind them
   inner-asks : (z : Place) (s : Point) (i n : ℕ) (tail : Outcome (Unit {0})) (close : Outcome Bool) → (let r = inner_run k levels z s in

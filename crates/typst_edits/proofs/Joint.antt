@@ -21,11 +21,11 @@ use Rattle.typst_edits.specs.Edit.{text_with}
 use Rattle.typst_edits.specs.Joint.{minds, passed, Exchanged, Meets, text_run, place_from, onwards_from, JointLaw}
 use Rattle.typst_edits.specs.Runs.{AllGo, End, chain, piece_at, lead, pieces, end_at, pieces_from, end_from, rest_from, tail, whole_of}
 use Rattle.typst_edits.proofs.Edit.{before-same, after-same, same_in-to}
-use Rattle.typst_edits.proofs.Led.{behind_trivia, SameJudged, same-judged, before_trivia, drop-front, Takes}
+use Rattle.typst_edits.proofs.Led.{SameJudged, before_trivia, drop-front, Takes}
 use Rattle.typst_edits.proofs.Meeting.{ReadAs, read-made, Met, met}
 use Rattle.typst_edits.proofs.Runs.{moved-three}
 use Rattle.typst_edits.proofs.Root.{whole-is, split-at, first-same}
-use Rattle.typst_edits.proofs.Turns.{takes-expr, Fronted, fronted-behind}
+use Rattle.typst_edits.proofs.Turns.{takes-expr, Fronted, Taking, fronted-same}
 
 -- both outcomes where the same stands behind the trivia
 pub exchanged : {A : Type 0} (t u : Trivia) (us : List Tree) (o n c : Outcome A) → Fronted t us o c → Fronted u us n c → Exchanged t u o n
@@ -60,10 +60,8 @@ module _ (k : CharClasses) where
   unfolding meaning_of
   takes-call levels h z t u alike x some = takes-expr (level_at k levels) (sane-meaning (rules k) k levels) (sane-block (rules k) k levels) h z t u alike some x.0 x.1
 
-  onward-fronted : (h : Reading) (z : Place) (t : Trivia) (x : Bool × ℕ) (r : Reading) (e : ℕ) (a : Bool) → Fronted t t.nodes (onward x z (before_trivia r h e a t)) (onward x (moved t.gap z) (before_trivia r h e a (behind_trivia t)))
-  onward-fronted h z t x r e a =
-      fronted-behind (level_at k max_depth) (sane-meaning (rules k) k max_depth) (sane-block (rules k) k max_depth) refl is_end refl h z t t (same-judged h t) x r e e a a
-      (minds (markup_head x.0 x.1 (hand_at k h (Some t) z).kind)) (λ some. takes-call 255 h z t t (same-judged h t) x some) (λ go p. refl)
+  pub text-taking : Taking (level_at k max_depth) is_end
+  text-taking = record { calls_sane = sane-meaning (rules k) k max_depth; blocks_sane = sane-block (rules k) k max_depth; level_left = refl; end_stops = refl; takes = takes-call 255 }
 
   -- behind pieces
   pub onwards-is : (i n : ℕ) (z : Place) → onwards_from k i n z ≡ onward (end_from k i n z).value (place_from k i n z) (end_from k i n z).state
@@ -84,7 +82,7 @@ module _ (k : CharClasses) where
       let y = place_from k i n z in
       let c = onward e.value (moved t.gap y) (passed t s) in
       subst (λ o. Fronted t t.nodes o c) (sym (onwards-is i n z)) (subst (λ p. Fronted t t.nodes (onward e.value y p) c) (sym (known-is s t known))
-      (onward-fronted s.held y t e.value s.reading s.empties s.is_after_error))
+      (fronted-same (level_at k max_depth) is_end text-taking s.held y t e.value s.reading s.empties s.is_after_error))
 
 -- the pieces of a text are read as markup
 pub text-read : (k : CharClasses) (i n : ℕ) (z : Place) → ReadAs markup_reading (end_from k i n z).state
@@ -98,7 +96,7 @@ text-read k i n z =
 pub text-met : (k : CharClasses) (z y v : Place) (e f : End (Bool × ℕ)) (t u : Trivia) → Meets (text_run k z) y e f t u → ReadAs markup_reading e.state → ReadAs markup_reading f.state
     → SameIn (onward k e.value (moved t.gap y) (passed t e.state)).asks (moved t.gap y) (moved u.gap v) → Met (text_run k z) y v e f t u
 text-met k z y v e f t u g read read_now shown =
-    met (text_run k z) (sane-meaning (rules k) k max_depth) (sane-block (rules k) k max_depth) refl refl (λ h q a b alike x some. takes-call k 255 h q a b alike x some) y v e f t u g read read_now shown
+    met (text_run k z) (text-taking k) y v e f t u g read read_now shown
 
 pub joint-law : JointLaw
 joint-law k front old new rest i n m past t u h =

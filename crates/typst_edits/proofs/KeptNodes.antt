@@ -45,10 +45,11 @@ use Rattle.typst_edits.proofs.Joint.{onwards-is}
 use Rattle.typst_edits.proofs.Leading.{leading-law, leading-inner-law}
 use Rattle.typst_edits.proofs.Led.{none-less}
 use Rattle.typst_edits.proofs.NoneBack.{inner-onwards-is}
-use Rattle.typst_edits.proofs.OneReading.{one-reading-law, Facts, go-less, go-first, go-second, first-split, end-split-at, later-place, leading, leading-most, leading-some, text-facts, block-facts}
+use Rattle.typst_edits.proofs.OneReading.{one-reading-law, Facts, go-first, go-second, first-split, end-split-at, later-place, leading, leading-most, leading-some, text-facts, block-facts}
 use Rattle.typst_edits.proofs.Replaced.{front-law, trees-bare}
 use Rattle.typst_edits.proofs.RootPieces.{same-place}
 use Rattle.typst_edits.proofs.Text.{content-reads}
+use Rattle.typst_edits.proofs.NoteNumbers.{go-fewer}
 
 -- ---- along a path of a tree that is the same, spans aside
 
@@ -187,7 +188,7 @@ module _ (q : Sequence) (a d : ℕ) where
       omega (arith, few, no, same)
 
   go-before : AllGo (first_of (suc (a + d)) q) → AllGo (first_of (a + d) q)
-  go-before go = go-less (turn_of q) (a + d) (suc (a + d)) (true, 0) q.place q.point (omega arith) go
+  go-before go = go-fewer (turn_of q) (a + d) (suc (a + d)) (true, 0) q.place q.point (omega arith) go
 
   go-a : AllGo (first_of (suc (a + d)) q) → AllGo (first_of a q)
   go-a go = go-first (first_of a q) (then_of a d q) (subst (λ os. AllGo os) (first-split q a d) (go-before go))

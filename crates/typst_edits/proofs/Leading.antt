@@ -39,22 +39,20 @@ use Rattle.typst_edits.specs.Leading.{bytes_of, LeadsAt, opening_child, token_by
 use Rattle.typst_edits.specs.Laws.{blocks_of_text}
 use Rattle.typst_edits.specs.Occurrences.{goes}
 use Rattle.typst_edits.specs.RunTrees.{given}
-use Rattle.typst_edits.specs.Runs.{made, start, piece_at, AllGo, End, end_of, chain, pieces, end_at, pieces_from, end_from, rest_from, tail}
+use Rattle.typst_edits.specs.Runs.{made, start, AllGo, End, end_of, chain, pieces, end_at, pieces_from, end_from, rest_from, tail}
 use Rattle.typst_edits.specs.Sequence.{Sequence, turn_of, first_of, first_end, then_of, then_end, then_place, rest_of}
 use Rattle.typst_edits.specs.Spot.{Spot, last_node, unit_at, ended}
 use Rattle.typst_edits.proofs.BlockRuns.{sane as in-sane, content-split}
 use Rattle.typst_edits.proofs.Blocks.{ends as block-ends, last-is}
-use Rattle.typst_edits.proofs.Boundary.{KnownAt, first-of, stopped-is, turn-goes, turn-known}
-use Rattle.typst_edits.proofs.Children.{given-together, tidy-together, top-gives, settled, stretch-is, made-none, back-law}
-use Rattle.typst_edits.proofs.Clear.{Clear, clear-level}
-use Rattle.typst_edits.proofs.Content.{content-begun}
+use Rattle.typst_edits.proofs.Boundary.{KnownAt, first-of, turn-goes, going-on, known-made}
+use Rattle.typst_edits.proofs.Children.{given-together, tidy-together, stretch-is, back-law, run-apart, text-known}
 use Rattle.typst_edits.proofs.Edit.{among, trees-of}
 use Rattle.typst_edits.proofs.Fitting.{same-here}
 use Rattle.typst_edits.proofs.Fronts.{Full, full-append, full-less, Fronts, fronts-joined, Begins, begins-turn, begins-call}
-use Rattle.typst_edits.proofs.InnerChildren.{opens-by, node-is, pieces-quiet, close-quiet, kids-are, inner-back-law}
+use Rattle.typst_edits.proofs.InnerChildren.{opens-by, node-is, pieces-quiet, close-quiet, kids-are, inner-back-law, begun-at}
 use Rattle.typst_edits.proofs.InnerJoint.{inner-fronted}
 use Rattle.typst_edits.proofs.Inside.{Lawful}
-use Rattle.typst_edits.proofs.Joint.{onwards-fronted}
+use Rattle.typst_edits.proofs.Joint.{onwards-fronted, text-taking}
 use Rattle.typst_edits.proofs.Law.{inside-level}
 use Rattle.typst_edits.proofs.Led.{before_trivia, drop-front, less-behind}
 use Rattle.typst_edits.proofs.Runs.{repeated-chain, chain-state, chain-taken, moved-three}
@@ -203,17 +201,6 @@ module _ (r : Sequence) (leads : Leads r) where
       by-end true e = refl
       by-end false e = let d : true ≡ false = sym (turn-goes-on x z s there.trivia there.is e) ∙ stopped in cc
 
-  -- pieces that go on aren't stopped
-  pub not-over : (x : Bool × ℕ) (z : Place) (s : Point) (b : Bool) → ends r.stops x.1 (told (hand_of r.level z s)).kind ≡ b → goes (turn x z s) ≡ true → ends r.stops x.1 (told (hand_of r.level z s)).kind ≡ false
-  not-over x z s true e g = let f : true ≡ false = sym (first-of (turn x z s).value.0 (nat_lt 0 (turn x z s).taken) g) ∙ stopped-is r.level r.stops x z s e in cc
-  not-over x z s false e g = e
-
-  pub known-from : (n : ℕ) (x : Bool × ℕ) (z : Place) (s : Point) → KnownAt s → AllGo (made turn n x z s) → KnownAt (end_of x s (made turn n x z s)).state
-  known-from zero x z s there g = there
-  known-from (suc n) x z s there g =
-      let o = turn x z s in
-      known-from n o.value.1 (moved o.taken z) o.state (turn-known r.level r.stops x z s (first-of o.value.0 (nat_lt 0 o.taken) g.0)) g.1
-
   -- some pieces
   pieces-front : (n : ℕ) (x : Bool × ℕ) (z : Place) (s : Point) (t : Trivia) → s.known ≡ Some t → 0 < n → AllGo (made turn n x z s)
       → Fronts t (minds (markup_head x.0 x.1 (hand_at r.level.classes s.held (Some t) z).kind)) (together (end_of x s (made turn n x z s)).state (made turn n x z s))
@@ -222,7 +209,7 @@ module _ (r : Sequence) (leads : Leads r) where
       let o = turn x z s in
       let y = moved o.taken z in
       let os = made turn n o.value.1 y o.state in
-      fronts-joined t _ o (together (end_of o.value.1 o.state os).state os) (turn-fronts x z s t is (not-over x z s (ends r.stops x.1 (told (hand_of r.level z s)).kind) refl g.0))
+      fronts-joined t _ o (together (end_of o.value.1 o.state os).state os) (turn-fronts x z s t is (going-on r.level r.stops x z s (first-of o.value.0 (nat_lt 0 o.taken) g.0)))
       (tidy-together turn (λ v. (sane v).backs) n o.value.1 y o.state)
 
   -- all behind some pieces, where another follows
@@ -341,7 +328,7 @@ module _ (r : Sequence) (leads : Leads r) where
     pub first-leads : (from at : ℕ) (kids rest : List Tree) (back : ℕ) (ts : List Tree) → from ≡ width (take a text) → at ≡ width (take (a + (e.taken + gap_of e.state.known)) text) → 0 < n → back ≤ f.state.empties
         → kids ≡ before ++ ((less back p.nodes ++ ts) ++ rest) → LeadsAt from kids at (length before + length (pending e.state.known))
     first-leads from at kids rest back ts from_is at_is some few is =
-        let there_known = known-from i (true, 0) r.place r.point leads.known g in
+        let there_known = known-made r.level r.stops i (true, 0) r.place r.point leads.known g in
         let u = there_known.trivia in
         let us = pending e.state.known in
         let us_is : us ≡ u.nodes = ap pending there_known.is in
@@ -416,9 +403,7 @@ module _ (k : CharClasses) (text : List ℕ) (i n : ℕ) (t : Trivia) (g : AllGo
       let ts = given (pieces k i z0) [] in
       let front = onwards-fronted k i n z0 t known in
       let back = (back-law k text i n).behind_back in
-      let same : p.state ≡ f.state = chain-state (pieces_from k i n z0) (plain (tt {0}) f.state) in
-      let few : o.back ≤ p.state.empties = subst (λ (s : Point). o.back ≤ s.empties) (sym same) back in
-      let apart = settled n f.state (pieces_from k i n z0) o some (λ none. made-none (piece_at k) n e.value (moved e.taken z0) e.state none) (top-gives k i n z0 g h) few in
+      let apart = run-apart r (text-taking k) (text-known k z0) i n o some back g h in
       let before = standing_before k i n z0 in
       let olds = nodes_with k i n t z0 in
       let made_tree = λ (us : List Tree). inner_of kind.Markup (forest us) in
@@ -509,9 +494,8 @@ module _ (k : CharClasses) (levels : ℕ) (text : List ℕ) (c : Spot (Unit {0})
       let r = block_run in
       let o = parsed k max_depth text in
       let l = among (Lawful z1 z1 o o) c _ chosen (inside-level (rules k) k (block-ends k) max_depth whole z1 z1 (start_point markup_reading)) in
-      let clear = among (Clear k z1) c _ chosen (clear-level (rules k) k max_depth whole z1 (start_point markup_reading) tt) in
       let reads = content-reads k text c chosen levels name left z1 in
-      let begun = content-begun (inner k levels) (sane-meaning (rules k) k (suc levels)) (λ b. sane-plain tt) y s refl (clear.clear z1 (same-here c.before z1)) (subst (λ (a : Outcome (Unit {0})). 0 < a.taken) reads takes) in
+      let begun = begun-at k levels text c chosen name left z1 (same-here c.before z1) takes in
       let opens = opens-by k levels y s begun in
       let close = close_at k levels i n c z1 in
       let last = tail_at k levels i n c z1 in

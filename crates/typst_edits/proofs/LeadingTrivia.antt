@@ -1,40 +1,37 @@
 -- Pieces give the trivia before them first, so the exchange of children is the same without these.
-use Rattle.std.proofs.Common.{◌≡◌, ℕ, zero, suc, ◌+◌, ◌<◌, ◌≤◌, ◌==◌, ne_eqb, Bool, true, false, nat_lt, List, [], ◌∷◌, ◌++◌, length, drop, length-append, append_assoc, append-nil, Some, refl, ap, sym, ◌∙◌, subst, arith}
+use Rattle.std.proofs.Common.{◌≡◌, ℕ, zero, suc, ◌+◌, ◌<◌, ◌≤◌, Bool, true, nat_lt, List, [], ◌∷◌, ◌++◌, length, drop, length-append, append_assoc, append-nil, Some, refl, ap, sym, ◌∙◌, subst, arith}
 use Rattle.typst_kinds.specs.declared.kind.SyntaxKind.{SyntaxKind}
 use Rattle.typst_kinds.specs.declared.kind.SyntaxKind.TheVariants as kind
 use Rattle.typst_lines.specs.Place.{Place, moved}
 use Rattle.typst_lines.specs.Classes.{CharClasses}
 use Rattle.typst_tree.specs.Tree.{Tree, forest, trees, inner_of}
-use Rattle.typst_language.specs.declared.calls.Block.{Block}
-use Rattle.typst_language.specs.Calls.{Call}
-use Rattle.typst_language.specs.Calls.Call.{MarkupExpr}
 use Rattle.typst_language.specs.declared.reading.Reading.{Reading}
 use Rattle.typst_language.specs.Depth.{is_end}
-use Rattle.typst_language.specs.Hand.{told, len_at, hand_at}
 use Rattle.typst_language.specs.Point.{Trivia, Point, pending}
-use Rattle.typst_language.specs.Meaning.{Meaning, Level, plain, less, hand_of, run}
+use Rattle.typst_language.specs.Meaning.{Meaning, Level, plain, less, run}
 use Rattle.typst_language.specs.Sound.{Tidy}
-use Rattle.typst_language.proofs.Knot.{Sane, sane-run, sane-meaning, sane-block, sane-plain}
-use Rattle.typst_grammar.specs.Markup.{ends, ends_block, markup_turn, markup_head}
-use Rattle.typst_grammar.specs.Grammar.{rules, level_at, max_depth, tree}
+use Rattle.typst_language.proofs.Knot.{sane-run}
+use Rattle.typst_grammar.specs.Markup.{ends, ends_block, markup_turn}
+use Rattle.typst_grammar.specs.Grammar.{level_at, max_depth, tree}
 use Rattle.typst_edits.specs.BlockRuns.{inner, run_at}
 use Rattle.typst_edits.specs.Children.{exchanged, together, with_children, standing_before, nodes_with}
 use Rattle.typst_edits.specs.Edit.{text_with}
 use Rattle.typst_edits.specs.Hole.{path_of, plug}
 use Rattle.typst_edits.specs.InnerChildren.{standing_in, nodes_in, block_with}
 use Rattle.typst_edits.specs.InnerJoint.{onwards_in}
-use Rattle.typst_edits.specs.Joint.{minds, onwards_from}
+use Rattle.typst_edits.specs.Joint.{onwards_from}
 use Rattle.typst_edits.specs.LeadingTrivia.{LeadingTriviaLaw, InnerLeadingTriviaLaw}
 use Rattle.typst_edits.specs.Runs.{made, AllGo, End, end_of, lead, pieces, end_at, pieces_from, end_from}
 use Rattle.typst_edits.specs.Sequence.{first_of, first_end, then_of, then_end}
 use Rattle.typst_edits.specs.Spot.{Spot}
-use Rattle.typst_edits.proofs.Boundary.{KnownAt, first-of}
-use Rattle.typst_edits.proofs.Children.{exchanged-is, goes-on, turn-led, tidy-together, known-behind, top-known, behind-back, children-law}
+use Rattle.typst_edits.proofs.Boundary.{KnownAt, first-of, going-on, known-made}
+use Rattle.typst_edits.proofs.Children.{exchanged-is, tidy-together, top-known, behind-back, children-law}
 use Rattle.typst_edits.proofs.InnerChildren.{in-behind, inner-children-law, with-run, tree-by-block}
-use Rattle.typst_edits.proofs.InnerJoint.{first-same}
-use Rattle.typst_edits.proofs.Joint.{joint-law, takes-call, known-is}
-use Rattle.typst_edits.proofs.Led.{none-less, less-behind, drop-front, before_trivia, same-judged, led-joined, Takes}
+use Rattle.typst_edits.proofs.InnerJoint.{first-same, block-taking}
+use Rattle.typst_edits.proofs.Joint.{joint-law, known-is, text-taking}
+use Rattle.typst_edits.proofs.Led.{none-less, less-behind, drop-front, before_trivia, led-joined}
 use Rattle.typst_edits.proofs.Runs.{chain-state}
+use Rattle.typst_edits.proofs.Turns.{Taking, turn-led}
 
 -- ---- stretches of nodes
 
@@ -69,8 +66,7 @@ same-exchange xs first os ns zs ts e o n =
 
 -- ---- any run
 
-module _ (l : Level) (sd : (c : Call) → Sane (l.deeper c)) (sb : (b : Block) → Sane (l.blocks b)) (deep : (l.levels == 0) ≡ false) (stops : SyntaxKind → Bool) (end_stops : stops kind.End ≡ true)
-    (call : (h : Reading) (z : Place) (t : Trivia) (x : Bool × ℕ) → 0 < len_at l.classes h.mode (moved t.gap z) → Takes h z t t (minds (markup_head x.0 x.1 (hand_at l.classes h (Some t) z).kind)) (l.deeper (MarkupExpr x.0 x.1))) where
+module _ (l : Level) (stops : SyntaxKind → Bool) (taking : Taking l stops) where
   abbrev turn : Bool × ℕ → Meaning (Bool × (Bool × ℕ))
   turn x = run l (markup_turn true stops x)
 
@@ -85,9 +81,9 @@ module _ (l : Level) (sd : (c : Call) → Sane (l.deeper c)) (sb : (b : Block) �
       let os = made turn n o.value.1 y o.state in
       let end = end_of o.value.1 o.state os in
       let q = together end.state os in
-      let go = goes-on l sd sb deep stops end_stops call x z s (ends stops x.1 (told (hand_of l z s)).kind) refl (first-of o.value.0 (nat_lt 0 o.taken) g.0) in
-      let led = turn-led l sd sb deep stops end_stops call x z r h e a t go in
-      let tidy = tidy-together turn (λ v. (sane-run l sd sb (markup_turn true stops v)).backs) n o.value.1 y o.state in
+      let go = going-on l stops x z s (first-of o.value.0 (nat_lt 0 o.taken) g.0) in
+      let led = turn-led l stops taking x z r h e a t go in
+      let tidy = tidy-together turn (λ v. (sane-run l taking.calls_sane taking.blocks_sane (markup_turn true stops v)).backs) n o.value.1 y o.state in
       let all = led-joined t t.nodes _ o _ q led (subst (λ p. Tidy p q) led.state tidy) in
       let more = all.few in
       let there = ap (λ (p : Point). p.empties) (chain-state os (plain (tt {0}) end.state)) in
@@ -107,8 +103,7 @@ module _ (l : Level) (sd : (c : Call) → Sane (l.deeper c)) (sb : (b : Block) �
 text-leads : (k : CharClasses) (i n : ℕ) (z : Place) (t : Trivia) → AllGo (pieces k i z) → AllGo (pieces_from k i n z) → (end_from k i n z).state.known ≡ Some t → Leads (pending (end_at k i z).state.known) (nodes_with k i n t z)
 text-leads k i n z t g h known =
     let e = end_at k i z in
-    leads-pieces (level_at k max_depth) (sane-meaning (rules k) k max_depth) (sane-block (rules k) k max_depth) refl is_end refl (λ r y u x more. takes-call k 255 r y u u (same-judged r u) x more)
-    n (onwards_from k i n z).back t.nodes e.value (moved e.taken z) e.state (top-known k i z g) h (behind-back k i n z) (ap pending known)
+    leads-pieces (level_at k max_depth) is_end (text-taking k) n (onwards_from k i n z).back t.nodes e.value (moved e.taken z) e.state (top-known k i z g) h (behind-back k i n z) (ap pending known)
 
 end-same : (k : CharClasses) (i : ℕ) (z w : Place) → 0 < i → pieces k i w ≡ pieces k i z → end_at k i w ≡ end_at k i z
 end-same k zero z w some e = absurd (omega (arith, some))
@@ -138,11 +133,8 @@ block-leads k levels i n c z t g h known =
     let l = inner k levels in
     let r = run_at k levels c z in
     let e = first_end i r in
-    let sd = sane-meaning (rules k) k (suc levels) in
-    let deep = ne_eqb (suc levels) 0 (omega arith) in
-    let at = known-behind l sd (λ b. sane-plain tt) deep ends_block refl (λ a y u x more. takes-call k levels a y u u (same-judged a u) x more) i (true, 0) r.place r.point (record { trivia = _; is = refl }) g in
-    leads-pieces l sd (λ b. sane-plain tt) deep ends_block refl (λ a y u x more. takes-call k levels a y u u (same-judged a u) x more)
-    n (onwards_in k levels i n c z).back t.nodes e.value (moved e.taken r.place) e.state at h (in-behind k levels c z i n) (ap pending known)
+    let at = known-made l ends_block i (true, 0) r.place r.point (record { trivia = _; is = refl }) g in
+    leads-pieces l ends_block (block-taking k levels) n (onwards_in k levels i n c z).back t.nodes e.value (moved e.taken r.place) e.state at h (in-behind k levels c z i n) (ap pending known)
 
 block-end-same : (k : CharClasses) (levels i : ℕ) (c : Spot (Unit {0})) (z w : Place) → 0 < i → first_of i (run_at k levels c w) ≡ first_of i (run_at k levels c z) → first_end i (run_at k levels c w) ≡ first_end i (run_at k levels c z)
 block-end-same k levels zero c z w some e = absurd (omega (arith, some))

@@ -222,7 +222,7 @@ same-back : (trims : Bool) (e d : ℕ) → (trims ≡ true → e ≡ d) → (if 
 same-back true e d h = h refl
 same-back false e d h = refl
 
-no-back : (trims : Bool) (d : ℕ) → trims ≡ false → (if trims then d else 0) ≡ 0
+pub no-back : (trims : Bool) (d : ℕ) → trims ≡ false → (if trims then d else 0) ≡ 0
 no-back true d h = cc
 no-back false d h = refl
 

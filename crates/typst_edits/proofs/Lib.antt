@@ -1,12 +1,12 @@
 -- From what a contract promises to the lemma behind it:
 --   block_law: edit              Text: of a whole text; Law: for every parser; Inside, Spots, Grows, Wrap, Outcomes: word by word; Blocks: each block's node; Edit: looks
 --     that the block fits        Fitting; Content: a content block; Enclosed: what stands between brackets; Clear: a block begins at no trivia; Reached: what is known of trivia is all of them; Known: what stays true of what is known
---   block_law: names             Names: each block is the one of its name, between its marks
+--   block_law: names             Names: each block is the one of its name, between its marks; SpotWalk: what holds of each block of a reading, word by word
 --   complete_law                 Complete: word by word, by the notes of the log
 --   standing_law: blocks         StandingLevels: of a whole text; Standing: word by word; Seats: a spot at a position, and in what nodes become; Positions: what holds at each position; CleanTokens: tokens
 --   standing_law: unnoted        UnnotedLevels: of a whole text; Unnoted: word by word
 --   run_law                      Root: of a whole text; RunTrees: its tree and log; BlockRuns: of a content block; Runs: of any loop
---   joint_law                    Joint: of a whole text; InnerJoint: of a content block; Meeting: any run; Turns: each head of markup; Led: each word before a token is taken
+--   joint_law                    Joint: of a whole text; InnerJoint: of a content block; Meeting: any run; Turns: each head of markup, and how a run is read; Led: each word before a token is taken
 --   children_law                 Children: of a whole text; InnerChildren: of a content block; LeadingTrivia: without the trivia before the pieces
 --   head_law                     Heads: any run; NoneBack: in both texts
 --   decision_law                 Bytes: the log; Boundary: where pieces of any run end; RunBytes, JointBytes: of a whole text; InnerBytes: of a content block; Widths: characters and bytes; Within: looks are at places of the text
@@ -41,6 +41,7 @@
 --   joints_of_texts              computed (laws); Begins: the test of looks
 --   answers_of_texts, blocks_of_texts, origins_of_texts, runs_of_texts, splices_of_texts, inner_splices_of_texts, conditions_of_texts, rare_conditions_of_texts      computed (laws)
 pub mod Every
+pub mod SpotWalk
 pub mod Outcomes
 pub mod Wrap
 pub mod Inside

@@ -1,31 +1,28 @@
 -- Where pieces end in two texts, and what has to agree there does, all behind them is the same, but for the trivia before it.
-use Rattle.std.proofs.Common.{◌≡◌, inl, inr, ◌⊎◌, ℕ, zero, suc, ◌<◌, ◌==◌, Bool, true, false, ◌&&◌, if◌then◌else◌, Some, refl, ap, sym, ◌∙◌, subst}
+use Rattle.std.proofs.Common.{◌≡◌, inl, inr, ◌⊎◌, ℕ, zero, suc, Bool, true, false, ◌&&◌, if◌then◌else◌, Some, refl, ap, sym, ◌∙◌, subst}
 use Rattle.typst_kinds.specs.declared.kind.SyntaxKind.{SyntaxKind}
 use Rattle.typst_kinds.specs.declared.kind.SyntaxKind.TheVariants as kind
 use Rattle.typst_kinds.specs.declared.mode.SyntaxMode.{SyntaxMode}
 use Rattle.typst_lines.specs.Place.{Place, moved}
-use Rattle.typst_language.specs.declared.calls.Block.{Block}
-use Rattle.typst_language.specs.Calls.{Call}
-use Rattle.typst_language.specs.Calls.Call.{MarkupExpr}
 use Rattle.typst_language.specs.declared.reading.AtNewline.{AtNewline}
 use Rattle.typst_language.specs.declared.reading.Reading.{Reading}
 use Rattle.typst_language.specs.Ask.{SameIn}
 use Rattle.typst_language.specs.Depth.{is_end}
-use Rattle.typst_language.specs.Hand.{Hand, len_at, hand_at}
+use Rattle.typst_language.specs.Hand.{Hand, hand_at}
 use Rattle.typst_language.specs.Point.{Trivia, Point}
 use Rattle.typst_language.specs.Steps.{flush_trivia}
 use Rattle.typst_language.specs.Syntax.{◌>>=◌}
 use Rattle.typst_language.specs.Syntax.Parser.{repeat}
 use Rattle.typst_language.specs.Meaning.{Outcome, Meaning}
 use Rattle.typst_language.proofs.Frame.{hand-frame}
-use Rattle.typst_language.proofs.Knot.{Sane, sane-run}
+use Rattle.typst_language.proofs.Knot.{sane-run}
 use Rattle.typst_language.proofs.Rests.{Rests, Restful}
 use Rattle.typst_grammar.specs.Markup.{ends, markup_turn, markup_head, markup_reading}
 use Rattle.typst_edits.specs.Joint.{minds, onwards, passed, is_over_at, Meets}
 use Rattle.typst_edits.specs.Runs.{End, made, end_of}
 use Rattle.typst_edits.specs.Sequence.{Sequence}
-use Rattle.typst_edits.proofs.Led.{behind_trivia, SameJudged, same-judged, before_trivia, Takes, kind-behind}
-use Rattle.typst_edits.proofs.Turns.{Fronted, fronted-behind, stopped-alike, hand-seen}
+use Rattle.typst_edits.proofs.Led.{behind_trivia, SameJudged, before_trivia, kind-behind}
+use Rattle.typst_edits.proofs.Turns.{Fronted, fronted-behind, stopped-alike, hand-seen, Taking, fronted-same}
 use Rattle.typst_edits.proofs.EmptyRuns.{and-false as none-and}
 
 -- ---- how a run is read
@@ -79,8 +76,7 @@ pub record Met (r : Sequence) (y v : Place) (e f : End (Bool × ℕ)) (t u : Tri
   -- and so is the token at hand
   pub kind : (hand_at r.level.classes f.state.held f.state.known v).kind ≡ (hand_at r.level.classes e.state.held e.state.known y).kind
 
-module _ (r : Sequence) (sd : (c : Call) → Sane (r.level.deeper c)) (sb : (b : Block) → Sane (r.level.blocks b)) (deep : (r.level.levels == 0) ≡ false) (end_stops : r.stops kind.End ≡ true)
-    (call : (h : Reading) (z : Place) (t u : Trivia) → SameJudged h t u → (x : Bool × ℕ) → 0 < len_at r.level.classes h.mode (moved t.gap z) → Takes h z t u (minds (markup_head x.0 x.1 (hand_at r.level.classes h (Some t) z).kind)) (r.level.deeper (MarkupExpr x.0 x.1))) where
+module _ (r : Sequence) (taking : Taking r.level r.stops) where
   -- where expressions end nothing depends on what is carried
   carried : (y : Place) (e f : End (Bool × ℕ)) (t u : Trivia) → Meets r y e f t u → (b : Bool) → is_over_at r y e ≡ b → onwards r f.value (moved t.gap y) (passed t e.state) ≡ onwards r e.value (moved t.gap y) (passed t e.state)
   unfolding hand_at
@@ -89,7 +85,7 @@ module _ (r : Sequence) (sd : (c : Call) → Sane (r.level.deeper c)) (sb : (b :
       let token = (hand_at r.level.classes e.state.held (Some (behind_trivia t)) (moved t.gap y)).kind in
       let here : is_over_at r y e ≡ ends r.stops e.value.1 token = ap (λ k. ends r.stops e.value.1 (hand_at r.level.classes e.state.held k y).kind) g.known in
       let over = sym here ∙ o in
-      stopped-alike r.level sd sb deep r.stops end_stops e.value f.value (moved t.gap y) (passed t e.state) over (g.over o token ∙ over)
+      stopped-alike r.level r.stops taking e.value f.value (moved t.gap y) (passed t e.state) over (g.over o token ∙ over)
 
   -- the errors before them matter where an expression follows that minds them
   errors : (y : Place) (e f : End (Bool × ℕ)) (t u : Trivia) → Meets r y e f t u → (new : SyntaxKind) → new ≡ (hand_at r.level.classes e.state.held e.state.known y).kind → (b : Bool) → is_over_at r y e ≡ b
@@ -115,7 +111,7 @@ module _ (r : Sequence) (sd : (c : Call) → Sane (r.level.deeper c)) (sb : (b :
       let held : fs.held ≡ es.held = read_now.held ∙ sym read.held in
       let alike = judged-alike fs.held u t read_now.held in
       -- the token at hand
-      let seen = hand-seen l sd sb deep r.stops end_stops e.value there here (passed t es) shown in
+      let seen = hand-seen l r.stops taking e.value there here (passed t es) shown in
       let token = ap (λ (x : Hand). x.kind) (hand-frame l.classes es.held (Some (behind_trivia t)) there here seen).hand in
       let now : (hand_at l.classes fs.held (Some u) v).kind ≡ (hand_at l.classes es.held (Some t) y).kind =
       sym (kind-behind l fs.held v u t alike) ∙ ap (λ h. (hand_at l.classes h (Some (behind_trivia t)) here).kind) held ∙ token in
@@ -123,18 +119,18 @@ module _ (r : Sequence) (sd : (c : Call) → Sane (r.level.deeper c)) (sb : (b :
       -- all behind
       let one : Fronted t t.nodes (onwards r e.value y es) c =
       subst (λ s. Fronted t t.nodes (onwards r e.value y s) c) (sym known_is)
-      (fronted-behind l sd sb deep r.stops end_stops es.held y t t (same-judged es.held t) e.value es.reading es.empties es.empties es.is_after_error es.is_after_error _ (λ some. call es.held y t t (same-judged es.held t) e.value some) (λ go p. refl)) in
+      (fronted-same l r.stops taking es.held y t e.value es.reading es.empties es.is_after_error) in
       let d = onwards r f.value here (before_trivia fs.reading fs.held es.empties es.is_after_error (behind_trivia t)) in
       let two : Fronted u t.nodes (onwards r f.value v fs) d =
       subst (λ s. Fronted u t.nodes (onwards r f.value v s) d) (sym known_now_is)
-      (fronted-behind l sd sb deep r.stops end_stops fs.held v u t alike f.value fs.reading fs.empties es.empties fs.is_after_error es.is_after_error _ (λ some. call fs.held v u t alike f.value some)
+      (fronted-behind l r.stops taking fs.held v u t alike f.value fs.reading fs.empties es.empties fs.is_after_error es.is_after_error
       (errors y e f t u g (hand_at l.classes fs.held (Some u) v).kind now_known (is_over_at r y e) refl)) in
       let other = onwards r f.value there (passed t es) in
       let carries : other ≡ c = carried y e f t u g (is_over_at r y e) refl in
       let same : d ≡ c =
       ap (λ a. onwards r f.value here (before_trivia a fs.held es.empties es.is_after_error (behind_trivia t))) (read_now.reading ∙ sym read.reading)
       ∙ ap (λ a. onwards r f.value here (before_trivia es.reading a es.empties es.is_after_error (behind_trivia t))) held
-      ∙ (sane-run l sd sb (repeat (markup_turn true r.stops) f.value >>= λ _. flush_trivia)).framed there here (passed t es) (subst (λ (o : Outcome (Unit {0})). SameIn o.asks there here) (sym carries) shown)
+      ∙ (sane-run l taking.calls_sane taking.blocks_sane (repeat (markup_turn true r.stops) f.value >>= λ _. flush_trivia)).framed there here (passed t es) (subst (λ (o : Outcome (Unit {0})). SameIn o.asks there here) (sym carries) shown)
       ∙ carries in
       record {
         one = one;

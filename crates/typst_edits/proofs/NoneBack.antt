@@ -1,5 +1,5 @@
 -- The expression where pieces begin that are read again is the same in both texts, so what they take back is too.
-use Rattle.std.proofs.Common.{◌≡◌, ℕ, zero, suc, ◌+◌, ◌<◌, ◌≤◌, Bool, true, ◌++◌, refl, ap, sym, ◌∙◌, subst, arith}
+use Rattle.std.proofs.Common.{◌≡◌, ℕ, zero, suc, ◌+◌, ◌<◌, ◌≤◌, Bool, true, ◌++◌, refl, ap, sym, ◌∙◌, subst, arith, List, length}
 use Rattle.typst_kinds.specs.declared.kind.SyntaxKind.{SyntaxKind}
 use Rattle.typst_lines.specs.Place.{Place, moved}
 use Rattle.typst_lines.specs.Classes.{CharClasses}
@@ -15,15 +15,15 @@ use Rattle.typst_language.proofs.Looks.{same_in-shift, same_in-first, same_in-se
 use Rattle.typst_language.proofs.Places.{moved-sum}
 use Rattle.typst_grammar.specs.Markup.{ends_block, markup_turn, markup_head}
 use Rattle.typst_grammar.specs.Grammar.{rules, max_depth, level_at}
-use Rattle.typst_edits.specs.BlockRuns.{inner, bracket, inner_lead, run_at}
+use Rattle.typst_edits.specs.BlockRuns.{inner, bracket, inner_lead, run_at, EndsBefore}
 use Rattle.typst_edits.specs.Children.{read_from}
-use Rattle.typst_edits.specs.Edit.{text_with}
-use Rattle.typst_edits.specs.Heads.{first_place, onwards_by, NoneBackLaw, InnerNoneBackLaw, NoneBehindLaw, InnerNoneBehindLaw}
+use Rattle.typst_edits.specs.Edit.{text_with, AllEndBy}
+use Rattle.typst_edits.specs.Heads.{first_place, onwards_by, NoneBackLaw, InnerNoneBackLaw, NoneBehindLaw, InnerNoneBehindLaw, minds_at}
 use Rattle.typst_edits.specs.InnerChildren.{read_in}
 use Rattle.typst_edits.specs.InnerJoint.{onwards_in}
-use Rattle.typst_edits.specs.Joint.{minds, onwards_from}
+use Rattle.typst_edits.specs.Joint.{minds, onwards_from, text_run}
 use Rattle.typst_edits.specs.Runs.{made, AllGo, End, end_of, asks_of, lead, pieces, end_at, piece_at}
-use Rattle.typst_edits.specs.Sequence.{turn_of, first_of, first_end, then_end, rest_of}
+use Rattle.typst_edits.specs.Sequence.{turn_of, first_of, first_end, then_end, rest_of, Sequence}
 use Rattle.typst_edits.specs.Spot.{Spot}
 use Rattle.typst_edits.proofs.BlockRuns.{sane}
 use Rattle.typst_edits.proofs.Boundary.{made-ends, turn-ends}
@@ -73,29 +73,41 @@ pub lead-empties : (k : CharClasses) (z : Place) → (lead k z).state.empties �
 unfolding run
 lead-empties k z = refl
 
+-- behind some pieces of two runs stands the same, and the expression there minds as before
+pub record Minds (i : ℕ) (q p : Sequence) : Type 0 where
+  pub ends : first_end i p ≡ first_end i q
+  pub minds : minds_at p (first_place i p) (first_end i p) ≡ minds_at q (first_place i q) (first_end i q)
+
+module _ (k : CharClasses) (front old new rest : List ℕ) where
+  pub text-minds : (i : ℕ) → 0 < i → AllGo (pieces k i (text_with front old rest)) → AllEndBy (length front) ((lead k (text_with front old rest)).asks ++ asks_of (pieces k i (text_with front old rest)))
+      → Minds i (text_run k (text_with front old rest)) (text_run k (text_with front new rest))
+  text-minds zero some go looks = absurd (omega (arith, some))
+  text-minds (suc i) some go looks =
+      let z = text_with front old rest in
+      let w = text_with front new rest in
+      let l = level_at k max_depth in
+      let seen = before-same _ front old new rest looks in
+      let e = end_at k (suc i) z in
+      let d = end_at k (suc i) w in
+      let same : d ≡ e = ap (end_of (true, 0) (lead k z).state) (pieces-same k (suc i) z w (λ l. seen)).pieces_same in
+      let kind = cut-same l is_end i (true, 0) z w (lead k z).state go (same_in-second (lead k z).asks _ z w seen) in
+      let place : moved d.taken w ≡ moved e.taken w = ap (λ (a : End (Bool × ℕ)). moved a.taken w) same in
+      record { ends = same; minds = minds-same l d e (moved e.taken z) (moved d.taken w) same (ap (λ p. (hand_of l p e.state).kind) place ∙ kind) }
+
 pub none-back-law : NoneBackLaw
 none-back-law k front old new rest zero n m past t u h well =
     let z = text_with front old rest in
     let w = text_with front new rest in
     record { back = none-left _ _ (text-back k 0 n z) (lead-empties k z); back_now = none-left _ _ (text-back k 0 m w) (lead-empties k w) }
 none-back-law k front old new rest (suc i) n m past t u h well =
-    let z = text_with front old rest in
     let w = text_with front new rest in
-    let j = suc i in
-    let some : 0 < j = omega arith in
-    let seen = before-same _ front old new rest (h.before some) in
-    let f = pieces-same k j z w (λ l. seen) in
-    let new_first : AllGo (pieces k j w) = subst (λ os. AllGo os) (sym f.pieces_same) h.first_go in
-    let e = end_at k j z in
-    let d = end_at k j w in
-    let same : d ≡ e = ap (end_of (true, 0) (lead k z).state) f.pieces_same in
-    let kind = cut-same (level_at k max_depth) is_end i (true, 0) z w (lead k z).state h.first_go (same_in-second (lead k z).asks _ z w seen) in
-    let place : moved d.taken w ≡ moved e.taken w = ap (λ (a : End (Bool × ℕ)). moved a.taken w) same in
-    let minded = minds-same (level_at k max_depth) d e (moved e.taken z) (moved d.taken w) same (ap (λ p. (hand_of (level_at k max_depth) p e.state).kind) place ∙ kind) in
-    let was = head-law k z j n h.first_go h.old_go in
-    let now = head-law k w j m new_first h.new_go in
+    let some : 0 < suc i = omega arith in
+    let new_first : AllGo (pieces k (suc i) w) = subst (λ os. AllGo os) (sym (joint-law k front old new rest (suc i) n m past t u h).first) h.first_go in
     let mild = (well some).1 in
-    record { back = was.pieces_back mild; back_now = now.pieces_back (minded ∙ mild) }
+    record {
+      back = (head-law k (text_with front old rest) (suc i) n h.first_go h.old_go).pieces_back mild;
+      back_now = (head-law k w (suc i) m new_first h.new_go).pieces_back ((text-minds k front old new rest (suc i) some h.first_go (h.before some)).minds ∙ mild);
+    }
 
 -- ---- a content block's run
 
@@ -109,6 +121,29 @@ block-empties : (k : CharClasses) (levels : ℕ) (c : Spot (Unit {0})) (z : Plac
 unfolding run
 block-empties k levels c z e = e
 
+module _ (k : CharClasses) (levels : ℕ) (front old new rest : List ℕ) (c : Spot (Unit {0})) where
+  pub block-minds : (i : ℕ) → 0 < i → AllGo (first_of i (run_at k levels c (text_with front old rest))) → EndsBefore k levels front old rest c i → Minds i (run_at k levels c (text_with front old rest)) (run_at k levels c (text_with front new rest))
+  block-minds zero some go looks = absurd (omega (arith, some))
+  block-minds (suc i) some go looks =
+      let z0 = text_with front old rest in
+      let w0 = text_with front new rest in
+      let z = moved c.at z0 in
+      let w = moved c.at w0 in
+      let l = inner k levels in
+      let r = run_at k levels c z0 in
+      let q = run_at k levels c w0 in
+      let o = inner_lead k levels z (point_of c.start) in
+      let b = bracket k levels z (point_of c.start) in
+      let f = first-same k levels front old new rest c (suc i) looks in
+      let seen : SameIn (o.asks ++ asks_of (first_of (suc i) r)) r.place (moved b.taken w) =
+      same_in-to _ _ _ _ _ (sym (moved-sum c.at b.taken z0)) (sym (moved-sum c.at b.taken w0)) (same_in-shift (c.at + b.taken) _ z0 w0 (before-same _ front old new rest (looks.before_run some))) in
+      let e = first_end (suc i) r in
+      let d = first_end (suc i) q in
+      let same : d ≡ e = ap (end_of (true, 0) r.point) f.first in
+      let kind = cut-same l ends_block i (true, 0) r.place (moved b.taken w) r.point go (same_in-second o.asks _ r.place (moved b.taken w) seen) in
+      let place : first_place (suc i) q ≡ moved e.taken (moved b.taken w) = ap (λ (a : End (Bool × ℕ)). moved a.taken q.place) same ∙ ap (λ (a : Outcome (Unit {0})). moved e.taken (moved a.taken w)) f.opened in
+      record { ends = same; minds = minds-same l d e (first_place (suc i) r) (first_place (suc i) q) same (ap (λ p. (hand_of l p e.state).kind) place ∙ kind) }
+
 pub inner-none-back-law : InnerNoneBackLaw
 inner-none-back-law k levels front old new rest c zero n m past t u chosen h well =
     let z = text_with front old rest in
@@ -119,33 +154,15 @@ inner-none-back-law k levels front old new rest c zero n m past t u chosen h wel
       back_now = none-left _ _ (block-back k levels 0 m c w) (block-empties k levels c w opens.new_opens.empties);
     }
 inner-none-back-law k levels front old new rest c (suc i) n m past t u chosen h well =
-    let z0 = text_with front old rest in
-    let w0 = text_with front new rest in
-    let z = moved c.at z0 in
-    let w = moved c.at w0 in
+    let some : 0 < suc i = omega arith in
     let s = point_of c.start in
-    let j = suc i in
-    let some : 0 < j = omega arith in
-    let l = inner k levels in
-    let r = run_at k levels c z0 in
-    let q = run_at k levels c w0 in
-    let b = bracket k levels z s in
-    let looks = h.pieces.looks in
-    let f = first-same k levels front old new rest c j looks in
-    let seen : SameIn ((inner_lead k levels z s).asks ++ asks_of (first_of j r)) r.place (moved b.taken w) =
-    same_in-to _ _ _ _ _ (sym (moved-sum c.at b.taken z0)) (sym (moved-sum c.at b.taken w0)) (same_in-shift (c.at + b.taken) _ z0 w0 (before-same _ front old new rest (looks.before_run some))) in
-    let new_first : AllGo (first_of j q) = subst (λ os. AllGo os) (sym f.first) h.pieces.first_go in
-    let e = first_end j r in
-    let d = first_end j q in
-    let same : d ≡ e = ap (end_of (true, 0) r.point) f.first in
-    let kind = cut-same l ends_block i (true, 0) r.place (moved b.taken w) r.point h.pieces.first_go (same_in-second (inner_lead k levels z s).asks _ r.place (moved b.taken w) seen) in
-    let place : first_place j q ≡ moved e.taken (moved b.taken w) =
-    ap (λ (a : End (Bool × ℕ)). moved a.taken q.place) same ∙ ap (λ (o : Outcome (Unit {0})). moved e.taken (moved o.taken w)) f.opened in
-    let minded = minds-same l d e (first_place j r) (first_place j q) same (ap (λ p. (hand_of l p e.state).kind) place ∙ kind) in
-    let was = inner-head-law k levels z s j n h.pieces.first_go h.pieces.old_go in
-    let now = inner-head-law k levels w s j m new_first h.pieces.new_go in
+    let w = text_with front new rest in
+    let new_first : AllGo (first_of (suc i) (run_at k levels c w)) = subst (λ os. AllGo os) (sym (first-same k levels front old new rest c (suc i) h.pieces.looks).first) h.pieces.first_go in
     let mild = (well some).1 in
-    record { back = was.pieces_back mild; back_now = now.pieces_back (minded ∙ mild) }
+    record {
+      back = (inner-head-law k levels (moved c.at (text_with front old rest)) s (suc i) n h.pieces.first_go h.pieces.old_go).pieces_back mild;
+      back_now = (inner-head-law k levels (moved c.at w) s (suc i) m new_first h.pieces.new_go).pieces_back ((block-minds k levels front old new rest c (suc i) some h.pieces.first_go h.pieces.looks).minds ∙ mild);
+    }
 
 -- ---- behind the pieces
 

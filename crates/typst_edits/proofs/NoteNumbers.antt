@@ -38,12 +38,18 @@ numbered-at P i (m ∷ ms) n ns h = subst (λ j. P j n) (omega arith) (numbered-
 
 -- ---- turns
 
-module _ {A : Type 0} (m : A → Meaning (Bool × A)) (within : (x : A) → Within (m x)) where
+module _ {A : Type 0} (m : A → Meaning (Bool × A)) where
   -- fewer of them go on, too
   pub go-fewer : (i n : ℕ) (x : A) (z : Place) (s : Point) → i ≤ n → AllGo (made m n x z s) → AllGo (made m i x z s)
   go-fewer zero n x z s l g = tt
   go-fewer (suc i) zero x z s l g = absurd (omega (arith, l))
   go-fewer (suc i) (suc n) x z s l g = let o = m x z s in (g.0, go-fewer i n o.value.1 (moved o.taken z) o.state (omega (arith, l)) g.1)
+
+  -- and take no more
+  pub least-taken : (i n : ℕ) (x : A) (z : Place) (s : Point) → i ≤ n → (end_of x s (made m i x z s)).taken ≤ (end_of x s (made m n x z s)).taken
+  least-taken zero n x z s l = omega arith
+  least-taken (suc i) zero x z s l = absurd (omega (arith, l))
+  least-taken (suc i) (suc n) x z s l = let o = m x z s in let more = least-taken i n o.value.1 (moved o.taken z) o.state (omega (arith, l)) in omega (arith, more)
 
   -- the one behind the first so many goes on where more do
   pub go-next : (n : ℕ) (x : A) (z : Place) (s : Point) → AllGo (made m (suc n) x z s) → (let e = end_of x s (made m n x z s) in goes (m e.value (moved e.taken z) e.state) ≡ true)
@@ -59,7 +65,8 @@ module _ {A : Type 0} (m : A → Meaning (Bool × A)) (within : (x : A) → With
   more-taken zero (suc n) x z s l g = let o = m x z s in let some : 0 < o.taken = ltb-true 0 o.taken (and-second o.value.0 (nat_lt 0 o.taken) g.0) in omega (arith, some)
   more-taken (suc i) (suc n) x z s l g = let o = m x z s in let more = more-taken i n o.value.1 (moved o.taken z) o.state (omega (arith, l)) g.1 in omega (arith, more)
 
-  -- and no more than there is, with the trivia behind them
+module _ {A : Type 0} (m : A → Meaning (Bool × A)) (within : (x : A) → Within (m x)) where
+  -- they take no more than there is, with the trivia behind them
   pub turns-within : (n : ℕ) (x : A) (z : Place) (s : Point) → (let e = end_of x s (made m n x z s) in e.taken + gap_of e.state.known ≤ bound z s)
   turns-within zero x z s = omega arith
   turns-within (suc n) x z s = let o = m x z s in let most = within x z s in let more = turns-within n o.value.1 (moved o.taken z) o.state in omega (arith, most, more)
@@ -102,7 +109,7 @@ number-law k text i g p =
     let long = ap length split in
     let sum = length-append before (p.note ∷ behind) in
     let fits : j ≤ numbered.count = omega (arith, all, long, sum) in
-    let go_j : AllGo (pieces k j z) = go-fewer m (within k) j numbered.count (true, 0) z s fits numbered.go in
+    let go_j : AllGo (pieces k j z) = go-fewer m j numbered.count (true, 0) z s fits numbered.go in
     let at_i = (end_at k i z).taken in
     let at_j = (end_at k j z).taken in
     let same : width (take at_i text) ≡ width (take at_j text) = sym p.before ∙ here.says.before in
@@ -112,5 +119,5 @@ number-law k text i g p =
     let room_i : at_i ≤ length text = omega (arith, known, most_i) in
     let room_j : at_j ≤ length text = omega (arith, known, most_j) in
     neither j i
-    (λ l. (let more = take-longer at_j at_i text (more-taken m (within k) j i (true, 0) z s l g) room_i in omega (arith, more, same)))
-    (λ l. (let more = take-longer at_i at_j text (more-taken m (within k) i j (true, 0) z s l go_j) room_j in omega (arith, more, same)))
+    (λ l. (let more = take-longer at_j at_i text (more-taken m j i (true, 0) z s l g) room_i in omega (arith, more, same)))
+    (λ l. (let more = take-longer at_i at_j text (more-taken m i j (true, 0) z s l go_j) room_j in omega (arith, more, same)))

@@ -1,5 +1,5 @@
 -- The notes of a run by their numbers.
-use Rattle.std.proofs.Common.{◌≡◌, ℕ, zero, suc, ◌+◌, ◌-◌, ◌<◌, ◌==◌, ne_eqb, if◌then◌else◌, Bool, true, false, ◌&&◌, nat_lt, List, [], ◌∷◌, ◌++◌, length, take, length-append, Some, refl, ap, sym, ◌∙◌, subst, arith}
+use Rattle.std.proofs.Common.{◌≡◌, ℕ, zero, suc, ◌+◌, ◌-◌, ◌<◌, if◌then◌else◌, Bool, true, false, ◌&&◌, nat_lt, List, [], ◌∷◌, ◌++◌, length, take, length-append, refl, ap, sym, ◌∙◌, subst, arith}
 use borrow.Author.Tests.{ltb-true, lt-ltb}
 use Rattle.typst_kinds.specs.declared.kind.SyntaxKind.{SyntaxKind}
 use Rattle.typst_kinds.specs.declared.kind.SyntaxKind.TheVariants as kind
@@ -8,34 +8,30 @@ use Rattle.typst_lines.specs.Place.{Place, moved}
 use Rattle.typst_candidates.specs.Nested.{Nested}
 use Rattle.typst_lines.specs.Classes.{CharClasses}
 use Rattle.typst_tokens.specs.Sight.{width, position}
-use Rattle.typst_language.specs.declared.calls.Block.{Block}
 use Rattle.typst_language.specs.declared.calls.Block.TheVariants as block
-use Rattle.typst_language.specs.Calls.{Call}
 use Rattle.typst_language.specs.Calls.Call.{MarkupExpr}
 use Rattle.typst_language.specs.declared.calls.Mark.{Mark}
 use Rattle.typst_language.specs.declared.calls.Mark.TheVariants as mark
 use Rattle.typst_language.specs.declared.calls.Note.{Note}
-use Rattle.typst_language.specs.declared.reading.Reading.{Reading}
 use Rattle.typst_language.specs.declared.reading.State.{State}
 use Rattle.typst_language.specs.Ask.{Ask, shift}
 use Rattle.typst_language.specs.Depth.{deeper, is_end}
-use Rattle.typst_language.specs.Hand.{told, len_at, hand_at}
+use Rattle.typst_language.specs.Hand.{told}
 use Rattle.typst_language.specs.Log.{Log, no_log, logged}
-use Rattle.typst_language.specs.Point.{Trivia, Point, gap_of, point_of, state_of}
+use Rattle.typst_language.specs.Point.{Point, gap_of, point_of, state_of}
 use Rattle.typst_language.specs.Shape.{after_node}
 use Rattle.typst_language.specs.Shape.Making.{itself}
 use Rattle.typst_language.specs.Steps.{close_if}
 use Rattle.typst_language.specs.Syntax.Op.{takes}
 use Rattle.typst_language.specs.Meaning.{Outcome, Meaning, Level, joined, turns, as_last, bound, repeated, hand_of, hand_asks_of, asked, run, plain, done}
-use Rattle.typst_language.proofs.Knot.{Sane, sane-run, sane-meaning, sane-block, sane-plain}
+use Rattle.typst_language.proofs.Knot.{sane-run}
 use Rattle.typst_language.proofs.Places.{moved-sum}
 use Rattle.typst_language.proofs.Within.{and-second}
-use Rattle.typst_grammar.specs.Markup.{ends, markup_turn, markup_head, ends_block}
-use Rattle.typst_grammar.specs.Grammar.{rules, max_depth, level_at, start_of, parsed, log}
+use Rattle.typst_grammar.specs.Markup.{ends, markup_turn, ends_block}
+use Rattle.typst_grammar.specs.Grammar.{max_depth, level_at, start_of, parsed, log}
 use Rattle.typst_edits.specs.BlockRuns.{inner, look_first, look_again, bracket, inner_lead, inner_run, inner_tail, inner_close, run_at, opened_at}
 use Rattle.typst_edits.specs.Edit.{Among}
 use Rattle.typst_edits.specs.InnerBytes.{inner_end}
-use Rattle.typst_edits.specs.Joint.{minds}
 use Rattle.typst_edits.specs.Laws.{blocks_of_text, block_at}
 use Rattle.typst_edits.specs.NumberedNotes.{of_level, Numbered, cut_behind, SaysOf, NumberedRunLaw, NumberedInner, NumberedInnerLaw}
 use Rattle.typst_edits.specs.Occurrences.{goes}
@@ -48,11 +44,9 @@ use Rattle.typst_edits.proofs.BlockRuns.{content-is}
 use Rattle.typst_edits.proofs.Boundary.{KnownAt, stopped-is, stopped-asks, turn-asks, early-marks, turn-goes, turn-known, piece_mark}
 use Rattle.typst_edits.proofs.BlockLog.{own_asks, block-log}
 use Rattle.typst_edits.proofs.Bytes.{counted}
-use Rattle.typst_edits.proofs.Children.{turn-led}
 use Rattle.typst_edits.proofs.InnerBytes.{asks_before, run_mark, content-asks}
 use Rattle.typst_edits.proofs.InTurn.{InTurn, turn-append, turn-next, turn-by, turn-shift, Deeper, turn-none, NoteNth, noted-nth, numbered-by, logged-lowered}
-use Rattle.typst_edits.proofs.Joint.{takes-call, known-is}
-use Rattle.typst_edits.proofs.Led.{same-judged, Takes}
+use Rattle.typst_edits.proofs.Joint.{known-is, text-taking}
 use Rattle.typst_edits.proofs.Marks.{AllMarks, marks-append, marks-shift, none-hand}
 use Rattle.typst_edits.proofs.Nested.{Nests, unit-nests, noted-nested, same-behind, same-some}
 use Rattle.typst_edits.proofs.Root.{whole-is}
@@ -61,6 +55,8 @@ use Rattle.typst_edits.proofs.Spots.{if-true, if-false}
 use Rattle.typst_edits.proofs.Text.{content-reads}
 use Rattle.typst_edits.proofs.Widths.{width-moved}
 use Rattle.typst_edits.proofs.EmptyRuns.{none-flush as flush-marks}
+use Rattle.typst_edits.proofs.Turns.{Taking, turn-led}
+use Rattle.typst_edits.proofs.InnerJoint.{block-taking}
 
 -- the mark of a number stands where so many turns end
 pub record EndsNth (m : Bool × ℕ → Meaning (Bool × (Bool × ℕ))) (x : Bool × ℕ) (z : Place) (s : Point) (i at gap : ℕ) (what : Mark) (state : State) : Type 0 where
@@ -76,8 +72,7 @@ pub record TurnMarks (m : Bool × ℕ → Meaning (Bool × (Bool × ℕ))) (x : 
   pub over : (let e = end_of x s (made m count x z s) in goes (m e.value (moved e.taken z) e.state) ≡ false)
   pub marks : InTurn (EndsNth m x z s) 1 (suc count) asks
 
-module _ (l : Level) (sd : (c : Call) → Sane (l.deeper c)) (sb : (b : Block) → Sane (l.blocks b)) (deep : (l.levels == 0) ≡ false) (stops : SyntaxKind → Bool) (end_stops : stops kind.End ≡ true)
-    (call : (h : Reading) (z : Place) (t : Trivia) (x : Bool × ℕ) → 0 < len_at l.classes h.mode (moved t.gap z) → Takes h z t t (minds (markup_head x.0 x.1 (hand_at l.classes h (Some t) z).kind)) (l.deeper (MarkupExpr x.0 x.1))) where
+module _ (l : Level) (stops : SyntaxKind → Bool) (taking : Taking l stops) where
   abbrev turn : Bool × ℕ → Meaning (Bool × (Bool × ℕ))
   turn x = run l (markup_turn true stops x)
 
@@ -86,7 +81,7 @@ module _ (l : Level) (sd : (c : Call) → Sane (l.deeper c)) (sb : (b : Block) �
   goes-on x z s known go =
       let t = known.trivia in
       let is = known-is l.classes s t known.is in
-      let led = turn-led l sd sb deep stops end_stops call x z s.reading s.held s.empties s.is_after_error t (subst (λ p. ends stops x.1 (told (hand_of l z p)).kind ≡ false) is go) in
+      let led = turn-led l stops taking x z s.reading s.held s.empties s.is_after_error t (subst (λ p. ends stops x.1 (told (hand_of l z p)).kind ≡ false) is go) in
       let same : turn x z s ≡ turn x z _ = ap (turn x z) is in
       let some = led.some in
       let taken = led.taken in
@@ -107,7 +102,7 @@ module _ (l : Level) (sd : (c : Call) → Sane (l.deeper c)) (sb : (b : Block) �
       let early = hand_asks_of l z s ++ (d.asks ++ shift d.taken (hand_asks_of l there d.state)) in
       let last : InTurn P 1 2 (piece_mark o.taken o.value.1 o.state ∷ shift o.taken looks) = (own, turn-none P 2 (shift o.taken looks) quiet) in
       subst (λ u. InTurn P 1 2 u) (sym (turn-asks l stops x z s go))
-      (turn-append P 1 1 2 early (shift o.taken looks ++ piece_mark o.taken o.value.1 o.state ∷ shift o.taken looks) (turn-none P 1 early (early-marks l stops x z s Deeper deep (λ at fewer m p. omega arith)))
+      (turn-append P 1 1 2 early (shift o.taken looks ++ piece_mark o.taken o.value.1 o.state ∷ shift o.taken looks) (turn-none P 1 early (early-marks l stops x z s Deeper taking.level_left (λ at fewer m p. omega arith)))
       (turn-append P 1 1 2 (shift o.taken looks) _ (turn-none P 1 (shift o.taken looks) quiet) last))
 
   turn-by-end : (n : ℕ) (x : Bool × ℕ) (z : Place) (s : Point) → KnownAt s → bound z s < suc n → ((y : Bool × ℕ) (w : Place) (p : Point) → KnownAt p → bound w p < n → TurnMarks turn y w p (turns turn n y w p).asks)
@@ -125,7 +120,7 @@ module _ (l : Level) (sd : (c : Call) → Sane (l.deeper c)) (sb : (b : Block) �
       let P = EndsNth turn x z s in
       let g = goes-on x z s known e in
       let some : 0 < o.taken = ltb-true 0 o.taken (and-second o.value.0 (nat_lt 0 o.taken) g) in
-      let most = (sane-run l sd sb (markup_turn true stops x)).within z s in
+      let most = (sane-run l taking.calls_sane taking.blocks_sane (markup_turn true stops x)).within z s in
       let more = turns turn n o.value.1 y o.state in
       let is : (turns turn (suc n) x z s).asks ≡ o.asks ++ shift o.taken more.asks = ap (λ (u : Outcome (Bool × ℕ)). u.asks) (if-true (goes o) (joined o more) (as_last o) g) in
       let r = rest o.value.1 y o.state (turn-known l stops x z s (turn-goes l stops x z s e)) (omega (arith, h, some, most)) in
@@ -194,8 +189,7 @@ numbered-run-law k text =
     let q = repeated (piece_at k) (true, 0) z s in
     let t = tail k q.taken q.state z in
     let is = ap (λ (o : Outcome (Unit {0})). o.asks) (whole-is k text) ∙ whole-asks k z q t in
-    let r = run-in (level_at k max_depth) (sane-meaning (rules k) k max_depth) (sane-block (rules k) k max_depth) refl is_end refl (λ h y u x more. takes-call k 255 h y u u (same-judged h u) x more)
-    (true, 0) z s (record { trivia = _; is = refl }) in
+    let r = run-in (level_at k max_depth) is_end (text-taking k) (true, 0) z s (record { trivia = _; is = refl }) in
     let P = λ (i at gap : ℕ) (m : Mark) (p : State). CutsNth (piece_at k) (true, 0) z s 0 i at gap m p in
     let c = suc r.count in
     let first = turn-none P 1 (lead k z).asks (none-hand Deeper k start.held start.known z) in
@@ -251,8 +245,7 @@ module _ (k : CharClasses) (levels : ℕ) (z : Place) (s : Point) where
   unfolding run
   block-turns =
       let r = the_run in
-      let sd = sane-meaning (rules k) k (suc levels) in
-      run-in (inner k levels) sd (λ b. sane-plain tt) (ne_eqb (suc levels) 0 (omega arith)) ends_block refl (λ a y u x more. takes-call k levels a y u u (same-judged a u) x more) (true, 0) r.place r.point (record { trivia = _; is = refl })
+      run-in (inner k levels) ends_block (block-taking k levels) (true, 0) r.place r.point (record { trivia = _; is = refl })
 
   block-cuts : InTurn (λ i at gap m p. Cut opened i at gap m p) 0 (suc block-turns.count) (block_at k (suc levels) block.Content z s).asks
   unfolding run

@@ -2,29 +2,25 @@
 use Rattle.std.proofs.Common.{◌≡◌, ℕ, zero, suc, ◌+◌, ◌-◌, ◌<◌, ◌≤◌, ◌==◌, ne_eqb, if◌then◌else◌, Bool, true, false, ◌&&◌, nat_lt, List, [], ◌∷◌, ◌++◌, length, drop, length-append, append_assoc, Some, refl, ap, sym, ◌∙◌, subst, arith}
 use Rattle.std.proofs.lemmas.List.{map-append}
 use borrow.Author.Tests.{lt-ltb}
-use Rattle.typst_kinds.specs.declared.kind.SyntaxKind.TheVariants as kind
 use Rattle.typst_lines.specs.Place.{Place, moved}
 use Rattle.typst_lines.specs.Classes.{CharClasses}
 use Rattle.typst_tree.specs.Tree.{Tree}
-use Rattle.typst_language.specs.declared.calls.Block.{Block}
 use Rattle.typst_language.specs.declared.calls.Block.TheVariants as block
-use Rattle.typst_language.specs.Calls.{Call}
 use Rattle.typst_language.specs.Calls.Call.{MarkupExpr}
 use Rattle.typst_language.specs.declared.reading.Reading.{Reading}
-use Rattle.typst_language.specs.Ask.{Ask, SameIn, shift, shift_one}
+use Rattle.typst_language.specs.Ask.{Ask, shift, shift_one}
 use Rattle.typst_language.specs.Depth.{is_end}
-use Rattle.typst_language.specs.Hand.{told, len_at, hand_at}
+use Rattle.typst_language.specs.Hand.{hand_at}
 use Rattle.typst_language.specs.Point.{Trivia, Point, gap_of, pending, point_of}
 use Rattle.typst_language.specs.Steps.{peek}
 use Rattle.typst_language.specs.Syntax.{Parser}
 use Rattle.typst_language.specs.Meaning.{Outcome, Meaning, Level, plain, less, joined, hand_of, run}
 use Rattle.typst_language.specs.Shape.{hinted}
 use Rattle.typst_language.specs.Sound.{Within}
-use Rattle.typst_language.proofs.Knot.{Sane, sane-run, sane-meaning, sane-block, sane-plain}
-use Rattle.typst_language.proofs.Looks.{same_in-shift, same_in-second}
+use Rattle.typst_language.proofs.Knot.{sane-run}
 use Rattle.typst_language.proofs.Places.{moved-sum, less-none}
 use Rattle.typst_grammar.specs.Markup.{ends, ends_block, markup_turn, markup_head}
-use Rattle.typst_grammar.specs.Grammar.{rules, level_at, max_depth}
+use Rattle.typst_grammar.specs.Grammar.{rules, max_depth}
 use Rattle.typst_edits.specs.BlockRuns.{inner as block_level, bracket, inner_lead, run_at, opened_at, EndsBefore}
 use Rattle.typst_edits.specs.Children.{together}
 use Rattle.typst_edits.specs.Edit.{Among, text_with, AllEndBy}
@@ -38,21 +34,22 @@ use Rattle.typst_edits.specs.Resumed.{fresh, SamePiece, Resumes}
 use Rattle.typst_edits.specs.Runs.{made, AllGo, End, end_of, asks_of, chain, lead, start, pieces, end_at}
 use Rattle.typst_edits.specs.Sequence.{Sequence, turn_of, first_of, first_end, then_of, then_end, then_place}
 use Rattle.typst_edits.specs.Spot.{Spot}
-use Rattle.typst_edits.proofs.Boundary.{KnownAt, first-of, made-add, looks_in, each-ends, end-split}
-use Rattle.typst_edits.proofs.Children.{goes-on, known-behind, tidy-together, gives-pieces}
-use Rattle.typst_edits.proofs.Edit.{before-same, same_in-to}
+use Rattle.typst_edits.proofs.Boundary.{KnownAt, first-of, made-add, looks_in, each-ends, end-split, going-on, known-made}
+use Rattle.typst_edits.proofs.Children.{tidy-together, gives-pieces}
+use Rattle.typst_edits.proofs.Edit.{before-same}
 use Rattle.typst_edits.proofs.Heads.{erring-call, headed, Erring}
-use Rattle.typst_edits.proofs.InnerJoint.{first-same}
-use Rattle.typst_edits.proofs.Joint.{takes-call}
+use Rattle.typst_edits.proofs.InnerJoint.{first-same, block-taking}
+use Rattle.typst_edits.proofs.Joint.{text-taking}
 use Rattle.typst_edits.proofs.LeadingTrivia.{Leads, leads-pieces}
-use Rattle.typst_edits.proofs.Led.{drop-front, before_trivia, SameJudged, same-judged, standing-led, Takes}
-use Rattle.typst_edits.proofs.NoneBack.{cut-same, minds-same}
-use Rattle.typst_edits.proofs.NoteNumbers.{go-next}
+use Rattle.typst_edits.proofs.Led.{drop-front, before_trivia, standing-led}
+use Rattle.typst_edits.proofs.NoteNumbers.{go-next, go-fewer, least-taken}
 use Rattle.typst_edits.proofs.Outcomes.{shift-zero}
 use Rattle.typst_edits.proofs.Resumed.{takes-more, resume-law, inner-resume-law}
 use Rattle.typst_edits.proofs.RunTrees.{standing-still}
 use Rattle.typst_edits.proofs.Root.{first-same as pieces-same}
 use Rattle.typst_edits.proofs.Seen.{Sees, end-first, end-second, end-shift, sees-plain, sees-run, sees-meaning, sees-level}
+use Rattle.typst_edits.proofs.Turns.{Taking}
+use Rattle.typst_edits.proofs.NoneBack.{text-minds, block-minds}
 
 -- ---- pieces in two parts
 
@@ -67,12 +64,6 @@ module _ (m : Bool × ℕ → Meaning (Bool × (Bool × ℕ))) where
       let a : suc i + n ≡ suc (i + n) = omega arith in
       ap (λ j. made m j x z s) a ∙ ap (λ us. o ∷ us) (made-split i n o.value.1 y o.state ∙ ap (λ w. os ++ made m n e.value w e.state) (sym (moved-sum o.taken e.taken z)))
 
-  -- more of them take no less
-  more-take : (i n : ℕ) (x : Bool × ℕ) (z : Place) (s : Point) → i ≤ n → (end_of x s (made m i x z s)).taken ≤ (end_of x s (made m n x z s)).taken
-  more-take zero n x z s l = omega arith
-  more-take (suc i) zero x z s l = absurd (omega (arith, l))
-  more-take (suc i) (suc n) x z s l = let o = m x z s in let more = more-take i n o.value.1 (moved o.taken z) o.state (omega (arith, l)) in omega (arith, more)
-
   -- they end, with their trivia, by where their looks do
   made-seen : ((x : Bool × ℕ) → Sees (m x)) → (n : ℕ) (x : Bool × ℕ) (z : Place) (s : Point) (most : ℕ) → gap_of s.known ≤ most → AllEndBy most (asks_of (made m n x z s))
       → (let e = end_of x s (made m n x z s) in e.taken + gap_of e.state.known ≤ most)
@@ -83,12 +74,6 @@ module _ (m : Bool × ℕ → Meaning (Bool × (Bool × ℕ))) where
       let one = (sees x z s most g).ends (end-first most o.asks (shift o.taken later) h) in
       let two = made-seen sees n o.value.1 (moved o.taken z) o.state (most - o.taken) (omega (arith, one)) (end-shift o.taken (most - o.taken) most later (omega arith) (end-second most o.asks (shift o.taken later) h)) in
       omega (arith, one, two)
-
-  -- fewer of them go on, too
-  pub go-less : (i n : ℕ) (x : Bool × ℕ) (z : Place) (s : Point) → i ≤ n → AllGo (made m n x z s) → AllGo (made m i x z s)
-  go-less zero n x z s l g = tt
-  go-less (suc i) zero x z s l g = absurd (omega (arith, l))
-  go-less (suc i) (suc n) x z s l g = let o = m x z s in (g.0, go-less i n o.value.1 (moved o.taken z) o.state (omega (arith, l)) g.1)
 
 module _ {A : Type 0} where
   pub go-first : (os ps : List (Outcome (Bool × A))) → AllGo (os ++ ps) → AllGo os
@@ -206,28 +191,24 @@ fresh-known : (l : Level) (w : Place) → KnownAt (fresh l w)
 unfolding run
 fresh-known l w = record { trivia = _; is = refl }
 
-module _ (q : Sequence) (sd : (c : Call) → Sane (q.level.deeper c)) (sb : (b : Block) → Sane (q.level.blocks b)) (deep : (q.level.levels == 0) ≡ false) (end_stops : q.stops kind.End ≡ true)
-    (call : (h : Reading) (z : Place) (t u : Trivia) → SameJudged h t u → (x : Bool × ℕ) → 0 < len_at q.level.classes h.mode (moved t.gap z) → Takes h z t u (minds (markup_head x.0 x.1 (hand_at q.level.classes h (Some t) z).kind)) (q.level.deeper (MarkupExpr x.0 x.1)))
+module _ (q : Sequence) (taking : Taking q.level q.stops)
     (wrong : (g h : Reading) (e : ℕ) (a : Bool) (z : Place) (t : Trivia) (x : Bool × ℕ) → minds (markup_head x.0 x.1 (hand_at q.level.classes h (Some t) z).kind) ≡ true → Erring t (q.level.deeper (MarkupExpr x.0 x.1) z (before_trivia g h e a t)))
     (known : KnownAt q.point) where
-  abbrev call_too : (h : Reading) (z : Place) (t : Trivia) (x : Bool × ℕ) → 0 < len_at q.level.classes h.mode (moved t.gap z) → Takes h z t t (minds (markup_head x.0 x.1 (hand_at q.level.classes h (Some t) z).kind)) (q.level.deeper (MarkupExpr x.0 x.1))
-  call_too h z t x some = call h z t t (same-judged h t) x some
-
   within : (x : Bool × ℕ) → Within (turn_of q x)
-  within x = (sane-run q.level sd sb (markup_turn true q.stops x)).within
+  within x = (sane-run q.level taking.calls_sane taking.blocks_sane (markup_turn true q.stops x)).within
 
   there : (i : ℕ) → AllGo (first_of i q) → KnownAt (first_end i q).state
-  there i g = known-behind q.level sd sb deep q.stops end_stops call_too i (true, 0) q.place q.point known g
+  there i g = known-made q.level q.stops i (true, 0) q.place q.point known g
 
   none-hinted : (i n : ℕ) → AllGo (first_of i q) → AllGo (then_of i n q) → (read_by i n q).hints ≡ []
   none-hinted i zero g h = refl
-  none-hinted i (suc n) g h = let e = first_end i q in (gives-pieces q.level sd sb deep q.stops end_stops call_too (suc n) e.value (first_place i q) e.state (omega arith) (there i g) h).hints
+  none-hinted i (suc n) g h = let e = first_end i q in (gives-pieces q.level q.stops taking (suc n) e.value (first_place i q) e.state (omega arith) (there i g) h).hints
 
   none-back : (i n : ℕ) → AllGo (first_of i q) → AllGo (then_of i n q) → (b : Bool) → minds_at q (first_place i q) (first_end i q) ≡ b → TakesNone i q → (read_by i n q).back ≡ 0
-  none-back i n g h false m none = (headed q sd sb deep end_stops call_too wrong known i n g h).pieces_back m
+  none-back i n g h false m none = (headed q taking wrong known i n g h).pieces_back m
   none-back i n g h true m none =
       let e = first_end i q in
-      let few = (tidy-together (turn_of q) (λ v. (sane-run q.level sd sb (markup_turn true q.stops v)).backs) n e.value (first_place i q) e.state).back in
+      let few = (tidy-together (turn_of q) (λ v. (sane-run q.level taking.calls_sane taking.blocks_sane (markup_turn true q.stops v)).backs) n e.value (first_place i q) e.state).back in
       let no = none m in
       omega (arith, few, no)
 
@@ -235,9 +216,9 @@ module _ (q : Sequence) (sd : (c : Call) → Sane (q.level.deeper c)) (sb : (b :
   goes-further i g =
       let e = first_end i q in
       let w = moved e.taken q.place in
-      let go = go-next (turn_of q) within i (true, 0) q.place q.point g in
-      let at = there i (go-less (turn_of q) i (suc i) (true, 0) q.place q.point (omega arith) g) in
-      let more = takes-more q.level sd sb deep q.stops end_stops call e.value w e.state at (first-of _ _ go) in
+      let go = go-next (turn_of q) i (true, 0) q.place q.point g in
+      let at = there i (go-fewer (turn_of q) i (suc i) (true, 0) q.place q.point (omega arith) g) in
+      let more = takes-more q.level q.stops taking e.value w e.state at (first-of _ _ go) in
       let one : suc i ≡ i + 1 = omega arith in
       let next = ap (λ n. (first_end n q).taken) one in
       let sum = ap (λ (u : End (Bool × ℕ)). u.taken) (end-split-at q i 1) in
@@ -246,7 +227,7 @@ module _ (q : Sequence) (sd : (c : Call) → Sane (q.level.deeper c)) (sb : (b :
   few-fresh : (x : Bool × ℕ) (w : Place) → goes (turn_of q x w (fresh q.level w)) ≡ true → (turn_of q x w (fresh q.level w)).state.empties < length (turn_of q x w (fresh q.level w)).nodes
   few-fresh x w g =
       let c = turn_of q x w (fresh q.level w) in
-      let gives = (gives-pieces q.level sd sb deep q.stops end_stops call_too 1 x w (fresh q.level w) (omega arith) (fresh-known q.level w) (g, tt)).few in
+      let gives = (gives-pieces q.level q.stops taking 1 x w (fresh q.level w) (omega arith) (fresh-known q.level w) (g, tt)).few in
       let is = ap length (standing-still (plain (tt {0}) c.state) c.nodes refl refl refl) in
       omega (arith, gives, is)
 
@@ -254,7 +235,7 @@ module _ (q : Sequence) (sd : (c : Call) → Sane (q.level.deeper c)) (sb : (b :
   facts = record {
     leads = λ i n t g h k.
         (let e = first_end i q in
-        let l = leads-pieces q.level sd sb deep q.stops end_stops call_too n 0 t.nodes e.value (first_place i q) e.state (there i g) h (omega arith) (ap pending k) in
+        let l = leads-pieces q.level q.stops taking n 0 t.nodes e.value (first_place i q) e.state (there i g) h (omega arith) (ap pending k) in
         subst (λ us. Leads (pending e.state.known) (us ++ t.nodes)) (less-none (read_by i n q).nodes) l);
     hints = none-hinted;
     back = λ i n g h none. none-back i n g h (minds_at q (first_place i q) (first_end i q)) refl none;
@@ -263,9 +244,9 @@ module _ (q : Sequence) (sd : (c : Call) → Sane (q.level.deeper c)) (sb : (b :
     not_over = λ i g.
         (let e = first_end i q in
         let w = first_place i q in
-        goes-on q.level sd sb deep q.stops end_stops call_too e.value w e.state (ends q.stops e.value.1 (told (hand_of q.level w e.state)).kind) refl (first-of _ _ (go-next (turn_of q) within i (true, 0) q.place q.point g)));
-    behind = λ i n g h mild. (headed q sd sb deep end_stops call_too wrong known i n g h).behind_back (λ over. mild);
-    tidy = λ n x w p. (tidy-together (turn_of q) (λ v. (sane-run q.level sd sb (markup_turn true q.stops v)).backs) n x w p).back;
+        going-on q.level q.stops e.value w e.state (first-of _ _ (go-next (turn_of q) i (true, 0) q.place q.point g)));
+    behind = λ i n g h mild. (headed q taking wrong known i n g h).behind_back (λ over. mild);
+    tidy = λ n x w p. (tidy-together (turn_of q) (λ v. (sane-run q.level taking.calls_sane taking.blocks_sane (markup_turn true q.stops v)).backs) n x w p).back;
   }
 
 -- ---- what two runs share before the stretch
@@ -393,8 +374,8 @@ module _ (k : CharClasses) (front old new rest : List ℕ) (r : Run k (front ++ 
   too-few n m past t u h l =
       let some : 0 < a + d = omega (arith, l) in
       let up : suc (a + m) ≤ a + d = omega (arith, l) in
-      let more = s.facts_now.further (a + m) (go-less (turn_of now) (suc (a + m)) (a + d) (true, 0) now.place now.point up go_now) in
-      let most = more-take (turn_of now) (suc (a + m)) (a + d) (true, 0) now.place now.point up in
+      let more = s.facts_now.further (a + m) (go-fewer (turn_of now) (suc (a + m)) (a + d) (true, 0) now.place now.point up go_now) in
+      let most = least-taken (turn_of now) (suc (a + m)) (a + d) (true, 0) now.place now.point up in
       let same = ap (λ (e : End (Bool × ℕ)). e.taken) (begins some) in
       let sum = ap (λ (e : End (Bool × ℕ)). e.taken) (end-split-at now a m) in
       let gap : gap_of (first_end (a + m) now).state.known ≡ u.gap = ap (λ (e : End (Bool × ℕ)). gap_of e.state.known) (end-split-at now a m) ∙ ap gap_of h.known_now in
@@ -452,8 +433,7 @@ minded-too i q p m e none h = ap (λ (x : End (Bool × ℕ)). x.state.empties) e
 module _ (k : CharClasses) (z : Place) where
   pub text-facts : Facts (text_run k z)
   unfolding run
-  text-facts =
-      facts (text_run k z) (sane-meaning (rules k) k max_depth) (sane-block (rules k) k max_depth) refl refl (λ r y t u alike x some. takes-call k 255 r y t u alike x some) (erring-call k 255) (record { trivia = _; is = refl })
+  text-facts = facts (text_run k z) (text-taking k) (erring-call k 255) (record { trivia = _; is = refl })
 
   -- pieces end, with their trivia, by where their looks and the look at the first token do
   pub text-seen : (i most : ℕ) → AllEndBy most ((lead k z).asks ++ asks_of (pieces k i z)) → (end_at k i z).taken + gap_of (end_at k i z).state.known ≤ most
@@ -471,20 +451,7 @@ module _ (k : CharClasses) (front old new rest : List ℕ) where
   text_now = text_with front new rest
 
   pub text-clear : (i : ℕ) → 0 < i → AllGo (pieces k i text_was) → AllEndBy (length front) ((lead k text_was).asks ++ asks_of (pieces k i text_was)) → TakesNone i (text_run k text_was) → TakesNone i (text_run k text_now)
-  text-clear zero some go looks = absurd (omega (arith, some))
-  text-clear (suc i) some go looks =
-      let z = text_was in
-      let w = text_now in
-      let j = suc i in
-      let l = level_at k max_depth in
-      let seen = before-same _ front old new rest looks in
-      let f = pieces-same k j z w (λ l. seen) in
-      let e = end_at k j z in
-      let d = end_at k j w in
-      let same : d ≡ e = ap (end_of (true, 0) (lead k z).state) f.pieces_same in
-      let kind = cut-same l is_end i (true, 0) z w (lead k z).state go (same_in-second (lead k z).asks _ z w seen) in
-      let place : moved d.taken w ≡ moved e.taken w = ap (λ (a : End (Bool × ℕ)). moved a.taken w) same in
-      minded-too j (text_run k z) (text_run k w) (minds-same l d e (moved e.taken z) (moved d.taken w) same (ap (λ p. (hand_of l p e.state).kind) place ∙ kind)) same
+  text-clear i some go looks = let m = text-minds k front old new rest i some go looks in minded-too i (text_run k text_was) (text_run k text_now) m.minds m.ends
 
   text-starts : (a d : ℕ) → AllGo (pieces k (a + d) text_was) → Before k front old rest top (a + d) → Starts k front old new rest top a d
   text-starts a d go before =
@@ -509,9 +476,7 @@ module _ (k : CharClasses) (front old new rest : List ℕ) where
 module _ (k : CharClasses) (levels : ℕ) (c : Spot (Unit {0})) (z : Place) where
   pub block-facts : Facts (run_at k levels c z)
   unfolding run
-  block-facts =
-      facts (run_at k levels c z) (sane-meaning (rules k) k (suc levels)) (λ b. sane-plain tt) (ne_eqb (suc levels) 0 (omega arith)) refl (λ r y t u alike x some. takes-call k levels r y t u alike x some) (erring-call k levels)
-      (record { trivia = _; is = refl })
+  block-facts = facts (run_at k levels c z) (block-taking k levels) (erring-call k levels) (record { trivia = _; is = refl })
 
   pub block-sees : {A : Type 0} (p : Parser A) → Sees (run (block_level k levels) p)
   block-sees p = sees-run (block_level k levels) (sees-meaning (rules k) k (suc levels)) (λ b. sees-plain tt) p
@@ -544,27 +509,7 @@ module _ (k : CharClasses) (levels : ℕ) (front old new rest : List ℕ) (c : S
   run_now = run_at k levels c (text_with front new rest)
 
   pub block-clear : (i : ℕ) → 0 < i → AllGo (first_of i run_was) → EndsBefore k levels front old rest c i → TakesNone i run_was → TakesNone i run_now
-  block-clear zero some go looks = absurd (omega (arith, some))
-  block-clear (suc i) some go looks =
-      let z0 = text_with front old rest in
-      let w0 = text_with front new rest in
-      let z = moved c.at z0 in
-      let w = moved c.at w0 in
-      let j = suc i in
-      let l = block_level k levels in
-      let r = run_was in
-      let q = run_now in
-      let o = inner_lead k levels z (point_of c.start) in
-      let b = bracket k levels z (point_of c.start) in
-      let f = first-same k levels front old new rest c j looks in
-      let seen : SameIn (o.asks ++ asks_of (first_of j r)) r.place (moved b.taken w) =
-      same_in-to _ _ _ _ _ (sym (moved-sum c.at b.taken z0)) (sym (moved-sum c.at b.taken w0)) (same_in-shift (c.at + b.taken) _ z0 w0 (before-same _ front old new rest (looks.before_run some))) in
-      let e = first_end j r in
-      let d = first_end j q in
-      let same : d ≡ e = ap (end_of (true, 0) r.point) f.first in
-      let kind = cut-same l ends_block i (true, 0) r.place (moved b.taken w) r.point go (same_in-second o.asks _ r.place (moved b.taken w) seen) in
-      let place : first_place j q ≡ moved e.taken (moved b.taken w) = ap (λ (a : End (Bool × ℕ)). moved a.taken q.place) same ∙ ap (λ (a : Outcome (Unit {0})). moved e.taken (moved a.taken w)) f.opened in
-      minded-too j r q (minds-same l d e (first_place j r) (first_place j q) same (ap (λ p. (hand_of l p e.state).kind) place ∙ kind)) same
+  block-clear i some go looks = let m = block-minds k levels front old new rest c i some go looks in minded-too i run_was run_now m.minds m.ends
 
   pub takes-some : (i : ℕ) → 0 < i → AllGo (first_of i run_was) → 0 < (first_end i run_was).taken
   takes-some zero some go = absurd (omega (arith, some))

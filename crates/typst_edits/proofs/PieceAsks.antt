@@ -1,24 +1,25 @@
 -- What is asked of pieces of any run, cut at the note where some of them end.
-use Rattle.std.proofs.Common.{◌≡◌, ℕ, zero, suc, ◌+◌, ◌<◌, true, List, [], ◌∷◌, ◌++◌, append_assoc, append-nil, refl, ap, sym, ◌∙◌, subst, arith}
+use Rattle.std.proofs.Common.{◌≡◌, ℕ, zero, suc, ◌+◌, ◌<◌, true, List, [], ◌∷◌, ◌++◌, append_assoc, append-nil, refl, ap, sym, ◌∙◌, subst, arith, Bool}
 use Rattle.std.proofs.lemmas.List.{map-append}
 use Rattle.typst_lines.specs.Place.{Place, moved}
 use Rattle.typst_language.specs.declared.calls.Mark.TheVariants as mark
-use Rattle.typst_language.specs.Ask.{Ask, shift, shift_one}
+use Rattle.typst_language.specs.Ask.{Ask, shift, shift_one, SameIn}
 use Rattle.typst_language.specs.Ask.Ask.{looked, marked}
 use Rattle.typst_language.specs.Meaning.{hand_asks_of}
 use Rattle.typst_language.specs.Point.{Point, gap_of, state_of}
 use Rattle.typst_edits.specs.Edit.{AllEndBy, AllBeginIn}
 use Rattle.typst_edits.specs.InnerSplice.{note_at, looks_next, own_of}
-use Rattle.typst_edits.specs.Runs.{AllGo, asks_of}
+use Rattle.typst_edits.specs.Runs.{AllGo, asks_of, End, end_of}
 use Rattle.typst_edits.specs.Sequence.{Sequence, turn_of, first_of, first_end, then_of, then_end, then_place}
 use Rattle.typst_edits.specs.Splice.{Noting, noting, notes_in}
 use Rattle.typst_edits.specs.Spot.{lower, lowered}
 use Rattle.typst_edits.proofs.Boundary.{looks_in, piece_mark, each-ends, made-ends, end-split, end-both}
 use Rattle.typst_edits.proofs.EmptyRuns.{Never}
 use Rattle.typst_edits.proofs.Marks.{AllMarks, none-hand}
-use Rattle.typst_edits.proofs.Outcomes.{shift-zero, shift-twice}
+use Rattle.typst_edits.proofs.Outcomes.{shift-zero, shift-twice, lowered-zero}
 use Rattle.typst_edits.proofs.Sides.{Side, entries_at, back_at, count-append, count-none, bare-shift, side-closed, side-open}
 use Rattle.typst_edits.proofs.Splice.{token-at}
+use Rattle.typst_language.proofs.Looks.{same_in-shift, same_in-second}
 
 -- ---- asks of a larger whole
 
@@ -188,3 +189,36 @@ module _ (r : Sequence) (first : Point) (ls : List Ask) where
         let own : own_in i (suc n) ≡ lifted a f c.second ++ noting q ∷ lifted a f looks = ap (lifted a f) c.is ∙ lifted-append a f c.second _ in
         side-closed lv z (lifted_note a f (note_at r first i)) q (own_in i (suc n)) (own_in i (suc n) ++ more) (lifted a f c.second) (lifted a f looks) end last own (lifted-bare a f looks (end-bare i (suc n)))
         (ap (λ u. u ++ more) own ∙ append_assoc (lifted a f c.second) (noting q ∷ lifted a f looks) more ∙ ap (λ u. lifted a f c.second ++ noting q ∷ u) late) (token-at z q end here)
+
+-- ---- the same run in another text
+
+-- asks of the whole itself
+pub lifted-none : (ls : List Ask) → lifted 0 0 ls ≡ ls
+lifted-none ls = shift-zero (lowered 0 ls) ∙ lowered-zero ls
+
+module _ (r q : Sequence) (first : Point) (ls ks : List Ask) where
+  abbrev note_by : End (Bool × ℕ) → Noting
+  note_by e = record { at = e.taken; gap = gap_of e.state.known; fewer = 0; mark = mark.Piece e.value.0 e.value.1; state = state_of e.state }
+
+  -- what is asked there up to the note where some pieces end
+  pub record Again (i : ℕ) (early : List Ask) : Type 0 where
+    pub note : note_at q first i ≡ note_at r first i
+    pub is : piece_mark 0 (true, 0) first ∷ (ks ++ asks_of (first_of i q)) ≡ early ++ noting (note_at r first i) ∷ looks_next q ks i
+
+  -- where these pieces are the same, and so is all that was looked at
+  pub again : (i : ℕ) (c : Cut r first ls i) → first_of i q ≡ first_of i r → (0 < i → q.point ≡ r.point) → (0 < i → ks ≡ ls) → (0 < i → SameIn (ls ++ asks_of (first_of i r)) r.place q.place)
+      → ((y v : Place) (s : Point) → SameIn (hand_asks_of r.level y s) y v → hand_asks_of q.level v s ≡ hand_asks_of r.level y s) → Again i c.early
+  again zero c same point asks shown frame = record { note = refl; is = ap (λ u. piece_mark 0 (true, 0) first ∷ u) (append-nil ks) ∙ ap (λ u. u ++ piece_mark 0 (true, 0) first ∷ ks) (sym (c.none refl)) }
+  again (suc j) c same point asks shown frame =
+      let some : 0 < suc j = omega arith in
+      let e = first_end (suc j) r in
+      let end_is : first_end (suc j) q ≡ e = ap (λ (s : Point). end_of (true, 0) s (first_of (suc j) q)) (point some) ∙ ap (end_of (true, 0) r.point) same in
+      let p = noting (note_at r first (suc j)) in
+      let hand = hand_asks_of r.level (moved e.taken r.place) e.state in
+      let all : SameIn (c.early ++ p ∷ shift e.taken hand) r.place q.place = subst (λ u. SameIn u r.place q.place) c.is (tt, shown some) in
+      let seen : SameIn hand (moved e.taken r.place) (moved e.taken q.place) = same_in-shift e.taken hand r.place q.place (same_in-second c.early (p ∷ shift e.taken hand) r.place q.place all).1 in
+      let looks_is : looks_next q ks (suc j) ≡ shift e.taken hand = ap (λ (x : End (Bool × ℕ)). shift x.taken (hand_asks_of q.level (moved x.taken q.place) x.state)) end_is ∙ ap (shift e.taken) (frame (moved e.taken r.place) (moved e.taken q.place) e.state seen) in
+      record {
+        note = ap note_by end_is;
+        is = ap (λ us. piece_mark 0 (true, 0) first ∷ (us ++ asks_of (first_of (suc j) q))) (asks some) ∙ ap (λ os. piece_mark 0 (true, 0) first ∷ (ls ++ asks_of os)) same ∙ c.is ∙ ap (λ u. c.early ++ p ∷ u) (sym looks_is);
+      }

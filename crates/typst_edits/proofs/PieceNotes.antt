@@ -1,7 +1,6 @@
 -- From a note back to the pieces of a run: it is one of the run's notes by their numbers.
 use Rattle.std.proofs.Common.{◌≡◌, ℕ, suc, ◌+◌, ◌<◌, ◌==◌, eq-eqb, Bool, true, false, if◌then◌else◌, List, ◌∷◌, length, sym, ◌∙◌, arith}
 use Rattle.typst_language.specs.declared.calls.Note.{Note}
-use Rattle.typst_grammar.specs.Markup.{markup_turn, ends_block}
 use Rattle.typst_grammar.specs.Grammar.{max_depth, start_of, log}
 use Rattle.typst_edits.specs.BlockRuns.{run_at}
 use Rattle.typst_edits.specs.Edit.{Among}
@@ -11,10 +10,8 @@ use Rattle.typst_edits.specs.NumberedNotes.{of_level, Numbered, SaysOf}
 use Rattle.typst_edits.specs.PieceNotes.{listed, RunNotesLaw, InnerNotesLaw}
 use Rattle.typst_edits.specs.Runs.{piece_at, end_at, lead}
 use Rattle.typst_edits.specs.Sequence.{turn_of}
-use Rattle.typst_edits.proofs.BlockRuns.{sane as in-sane}
 use Rattle.typst_edits.proofs.NoteNumbers.{go-fewer}
 use Rattle.typst_edits.proofs.NumberedNotes.{numbered-run-law, numbered-inner-law}
-use Rattle.typst_edits.proofs.Root.{within}
 
 -- a note has a number among several, the first of which has this one
 record HasNumber (P : ℕ → Note → Type 0) (i : ℕ) (ns : List Note) (note : Note) : Type 0 where
@@ -43,7 +40,7 @@ run-notes-law k text note i levels =
     let a = number-of (SaysOf text (λ j. end_at k j z)) note max_depth 0 (listed (log k text).notes) i levels n.each in
     let less = a.less in
     let all = n.all in
-    record { count = a.number; go = go-fewer (piece_at k) (within k) a.number n.count (true, 0) z (lead k z).state (omega (arith, less, all)) n.go; says = a.holds.says }
+    record { count = a.number; go = go-fewer (piece_at k) a.number n.count (true, 0) z (lead k z).state (omega (arith, less, all)) n.go; says = a.holds.says }
 
 pub inner-notes-law : InnerNotesLaw
 inner-notes-law k levels text c chosen name left =
@@ -66,7 +63,7 @@ inner-notes-law k levels text c chosen name left =
           let less = a.less in
           record {
             count = a.number;
-            go = go-fewer (turn_of r) (λ x. (in-sane k levels (markup_turn true ends_block x)).within) a.number n.count (true, 0) r.place r.point (omega (arith, less, all)) n.go;
+            go = go-fewer (turn_of r) a.number n.count (true, 0) r.place r.point (omega (arith, less, all)) n.go;
             says = a.holds.says;
           });
     }

@@ -1,7 +1,6 @@
 -- Where a block of a reading stands: what the nodes before its own hold are the characters before it.
-use Rattle.std.proofs.Common.{◌≡◌, ℕ, zero, suc, ◌+◌, ◌-◌, ◌≤◌, Bool, true, false, ◌&&◌, if◌then◌else◌, nat_lt, nat_le, List, [], ◌∷◌, ◌++◌, length, map, take, drop, append_assoc, append-nil, refl, ap, sym, ◌∙◌, subst, arith, Option, Some, None}
+use Rattle.std.proofs.Common.{◌≡◌, ℕ, suc, ◌+◌, ◌-◌, ◌≤◌, Bool, true, false, ◌&&◌, if◌then◌else◌, nat_le, List, [], ◌∷◌, ◌++◌, length, take, drop, append_assoc, append-nil, refl, ap, sym, ◌∙◌, subst, arith, Option}
 use Rattle.std.proofs.lemmas.List.{take-append-drop}
-use Rattle.std.specs.List.{flat_map}
 use Rattle.typst_kinds.specs.declared.kind.SyntaxKind.TheVariants as kind
 use Rattle.typst_kinds.specs.Kinds.{is_error}
 use Rattle.typst_kinds.specs.Head.{Head, inner_head}
@@ -9,27 +8,29 @@ use Rattle.typst_lines.specs.Place.{Place, moved}
 use Rattle.typst_tree.specs.Tree.{Tree, error_of}
 use Rattle.typst_lines.specs.Classes.{CharClasses}
 use Rattle.typst_language.specs.declared.calls.Block.{Block}
-use Rattle.typst_language.specs.Calls.{Call, Answer}
+use Rattle.typst_language.specs.Calls.{Call}
 use Rattle.typst_language.specs.Hand.{utf8_ahead}
 use Rattle.typst_language.specs.Point.{Point, forgot}
 use Rattle.typst_language.specs.Shape.{Change, Shape, hinted, is_delimited, in_parens}
 use Rattle.typst_language.specs.Shape.Change.{stays, turns_wrong, is_not, renamed, unparened}
 use Rattle.typst_language.specs.Shape.Shape.{keeps, holds, lacks, warns, fails}
-use Rattle.typst_language.specs.Steps.{peek}
-use Rattle.typst_language.specs.Syntax.{Parser, Begin, ◌>>◌}
+use Rattle.typst_language.specs.Syntax.{Parser}
 use Rattle.typst_language.specs.Syntax.Op.{flushes}
-use Rattle.typst_language.specs.Syntax.Parser.{gives, does, next, pick, repeat, wraps, grows, nests, scoped, either, calls, block}
+use Rattle.typst_language.specs.Syntax.Parser.{does}
 use Rattle.typst_language.specs.Knot.{Rules, meaning_of, level_of}
-use Rattle.typst_language.specs.Meaning.{Outcome, Meaning, Level, blockless, answered, joined, bound, before, grown, is_more, turns, nestings, entered, less, done, run}
+use Rattle.typst_language.specs.Meaning.{Outcome, Meaning, Level, blockless, answered, joined, less, done, run}
 use Rattle.typst_language.specs.Sound.{Tidy, Backs, Stands}
 use Rattle.typst_language.proofs.Backs.{tidy-grew}
 use Rattle.typst_language.proofs.Knot.{Sane, sane-run, sane-meaning, sane-block, sane-plain}
-use Rattle.typst_language.proofs.Leaves.{texts, texts-append, texts-same, text-shaped, text-add, same-hinted, kept-joined, kept-grown, Holds, Keeps}
+use Rattle.typst_language.proofs.Leaves.{texts, texts-append, texts-same, text-shaped, text-add, same-hinted, kept-joined, kept-grown, Holds}
+use Rattle.typst_language.proofs.Within.{grew}
 use Rattle.typst_edits.specs.Hole.{Deep, Hole, stub, between_parens, changed_deep, first_hole, change_hole, in_node, in_nodes, behind_nodes, lack_hole, warned_head, wrap_in, wrap_past, wrap_hole}
 use Rattle.typst_edits.specs.Hole.Deep.{bare, under}
-use Rattle.typst_edits.specs.Spot.{Spot, block_head, valued, then_spot, after_spot, rehole, sunk_spot, closed_spot, here_spot}
-use Rattle.typst_edits.specs.Occurrences.{Spots, joined_spots, goes, last_spot, turns_spots, repeated_spots, reshaped_spot, wrapped_spot, grown_spot, growths_spots, growing_spots, nestings_spots, nesting_spots, scoped_spot, spots, call_spots, block_spots, level_spots}
-use Rattle.typst_edits.proofs.Every.{Every, every-append, every-map, every-flat, every-if}
+use Rattle.typst_edits.specs.Spot.{Spot, block_head, after_spot, rehole, here_spot}
+use Rattle.typst_edits.specs.Occurrences.{Spots, level_spots}
+use Rattle.typst_edits.specs.Standing.{level_seconds}
+use Rattle.typst_edits.proofs.Every.{Every, every-map, every-if}
+use Rattle.typst_edits.proofs.SpotWalk.{Walks, Steps, each-level, each-second-level}
 
 -- what the nodes before a hole hold
 abbrev pub deep_text : Deep → List ℕ
@@ -109,13 +110,10 @@ pub record Placed {A : Type 0} (z : Place) (s : Point) (c : Spot A) : Type 0 whe
   -- before its node stand the characters before it, and what it gave before its node
   pub left : left_text c.hole ≡ utf8_ahead c.at z ++ texts c.front
 
-abbrev pub AllPlaced : {A : Type 0} → Place → Point → List (Spot A) → Type 0
-AllPlaced z s cs = Every (Placed z s) cs
-
 texts-hinted : (hints : List (List ℕ)) (ts : List Tree) → texts (hinted hints ts) ≡ texts ts
 texts-hinted hints ts = texts-same (hinted hints ts) ts (same-hinted hints ts)
 
-pub placed-after : {A B : Type 0} (z : Place) (s : Point) (o : Outcome B) (c : Spot A) → Holds z o → Tidy s o → Placed (moved o.taken z) o.state c → Placed z s (after_spot o c)
+placed-after : {A B : Type 0} (z : Place) (s : Point) (o : Outcome B) (c : Spot A) → Holds z o → Tidy s o → Placed (moved o.taken z) o.state c → Placed z s (after_spot o c)
 placed-after z s o c h t p =
     let few = p.back in
     let back = t.back in
@@ -131,122 +129,72 @@ placed-after z s o c h t p =
           ∙ ap (λ x. x ++ texts c.front) (text-add o.taken c.at z);
     }
 
-placed-then : {A B : Type 0} (z : Place) (s : Point) (q : Outcome A) (c : Spot B) → Placed z s c → Placed z s (then_spot c q)
-placed-then z s q c h = record { back = h.back; left = h.left }
-
-placed-valued : {A B : Type 0} (z : Place) (s : Point) (v : B) (c : Spot A) → Placed z s c → Placed z s (valued v c)
-placed-valued z s v c h = record { back = h.back; left = h.left }
-
-pub placed-joined : {A B : Type 0} (z : Place) (s : Point) (o : Outcome B) (cs : List (Spot B)) (p : Outcome A) (ds : List (Spot A)) → Holds z o → Tidy s o → AllPlaced z s cs → AllPlaced (moved o.taken z) o.state ds → AllPlaced z s (joined_spots o cs p ds)
-placed-joined z s o cs p ds h t i j = every-append _ _ _ (every-map _ _ (λ c. then_spot c p) (λ c n. placed-then z s p c n) cs i) (every-map _ _ (after_spot o) (λ c n. placed-after z s o c h t n) ds j)
-
-pub placed-last : {A B : Type 0} (z : Place) (s : Point) (cs : List (Spot (B × A))) → AllPlaced z s cs → AllPlaced z s (map last_spot cs)
-placed-last z s cs h = every-map _ _ last_spot (λ c n. placed-valued z s c.value.1 c n) cs h
-
-placed-reshaped : {A : Type 0} (z : Place) (s : Point) (shape : Shape) (n : ℕ) (c : Spot A) → Placed z s c → AllPlaced z s (reshaped_spot shape n c)
-placed-reshaped z s shape n c h = every-map (λ (g : Hole). left_text g ≡ left_text c.hole) _ (rehole _ c) (λ g e. record { back = h.back; left = e ∙ h.left }) _ (alike-wrapped shape (block_head c.name) (n + c.back) c.hole)
-
-pub placed-wrapped : {A : Type 0} (z : Place) (s : Point) (f : A → Shape) (n : ℕ) (c : Spot A) → Placed z s c → AllPlaced z s (wrapped_spot f n c)
-placed-wrapped z s f n c h = every-map _ _ (valued _) (λ d i. placed-valued z s _ d i) (reshaped_spot (f c.value) n c) (placed-reshaped z s (f c.value) n c h)
-
-pub placed-grown : {A : Type 0} (z : Place) (s : Point) (n : ℕ) (shape : Option Shape) (c : Spot A) → Placed z s c → AllPlaced z s (grown_spot n shape c)
-placed-grown z s n None c h = (h, tt)
-placed-grown z s n (Some shape) c h = placed-reshaped z s shape n c h
-
 -- for each block of a reading, where what is known of the trivia stands
+abbrev StandsAt : Place → Point → Type 0
+StandsAt z s = Stands z s.known
+
 abbrev pub Places : {A : Type 0} → Spots A → Type 0
-Places sp = (z : Place) (s : Point) → Stands z s.known → AllPlaced z s (sp z s)
+Places sp = (z : Place) (s : Point) → StandsAt z s → Every (Placed z s) (sp z s)
 
-module _ {A : Type 0} (m : A → Meaning (Bool × A)) (sp : A → Spots (Bool × A)) (kept : (x : A) → Keeps (m x)) (backs : (x : A) → Backs (m x)) (h : (x : A) → Places (sp x)) where
-  pub placed-turns : (n : ℕ) (x : A) → Places (turns_spots m sp n x)
-  placed-turns zero x z s r = tt
-  placed-turns (suc n) x z s r =
-      let o = m x z s in
-      let w = moved o.taken z in
-      let k = kept x z s r in
-      every-if _ (goes o) _ _ (λ t. placed-joined z s o (sp x z s) (turns m n o.value.1 w o.state) (turns_spots m sp n o.value.1 w o.state) k (backs x z s) (h x z s r) (placed-turns n o.value.1 w o.state k.known)) (λ t. placed-last z s (sp x z s) (h x z s r))
+-- what is read holds what it takes, and takes back no more than stands there
+abbrev HoldsAll : (A : Type 0) → Place → Point → Outcome A → Type 0
+HoldsAll A z s o = Holds z o × Tidy s o
 
-  pub placed-nestings : (f : A → Shape) (begin : Begin) (n : ℕ) (x : A) → Places (nestings_spots f begin m sp n x)
-  placed-nestings f begin zero x z s r = tt
-  placed-nestings f begin (suc n) x z s r =
-      let o = m x z s in
-      let w = moved o.taken z in
-      let k = kept x z s r in
-      every-flat _ _ (λ c. reshaped_spot (f c.value) (before begin s) c) (λ c i. placed-reshaped z s (f c.value) (before begin s) c i) _
-      (every-if _ (goes o) _ _ (λ t. placed-joined z s o (sp x z s) (nestings f begin m n o.value.1 w o.state) (nestings_spots f begin m sp n o.value.1 w o.state) k (backs x z s) (h x z s r) (placed-nestings f begin n o.value.1 w o.state k.known)) (λ t. placed-last z s (sp x z s) (h x z s r)))
+abbrev PlacedAt : (A : Type 0) → ℕ → Place → Point → Spot A → Type 0
+PlacedAt A n z s c = Placed z s c
 
-module _ {A : Type 0} (m : A → Meaning (Option Shape × A)) (sp : A → Spots (Option Shape × A)) (kept : (x : A) → Keeps (m x)) (backs : (x : A) → Backs (m x)) (h : (x : A) → Places (sp x)) where
-  pub placed-growths : (n i : ℕ) (o : Outcome A) (cs : List (Spot A)) (z : Place) (s : Point) → Holds z o → Tidy s o → AllPlaced z s cs → AllPlaced z s (growths_spots m sp n i o cs z)
-  placed-growths n zero o cs z s k t j = j
-  placed-growths n (suc i) o cs z s k t j =
-      let w = moved o.taken z in
-      let p = m o.value w o.state in
-      let both = joined o p in
-      let ds = flat_map (λ c. grown_spot n p.value.0 (last_spot c)) (joined_spots o cs p (sp o.value w o.state)) in
-      let all : AllPlaced z s ds = every-flat _ _ (λ c. grown_spot n p.value.0 (last_spot c)) (λ c b. placed-grown z s n p.value.0 (last_spot c) (placed-valued z s c.value.1 c b)) _ (placed-joined z s o cs p (sp o.value w o.state) k t j (h o.value w o.state k.known)) in
-      let q = kept-joined z o p k (kept o.value w o.state k.known) (backs o.value w o.state) in
-      let g = kept-grown z n p.value.0 (answered p.value.1 both) (record { text = q.text; known = q.known; blank = q.blank }) in
-      every-if _ (is_more p.value.0 && nat_lt 0 p.taken) _ _ (λ u. placed-growths n i (grown n p.value.0 (answered p.value.1 both)) ds z s g (tidy-grew s n o p t (backs o.value w o.state)) all) (λ u. all)
+grew-holds : (A : Type 0) (z : Place) (s : Point) (i : ℕ) (o : Outcome A) (p : Outcome (Option Shape × A)) → HoldsAll A z s o → HoldsAll (Option Shape × A) (moved o.taken z) o.state p → HoldsAll A z s (grew i o p)
+grew-holds A z s i o p g h =
+    let q = kept-joined z o p g.0 h.0 h.1 in
+    (kept-grown z i p.value.0 (answered p.value.1 (joined o p)) (record { text = q.text; known = q.known; blank = q.blank }), tidy-grew s i o p g.1 h.1)
+
+placed-walks : Walks StandsAt HoldsAll PlacedAt
+placed-walks = record {
+  at_none = λ z s. tt;
+  at_entered = λ z s r a. a;
+  at_end = λ A z s o g. g.0.known;
+  gone_grew = grew-holds;
+  after = λ A B n z s o c g h. placed-after z s o c g.0 g.1 h;
+  before_next = λ A B n z s p c h. record { back = h.back; left = h.left };
+  with_value = λ A B n z s v c h. record { back = h.back; left = h.left };
+  in_shape = λ A n z s shape i c h. every-map (λ (g : Hole). left_text g ≡ left_text c.hole) _ (rehole _ c) (λ g e. record { back = h.back; left = e ∙ h.left }) _ (alike-wrapped shape (block_head c.name) (i + c.back) c.hole);
+  in_scope = λ A n z s r c h. record { back = h.back; left = h.left };
+  deeper = λ A n z s c h. record { back = h.back; left = h.left };
+  in_block = λ n z s b c h. record { back = h.back; left = h.left };
+}
 
 -- a block itself
 placed-here : (b : Block) (m : Meaning (Unit {0})) (z : Place) (s : Point) → Backs m → Placed z s (here_spot b m z s)
 placed-here b m z s t = record { back = (t z (forgot s)).back; left = append-nil (texts (less 1 (m z (forgot s)).nodes)) }
 
-module _ (l : Level) (deep : (c : Call) → Spots (Answer c)) (in_block : Block → Spots (Unit {0})) (d : (c : Call) → Sane (l.deeper c)) (e : (b : Block) → Sane (l.blocks b)) (i : (c : Call) → Places (deep c)) (j : (b : Block) → Places (in_block b)) where
-  pub sane : {A : Type 0} (p : Parser A) → Sane (run l p)
-  sane p = sane-run l d e p
+module _ (l : Level) (d : (c : Call) → Sane (l.deeper c)) (e : (b : Block) → Sane (l.blocks b)) where
+  holds-all : (A : Type 0) (p : Parser A) (z : Place) (s : Point) → StandsAt z s → HoldsAll A z s (run l p z s)
+  holds-all A p z s a = let fine = sane-run l d e p in (fine.kept z s a, fine.backs z s)
 
-  pub flush-kept : (z : Place) (s : Point) → Stands z s.known → Holds z (done l flushes z s)
+  flush-holds : (z : Place) (s : Point) → StandsAt z s → HoldsAll (Unit {0}) z s (done l flushes z s)
   unfolding run
-  flush-kept z s r = (sane (does flushes)).kept z s r
+  flush-holds z s a = holds-all (Unit {0}) (does flushes) z s a
 
-  pub flush-tidy : (z : Place) (s : Point) → Tidy s (done l flushes z s)
-  unfolding run
-  flush-tidy z s = (sane (does flushes)).backs z s
+  placed-steps : Steps StandsAt HoldsAll PlacedAt l
+  placed-steps = record {
+    reads = holds-all;
+    here = λ b t z s a.
+        let o = done l flushes z s in
+        let g = flush-holds z s a in
+        placed-after z s o _ g.0 g.1 (placed-here b (l.blocks b) (moved o.taken z) o.state (e b).backs);
+  }
 
-  pub placed-run : {A : Type 0} (p : Parser A) → Places (spots l deep in_block p)
-  unfolding spots repeated_spots growing_spots nesting_spots
-  placed-run (gives a) z s r = tt
-  placed-run (does o) z s r = tt
-  placed-run (next p f) z s r =
-      let o = run l p z s in
-      let k = (sane p).kept z s r in
-      placed-joined z s o (spots l deep in_block p z s) (run l (f o.value) (moved o.taken z) o.state) (spots l deep in_block (f o.value) (moved o.taken z) o.state) k ((sane p).backs z s) (placed-run p z s r) (placed-run (f o.value) (moved o.taken z) o.state k.known)
-  placed-run (pick true p q) z s r = placed-run p z s r
-  placed-run (pick false p q) z s r = placed-run q z s r
-  placed-run (repeat p x) z s r = placed-turns (λ y. run l (p y)) (λ y. spots l deep in_block (p y)) (λ y. (sane (p y)).kept) (λ y. (sane (p y)).backs) (λ y. placed-run (p y)) (suc (bound z s)) x z s r
-  placed-run (wraps f begin p) z s r = every-flat _ _ (wrapped_spot f (before begin s)) (λ c h. placed-wrapped z s f (before begin s) c h) (spots l deep in_block p z s) (placed-run p z s r)
-  placed-run (grows begin p f) z s r =
-      placed-growths (λ y. run l (f y)) (λ y. spots l deep in_block (f y)) (λ y. (sane (f y)).kept) (λ y. (sane (f y)).backs) (λ y. placed-run (f y)) (before begin s) (suc (bound z s)) (run l p z s) (spots l deep in_block p z s) z s ((sane p).kept z s r) ((sane p).backs z s) (placed-run p z s r)
-  placed-run (nests f begin p x) z s r = placed-nestings (λ y. run l (p y)) (λ y. spots l deep in_block (p y)) (λ y. (sane (p y)).kept) (λ y. (sane (p y)).backs) (λ y. placed-run (p y)) f begin (suc (bound z s)) x z s r
-  placed-run (scoped f p) z s r = every-map _ _ (scoped_spot s.reading) (λ c h. record { back = h.back; left = h.left }) _ (placed-run p z (entered (f s.reading) s) r)
-  placed-run (either p is_wrong q) z s r = every-if _ (is_wrong (run l p z s).value) [] _ (λ t. tt) (λ t. placed-run p z s r)
-  placed-run (calls c) z s r = every-map _ _ sunk_spot (λ x h. record { back = h.back; left = h.left }) (deep c z s) (i c z s r)
-  placed-run (block b) z s r =
-      let o = done l flushes z s in
-      let w = moved o.taken z in
-      let k = flush-kept z s r in
-      let t = flush-tidy z s in
-      every-if _ (l.has b) _ []
-      (λ u. (
-        placed-after z s o _ k t (placed-here b (l.blocks b) w o.state (e b).backs),
-        every-map _ _ (after_spot o) (λ c h. placed-after z s o c k t h) (map (closed_spot b o.state) (in_block b w (forgot o.state)))
-            (every-map _ _ (closed_spot b o.state) (λ c h. record { back = h.back; left = h.left }) (in_block b w (forgot o.state)) (j b w (forgot o.state) tt)),
-      ))
-      (λ u. tt)
-
--- ---- by any rules, at every level
+-- ---- by any rules, at every level, where what is known of the trivia ahead stands there
 
 module _ (r : Rules) (k : CharClasses) where
-  pub placed-block : (levels : ℕ) → ((call : Call) → Places (call_spots r k levels call)) → (b : Block) → Places (block_spots r k levels b)
-  placed-block levels i b = placed-run (blockless k levels (meaning_of r k levels)) (call_spots r k levels) (λ c y t. []) (sane-meaning r k levels) (λ c. sane-plain tt) i (λ c y t u. tt) (peek >> r.block_production b)
+  by-level : (levels : ℕ) → Steps StandsAt HoldsAll PlacedAt (level_of r k levels)
+  by-level levels = placed-steps (level_of r k levels) (sane-meaning r k levels) (sane-block r k levels)
 
-  pub placed-call : (levels : ℕ) (call : Call) → Places (call_spots r k levels call)
-  unfolding call_spots
-  placed-call zero call z s h = tt
-  placed-call (suc levels) call z s h =
-      placed-run (level_of r k levels) (call_spots r k levels) (block_spots r k levels) (sane-meaning r k levels) (sane-block r k levels) (placed-call levels) (placed-block levels (placed-call levels)) (r.production call) z s h
+  by-block : (levels : ℕ) → Steps StandsAt HoldsAll PlacedAt (blockless k levels (meaning_of r k levels))
+  by-block levels = placed-steps (blockless k levels (meaning_of r k levels)) (sane-meaning r k levels) (λ c. sane-plain tt)
 
-  -- where what is known of the trivia ahead stands there
   pub placed-level : {A : Type 0} (levels : ℕ) (p : Parser A) → Places (level_spots r k levels p)
-  placed-level levels p = placed-run (level_of r k levels) (call_spots r k levels) (block_spots r k levels) (sane-meaning r k levels) (sane-block r k levels) (placed-call levels) (placed-block levels (placed-call levels)) p
+  placed-level levels p = each-level StandsAt HoldsAll PlacedAt placed-walks r k by-level by-block levels p
+
+  pub placed-seconds : {A : Type 0} (levels : ℕ) (p : Parser A) → Places (level_seconds r k levels p)
+  placed-seconds levels p = each-second-level StandsAt HoldsAll PlacedAt placed-walks r k by-level by-block levels p

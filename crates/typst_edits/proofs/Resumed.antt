@@ -1,21 +1,15 @@
 -- Pieces that are read again from their first token are those that stood there, and their number follows from where they end.
 use borrow.Author.Tests.{ltb-true, lt-ltb}
-use Rattle.std.proofs.Common.{◌≡◌, ℕ, zero, suc, ◌+◌, ◌<◌, ◌==◌, ◌&&◌, ne_eqb, Bool, true, false, nat_lt, List, [], ◌∷◌, ◌++◌, None, Some, refl, ap, sym, ◌∙◌, subst, arith}
+use Rattle.std.proofs.Common.{◌≡◌, ℕ, zero, suc, ◌+◌, ◌<◌, ◌&&◌, Bool, true, false, nat_lt, List, [], ◌∷◌, ◌++◌, None, Some, refl, ap, sym, ◌∙◌, subst, arith}
 use Rattle.typst_kinds.specs.declared.kind.SyntaxKind.{SyntaxKind}
-use Rattle.typst_kinds.specs.declared.kind.SyntaxKind.TheVariants as kind
 use Rattle.typst_lines.specs.Place.{Place, moved}
 use Rattle.typst_lines.specs.Classes.{CharClasses}
-use Rattle.typst_language.specs.declared.calls.Block.{Block}
-use Rattle.typst_language.specs.Calls.{Call}
-use Rattle.typst_language.specs.Calls.Call.{MarkupExpr}
-use Rattle.typst_language.specs.declared.reading.Reading.{Reading}
 use Rattle.typst_language.specs.Depth.{is_end}
-use Rattle.typst_language.specs.Hand.{told, len_at, at_trivia, hand_at}
+use Rattle.typst_language.specs.Hand.{told, at_trivia, hand_at}
 use Rattle.typst_language.specs.Point.{Trivia, Point, gap_of, no_newlines}
 use Rattle.typst_language.specs.Steps.{peek}
 use Rattle.typst_language.specs.Meaning.{Outcome, Meaning, Level, start_point, asked, hand_of, run}
 use Rattle.typst_language.proofs.Ends.{hand-takes}
-use Rattle.typst_language.proofs.Knot.{Sane, sane-meaning, sane-block, sane-plain}
 use Rattle.typst_language.proofs.Places.{moved-sum}
 use Rattle.typst_grammar.specs.Markup.{ends, ends_block, markup_turn, markup_head, markup_reading}
 use Rattle.typst_grammar.specs.Grammar.{rules, level_at, max_depth}
@@ -29,14 +23,14 @@ use Rattle.typst_edits.specs.Resumed.{fresh, read_again, SamePiece, SamePieces, 
 use Rattle.typst_edits.specs.Runs.{made, AllGo, End, end_of, lead, start}
 use Rattle.typst_edits.specs.Sequence.{Sequence, turn_of, first_of, first_end, then_of, then_end}
 use Rattle.typst_edits.proofs.BlockModes.{hand-first}
-use Rattle.typst_edits.proofs.Boundary.{KnownAt, first-of, turn-known}
-use Rattle.typst_edits.proofs.Children.{goes-on, known-behind, turn-led, top-known}
-use Rattle.typst_edits.proofs.InnerJoint.{block-read}
-use Rattle.typst_edits.proofs.Joint.{takes-call, known-is, text-read}
-use Rattle.typst_edits.proofs.Led.{kind-behind, Led, before_trivia, SameJudged, same-judged, Takes}
+use Rattle.typst_edits.proofs.Boundary.{KnownAt, first-of, turn-known, going-on, known-made}
+use Rattle.typst_edits.proofs.Children.{top-known}
+use Rattle.typst_edits.proofs.InnerJoint.{block-read, block-taking}
+use Rattle.typst_edits.proofs.Joint.{known-is, text-read, text-taking}
+use Rattle.typst_edits.proofs.Led.{kind-behind, Led, before_trivia}
 use Rattle.typst_edits.proofs.Meeting.{ReadAs, judged-alike}
 use Rattle.typst_edits.proofs.Reached.{Reached, Reaches, reached-run, reached-meaning}
-use Rattle.typst_edits.proofs.Turns.{takes-turn, end-by}
+use Rattle.typst_edits.proofs.Turns.{takes-turn, end-by, Taking, turn-led}
 
 -- behind turns the trivia at hand are all of them
 pub reached-made : {A : Type 0} (k : CharClasses) (m : A → Meaning (Bool × A)) → ((x : A) → Reaches k (m x)) → (n : ℕ) (x : A) (z : Place) (s : Point) → Reached k z s
@@ -67,16 +61,9 @@ same-piece t trims o c h = record {
   met = h.met;
 }
 
-module _ (l : Level) (sd : (c : Call) → Sane (l.deeper c)) (sb : (b : Block) → Sane (l.blocks b)) (deep : (l.levels == 0) ≡ false) (stops : SyntaxKind → Bool) (end_stops : stops kind.End ≡ true)
-    (call : (h : Reading) (z : Place) (t u : Trivia) → SameJudged h t u → (x : Bool × ℕ) → 0 < len_at l.classes h.mode (moved t.gap z) → Takes h z t u (minds (markup_head x.0 x.1 (hand_at l.classes h (Some t) z).kind)) (l.deeper (MarkupExpr x.0 x.1))) where
+module _ (l : Level) (stops : SyntaxKind → Bool) (taking : Taking l stops) where
   abbrev turn : Bool × ℕ → Meaning (Bool × (Bool × ℕ))
   turn x = run l (markup_turn true stops x)
-
-  abbrev call_too : (h : Reading) (z : Place) (t : Trivia) (x : Bool × ℕ) → 0 < len_at l.classes h.mode (moved t.gap z) → Takes h z t t (minds (markup_head x.0 x.1 (hand_at l.classes h (Some t) z).kind)) (l.deeper (MarkupExpr x.0 x.1))
-  call_too h z t x some = call h z t t (same-judged h t) x some
-
-  going : (x : Bool × ℕ) (z : Place) (s : Point) → (turn x z s).value.0 ≡ true → ends stops x.1 (told (hand_of l z s)).kind ≡ false
-  going x z s g = goes-on l sd sb deep stops end_stops call_too x z s (ends stops x.1 (told (hand_of l z s)).kind) refl g
 
   -- ---- read again
 
@@ -91,8 +78,8 @@ module _ (l : Level) (sd : (c : Call) → Sane (l.deeper c)) (sb : (b : Block) �
       let g = markup_reading in
       let s = before_trivia g g e a t in
       let alike = judged-alike g t no_trivia refl in
-      let some = hand-takes l.classes g (Some t) z (end-by stops end_stops x.1 (told (hand_of l z s)).kind go) in
-      takes-turn l sd sb g z t no_trivia alike deep stops x _ (call g z t no_trivia alike x some) go g e 0 a false none
+      let some = hand-takes l.classes g (Some t) z (end-by stops taking.end_stops x.1 (told (hand_of l z s)).kind go) in
+      takes-turn l taking.calls_sane taking.blocks_sane g z t no_trivia alike taking.level_left stops x _ (taking.takes g z t no_trivia alike x some) go g e 0 a false none
 
   resumed-known : (m : ℕ) (x : Bool × ℕ) (z : Place) (t : Trivia) (e : ℕ) (a : Bool) → Same m x z t (before_trivia markup_reading markup_reading e a t)
   resumed-known zero x z t e a clear g none = tt
@@ -101,7 +88,7 @@ module _ (l : Level) (sd : (c : Call) → Sane (l.deeper c)) (sb : (b : Block) �
       let w = moved t.gap z in
       let o = turn x z s in
       let c = turn x w (fresh l w) in
-      let go = going x z s (first-of o.value.0 (nat_lt 0 o.taken) g.0) in
+      let go = going-on l stops x z s (first-of o.value.0 (nat_lt 0 o.taken) g.0) in
       let p = subst (λ q. SamePiece t o (turn x w q)) (sym (fresh-is l w clear)) (same-piece t _ _ _ (led-fresh x z t e a go none)) in
       let there : moved o.taken z ≡ moved c.taken w = ap (λ n. moved n z) p.taken ∙ moved-sum t.gap c.taken z in
       (p, (λ i. made turn n (p.value i).1 (there i) (p.state i)))
@@ -128,7 +115,7 @@ module _ (l : Level) (sd : (c : Call) → Sane (l.deeper c)) (sb : (b : Block) �
       let o = turn x z s in
       let c = turn x w (fresh l w) in
       let alone = fresh-is l w clear in
-      let over : ends stops x.1 (told (hand_of l w (fresh l w))).kind ≡ false = going x w (fresh l w) (first-of c.value.0 (nat_lt 0 c.taken) g.0) in
+      let over : ends stops x.1 (told (hand_of l w (fresh l w))).kind ≡ false = going-on l stops x w (fresh l w) (first-of c.value.0 (nat_lt 0 c.taken) g.0) in
       let go : ends stops x.1 (told (hand_of l z s)).kind ≡ false = ap (ends stops x.1) (same-kind z t e a) ∙ subst (λ q. ends stops x.1 (told (hand_of l w q)).kind ≡ false) alone over in
       let p = subst (λ q. SamePiece t o (turn x w q)) (sym alone) (same-piece t _ _ _ (led-fresh x z t e a go none)) in
       let there : moved o.taken z ≡ moved c.taken w = ap (λ n. moved n z) p.taken ∙ moved-sum t.gap c.taken z in
@@ -158,7 +145,7 @@ module _ (l : Level) (sd : (c : Call) → Sane (l.deeper c)) (sb : (b : Block) �
   takes-more x z s known g =
       let t = known.trivia in
       subst (λ p. (turn x z p).value.0 ≡ true → gap_of p.known < (turn x z p).taken) (sym (known-is l.classes s t known.is))
-      (λ h. (let led = turn-led l sd sb deep stops end_stops call_too x z s.reading s.held s.empties s.is_after_error t (going x z _ h) in
+      (λ h. (let led = turn-led l stops taking x z s.reading s.held s.empties s.is_after_error t (going-on l stops x z _ h) in
       let taken = led.taken in
       let some = led.some in
       omega (arith, taken, some))) g
@@ -253,29 +240,25 @@ module _ (k : CharClasses) (z : Place) (i : ℕ) where
 pub resume-law : ResumeLaw
 resume-law k z i m t g h known none =
     let e = first_end i (text_run k z) in
-    resumed (level_at k max_depth) (sane-meaning (rules k) k max_depth) (sane-block (rules k) k max_depth) refl is_end refl (λ r q a b alike x some. takes-call k 255 r q a b alike x some)
-    m e.value (moved e.taken z) t e.state known (text-read k i 0 z) (text-reached k z i) h none
+    resumed (level_at k max_depth) is_end (text-taking k) m e.value (moved e.taken z) t e.state known (text-read k i 0 z) (text-reached k z i) h none
 
 -- pieces that go on where they are read again do so where they stood
 pub text-goes-too : (k : CharClasses) (z : Place) (i m : ℕ) (t : Trivia) → (let r = text_run k z in AllGo (first_of i r) → AllGo (read_again i m t r) → (first_end i r).state.known ≡ Some t
     → (minds_at r (first_place i r) (first_end i r) ≡ true → (first_end i r).state.empties ≡ 0) → AllGo (then_of i m r))
 text-goes-too k z i m t g h known none =
     let e = first_end i (text_run k z) in
-    goes-too (level_at k max_depth) (sane-meaning (rules k) k max_depth) (sane-block (rules k) k max_depth) refl is_end refl (λ r q a b alike x some. takes-call k 255 r q a b alike x some)
-    m e.value (moved e.taken z) t e.state known (text-read k i 0 z) (text-reached k z i) h none
+    goes-too (level_at k max_depth) is_end (text-taking k) m e.value (moved e.taken z) t e.state known (text-read k i 0 z) (text-reached k z i) h none
 
 -- where a token begins nothing is known of trivia
 pub text-fresh : (k : CharClasses) (z : Place) (i : ℕ) (t : Trivia) → (let e = first_end i (text_run k z) in e.state.known ≡ Some t → (fresh (level_at k max_depth) (moved t.gap (moved e.taken z))).known ≡ Some no_trivia)
 text-fresh k z i t known =
     let e = first_end i (text_run k z) in
-    fresh-known (level_at k max_depth) (sane-meaning (rules k) k max_depth) (sane-block (rules k) k max_depth) refl is_end refl (λ r q a b alike x some. takes-call k 255 r q a b alike x some)
-    (moved e.taken z) t e.state known (text-read k i 0 z) (text-reached k z i)
+    fresh-known (level_at k max_depth) is_end (text-taking k) (moved e.taken z) t e.state known (text-read k i 0 z) (text-reached k z i)
 
 pub count-law : CountLaw
 count-law k z i m n g h j same =
     let e = first_end i (text_run k z) in
-    counted (level_at k max_depth) (sane-meaning (rules k) k max_depth) (sane-block (rules k) k max_depth) refl is_end refl (λ r q a b alike x some. takes-call k 255 r q a b alike x some)
-    m n e.value (moved e.taken z) e.state (top-known k i z g) h j same
+    counted (level_at k max_depth) is_end (text-taking k) m n e.value (moved e.taken z) e.state (top-known k i z g) h j same
 
 module _ (k : CharClasses) (levels : ℕ) (z : Place) (s : Point) (i : ℕ) where
   abbrev block_run : Sequence
@@ -283,9 +266,6 @@ module _ (k : CharClasses) (levels : ℕ) (z : Place) (s : Point) (i : ℕ) wher
 
   abbrev block_end : End (Bool × ℕ)
   block_end = first_end i block_run
-
-  deep : (suc levels == 0) ≡ false
-  deep = ne_eqb (suc levels) 0 (omega arith)
 
   pub block-reached : Reached k (moved block_end.taken block_run.place) block_end.state
   unfolding run
@@ -298,33 +278,30 @@ module _ (k : CharClasses) (levels : ℕ) (z : Place) (s : Point) (i : ℕ) wher
   pub block-known : AllGo (first_of i block_run) → KnownAt block_end.state
   unfolding run
   block-known g =
-      known-behind (inner k levels) (sane-meaning (rules k) k (suc levels)) (λ b. sane-plain tt) deep ends_block refl (λ r y t x some. takes-call k levels r y t t (same-judged r t) x some) i (true, 0) block_run.place block_run.point (record { trivia = _; is = refl }) g
+      known-made (inner k levels) ends_block i (true, 0) block_run.place block_run.point (record { trivia = _; is = refl }) g
 
   -- so at the end of more of them
   pub block-then-known : (m : ℕ) → AllGo (first_of i block_run) → AllGo (then_of i m block_run) → KnownAt (then_end i m block_run).state
   unfolding run
   block-then-known m g h =
-      known-behind (inner k levels) (sane-meaning (rules k) k (suc levels)) (λ b. sane-plain tt) deep ends_block refl (λ r y t x some. takes-call k levels r y t t (same-judged r t) x some) m block_end.value (moved block_end.taken block_run.place) block_end.state (block-known g) h
+      known-made (inner k levels) ends_block m block_end.value (moved block_end.taken block_run.place) block_end.state (block-known g) h
 
   -- where a token begins nothing is known of trivia
   pub block-fresh : (t : Trivia) → block_end.state.known ≡ Some t → (fresh (inner k levels) (moved t.gap (moved block_end.taken block_run.place))).known ≡ Some no_trivia
   block-fresh t known =
-      fresh-known (inner k levels) (sane-meaning (rules k) k (suc levels)) (λ b. sane-plain tt) deep ends_block refl (λ h q a b alike x some. takes-call k levels h q a b alike x some)
-      (moved block_end.taken block_run.place) t block_end.state known (block-read k levels i 0 z s) block-reached
+      fresh-known (inner k levels) ends_block (block-taking k levels) (moved block_end.taken block_run.place) t block_end.state known (block-read k levels i 0 z s) block-reached
 
 pub inner-resume-law : InnerResumeLaw
 inner-resume-law k levels z s i m t g h known none =
     let r = inner_run k levels z s in
     let e = first_end i r in
-    resumed (inner k levels) (sane-meaning (rules k) k (suc levels)) (λ b. sane-plain tt) (deep k levels z s i) ends_block refl (λ h q a b alike x some. takes-call k levels h q a b alike x some)
-    m e.value (moved e.taken r.place) t e.state known (block-read k levels i 0 z s) (block-reached k levels z s i) h none
+    resumed (inner k levels) ends_block (block-taking k levels) m e.value (moved e.taken r.place) t e.state known (block-read k levels i 0 z s) (block-reached k levels z s i) h none
 
 pub inner-count-law : InnerCountLaw
 inner-count-law k levels z s i m n g h j same =
     let r = inner_run k levels z s in
     let e = first_end i r in
-    counted (inner k levels) (sane-meaning (rules k) k (suc levels)) (λ b. sane-plain tt) (deep k levels z s i) ends_block refl (λ h q a b alike x some. takes-call k levels h q a b alike x some)
-    m n e.value (moved e.taken r.place) e.state (block-known k levels z s i g) h j same
+    counted (inner k levels) ends_block (block-taking k levels) m n e.value (moved e.taken r.place) e.state (block-known k levels z s i g) h j same
 
 -- pieces that go on where they are read again do so where they stood
 pub inner-goes-too : (k : CharClasses) (levels : ℕ) (z : Place) (s : Point) (i m : ℕ) (t : Trivia) → (let r = inner_run k levels z s in AllGo (first_of i r) → AllGo (read_again i m t r) → (first_end i r).state.known ≡ Some t
@@ -332,8 +309,7 @@ pub inner-goes-too : (k : CharClasses) (levels : ℕ) (z : Place) (s : Point) (i
 inner-goes-too k levels z s i m t g h known none =
     let r = inner_run k levels z s in
     let e = first_end i r in
-    goes-too (inner k levels) (sane-meaning (rules k) k (suc levels)) (λ b. sane-plain tt) (deep k levels z s i) ends_block refl (λ h q a b alike x some. takes-call k levels h q a b alike x some)
-    m e.value (moved e.taken r.place) t e.state known (block-read k levels i 0 z s) (block-reached k levels z s i) h none
+    goes-too (inner k levels) ends_block (block-taking k levels) m e.value (moved e.taken r.place) t e.state known (block-read k levels i 0 z s) (block-reached k levels z s i) h none
 
 module _ (k : CharClasses) (levels : ℕ) (z : Place) (s : Point) where
   abbrev first_place_of : Place
@@ -389,8 +365,7 @@ module _ (k : CharClasses) (levels : ℕ) (z : Place) (s : Point) where
       → made (turn_of r) m (true, 0) r.place r.point ≡ made (turn_of r) m (true, 0) r.place fresh_start)
   start-same m none g =
       let at = fresh-at in
-      as-fresh (inner k levels) (sane-meaning (rules k) k (suc levels)) (λ b. sane-plain tt) (deep k levels z s 0) ends_block refl (λ h q a b alike x some. takes-call k levels h q a b alike x some)
-      m (true, 0) first_place_of at.trivia (inner_run k levels z s).point fresh_start (start-known ∙ at.is) at.is start-read fresh-read (block-reached k levels z s 0) fresh-reached none fresh-none g
+      as-fresh (inner k levels) ends_block (block-taking k levels) m (true, 0) first_place_of at.trivia (inner_run k levels z s).point fresh_start (start-known ∙ at.is) at.is start-read fresh-read (block-reached k levels z s 0) fresh-reached none fresh-none g
 
   pub start-goes : (m : ℕ) → (let r = inner_run k levels z s in (minds_at r (first_place 0 r) (first_end 0 r) ≡ true → r.point.empties ≡ 0) → AllGo (made (turn_of r) m (true, 0) r.place fresh_start) → AllGo (then_of 0 m r))
   start-goes m none g =
@@ -398,13 +373,11 @@ module _ (k : CharClasses) (levels : ℕ) (z : Place) (s : Point) where
       let p = (inner_run k levels z s).point in
       let known = start-known ∙ at.is in
       let t = at.trivia in
-      goes-both (inner k levels) (sane-meaning (rules k) k (suc levels)) (λ b. sane-plain tt) (deep k levels z s 0) ends_block refl (λ h q a b alike x some. takes-call k levels h q a b alike x some)
-      m (true, 0) first_place_of t p fresh_start known at.is start-read fresh-read (block-reached k levels z s 0) fresh-reached none fresh-none g
+      goes-both (inner k levels) ends_block (block-taking k levels) m (true, 0) first_place_of t p fresh_start known at.is start-read fresh-read (block-reached k levels z s 0) fresh-reached none fresh-none g
 
 -- more pieces that are read by themselves end further on
 pub alone-further : (k : CharClasses) (levels : ℕ) (m n : ℕ) (x : Bool × ℕ) (y : Place) → m < n → AllGo (read_alone k levels x n y)
     → (let e = end_alone k levels x m y in let f = end_alone k levels x n y in e.taken + gap_of e.state.known < f.taken + gap_of f.state.known)
 unfolding run
 alone-further k levels m n x y some g =
-    further (inner k levels) (sane-meaning (rules k) k (suc levels)) (λ b. sane-plain tt) (ne_eqb (suc levels) 0 (omega arith)) ends_block refl (λ h q a b alike x some. takes-call k levels h q a b alike x some)
-    m n x y (fresh (inner k levels) y) (record { trivia = _; is = refl }) some g
+    further (inner k levels) ends_block (block-taking k levels) m n x y (fresh (inner k levels) y) (record { trivia = _; is = refl }) some g

@@ -134,7 +134,7 @@ module _ (k : CharClasses) (text : List ℕ) (i : ℕ) (g : AllGo (pieces k i (s
   gives-one n cuts h some =
       let e = end_at k i z0 in
       let y = moved e.taken z0 in
-      let h1 : AllGo (pieces_from k i 1 z0) = go-fewer (piece_at k) (within k) 1 n e.value y e.state (omega (arith, some)) h in
+      let h1 : AllGo (pieces_from k i 1 z0) = go-fewer (piece_at k) 1 n e.value y e.state (omega (arith, some)) h in
       let o = piece_at k e.value y e.state in
       let t = turn-known (level_at k max_depth) is_end e.value y e.state (first-of o.value.0 (nat_lt 0 o.taken) h1.0) in
       let known : (end_from k i 1 z0).state.known ≡ Some t.trivia = t.is in
@@ -160,7 +160,7 @@ module _ (k : CharClasses) (text : List ℕ) (i : ℕ) (g : AllGo (pieces k i (s
   pub pieces-parted : (n : ℕ) (t : Trivia) (cuts : TopCuts k text) → AllGo (pieces_from k i n z0) → (end_from k i n z0).state.known ≡ Some t → Parted run0 cuts.cuts 0 kids i n start0 (token_byte text (both k i n z0))
   pieces-parted n t cuts h known =
       parted run0 cuts.cuts 0 kids i n start0 (token_byte text (both k i n z0)) t known (gives-at n t h known) (λ l e. none-end n e) (λ l some. gives-one n cuts h some)
-      (λ l some mind. (let e = end_at k i z0 in text-lone k z0 i g (go-fewer (piece_at k) (within k) 1 n e.value (moved e.taken z0) e.state (omega (arith, some)) h) mind))
+      (λ l some mind. (let e = end_at k i z0 in text-lone k z0 i g (go-fewer (piece_at k) 1 n e.value (moved e.taken z0) e.state (omega (arith, some)) h) mind))
 
 -- ---- the candidate
 

@@ -4,7 +4,7 @@ use Rattle.typst_lines.specs.Classes.{CharClasses}
 use Rattle.typst_tree.specs.Tree.{Tree, trees}
 use Rattle.typst_tree.specs.Laws.{put_at}
 use Rattle.typst_tokens.specs.Sight.{width}
-use Rattle.typst_language.specs.Meaning.{less}
+use Rattle.typst_language.specs.Meaning.{Outcome, less}
 use Rattle.typst_language.specs.Point.{Trivia, gap_of}
 use Rattle.typst_language.proofs.Places.{less-none}
 use Rattle.typst_candidates.specs.Candidates.{Candidate}
@@ -76,25 +76,19 @@ joint-of k front old new rest i n m past t u h well =
           (λ over. carries k (front ++ (old ++ rest)) (is_over i n (text_run k z)) m (end_from k i n z).value (end_from k i m w).value h.agrees over);
     }
 
-end-place : (k : CharClasses) (text : List ℕ) (c : Candidate) (i n : ℕ) (t : Trivia) → BeginsWell k text c i n → Leading k text i n t → c.end ≡ token_byte text (both k i n (text_with [] [] text))
-    → (b : Bool) → is_over i n (text_run k (text_with [] [] text)) ≡ b → c.to ≡ length (standing_before k i n (text_with [] [] text)) + length (nodes_with k i n t (text_with [] [] text))
-end-place k text c i n t well led end false over =
-    let z = text_with [] [] text in
-    let kids = trees (tree k text).kids in
-    let there = subst (λ b. StandsAt 0 kids c.to b) end (well.next over) in
-    same-place 0 kids c.to (token_byte text (both k i n z)) _ there (led.next over)
-end-place k text c i n t well led end true over =
-    let z = text_with [] [] text in
-    let before = standing_before k i n z in
-    let own = nodes_with k i n t z in
-    let all = well.last over ∙ ap length led.children ∙ ap (λ us. length (before ++ (own ++ us))) (led.last over) in
+-- where its children end: where those of the pieces do
+pub end-place : (from : ℕ) (kids before own behind : List Tree) (to end byte : ℕ) (b : Bool) → kids ≡ before ++ (own ++ behind) → end ≡ byte → (b ≡ false → StandsAt from kids to end) → (b ≡ false → LeadsAt from kids byte (length before + length own))
+    → (b ≡ true → to ≡ length kids) → (b ≡ true → behind ≡ []) → to ≡ length before + length own
+end-place from kids before own behind to end byte false is e stands leads all none = same-place from kids to byte _ (subst (λ x. StandsAt from kids to x) e (stands refl)) (leads refl)
+end-place from kids before own behind to end byte true is e stands leads all none =
+    let long = all refl ∙ ap length is ∙ ap (λ us. length (before ++ (own ++ us))) (none refl) in
     let one = length-append before (own ++ []) in
     let two = length-append own [] in
-    omega (arith, all, one, two)
+    omega (arith, long, one, two)
 
-nodes-of : (k : CharClasses) (front old new rest : List ℕ) (i m : ℕ) (u : Trivia) → (onwards_from k i m (text_with front new rest)).back ≡ 0
-    → nodes_with k i m u (text_with front new rest) ≡ (read_from k i m (text_with front new rest)).nodes ++ u.nodes
-nodes-of k front old new rest i m u e = let ts = (read_from k i m (text_with front new rest)).nodes in ap (λ b. less b ts ++ u.nodes) e ∙ ap (λ us. us ++ u.nodes) (less-none ts)
+-- what is behind pieces and takes back nothing leaves their nodes
+pub nodes-left : (o p : Outcome (Unit {0})) (ts : List Tree) → o.back ≡ 0 → less o.back p.nodes ++ ts ≡ p.nodes ++ ts
+nodes-left o p ts e = ap (λ b. less b p.nodes ++ ts) e ∙ ap (λ us. us ++ ts) (less-none p.nodes)
 
 pub nothing-left : (b : ℕ) (ts : List Tree) → ts ≡ [] → b ≡ 0 → length (less b ts) ≡ 0
 nothing-left b ts e h = ap (λ j. length (less j ts)) h ∙ ap length (less-none ts) ∙ ap length e
@@ -118,7 +112,7 @@ module _ (k : CharClasses) (front old new rest : List ℕ) (c : Candidate) (n m 
       let ends = behind-zero f.taken t.gap _ h.ends in
       let sum : f.taken + gap_of f.state.known ≡ (length front + length old) + past = ap (λ g. f.taken + g) gap ∙ ends in
       let byte : c.end ≡ token_byte text f = end ∙ sym (ap width (take-past front old rest past (f.taken + gap_of f.state.known) sum)) in
-      end-place k text c i n t well led byte (is_over i n (text_run k z)) refl
+      end-place 0 (trees (tree k text).kids) (standing_before k i n z) (nodes_with k i n t z) led.behind c.to c.end (token_byte text f) (is_over i n (text_run k z)) led.children byte well.next led.next well.last led.last
 
 -- a candidate's children are exchanged where they stand
 pub put-there : (c : Candidate) (path : List ℕ) (from to : ℕ) (ts us : List Tree) (was : Tree) {now : Tree} → now ≡ with_children path from to ts was → ts ≡ us → c.from ≡ from → c.to ≡ to → c.path ≡ path → now ≡ put_at c.path c.from c.to us was
@@ -141,7 +135,7 @@ root-pieces-law k front old new rest c zero n m past t u path start led end h we
     let up = led.1 in
     let from : c.from ≡ length (standing_before k 0 n z) = first-is c.from (length (standing_before k 0 n z)) up none in
     let news : nodes_with k 0 m u w ≡ nodes_now (root_run k text) 0 m u w =
-    nodes-of k front old new rest 0 m u behind.back_now ∙ sym (drop-none (0 == 0) (trivia_at k 0 w) ((read_from k 0 m w).nodes ++ u.nodes) refl) in
+    nodes-left (onwards_from k 0 m w) (read_from k 0 m w) u.nodes behind.back_now ∙ sym (drop-none (0 == 0) (trivia_at k 0 w) ((read_from k 0 m w).nodes ++ u.nodes) refl) in
     let was = tree k text in
     put-there c [] (length (standing_before k 0 n z)) (length (standing_before k 0 n z) + length (nodes_with k 0 n t z)) _ _ was kept.tree_now news from to path
 root-pieces-law k front old new rest c (suc j) n m past t u path start led end h well =
@@ -163,7 +157,7 @@ root-pieces-law k front old new rest c (suc j) n m past t u path start led end h
     let byte : c.start ≡ token_byte text e = start ∙ ap (λ l. width (take l text)) (cut-is (i == 0) (e.taken + gap_of e.state.known) more) in
     let there = subst (λ b. StandsAt 0 kids c.from b) byte (well.first some) in
     let from : c.from ≡ first + trivia_at k i z = same-place 0 kids c.from (token_byte text (end_at k i z)) (first + trivia_at k i z) there (leading.first (well.starts some).0) in
-    let news : drop (trivia_at k i z) (nodes_with k i m u w) ≡ nodes_now (root_run k text) i m u w = ap (λ l. drop l (nodes_with k i m u w)) (sym kept.trivia_same) ∙ ap (drop (trivia_at k i w)) (nodes-of k front old new rest i m u behind.back_now)
+    let news : drop (trivia_at k i z) (nodes_with k i m u w) ≡ nodes_now (root_run k text) i m u w = ap (λ l. drop l (nodes_with k i m u w)) (sym kept.trivia_same) ∙ ap (drop (trivia_at k i w)) (nodes-left (onwards_from k i m w) (read_from k i m w) u.nodes behind.back_now)
     ∙ sym (drop-some (i == 0) (trivia_at k i w) ((read_from k i m w).nodes ++ u.nodes) more) in
     let was = tree k text in
     put-there c [] (first + trivia_at k i z) (first + length (nodes_with k i n t z)) _ _ was kept.tree_now news from to path

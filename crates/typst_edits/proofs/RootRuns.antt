@@ -24,7 +24,6 @@ use Rattle.typst_edits.proofs.InnerCandidates.{joined-trees}
 use Rattle.typst_edits.proofs.Leading.{text-leads, turn-over}
 use Rattle.typst_edits.proofs.NoteNumbers.{go-fewer}
 use Rattle.typst_edits.proofs.OneReading.{end-split-at}
-use Rattle.typst_edits.proofs.Root.{within}
 use Rattle.typst_edits.proofs.RootCandidates.{TopCuts, cuts-of-text, pieces-parted, head-none, of-the-root}
 use Rattle.typst_edits.proofs.SpotPlaces.{width-encodes}
 use Rattle.typst_edits.proofs.Widths.{width-append, width-none}
@@ -52,7 +51,7 @@ module _ (k : CharClasses) (text : List ℕ) (cuts : TopCuts k text) where
   byte i = token_byte text (end_at k i z)
 
   goes-to : (i : ℕ) → i ≤ cuts.count → AllGo (pieces k i z)
-  goes-to i few = go-fewer (piece_at k) (within k) i cuts.count (true, 0) z (lead k z).state few cuts.go
+  goes-to i few = go-fewer (piece_at k) i cuts.count (true, 0) z (lead k z).state few cuts.go
 
   over : is_over 0 cuts.count (text_run k z) ≡ true
   over = run-over k text cuts.count cuts.go cuts.over

@@ -24,11 +24,11 @@ use Rattle.typst_edits.specs.RunNumbers.{cut_of, number_of, RunNumbersLaw}
 use Rattle.typst_edits.specs.Runs.{AllGo, End, pieces, piece_at, end_at, lead}
 use Rattle.typst_edits.specs.Sequence.{Sequence, turn_of, first_of, first_end, then_end}
 use Rattle.typst_edits.proofs.BlockTest.{units-listed}
-use Rattle.typst_edits.proofs.Boundary.{looks_in, each-ends, made-add}
+use Rattle.typst_edits.proofs.Boundary.{looks_in, each-ends, made-add, first-of, going-on, known-made}
 use Rattle.typst_edits.proofs.Cuts.{cuts-law}
 use Rattle.typst_edits.proofs.FoundPieces.{NoteAt, RunAmong, FoundPieces, says-by, nth-note, found-pieces}
 use Rattle.typst_edits.proofs.InnerCuts.{few-go}
-use Rattle.typst_edits.proofs.Leading.{Leads, text-leads, turn-over, not-over, known-from}
+use Rattle.typst_edits.proofs.Leading.{Leads, text-leads, turn-over}
 use Rattle.typst_edits.proofs.Nested.{nested-law}
 use Rattle.typst_edits.proofs.NoteNumbers.{go-fewer, go-next}
 use Rattle.typst_edits.proofs.NumberedNotes.{numbered-run-law}
@@ -67,13 +67,13 @@ module _ (r : Sequence) (leads : Leads r) where
       by-test : (b : Bool) → (m == count) ≡ b → ended m ≡ b
       by-test true t =
           let e = first_end count r in
-          let there = known-from r leads count (true, 0) r.place r.point leads.known g in
+          let there = known-made r.level r.stops count (true, 0) r.place r.point leads.known g in
           ap ended (eqb-true m count t) ∙ turn-over r leads e.value (moved e.taken r.place) e.state there over
       by-test false t =
           let e = first_end m r in
           let less = less-than m count l (eqb-false m count t) in
-          let go = go-next turn turn-within m (true, 0) r.place r.point (go-fewer turn turn-within (suc m) count (true, 0) r.place r.point (omega (arith, less)) g) in
-          not-over r leads e.value (moved e.taken r.place) e.state (ended m) refl go
+          let go = go-next turn m (true, 0) r.place r.point (go-fewer turn (suc m) count (true, 0) r.place r.point (omega (arith, less)) g) in
+          going-on r.level r.stops e.value (moved e.taken r.place) e.state (first-of _ _ go)
 
   pub over-at : (count i n : ℕ) → AllGo (first_of count r) → (let e = first_end count r in goes (turn e.value (moved e.taken r.place) e.state) ≡ false) → i + n ≤ count → is_over i n r ≡ (i + n == count)
   over-at count i n g over l = ended-is i n ∙ ended-at count (i + n) g over l
@@ -92,7 +92,7 @@ module _ (ordered : InOrderLaw) (k : CharClasses) (text : List ℕ) where
   n = numbered-run-law k text
 
   goes-up-to : (i : ℕ) → i ≤ n.count → AllGo (pieces k i (start_of text))
-  goes-up-to i l = go-fewer (piece_at k) (within k) i n.count (true, 0) (start_of text) (lead k (start_of text)).state l n.go
+  goes-up-to i l = go-fewer (piece_at k) i n.count (true, 0) (start_of text) (lead k (start_of text)).state l n.go
 
   -- the note where so many pieces end
   note-at : (i : ℕ) → i ≤ n.count → NoteAt max_depth 0 ns i (number_of k text i)

@@ -39,7 +39,7 @@ module _ (k : CharClasses) (r : Reading) where
 
   -- fewer pieces go on, too
   pub fewer-go : (m j : ℕ) → m ≤ j → AllGo (read_by k r j) → AllGo (read_by k r m)
-  fewer-go m j l g = go-fewer turn within m j r.carried r.place (first_look level r.place).state l g
+  fewer-go m j l g = go-fewer turn m j r.carried r.place (first_look level r.place).state l g
 
   -- how far they go, with the trivia behind them
   pub ends-in : (m : ℕ) → (let e = end_on level (stops_of r.which) r.carried m r.place in e.taken + gap_of e.state.known ≤ length r.place.ahead)
@@ -53,7 +53,7 @@ module _ (k : CharClasses) (r : Reading) where
       let s = (first_look level r.place).state in
       let e = end_on level (stops_of r.which) r.carried m r.place in
       let o = turn e.value (moved e.taken r.place) e.state in
-      let on = first-of o.value.0 (nat_lt 0 o.taken) (go-next turn within m r.carried r.place s (fewer-go (suc m) j l go)) in
+      let on = first-of o.value.0 (nat_lt 0 o.taken) (go-next turn m r.carried r.place s (fewer-go (suc m) j l go)) in
       let stopped : o.value.0 ≡ false = stopped-is level (stops_of r.which) e.value (moved e.taken r.place) e.state over in
       let no : true ≡ false = sym on ∙ stopped in cc
 

@@ -1,5 +1,5 @@
 -- The units of a text with an edit inside some pieces of its run.
-use Rattle.std.proofs.Common.{◌≡◌, ◌==◌, ◌&&◌, if◌then◌else◌, inl, inr, ◌⊎◌, ℕ, zero, suc, ◌+◌, ◌-◌, ◌<◌, ◌≤◌, ◌^◌, Bool, true, false, List, [], ◌∷◌, ◌++◌, length, map, append_assoc, append-nil, Some, refl, ap, sym, ◌∙◌, subst, arith}
+use Rattle.std.proofs.Common.{◌≡◌, ◌==◌, ◌&&◌, if◌then◌else◌, inl, inr, ◌⊎◌, ℕ, zero, suc, ◌+◌, ◌-◌, ◌<◌, ◌≤◌, ◌^◌, Bool, true, List, [], ◌∷◌, ◌++◌, length, map, append_assoc, Some, refl, ap, sym, ◌∙◌, subst, arith}
 use Rattle.std.proofs.lemmas.List.{map-append}
 use Rattle.typst_kinds.specs.Kinds.{same}
 use Rattle.typst_kinds.specs.declared.kind.SyntaxKind.TheVariants as kind
@@ -10,18 +10,16 @@ use Rattle.typst_lines.specs.Place.{Place, moved}
 use Rattle.typst_lines.specs.Classes.{CharClasses}
 use Rattle.typst_tokens.specs.Reader.{Look, no_look}
 use Rattle.typst_tokens.specs.Sight.{width, position}
-use Rattle.typst_language.specs.declared.calls.Mark.TheVariants as mark
 use Rattle.typst_language.specs.Ask.{Ask, SameIn, shift, shift_one}
 use Rattle.typst_language.specs.Ask.Ask.{looked, marked}
 use Rattle.typst_language.specs.Depth.{is_end}
 use Rattle.typst_language.specs.Hand.{AtHand, Hand, told, hand_at}
 use Rattle.typst_language.specs.Log.{no_log, logged}
 use Rattle.typst_language.specs.Meaning.{Outcome, hand_of, hand_asks_of, repeated, start_point, run}
-use Rattle.typst_language.specs.Point.{Trivia, Point, gap_of, state_of}
+use Rattle.typst_language.specs.Point.{Trivia, Point, gap_of}
 use Rattle.typst_language.specs.Steps.{peek}
 use Rattle.typst_language.proofs.Ends.{hand-ends}
 use Rattle.typst_language.proofs.Knot.{sane-at}
-use Rattle.typst_language.proofs.Looks.{same_in-shift, same_in-second}
 use Rattle.typst_grammar.specs.Markup.{ends, markup_reading}
 use Rattle.typst_grammar.specs.Grammar.{rules, level_at, max_depth, start_of, whole, parsed, log}
 use Rattle.typst_edits.specs.Edit.{text_with, AllEndBy, AllBeginIn}
@@ -30,12 +28,12 @@ use Rattle.typst_edits.specs.Joint.{passed, onwards, text_run, place_from, onwar
 use Rattle.typst_edits.specs.JointBytes.{asked_past}
 use Rattle.typst_edits.specs.RunSplice.{end_note, next_looks, own_asks, pieces_log, OverAt, RunSpliceLaw}
 use Rattle.typst_edits.specs.RunTrees.{run_mark}
-use Rattle.typst_edits.specs.Runs.{start, AllGo, End, end_of, asks_of, chain, piece_at, lead, pieces, end_at, pieces_from, end_from, rest_from, tail, whole_of}
+use Rattle.typst_edits.specs.Runs.{start, AllGo, asks_of, chain, lead, pieces, end_at, pieces_from, end_from, rest_from, tail, whole_of}
 use Rattle.typst_edits.specs.Sequence.{Sequence, turn_of}
 use Rattle.typst_edits.specs.Splice.{Noting, noting, notes_in, AllNotedBy, token_start, entries_from}
-use Rattle.typst_edits.proofs.Boundary.{Begins, begins-append, looks_in, pieces-begin, each-ends, made-ends, from-both, from-second}
+use Rattle.typst_edits.proofs.Boundary.{Begins, begins-append, looks_in, pieces-begin, from-both, from-second}
 use Rattle.typst_edits.proofs.Edit.{before-same}
-use Rattle.typst_edits.proofs.EmptyRuns.{Knows, Never, hand-asks, hand-gap, passed-kind, onwards-looks, end-look, token_look}
+use Rattle.typst_edits.proofs.EmptyRuns.{Knows, Never, hand-asks, hand-gap, passed-kind, onwards-looks, end-look, token_look, end-any}
 use Rattle.typst_edits.proofs.Every.{Every}
 use Rattle.typst_edits.proofs.Forward.{ahead-from, lead-ahead}
 use Rattle.typst_edits.proofs.Joint.{text-read, onwards-is, onwards-fronted, joint-law}
@@ -44,10 +42,12 @@ use Rattle.typst_edits.proofs.Outcomes.{shift-zero, shift-twice}
 use Rattle.typst_edits.proofs.Root.{whole-is, split-at, split-taken}
 use Rattle.typst_edits.proofs.RunTrees.{whole-asks, chained-asks}
 use Rattle.typst_edits.proofs.Runs.{chain-state}
-use Rattle.typst_edits.proofs.Seen.{AllSeen, end-first, seen-first, sees-level}
-use Rattle.typst_edits.proofs.Sides.{Side, Last, entries_at, back_at, count-append, count-shift, count-none, each-bare, each-from, from-zero, bare-shift, side-closed, side-open, side-none, side-by, same-at, last-at, splice-sides}
-use Rattle.typst_edits.proofs.Splice.{take-width, token-at}
+use Rattle.typst_edits.proofs.Seen.{AllSeen, seen-first, sees-level}
+use Rattle.typst_edits.proofs.Sides.{Side, Last, entries_at, back_at, count-append, count-shift, each-bare, each-from, from-zero, bare-shift, side-none, side-by, same-at, last-at, splice-sides}
+use Rattle.typst_edits.proofs.Splice.{take-width}
 use Rattle.typst_edits.proofs.Widths.{width-moved}
+use Rattle.typst_edits.proofs.PieceAsks.{lifted, lifted_note, lifted-none, Cut as AnyCut, cut as cut-any, next-none as next-none-any, side-in, again}
+use Rattle.typst_edits.specs.InnerSplice.{note_at, looks_next, own_of}
 
 -- ---- lists of asks
 
@@ -118,54 +118,41 @@ module _ (k : CharClasses) where
   abbrev pub all_asks : ℕ → ℕ → Place → List Ask
   all_asks i n z = next_looks k i z ++ shift (end_at k i z).taken (asks_of (pieces_from k i n z) ++ shift (end_from k i n z).taken (onwards_from k i n z).asks)
 
-  -- what is asked up to the note where i pieces end, and the looks behind it
+  -- the note where pieces end, and the looks behind it, are those of any run
+  note-is : (i : ℕ) (z : Place) → note_at (text_run k z) start i ≡ end_note k i z
+  note-is zero z = refl
+  note-is (suc i) z = refl
+
+  looks-are : (i : ℕ) (z : Place) → looks_next (text_run k z) (lead k z).asks i ≡ next_looks k i z
+  looks-are zero z = refl
+  looks-are (suc i) z = refl
+
+  -- what is asked up to that note, and the looks behind it
   pub record Cut (i : ℕ) (z : Place) : Type 0 where
     pub first : List Ask
     pub is : run_mark ∷ ((lead k z).asks ++ asks_of (pieces k i z)) ≡ first ++ noting (end_note k i z) ∷ next_looks k i z
     pub count : notes_in first ≡ notes_in (asks_of (pieces k i z))
-    none : i ≡ 0 → first ≡ []
     early : (n : ℕ) → (0 < i → AllEndBy n ((lead k z).asks ++ asks_of (pieces k i z))) → AllEndBy n first
 
   lead-bare : (z : Place) → AllMarks Never (lead k z).asks
   unfolding run
   lead-bare z = none-hand Never k start.held start.known z
 
-  hand-bare : (z : Place) (s : Point) → AllMarks Never (hand_asks_of (level_at k max_depth) z s)
-  hand-bare z s = none-hand Never k s.held s.known z
-
   next-none : (i : ℕ) (z : Place) → notes_in (next_looks k i z) ≡ 0
-  next-none zero z = count-none (lead k z).asks (lead-bare z)
-  next-none (suc i) z =
-      let e = end_at k (suc i) z in
-      let looks = hand_asks_of (level_at k max_depth) (moved e.taken z) e.state in
-      count-none (shift e.taken looks) (bare-shift e.taken looks (hand-bare (moved e.taken z) e.state))
+  next-none i z = ap notes_in (sym (looks-are i z)) ∙ next-none-any (text_run k z) start (lead k z).asks i (lead-bare z)
+
+  abbrev cut_by : (i : ℕ) (z : Place) → AnyCut (text_run k z) start (lead k z).asks i → Cut i z
+  cut_by i z c =
+      let ls = (lead k z).asks ++ asks_of (pieces k i z) in
+      record {
+        first = c.early;
+        is = c.is ∙ (λ v. c.early ++ noting (note-is i z v) ∷ looks-are i z v);
+        count = c.count;
+        early = λ n h. subst (λ u. AllEndBy n u) (shift-zero c.early) (c.ends n 0 (λ l. subst (λ u. AllEndBy n u) (sym (shift-zero ls)) (h l)));
+      }
 
   pub cut : (i : ℕ) (z : Place) → AllGo (pieces k i z) → Cut i z
-  cut zero z g = record { first = []; is = ap (λ u. run_mark ∷ u) (append-nil (lead k z).asks); count = refl; none = λ e. refl; early = λ n h. tt }
-  cut (suc j) z g =
-      let r = text_run k z in
-      let ls = (lead k z).asks in
-      let os = pieces k (suc j) z in
-      let e = end_at k (suc j) z in
-      let b = made-ends (piece_at k) (looks_in r) (each-ends r) j (true, 0) z (lead k z).state g in
-      let looks = next_looks k (suc j) z in
-      let p = noting (end_note k (suc j) z) in
-      let before = ls ++ (b.early ++ looks) in
-      let is : ls ++ asks_of os ≡ before ++ p ∷ looks =
-      ap (λ u. ls ++ u) (b.is ∙ sym (append_assoc b.early looks (p ∷ looks))) ∙ sym (append_assoc ls (b.early ++ looks) (p ∷ looks)) in
-      let none = count-none looks (bare-shift e.taken (hand_asks_of (level_at k max_depth) (moved e.taken z) e.state) (hand-bare (moved e.taken z) e.state)) in
-      let none_first = count-none ls (lead-bare z) in
-      let own = ap notes_in b.is ∙ count-append b.early (looks ++ p ∷ looks) in
-      let own_end = count-append looks (p ∷ looks) in
-      let one = count-append ls (b.early ++ looks) in
-      let two = count-append b.early looks in
-      record {
-        first = run_mark ∷ before;
-        is = ap (λ u. run_mark ∷ u) is;
-        count = omega (arith, none, none_first, own, own_end, one, two);
-        none = λ e. absurd (omega (arith, e));
-        early = λ n h. end-first n before (p ∷ looks) (subst (λ u. AllEndBy n u) is (h (omega arith)));
-      }
+  cut i z g = cut_by i z (cut-any (text_run k z) start (lead k z).asks i (lead-bare z) g)
 
   -- all that is asked of a text, cut there
   pub cut-asks : (text : List ℕ) (i n : ℕ) → (let z = start_of text in (first : List Ask) (p : Noting) → AllGo (pieces k i z) → AllGo (pieces_from k i n z)
@@ -181,53 +168,30 @@ module _ (k : CharClasses) where
   record Tail (i n : ℕ) (z : Place) (t : Trivia) (end : ℕ) (last : List Ask) : Type 0 where
     known : (end_from k i n z).state.known ≡ Some t
     ends : ((end_at k i z).taken + (end_from k i n z).taken) + t.gap ≡ end
-    bare : AllMarks Never (hand_asks_of (level_at k max_depth) (place_from k i n z) (end_from k i n z).state)
     asks : hand_asks_of (level_at k max_depth) (place_from k i n z) (end_from k i n z).state ++ (onwards_from k i n z).asks ≡ shift t.gap last
 
   -- behind pieces, of which there is one at least
   side : (i n : ℕ) (z : Place) (t : Trivia) (end : ℕ) (last : List Ask) → AllGo (pieces_from k i n z) → Tail i n z t end last → 0 < i + n
       → Side max_depth z (end_note k i z) (own_asks k i n z) (all_asks i n z) (entries_at max_depth z end last) (back_at max_depth z end last)
-  side zero zero z t end last g a some = absurd (omega (arith, some))
-  side (suc j) zero z t end last g a some =
-      let e = end_at k (suc j) z in
-      let looks = hand_asks_of (level_at k max_depth) (moved e.taken z) e.state in
-      let on = (onwards_from k (suc j) zero z).asks in
-      let next = shift e.taken looks in
-      let sum : e.taken + t.gap ≡ end = omega (arith, a.ends) in
-      let here : e.taken + gap_of e.state.known ≡ end = ap (λ v. e.taken + gap_of v) a.known ∙ sum in
-      side-open max_depth z (end_note k (suc j) z) (own_asks k (suc j) zero z) (all_asks (suc j) zero z) end last
-      (marks-append Never next [] (bare-shift e.taken looks a.bare) tt)
-      (ap (λ u. next ++ shift e.taken u) (shift-zero on) ∙ sym (map-append (shift_one e.taken) looks on) ∙ ap (shift e.taken) a.asks ∙ shift-twice e.taken t.gap last ∙ ap (λ d. shift d last) sum)
-      (token-at z (end_note k (suc j) z) end here)
-  side i (suc n) z t end last g a some =
+  side i n z t end last g a some =
       let r = text_run k z in
+      let ls = (lead k z).asks in
       let e = end_at k i z in
-      let f = end_from k i (suc n) z in
-      let b = made-ends (piece_at k) (looks_in r) (each-ends r) n e.value (moved e.taken z) e.state g in
-      let looks = hand_asks_of (level_at k max_depth) (place_from k i (suc n) z) f.state in
-      let on = (onwards_from k i (suc n) z).asks in
-      let next = next_looks k i z in
-      let q : Noting = record { at = e.taken + f.taken; gap = gap_of f.state.known; fewer = 0; mark = mark.Piece f.value.0 f.value.1; state = state_of f.state } in
-      let inner = shift f.taken looks in
-      let last_looks = shift e.taken inner in
-      let early = shift e.taken b.early in
-      let second = next ++ (early ++ last_looks) in
-      let own_is : shift e.taken (asks_of (pieces_from k i (suc n) z)) ≡ early ++ (last_looks ++ noting q ∷ last_looks) =
-      ap (shift e.taken) b.is ∙ map-append (shift_one e.taken) b.early _ ∙ ap (λ u. early ++ u) (map-append (shift_one e.taken) inner _) in
-      let over = shift e.taken (shift f.taken on) in
-      let joined_is : (more : List Ask) → next ++ ((early ++ (last_looks ++ noting q ∷ last_looks)) ++ more) ≡ second ++ noting q ∷ (last_looks ++ more) = λ more.
-      ap (λ u. next ++ u) (append_assoc early (last_looks ++ noting q ∷ last_looks) more ∙ ap (λ u. early ++ u) (append_assoc last_looks (noting q ∷ last_looks) more) ∙ sym (append_assoc early last_looks (noting q ∷ (last_looks ++ more))))
-      ∙ sym (append_assoc next (early ++ last_looks) (noting q ∷ (last_looks ++ more))) in
-      let late : last_looks ++ over ≡ shift end last =
-      sym (map-append (shift_one e.taken) inner (shift f.taken on)) ∙ ap (shift e.taken) (sym (map-append (shift_one f.taken) looks on) ∙ ap (shift f.taken) a.asks ∙ shift-twice f.taken t.gap last)
-      ∙ shift-twice e.taken (f.taken + t.gap) last ∙ ap (λ d. shift d last) (omega (arith, a.ends)) in
-      let all_is : all_asks i (suc n) z ≡ second ++ noting q ∷ shift end last =
-      ap (λ u. next ++ u) (map-append (shift_one e.taken) (asks_of (pieces_from k i (suc n) z)) (shift f.taken on) ∙ ap (λ u. u ++ over) own_is) ∙ joined_is over ∙ ap (λ u. second ++ noting q ∷ u) late in
-      let own : own_asks k i (suc n) z ≡ second ++ noting q ∷ last_looks =
-      ap (λ u. next ++ u) (own_is ∙ sym (append-nil (early ++ (last_looks ++ noting q ∷ last_looks)))) ∙ joined_is [] ∙ ap (λ u. second ++ noting q ∷ u) (append-nil last_looks) in
-      let here : (e.taken + f.taken) + gap_of f.state.known ≡ end = ap (λ v. (e.taken + f.taken) + gap_of v) a.known ∙ a.ends in
-      side-closed max_depth z (end_note k i z) q (own_asks k i (suc n) z) (all_asks i (suc n) z) second last_looks end last own
-      (bare-shift e.taken inner (bare-shift f.taken looks a.bare)) all_is (token-at z q end here)
+      let f = end_from k i n z in
+      let looks = hand_asks_of (level_at k max_depth) (place_from k i n z) f.state in
+      let on = (onwards_from k i n z).asks in
+      let both = e.taken + f.taken in
+      let over : shift e.taken (shift f.taken on) ≡ shift both on = shift-twice e.taken f.taken on in
+      let late : lifted 0 0 (shift both looks) ++ shift both on ≡ shift end last =
+      ap (λ u. u ++ shift both on) (lifted-none (shift both looks)) ∙ sym (map-append (shift_one both) looks on) ∙ ap (shift both) a.asks ∙ shift-twice both t.gap last ∙ ap (λ d. shift d last) a.ends in
+      let gap = ap gap_of a.known in
+      let note : lifted_note 0 0 (note_at r start i) ≡ end_note k i z = (let at : 0 + e.taken ≡ e.taken = omega arith in ap (λ d. record (note_at r start i) { at = d }) at) ∙ note-is i z in
+      let own : lifted 0 0 (own_of r ls i n) ≡ own_asks k i n z = lifted-none (own_of r ls i n) ∙ ap (λ u. u ++ shift e.taken (asks_of (pieces_from k i n z))) (looks-are i z) in
+      let all : lifted 0 0 (own_of r ls i n) ++ shift both on ≡ all_asks i n z =
+      ap (λ u. u ++ shift both on) own ∙ ap (λ u. own_asks k i n z ++ u) (sym over) ∙ append_assoc (next_looks k i z) (shift e.taken (asks_of (pieces_from k i n z))) (shift e.taken (shift f.taken on))
+      ∙ ap (λ u. next_looks k i z ++ u) (sym (map-append (shift_one e.taken) (asks_of (pieces_from k i n z)) (shift f.taken on))) in
+      subst (λ (x : Noting × List Ask × List Ask). Side max_depth z x.0 x.1 x.2 (entries_at max_depth z end last) (back_at max_depth z end last)) (λ v. (note v, own v, all v))
+      (side-in r start ls max_depth 0 0 z (shift both on) end last i n g late (omega (arith, a.ends, gap)) (λ none. absurd (omega (arith, none, some))))
 
   -- at the text's start no note stands behind the first where no piece is read and the run ends
   side-start : (text : List ℕ) (t : Trivia) (end : ℕ) (last : List Ask) → (let z = start_of text in Tail 0 0 z t end last → AllMarks Never last → AllFrom 0 z (lead k z).asks → AllFrom 0 z (shift end last)
@@ -256,35 +220,10 @@ module _ (k : CharClasses) where
 
   -- ---- the new text
 
-  -- the looks behind the note where pieces end, which were looked at in them
-  looks-same : (z w : Place) (e : End (Bool × ℕ)) → (let looks = hand_asks_of (level_at k max_depth) (moved e.taken z) e.state in SameIn (shift e.taken looks) z w
-      → hand_asks_of (level_at k max_depth) (moved e.taken w) e.state ≡ looks)
+  -- the looks at a token that were looked at
+  hands-same : (y v : Place) (s : Point) → SameIn (hand_asks_of (level_at k max_depth) y s) y v → hand_asks_of (level_at k max_depth) v s ≡ hand_asks_of (level_at k max_depth) y s
   unfolding run
-  looks-same z w e h =
-      let looks = hand_asks_of (level_at k max_depth) (moved e.taken z) e.state in
-      ap (λ (o : Outcome AtHand). o.asks) ((sane-at (rules k) k max_depth peek).framed (moved e.taken z) (moved e.taken w) e.state (same_in-shift e.taken looks z w h))
-
-  -- the same is asked before pieces
-  record Again (i : ℕ) (z w : Place) (first : List Ask) : Type 0 where
-    note : end_note k i w ≡ end_note k i z
-    is : run_mark ∷ ((lead k w).asks ++ asks_of (pieces k i w)) ≡ first ++ noting (end_note k i z) ∷ next_looks k i w
-
-  again : (i : ℕ) (z w : Place) (c : Cut i z) → pieces k i w ≡ pieces k i z → (0 < i → lead k w ≡ lead k z) → (0 < i → SameIn ((lead k z).asks ++ asks_of (pieces k i z)) z w) → AllGo (pieces k i w) → Again i z w c.first
-  again zero z w c e f h g = record { note = refl; is = ap (λ u. run_mark ∷ u) (append-nil (lead k w).asks) ∙ ap (λ u. u ++ run_mark ∷ (lead k w).asks) (sym (c.none refl)) }
-  again (suc j) z w c e f h g =
-      let led = f (omega arith) in
-      let end_is : end_at k (suc j) w ≡ end_at k (suc j) z = ap (λ (o : Outcome AtHand). end_of (true, 0) o.state (pieces k (suc j) w)) led ∙ ap (end_of (true, 0) (lead k z).state) e in
-      let a = end_at k (suc j) z in
-      let p = noting (end_note k (suc j) z) in
-      let looks = next_looks k (suc j) z in
-      let shown : SameIn (c.first ++ p ∷ looks) z w = subst (λ u. SameIn u z w) c.is (tt, h (omega arith)) in
-      let same_looks : next_looks k (suc j) w ≡ looks =
-      ap (λ (v : End (Bool × ℕ)). shift v.taken (hand_asks_of (level_at k max_depth) (moved v.taken w) v.state)) end_is
-      ∙ ap (shift a.taken) (looks-same z w a (same_in-second c.first (p ∷ looks) z w shown).1) in
-      record {
-        note = ap (λ (v : End (Bool × ℕ)). record { at = v.taken; gap = gap_of v.state.known; fewer = 0; mark = mark.Piece v.value.0 v.value.1; state = state_of v.state }) end_is;
-        is = ap (λ (o : Outcome AtHand). run_mark ∷ (o.asks ++ asks_of (pieces k (suc j) w))) led ∙ ap (λ os. run_mark ∷ ((lead k z).asks ++ asks_of os)) e ∙ c.is ∙ ap (λ u. c.first ++ p ∷ u) (sym same_looks);
-      }
+  hands-same y v s h = ap (λ (o : Outcome AtHand). o.asks) ((sane-at (rules k) k max_depth peek).framed y v s h)
 
 -- ---- the law
 
@@ -301,11 +240,6 @@ lead-begun : (k : CharClasses) (i n : ℕ) (z : Place) (t : Trivia) → (end_fro
 lead-begun k zero zero z t known h e = ahead-from z (lead k z).asks (lead-ahead k z t known h)
 lead-begun k (suc i) n z t known h e = absurd (omega (arith, e))
 lead-begun k zero (suc n) z t known h e = absurd (omega (arith, e))
-
-end-any : (b c d : Bool) → (if b then (c && d) else c) ≡ true → c ≡ true
-end-any true true d e = refl
-end-any true false d e = absurd (cc)
-end-any false c d e = e
 
 -- where a text's run ends, its text does
 ends-there : (k : CharClasses) (y : Place) (s : Point) (t : Trivia) (x : ℕ) → s.held ≡ markup_reading → s.known ≡ Some t → ends is_end x (hand_of (level_at k max_depth) y s).kind ≡ true → (moved t.gap y).ahead ≡ []
@@ -362,13 +296,11 @@ run-splice-law k front old new rest i n m past t u h over over_new big big_new =
     let tail_old : Tail k i n z t end last = record {
       known = h.meets.known;
       ends = h.ends;
-      bare = hand-bare k y s;
       asks = ap (λ ls. ls ++ (onwards_from k i n z).asks) hand_old ∙ ap (λ ls. looked t.gap seen ∷ ls) on_old ∙ none t.gap;
     } in
     let tail_new : Tail k i m w u stop last = record {
       known = h.meets.known_now;
       ends = h.shifted;
-      bare = hand-bare k v q;
       asks = ap (λ ls. ls ++ (onwards_from k i m w).asks) hand_new ∙ ap (λ a. looked u.gap a ∷ (onwards_from k i m w).asks) same_seen ∙ ap (λ ls. looked u.gap seen ∷ ls) on_new ∙ none u.gap;
     } in
     let first_begins = subst (AllBeginIn past rest) first_old h.after in
@@ -400,18 +332,21 @@ run-splice-law k front old new rest i n m past t u h over over_new big big_new =
       | inr some ↦ elim (none-or-some (i + m)) [ inl e ↦ ended (over_new e) | inr some_new ↦ apart some some_new ]
     ] in
     -- what is asked of both
-    let cuts = cut k i z h.first_go in
+    let any = cut-any r start (lead k z).asks i (lead-bare k z) h.first_go in
+    let cuts = cut_by k i z any in
     let p = end_note k i z in
-    let more = again k i z w cuts kept.first kept.lead_same (λ some. before-same _ front old new rest (h.before some)) new_first in
+    let more = again r (text_run k w) start (lead k z).asks (lead k w).asks i any kept.first (λ some. ap (λ (o : Outcome AtHand). o.state) (kept.lead_same some)) (λ some. ap (λ (o : Outcome AtHand). o.asks) (kept.lead_same some))
+    (λ some. before-same _ front old new rest (h.before some)) (hands-same k) in
+    let note_same : end_note k i w ≡ p = sym (note-is k i w) ∙ more.note ∙ note-is k i z in
     let was = cut-asks k (front ++ (old ++ rest)) i n cuts.first p h.first_go h.old_go cuts.is in
-    let now = cut-asks k (front ++ (new ++ rest)) i m cuts.first p new_first h.new_go more.is in
+    let now = cut-asks k (front ++ (new ++ rest)) i m cuts.first p new_first h.new_go (more.is ∙ (λ v. any.early ++ noting (note-is k i z v) ∷ looks-are k i w v)) in
     let early = cuts.early (length front) h.before in
     let upto = cuts.first ++ noting p ∷ [] in
     let all_seen = (sees-level (rules k) k max_depth whole z (start_point markup_reading) (length front) (omega arith)).noted in
     let noted_all = seen-first (length front) upto (all_asks k i n z) (subst (AllSeen (length front)) (was ∙ sym (append_assoc cuts.first (noting p ∷ []) (all_asks k i n z))) all_seen) (end-marked (length front) cuts.first p early) in
     let law = splice-sides max_depth front (old ++ rest) (new ++ rest) cuts.first p (own_asks k i n z) (all_asks k i n z) (own_asks k i m w) (all_asks k i m w) both.behind both.back early
     (noted-first (length front) cuts.first (noting p ∷ []) noted_all) (noted-last (length front) cuts.first p noted_all) both.one
-    (subst (λ a. Side max_depth w a (own_asks k i m w) (all_asks k i m w) both.behind both.back) more.note both.two) in
+    (subst (λ a. Side max_depth w a (own_asks k i m w) (all_asks k i m w) both.behind both.back) note_same both.two) in
     let from = notes_in (asks_of (pieces k i z)) in
     let count = notes_in (own_asks k i n z) in
     let part = entries_from (token_start w p) (pieces_log k i m w).notes in
@@ -421,5 +356,5 @@ run-splice-law k front old new rest i n m past t u h over over_new big big_new =
     ap (λ ls. units_of (logged max_depth w no_log ls)) now ∙ law
     ∙ ap (λ a. spliced a (a + count) part units_was) cuts.count
     ∙ ap (λ a. spliced from (from + a) part units_was) own_count
-    ∙ ap (λ (a : Noting). spliced from (from + notes_in (asks_of (pieces_from k i n z))) (entries_from (token_start w a) (pieces_log k i m w).notes) units_was) (sym more.note)
+    ∙ ap (λ (a : Noting). spliced from (from + notes_in (asks_of (pieces_from k i n z))) (entries_from (token_start w a) (pieces_log k i m w).notes) units_was) (sym note_same)
     ∙ ap (λ ls. spliced from (from + notes_in (asks_of (pieces_from k i n z))) (entries_from (token_start w (end_note k i w)) (pieces_log k i m w).notes) (units_of (logged max_depth z no_log ls))) (sym was)

@@ -10,7 +10,7 @@ use Rattle.typst_language.specs.Log.{no_log, logged}
 use Rattle.typst_language.specs.Meaning.{run}
 use Rattle.typst_language.specs.Point.{Trivia, gap_of}
 use Rattle.typst_language.specs.Steps.{peek}
-use Rattle.typst_language.proofs.Knot.{sane-at, sane-meaning, sane-block}
+use Rattle.typst_language.proofs.Knot.{sane-at}
 use Rattle.typst_language.proofs.Places.{moved-sum}
 use Rattle.typst_candidates.specs.declared.entry.Entry.{Entry}
 use Rattle.typst_candidates.specs.Candidates.{Candidate}
@@ -51,12 +51,12 @@ use Rattle.typst_edits.proofs.Outcomes.{shift-zero}
 use Rattle.typst_edits.proofs.PiecesLog.{pieces-log-law}
 use Rattle.typst_edits.proofs.PiecesTest.{count-pieces, run-entries-law, run-part-law, no-errors-before, rereads, some-path}
 use Rattle.typst_edits.proofs.ReadAlone.{first-goes, begun, alike, goes-there}
-use Rattle.typst_edits.proofs.Joint.{takes-call}
 use Rattle.typst_edits.proofs.Resumed.{count-law, further}
 use Rattle.typst_edits.proofs.Root.{within}
 use Rattle.typst_edits.proofs.RootCandidates.{root-candidate-law}
 use Rattle.typst_edits.proofs.RootPieces.{behind-zero, cut-is, joint-of}
 use Rattle.typst_edits.proofs.Widths.{width-append}
+use Rattle.typst_edits.proofs.Joint.{text-taking}
 
 -- ---- entries and counts
 
@@ -73,8 +73,7 @@ ends-within k text i =
 pub text-further : (k : CharClasses) (m n : ℕ) (x : Bool × ℕ) (y : Place) → m < n → AllGo (read_alone k x n y) → (let e = end_alone k x m y in let f = end_alone k x n y in e.taken + gap_of e.state.known < f.taken + gap_of f.state.known)
 unfolding run
 text-further k m n x y some g =
-    further (level_at k max_depth) (sane-meaning (rules k) k max_depth) (sane-block (rules k) k max_depth) refl is_end refl (λ h q a b alike x some. takes-call k 255 h q a b alike x some)
-    m n x y (fresh (level_at k max_depth) y) (record { trivia = _; is = refl }) some g
+    further (level_at k max_depth) is_end (text-taking k) m n x y (fresh (level_at k max_depth) y) (record { trivia = _; is = refl }) some g
 
 -- ---- the reading by itself
 

@@ -34,7 +34,7 @@ use Rattle.typst_grammar.specs.Embedded.{embedded}
 use Rattle.typst_grammar.specs.Equations.{between_dollars, equation}
 use Rattle.typst_edits.specs.Joint.{minds}
 use Rattle.typst_edits.specs.Occurrences.{goes}
-use Rattle.typst_edits.proofs.Led.{behind_trivia, SameJudged, before_trivia, none-less, none-of, Led, led-then, led-asked, Counts_less, Takes, asks-behind, takes-token, takes-next, takes-peek, takes-column, takes-scoped, takes-wraps, takes-calls, kind-behind}
+use Rattle.typst_edits.proofs.Led.{behind_trivia, SameJudged, before_trivia, none-less, none-of, Led, led-then, led-asked, Counts_less, Takes, asks-behind, takes-token, takes-next, takes-peek, takes-column, takes-scoped, takes-wraps, takes-calls, kind-behind, same-judged}
 use Rattle.typst_edits.proofs.Runs.{repeated-chain}
 use Rattle.typst_edits.proofs.Outcomes.{shift-zero}
 use Rattle.typst_edits.proofs.Reached.{flushed-held}
@@ -163,6 +163,14 @@ module _ (l : Level) (sd : (c : Call) → Sane (l.deeper c)) (sb : (b : Block) �
     unfolding markup_turn
     takes-turn go = takes-peek l h z t u alike trims (turn_at stops x) (takes-pick trims _ _ _ go (goes-on trims _ _ takes-deeper))
 
+-- HOW A RUN IS READ: what is called in it reads as it should, an expression takes the token at hand first, whatever trivia are known before it, and the run stops at a text's end.
+pub record Taking (l : Level) (stops : SyntaxKind → Bool) : Type 0 where
+  pub calls_sane : (c : Call) → Sane (l.deeper c)
+  pub blocks_sane : (b : Block) → Sane (l.blocks b)
+  pub level_left : (l.levels == 0) ≡ false
+  pub end_stops : stops kind.End ≡ true
+  pub takes : (h : Reading) (z : Place) (t u : Trivia) → SameJudged h t u → (x : Bool × ℕ) → 0 < len_at l.classes h.mode (moved t.gap z) → Takes h z t u (minds (markup_head x.0 x.1 (hand_at l.classes h (Some t) z).kind)) (l.deeper (MarkupExpr x.0 x.1))
+
 -- ---- all behind some pieces
 
 -- one outcome that gives the trivia, and one that has others there
@@ -273,7 +281,7 @@ pub end-by : (stops : SyntaxKind → Bool) → stops kind.End ≡ true → (n : 
 end-by stops e n kind.End f = let g : true ≡ false = sym e ∙ f in cc
 end-by stops e n _ f = refl
 
-module _ (l : Level) (sd : (c : Call) → Sane (l.deeper c)) (sb : (b : Block) → Sane (l.blocks b)) (deep : (l.levels == 0) ≡ false) (stops : SyntaxKind → Bool) (end_stops : stops kind.End ≡ true) where
+module _ (l : Level) (stops : SyntaxKind → Bool) (taking : Taking l stops) where
   -- all behind some pieces
   abbrev pub behind : Bool × ℕ → Meaning (Unit {0})
   behind x = run l (repeat (markup_turn true stops) x >>= λ _. flush_trivia)
@@ -287,7 +295,7 @@ module _ (l : Level) (sd : (c : Call) → Sane (l.deeper c)) (sb : (b : Block) �
       let first = record (plain v (asked (hand_of l q p) p)) { asks = hand_asks_of l q p } in
       let end = plain (false, x) (asked (hand_of l q p) p) in
       let turn : m x q p ≡ joined first end = ap (joined first) (if-true (ends stops x.1 v.kind) _ _ f) in
-      last-turn m (λ n. (sane-run l sd sb (markup_turn true stops n)).within) x q p (ap goes turn) ∙ ap as_last turn
+      last-turn m (λ n. (sane-run l taking.calls_sane taking.blocks_sane (markup_turn true stops n)).within) x q p (ap goes turn) ∙ ap as_last turn
 
   -- there nothing depends on what is carried
   pub stopped-alike : (x y : Bool × ℕ) (q : Place) (p : Point) → ends stops x.1 (hand_of l q p).kind ≡ true → ends stops y.1 (hand_of l q p).kind ≡ true → behind y q p ≡ behind x q p
@@ -301,11 +309,11 @@ module _ (l : Level) (sd : (c : Call) → Sane (l.deeper c)) (sb : (b : Block) �
   unfolding run markup_turn
   first-seen x q w p true g same =
       let m : Bool × ℕ → Meaning (Bool × (Bool × ℕ)) = λ (v : Bool × ℕ). run l (markup_turn true stops v) in
-      let is = one-turn m (λ n. (sane-run l sd sb (markup_turn true stops n)).within) x q p g in
+      let is = one-turn m (λ n. (sane-run l taking.calls_sane taking.blocks_sane (markup_turn true stops n)).within) x q p g in
       same_in-first (hand_asks_of l q p) _ q w (same_in-first (m x q p).asks _ q w (subst (λ (o : Outcome (Bool × ℕ)). SameIn o.asks q w) is same))
   first-seen x q w p false g same =
       let m : Bool × ℕ → Meaning (Bool × (Bool × ℕ)) = λ (v : Bool × ℕ). run l (markup_turn true stops v) in
-      let is = last-turn m (λ n. (sane-run l sd sb (markup_turn true stops n)).within) x q p g in
+      let is = last-turn m (λ n. (sane-run l taking.calls_sane taking.blocks_sane (markup_turn true stops n)).within) x q p g in
       same_in-first (hand_asks_of l q p) _ q w (subst (λ (o : Outcome (Bool × ℕ)). SameIn o.asks q w) is same)
 
   pub hand-seen : (x : Bool × ℕ) (q w : Place) (p : Point) → SameIn (behind x q p).asks q w → SameIn (hand_asks_of l q p) q w
@@ -375,23 +383,39 @@ module _ (l : Level) (sd : (c : Call) → Sane (l.deeper c)) (sb : (b : Block) �
         subst (λ o. Fronted t u.nodes o (behind x w y)) (sym old) (subst (λ c. Fronted t u.nodes (joined (record (plain x s) { asks = ls ++ [] }) (run l flush_trivia z s)) c) (sym new)
         (fronted-asked t u.nodes x s y (ls ++ []) (ks ++ []) _ _ (ap (λ js. js ++ []) (asks-behind l h z t u alike) ∙ sym (map-append (shift_one t.gap) ks [])) flushed))
 
-    -- where one does
-    pub led-behind : (trims : Bool) → Takes h z t u trims (l.deeper (MarkupExpr x.0 x.1)) → (trims ≡ true → e ≡ d) → ends stops x.1 now.kind ≡ false → Led t u.nodes trims (behind x z s) (behind x w y)
-    unfolding run
-    led-behind trims call same f =
-        let p = markup_turn true stops in
-        let turn = takes-turn l sd sb h z t u alike deep stops x trims call f r e d a b same in
-        let all = led-repeated (λ v. run l (p v)) (λ n. (sane-run l sd sb (p n)).within) t u.nodes trims x z s y (λ n. (sane-run l sd sb (repeat p n)).backs) turn in
-        led-then t u.nodes trims z _ _ (λ v. run l flush_trivia) (λ v. (sane-run l sd sb flush_trivia).backs) all
-
     -- the token at hand takes a character, where it is no end
-    pub some-token : ends stops x.1 now.kind ≡ false → 0 < len_at l.classes h.mode w
+    some-token : ends stops x.1 now.kind ≡ false → 0 < len_at l.classes h.mode w
     unfolding hand_at
-    some-token f = hand-takes l.classes h (Some t) z (end-by stops end_stops x.1 now.kind f)
+    some-token f = hand-takes l.classes h (Some t) z (end-by stops taking.end_stops x.1 now.kind f)
 
-    fronted-by : (trims : Bool) → (0 < len_at l.classes h.mode w → Takes h z t u trims (l.deeper (MarkupExpr x.0 x.1))) → (ends stops x.1 now.kind ≡ false → trims ≡ true → e ≡ d) → (v : Bool) → ends stops x.1 now.kind ≡ v → Fronted t u.nodes (behind x z s) (behind x w y)
-    fronted-by trims call same true f = ended-behind f
-    fronted-by trims call same false f = fronted-led t u.nodes trims _ _ (led-behind trims (call (some-token f)) (same f) f)
+    -- where one does
+    pub led-behind : (minds (markup_head x.0 x.1 now.kind) ≡ true → e ≡ d) → ends stops x.1 now.kind ≡ false → Led t u.nodes (minds (markup_head x.0 x.1 now.kind)) (behind x z s) (behind x w y)
+    unfolding run
+    led-behind same f =
+        let p = markup_turn true stops in
+        let trims = minds (markup_head x.0 x.1 now.kind) in
+        let turn = takes-turn l taking.calls_sane taking.blocks_sane h z t u alike taking.level_left stops x trims (taking.takes h z t u alike x (some-token f)) f r e d a b same in
+        let all = led-repeated (λ v. run l (p v)) (λ n. (sane-run l taking.calls_sane taking.blocks_sane (p n)).within) t u.nodes trims x z s y (λ n. (sane-run l taking.calls_sane taking.blocks_sane (repeat p n)).backs) turn in
+        led-then t u.nodes trims z _ _ (λ v. run l flush_trivia) (λ v. (sane-run l taking.calls_sane taking.blocks_sane flush_trivia).backs) all
 
-    pub fronted-behind : (trims : Bool) → (0 < len_at l.classes h.mode w → Takes h z t u trims (l.deeper (MarkupExpr x.0 x.1))) → (ends stops x.1 now.kind ≡ false → trims ≡ true → e ≡ d) → Fronted t u.nodes (behind x z s) (behind x w y)
-    fronted-behind trims call same = fronted-by trims call same (ends stops x.1 now.kind) refl
+    fronted-by : (ends stops x.1 now.kind ≡ false → minds (markup_head x.0 x.1 now.kind) ≡ true → e ≡ d) → (v : Bool) → ends stops x.1 now.kind ≡ v → Fronted t u.nodes (behind x z s) (behind x w y)
+    fronted-by same true f = ended-behind f
+    fronted-by same false f = fronted-led t u.nodes _ _ _ (led-behind (same f) f)
+
+    pub fronted-behind : (ends stops x.1 now.kind ≡ false → minds (markup_head x.0 x.1 now.kind) ≡ true → e ≡ d) → Fronted t u.nodes (behind x z s) (behind x w y)
+    fronted-behind same = fronted-by same (ends stops x.1 now.kind) refl
+
+  -- with the same trivia at hand
+  pub fronted-same : (h : Reading) (z : Place) (t : Trivia) (x : Bool × ℕ) (r : Reading) (e : ℕ) (a : Bool) → Fronted t t.nodes (behind x z (before_trivia r h e a t)) (behind x (moved t.gap z) (before_trivia r h e a (behind_trivia t)))
+  fronted-same h z t x r e a = fronted-behind h z t t (same-judged h t) x r e e a a (λ go p. refl)
+
+  -- ---- a turn
+
+  -- one that goes on gives the trivia before it, and takes the token behind them
+  pub turn-led : (x : Bool × ℕ) (z : Place) (r h : Reading) (e : ℕ) (a : Bool) (t : Trivia) → (let s = before_trivia r h e a t in ends stops x.1 (told (hand_of l z s)).kind ≡ false
+      → Led t t.nodes (minds (markup_head x.0 x.1 (hand_at l.classes h (Some t) z).kind)) (run l (markup_turn true stops x) z s) (run l (markup_turn true stops x) (moved t.gap z) (before_trivia r h e a (behind_trivia t))))
+  unfolding hand_at
+  turn-led x z r h e a t go =
+      let s = before_trivia r h e a t in
+      let some = hand-takes l.classes h (Some t) z (end-by stops taking.end_stops x.1 (told (hand_of l z s)).kind go) in
+      takes-turn l taking.calls_sane taking.blocks_sane h z t t (same-judged h t) taking.level_left stops x _ (taking.takes h z t t (same-judged h t) x some) go r e e a a (λ p. refl)

@@ -35,10 +35,10 @@ use Rattle.typst_edits.specs.Occurrences.{Spots, wrapped_spot, call_spots, block
 use Rattle.typst_edits.specs.Spot.{then_spot, after_spot}
 use Rattle.typst_edits.specs.Standing.{seconds, call_seconds, block_seconds, level_seconds, seconds_of_text, UnnotedLaw}
 use Rattle.typst_edits.proofs.Blocks.{enclosing}
-use Rattle.typst_edits.proofs.Complete.{every-among}
 use Rattle.typst_edits.proofs.Every.{Every, every-append, every-by, every-map, every-flat, every-any}
 use Rattle.typst_edits.proofs.Unnoted.{Early, Differs, EveryAt, AllSplit, Begins, anything, wrapped-at, split-none, split-run}
 use Rattle.typst_edits.proofs.Rising.{hand-some as some-hand}
+use Rattle.typst_edits.proofs.Edit.{among}
 
 -- ---- a token takes something, where something is left
 
@@ -173,4 +173,4 @@ unnoted-law k text c ask i j =
     let s = start_point markup_reading in
     let ds = level_seconds (rules k) k max_depth whole z s in
     let asks = (parsed k max_depth text).asks in
-    every-among (Differs z c.at) ask _ j (every-among (λ d. Every (Differs z d.at) _) c ds i (split-level k max_depth (split-call k max_depth) whole ordinary-whole z s).differ)
+    among (Differs z c.at) ask _ j (among (λ d. Every (Differs z d.at) _) c ds i (split-level k max_depth (split-call k max_depth) whole ordinary-whole z s).differ)

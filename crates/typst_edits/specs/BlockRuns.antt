@@ -27,82 +27,91 @@ use Rattle.typst_edits.specs.Spot.{Spot, ended, last_node, unit_at}
 -- ---- a content block, where so many levels are left for what is called in it
 
 module _ (k : CharClasses) (levels : ℕ) where
+  -- where the block is read
   abbrev pub inner : Level
   inner = blockless k (suc levels) (meaning_of (rules k) k (suc levels))
 
-  -- the looks at its bracket, and the bracket
+  -- the first look at the block's bracket
   abbrev pub look_first : Place → Point → Outcome AtHand
   look_first z s = run inner peek z s
 
+  -- the second look at it
   abbrev pub look_again : Place → Point → Outcome AtHand
   look_again z s = look_first z (look_first z s).state
 
+  -- the bracket, taken
   abbrev pub bracket : Place → Point → Outcome (Unit {0})
   bracket z s = done inner (takes false itself) z (entered markup_reading (look_again z s).state)
 
-  -- the look at the first token behind it
+  -- the look at the first token after the bracket
   abbrev pub inner_lead : Place → Point → Outcome AtHand
   inner_lead z s = let b = bracket z s in run inner peek (moved b.taken z) b.state
 
-  -- its run
+  -- the block's run
   abbrev pub inner_run : Place → Point → Sequence
   inner_run z s = record { level = inner; stops = ends_block; place = moved (bracket z s).taken z; point = (inner_lead z s).state }
 
-  -- the trivia behind the run, and the bracket behind them, which stand so many characters behind the run's start
+  -- the trivia after the run, so many characters after the run's start
   abbrev pub inner_tail : ℕ → Point → Place → Outcome (Unit {0})
   inner_tail n s z = run inner flush_trivia (moved n z) s
 
+  -- the bracket at the block's end, so many characters after the run's start
   abbrev pub inner_close : ℕ → Point → Place → Outcome Bool
   inner_close n s z = run inner (close_if (same kind.RightBracket)) (moved n z) (after_node false [] s)
 
--- the run with the trivia behind it, by the point where it begins
+-- a run with the trivia after it, by the point where it begins, the look at its first token, its
+-- pieces, and these trivia
 abbrev pub run_of : Point → Outcome AtHand → Outcome (Bool × ℕ) → Outcome (Unit {0}) → Outcome (Unit {0})
 run_of s first r behind =
     joined (joined (plain false s) (joined (record (plain (tt {0}) s) { asks = marked 0 (gap_of s.known) 0 (mark.Piece true 0) (state_of s) ∷ [] }) (joined first (joined r (plain (tt {0}) r.state))))) behind
 
--- as a node
+-- a run as one node; answers whether the node has no children
 abbrev pub body_of : Outcome (Unit {0}) → Outcome Bool
 body_of o = let w = wrapped (λ _. becomes kind.Markup) 0 o in joined (joined w (plain w.value.1 w.state)) (plain (is_nil w.value.1) w.state)
 
--- a content block, by the looks at its bracket, the bracket, what stands in it, and the bracket at its end
+-- a content block, put together from its parts: the two looks at its bracket, the bracket, its run
+-- as one node, and the bracket at its end. In `[a ]` these are `[`, the markup `a ` and `]`
 abbrev pub content_of : Outcome AtHand → Outcome AtHand → Outcome (Unit {0}) → Outcome Bool → Outcome Bool → Outcome (Unit {0})
 content_of first second opening body close =
     let s = second.state in
     let w = wrapped (encloses kind.ContentBlock) (length (pending s.known)) (left_to s.reading (joined opening (joined body close))) in
     joined first (joined (joined second (joined w (plain w.value.0 w.state))) (plain (tt {0}) w.state))
 
--- a content block at a place and a point, by its run and what comes behind it
+-- a content block at a place and a point, by its run, the trivia after that, and the bracket at its
+-- end
 abbrev pub content_with : CharClasses → ℕ → Place → Point → Outcome (Bool × ℕ) → Outcome (Unit {0}) → Outcome Bool → Outcome (Unit {0})
 content_with k levels z s r behind close =
     ended (content_of (look_first k levels z s) (look_again k levels z s) (bracket k levels z s) (body_of (run_of (bracket k levels z s).state (inner_lead k levels z s) r behind)) close)
 
 -- ---- the law
 
--- where the run of a block begins in a text, and its point
+-- the run of a block in a text, by the block's spot
 abbrev pub run_at : {A : Type 0} → CharClasses → ℕ → Spot A → Place → Sequence
 run_at k levels c z = inner_run k levels (moved c.at z) (point_of c.start)
 
--- how much stands before its run
+-- how many characters come before a block's run
 abbrev pub opened_at : {A : Type 0} → CharClasses → ℕ → Spot A → Place → ℕ
 opened_at k levels c z = c.at + (bracket k levels (moved c.at z) (point_of c.start)).taken
 
--- the trivia and the bracket behind some pieces of it and the rest
+-- the trivia after a block's run, which is the first i pieces, n more and the rest
 abbrev pub tail_at : {A : Type 0} → CharClasses → ℕ → ℕ → ℕ → Spot A → Place → Outcome (Unit {0})
 tail_at k levels i n c z =
     let r = run_at k levels c z in
     inner_tail k levels (((first_end i r).taken + (then_end i n r).taken) + (rest_of i n r).taken) (rest_of i n r).state r.place
 
+-- the bracket at the end of a block whose run is these pieces
 abbrev pub close_at : {A : Type 0} → CharClasses → ℕ → ℕ → ℕ → Spot A → Place → Outcome Bool
 close_at k levels i n c z =
     let r = run_at k levels c z in
     let t = tail_at k levels i n c z in
     inner_close k levels ((((first_end i r).taken + (then_end i n r).taken) + (rest_of i n r).taken) + t.taken) t.state r.place
 
--- how much the block takes behind these pieces
+-- how many characters the block takes after the first i pieces and n more
 abbrev pub left_at : {A : Type 0} → CharClasses → ℕ → ℕ → ℕ → Spot A → Place → ℕ
 left_at k levels i n c z = (rest_of i n (run_at k levels c z)).taken + ((tail_at k levels i n c z).taken + (close_at k levels i n c z).taken)
 
--- What is looked at before so many pieces of a block's run ends at the stretch or before it: before the block, at its bracket, and in these pieces.
+-- What is looked at up to the first i pieces of a block's run ends at the stretch's start or before
+-- it: before the block, at its bracket, and in these pieces.
 pub record EndsBefore (k : CharClasses) (levels : ℕ) (front old rest : List ℕ) (c : Spot (Unit {0})) (i : ℕ) : Type 0 where
   pub before : AllEndBy (length front) c.before
   pub opens : (let z = moved c.at (text_with front old rest) in let s = point_of c.start in
@@ -110,13 +119,16 @@ pub record EndsBefore (k : CharClasses) (levels : ℕ) (front old rest : List �
   pub before_run : 0 < i → (let z = text_with front old rest in
       AllEndBy (length front) (shift (opened_at k levels c z) ((inner_lead k levels (moved c.at z) (point_of c.start)).asks ++ asks_of (first_of i (run_at k levels c z)))))
 
--- What is looked at behind n pieces behind i, in the block and behind it, begins at the stretch's end or behind it, where they go on so many characters past it.
+-- What is looked at after the n pieces that follow the first i, in the block and after it, begins
+-- at the stretch's end or after it, if these pieces go on so many characters past it.
 pub record BeginsBehind (k : CharClasses) (levels : ℕ) (front old rest : List ℕ) (c : Spot (Unit {0})) (i n past : ℕ) : Type 0 where
   pub inside : (let z = text_with front old rest in let r = rest_of i n (run_at k levels c z) in let t = tail_at k levels i n c z in
       AllBeginIn past rest (r.asks ++ shift r.taken (t.asks ++ shift t.taken (close_at k levels i n c z).asks)))
   pub behind : AllBeginIn (past + left_at k levels i n c (text_with front old rest)) rest c.after
 
--- In a content block, behind i pieces of its run stand n that go on, and m pieces are to take their place, where a stretch `old` becomes `new`: what was looked at before them ends at the stretch or before it.
+-- In a content block, n pieces that go on follow the first i of its run, and m pieces are to take
+-- their place, where a stretch `old` becomes `new`: what was looked at before them ends at the
+-- stretch or before it.
 pub record TakesPlace (k : CharClasses) (levels : ℕ) (front old new rest : List ℕ) (c : Spot (Unit {0})) (i n m : ℕ) : Type 0 where
   -- a content block that is not the deepest
   pub name : c.name ≡ block.Content
@@ -129,10 +141,11 @@ pub record TakesPlace (k : CharClasses) (levels : ℕ) (front old new rest : Lis
   pub starts : c.at < length front
   pub looks : EndsBefore k levels front old rest c i
 
--- The test: in a content block, behind i pieces of its run stand n that go on so many characters past a stretch `old`, which becomes `new`.
+-- The test: in a content block, n pieces follow the first i of its run and go on so many characters
+-- past a stretch `old`, which becomes `new`.
 pub record PassesInner (k : CharClasses) (levels : ℕ) (front old new rest : List ℕ) (c : Spot (Unit {0})) (i n m past : ℕ) : Type 0 where
   pub pieces : TakesPlace k levels front old new rest c i n m
-  -- what was looked at behind them, in the block and behind it, begins at the stretch's end or behind it
+  -- what was looked at after them, in the block and after it, begins at the stretch's end or after it
   pub ends : (let z = text_with front old rest in let r = run_at k levels c z in opened_at k levels c z + ((first_end i r).taken + (then_end i n r).taken) ≡ (length front + length old) + past)
   pub looks : BeginsBehind k levels front old rest c i n past
   pub goes_on : 0 < past + left_at k levels i n c (text_with front old rest)
@@ -141,9 +154,9 @@ pub record PassesInner (k : CharClasses) (levels : ℕ) (front old new rest : Li
   pub value : (then_end i m (run_at k levels c (text_with front new rest))).value ≡ (then_end i n (run_at k levels c (text_with front old rest))).value
   pub state : (then_end i m (run_at k levels c (text_with front new rest))).state ≡ (then_end i n (run_at k levels c (text_with front old rest))).state
 
--- What the readings of the block are then, and of both texts.
+-- What the readings of the block are if the test is passed, and of both texts.
 pub record KeptInner (k : CharClasses) (levels : ℕ) (front old new rest : List ℕ) (c : Spot (Unit {0})) (i n m past : ℕ) : Type 0 where
-  -- in the old text all behind them comes behind the old pieces, and in the new text the same comes behind the new ones
+  -- in the old text all after them comes after the old pieces, and in the new text the same comes after the new ones
   pub was : (let z = text_with front old rest in
       let r = run_at k levels c z in
       unit_at c z ≡ content_with k levels (moved c.at z) (point_of c.start) (chain (first_of i r) (chain (then_of i n r) (rest_of i n r))) (tail_at k levels i n c z) (close_at k levels i n c z))

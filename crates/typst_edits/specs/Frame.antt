@@ -1,4 +1,4 @@
--- The test of a candidate of an edit, and what stands in its place where it passes.
+-- The test of a candidate of an edit, and what takes its place if it passes.
 use Rattle.std.specs.Prelude.{◌≡◌, ◌↔◌, ℕ, suc, ◌+◌, ◌-◌, ◌<◌, ◌==◌, Bool, true, false, if◌then◌else◌, List, [], ◌∷◌, ◌++◌, length, take, drop, Some}
 use Rattle.typst_lines.specs.Place.{Place}
 use Rattle.typst_lines.specs.Classes.{CharClasses}
@@ -22,51 +22,59 @@ use Rattle.typst_edits.specs.Runs.{AllGo, asks_of, lead, pieces}
 use Rattle.typst_edits.specs.Sequence.{Sequence, first_of, first_end, then_of, then_end, then_place}
 use Rattle.typst_edits.specs.Spot.{Spot, last_node, unit_at}
 
--- A run of a text is its own, or that of a content block which isn't the deepest and stands in no reading that was given up.
+-- A run of a text is its own, or that of a content block which isn't the deepest and is in no reading that was given up.
 pub data Run (k : CharClasses) (text : List ℕ) : Type 0 where
   top : Run k text
   inner : (c : Spot (Unit {0})) (levels : ℕ) → Among c (blocks_of_text k text) → c.name ≡ block.Content → max_depth - c.fewer ≡ suc levels → Run k text
 
--- A run's pieces are read of any text from its own state on.
+-- The pieces of a run, as they are read from a place on in the run's own state.
 abbrev pub read_as : {k : CharClasses} {text : List ℕ} → Run k text → Place → Sequence
 read_as {k} {text} top z = text_run k z
 read_as {k} {text} (inner c levels a n l) z = run_at k levels c z
 
--- So many characters stand before it.
+-- How many characters come before a run.
 abbrev pub opened_by : {k : CharClasses} {text : List ℕ} → Run k text → Place → ℕ
 opened_by {k} {text} top z = 0
 opened_by {k} {text} (inner c levels a n l) z = opened_at k levels c z
 
--- Its pieces' nodes are children of the root, or of the second child of its block.
+-- The path to the node whose children a run's nodes are: the root, or the second child of the run's
+-- block, its markup.
 abbrev pub path_to : {k : CharClasses} {text : List ℕ} → Run k text → List ℕ
 path_to {k} {text} top = []
 path_to {k} {text} (inner c levels a n l) = path_of c.hole ++ 1 ∷ []
 
--- What is looked at before a run's pieces behind i ends at the stretch or before it.
+-- What is looked at for the first i pieces of a run ends at the stretch's start or before it.
 abbrev pub Before : (k : CharClasses) (front old rest : List ℕ) → Run k (front ++ (old ++ rest)) → ℕ → Type 0
 Before k front old rest top i = 0 < i → AllEndBy (length front) ((lead k (text_with front old rest)).asks ++ asks_of (pieces k i (text_with front old rest)))
 Before k front old rest (inner c levels a b l) i = EndsBefore k levels front old rest c i
 
--- What is looked at behind n pieces behind i, with their trivia, begins at the stretch's end or behind it.
+-- What is looked at after the n pieces that follow the first i, and their trivia, begins at the
+-- stretch's end or after it.
 abbrev pub Behind : (k : CharClasses) (front old rest : List ℕ) → Run k (front ++ (old ++ rest)) → ℕ → ℕ → ℕ → Trivia → Type 0
 Behind k front old rest top i n past t = AllBeginIn past rest (asked_past k i n t (text_with front old rest))
 Behind k front old rest (inner c levels a b l) i n past t = BeginsPast k levels front old rest c i n past t
 
--- Behind i pieces, n end here with the trivia behind them.
+-- Where the n pieces that follow the first i end, with the trivia after them.
 abbrev pub end_by : {k : CharClasses} {text : List ℕ} → Run k text → ℕ → ℕ → Trivia → Place → ℕ
 end_by r i n t z = (opened_by r z + ((first_end i (read_as r z)).taken + (then_end i n (read_as r z)).taken)) + t.gap
 
--- The run ends there where the token at hand ends it.
+-- The run ends after these pieces: the current token there ends it.
 abbrev pub is_over : ℕ → ℕ → Sequence → Bool
 is_over i n q = ends q.stops (then_end i n q).value.1 (hand_of q.level (then_place i n q) (then_end i n q).state).kind
 
--- With pieces behind them new pieces end with the same line start and open brackets, at a block's end with the same open brackets, and at the text's end as they like.
+-- What new pieces carry at their end agrees with what the old ones did: if pieces follow, there are
+-- new ones, with the same line start and open brackets; at a block's end the open brackets are the
+-- same; at the text's end anything agrees.
 abbrev pub Agrees : {k : CharClasses} {text : List ℕ} → Run k text → Bool → ℕ → Bool × ℕ → Bool × ℕ → Type 0
 Agrees {k} {text} r false m x y = (0 < m) × (y ≡ x)
 Agrees {k} {text} top true m x y = Unit {0}
 Agrees {k} {text} (inner c levels a n l) true m x y = y.1 ≡ x.1
 
--- THE TEST OF PIECES: behind i pieces of a run stand n that end, with their trivia, so many characters past a stretch `old`, which becomes `new`, and m are read in their place.
+-- THE TEST OF PIECES: n pieces follow the first i of a run and end, with their trivia, so many
+-- characters past a stretch `old`, which becomes `new`, and m are read in their place. All other
+-- pieces were read without a look into the stretch, and the new pieces end where the old ones did,
+-- with what is carried there agreeing. Without that, what stays could be read otherwise in the new
+-- text.
 pub record PassesPieces (k : CharClasses) (front old new rest : List ℕ) (r : Run k (front ++ (old ++ rest))) (i n m past : ℕ) (t u : Trivia) : Type 0 where
   pub first_go : AllGo (first_of i (read_as r (text_with front old rest)))
   pub old_go : AllGo (then_of i n (read_as r (text_with front old rest)))
@@ -79,17 +87,22 @@ pub record PassesPieces (k : CharClasses) (front old new rest : List ℕ) (r : R
   pub shifted : end_by r i m u (text_with front new rest) ≡ (length front + length new) + past
   pub agrees : Agrees r (is_over i n (read_as r (text_with front old rest))) m (then_end i n (read_as r (text_with front old rest))).value (then_end i m (read_as r (text_with front new rest))).value
 
--- The piece behind i pieces begins where its first token does, and the first piece where the run does.
+-- Where the piece after the first i begins: at its first token, or the first piece where the run
+-- does.
 abbrev pub cut_at : {k : CharClasses} {text : List ℕ} → Run k text → ℕ → Place → ℕ
 cut_at r i z = let e = first_end i (read_as r z) in opened_by r z + (if i == 0 then 0 else e.taken + gap_of e.state.known)
 
--- The new pieces' nodes stand with the trivia behind them; the trivia before the first of them belong to the piece before, if there is one.
+-- The nodes of the new pieces, with the trivia after them. The trivia before the first of them
+-- belong to the piece before, if there is one: in `*a* *b*`, where `*b*` is read again, the space
+-- stays with `*a*`.
 abbrev pub nodes_now : {k : CharClasses} {text : List ℕ} → Run k text → ℕ → ℕ → Trivia → Place → List Tree
 nodes_now r i m u w =
     let q = read_as r w in
     drop (if i == 0 then 0 else length (pending (first_end i q).state.known)) ((together (then_end i m q).state (then_of i m q)).nodes ++ u.nodes)
 
--- A CANDIDATE PASSES, and these nodes take its children's place: a block by the test of the block law, which keeps its kind, or pieces by theirs.
+-- A CANDIDATE PASSES, and the nodes `ts` take its children's place: a block by the test of blocks,
+-- read again as a block of its kind, or pieces by the test of pieces, with the nodes of the new
+-- ones.
 pub data Gives (k : CharClasses) (front old new rest : List ℕ) (c : Candidate) (ts : List Tree) : Type 0 where
   of_block : (s : Spot (Unit {0})) (past : ℕ) → c.is_block ≡ true → Among s (blocks_of_text k (front ++ (old ++ rest))) → path_of s.hole ≡ c.path ++ c.from ∷ []
       → Passes front old new rest s past → ts ≡ last_node (unit_at s (text_with front new rest)).nodes ∷ [] → Gives k front old new rest c ts

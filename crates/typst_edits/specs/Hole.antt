@@ -1,4 +1,4 @@
--- Nodes with a hole for one of them, at any depth.
+-- Nodes with a hole: a place for one node, among several or in one of them, at any depth.
 use Rattle.std.specs.Prelude.{ℕ, suc, ◌-◌, ◌&&◌, if◌then◌else◌, nat_le, List, [], ◌∷◌, ◌++◌, length, map, take, drop, None}
 use Rattle.typst_kinds.specs.declared.kind.SyntaxKind.{SyntaxKind}
 use Rattle.typst_kinds.specs.declared.kind.SyntaxKind.TheVariants as kind
@@ -17,54 +17,62 @@ pub data Deep : Type 0 where
   -- the hole is in a child, between other children
   under : Head → List Tree → Deep → List Tree → Deep
 
+-- the tree with this node in its hole
 abbrev pub fill : Deep → Tree → Tree
 fill bare x = x
 fill (under head left d right) x = record { head = head; kids = forest (left ++ fill d x ∷ right) }
 
--- the head of the tree, where the hole's node has this head
+-- the head of the tree, if the hole's node has this head
 abbrev pub top : Deep → Head → Head
 top bare h = h
 top (under head left d right) h = head
 
+-- several nodes with a hole: some on the left, the one that is the hole or has it, and some on the
+-- right
 pub record Hole : Type 0 where
   pub left : List Tree
   pub deep : Deep
   pub right : List Tree
 
+-- the nodes with this node in their hole
 abbrev pub plug : Hole → Tree → List Tree
 plug h x = h.left ++ fill h.deep x ∷ h.right
 
--- the child indices from the nodes down to the hole
+-- the child indices from a tree's root down to the hole
 abbrev pub path_in : Deep → List ℕ
 path_in bare = []
 path_in (under head left d right) = length left ∷ path_in d
 
+-- the index among the nodes, and from there the child indices down to the hole
 abbrev pub path_of : Hole → List ℕ
 path_of h = length h.left ∷ path_in h.deep
 
 -- ---- the hole of what several nodes become
 
--- a tree without children, with the head that the tree with the hole has
+-- a tree without children, with the head of the tree with the hole, if the hole's node has this
+-- head
 abbrev pub stub : Deep → Head → Tree
 stub d h = record { head = top d h; kids = forest [] }
 
--- a node of another kind; none where it is the hole, and an error has no children
+-- the tree as a node of another kind; nothing if it is the hole itself, or would be an error, which
+-- has no children
 abbrev pub renamed_deep : SyntaxKind → Deep → List Deep
 renamed_deep kind bare = []
 renamed_deep kind (under head left d right) = if is_error kind then [] else under (record head { kind = kind }) left d right ∷ []
 
--- math whose first and last child become parens; none where one of these is the node with the hole
+-- the tree as math whose first and last child become parens; nothing if one of these has the hole
 abbrev pub between_parens : Head → List Tree → Deep → List Tree → List Deep
 between_parens head [] d right = []
 between_parens head (t ∷ left) d [] = []
 between_parens head (t ∷ left) d (u ∷ right) = under (record head { kind = kind.Math }) (with_kind kind.LeftParen t ∷ left) d (renamed_last kind.RightParen (u ∷ right)) ∷ []
 
--- a node without its parens in math, or the same where it has none; none where it is the hole and delimited
+-- the tree without its parens in math, or as it is if it has none; nothing if it is the hole itself
+-- and delimited
 abbrev pub unparened_deep : Head → Deep → List Deep
 unparened_deep h bare = if is_delimited h.kind then [] else bare ∷ []
 unparened_deep h (under head left d right) = if is_delimited head.kind && in_parens (left ++ stub d h ∷ right) then between_parens head left d right else under head left d right ∷ []
 
--- the changed node; none where it may become a text
+-- the tree after a change; nothing if the change may make a text of it
 abbrev pub changed_deep : Change → Head → Deep → List Deep
 changed_deep stays h d = d ∷ []
 changed_deep (turns_wrong message) h d = []
@@ -72,28 +80,32 @@ changed_deep (is_not thing) h d = []
 changed_deep (renamed kind) h d = renamed_deep kind d
 changed_deep unparened h d = unparened_deep h d
 
--- in the first of several nodes
+-- the hole in the first of several nodes
 abbrev pub first_hole : List Tree → Deep → Hole
 first_hole right d = record { left = []; deep = d; right = right }
 
--- where the first of the nodes changes
+-- the hole after the first of the nodes was changed
 abbrev pub change_hole : Change → Head → List Tree → Deep → List Tree → List Hole
 change_hole change h (t ∷ left) d right = record { left = first_changed change (t ∷ left); deep = d; right = right } ∷ []
 change_hole change h [] d right = map (first_hole right) (changed_deep change h d)
 
--- in a node of this kind, behind others; an error has no children
+-- the hole in a new node over all nodes, after `kept`; nothing if the node is an error, which has
+-- no children
 abbrev pub in_node : Head → List Tree → Hole → List Hole
 in_node head kept h = if is_error head.kind then [] else record { left = kept; deep = under head h.left h.deep h.right; right = [] } ∷ []
 
+-- the hole in a new node over all nodes, after `kept`, if there is a hole
 abbrev pub in_nodes : Head → List Tree → List Hole → List Hole
 in_nodes head kept [] = []
 in_nodes head kept (h ∷ hs) = in_node head kept h
 
+-- the hole with `kept` before its nodes, if there is a hole
 abbrev pub behind_nodes : List Tree → List Hole → List Hole
 behind_nodes kept [] = []
 behind_nodes kept (h ∷ hs) = record h { left = kept ++ h.left } ∷ []
 
--- with an empty error behind the first few nodes
+-- the hole with an empty error put after the first `count` nodes, before or after the hole. In
+-- `show a`, whose error comes after `show`, a hole for `a` has the error on its left
 abbrev pub lack_hole : ℕ → Tree → List Tree → Deep → List Tree → Hole
 lack_hole count error left d right =
     if nat_le count (length left)
@@ -104,7 +116,8 @@ lack_hole count error left d right =
 abbrev pub warned_head : SyntaxKind → List ℕ → List ℕ → Head
 warned_head kind message hint = (advised (hint_with None hint) (remarked (warning_with None message) (inner_of kind (forest [])))).head
 
--- the hole is in what becomes something else; none where that is an error then, or the hole itself another kind of node
+-- the hole after its nodes went into a shape, with `kept` before them; nothing if they became an
+-- error of their text, or the change may make the hole's node another
 abbrev pub wrap_in : Shape → Head → List Tree → List Tree → Deep → List Tree → List Hole
 wrap_in (keeps change) h kept left d right = behind_nodes kept (change_hole change h left d right)
 wrap_in (holds change kind) h kept left d right = in_nodes (inner_head kind) kept (change_hole change h left d right)
@@ -112,11 +125,13 @@ wrap_in (lacks count message kind) h kept left d right = in_node (inner_head kin
 wrap_in (warns kind message hint) h kept left d right = in_node (warned_head kind message hint) kept (record { left = left; deep = d; right = right })
 wrap_in (fails message) h kept left d right = []
 
--- the hole is before it
+-- the hole after nodes to its right, all but the first j, went into a shape
 abbrev pub wrap_past : Shape → ℕ → Hole → Hole
 wrap_past shape j h = record h { right = take j h.right ++ shaped shape (drop j h.right) }
 
--- where all but the first k nodes become something else, and the hole's node has this head
+-- the hole after all nodes but the first k went into a shape, where the hole's node has the head h:
+-- it is in the shape's node, or before it, or lost. For `[a](b)`, which becomes a call, the hole
+-- for `[a]` comes to be the first child of the call
 abbrev pub wrap_hole : Shape → Head → ℕ → Hole → List Hole
 wrap_hole shape h k hole =
     if nat_le k (length hole.left)

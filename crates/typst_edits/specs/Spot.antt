@@ -1,4 +1,5 @@
--- Where a block stands in a reading: what is given and asked before it, and after it.
+-- Spots: where a block is in a reading, with what is given and asked before it and after it. If the
+-- block is read again and its outcome fits, the outcome of the whole follows from that.
 use Rattle.std.specs.Prelude.{◌≡◌, ℕ, suc, ◌+◌, ◌-◌, Bool, false, ◌||◌, if◌then◌else◌, nat_lt, List, [], ◌∷◌, ◌++◌, length, map}
 use Rattle.typst_kinds.specs.declared.kind.SyntaxKind.{SyntaxKind}
 use Rattle.typst_kinds.specs.declared.kind.SyntaxKind.TheVariants as kind
@@ -17,49 +18,58 @@ use Rattle.typst_language.specs.Meaning.{Outcome, Meaning, less}
 use Rattle.typst_edits.specs.Hole.{Hole, plug}
 use Rattle.typst_edits.specs.Hole.Deep.{bare}
 
--- the node of a block
+-- the kind of a block's node
 abbrev pub kind_of : Block → SyntaxKind
 kind_of block.Code = kind.CodeBlock
 kind_of block.Content = kind.ContentBlock
 
+-- the head of a block's node
 abbrev pub block_head : Block → Head
 block_head b = inner_head (kind_of b)
 
+-- an ask, counted from where n levels more are left
 abbrev pub lower : ℕ → Ask → Ask
 lower n (looked at look) = looked at look
 lower n (marked at gap fewer mark s) = marked at gap (n + fewer) mark s
 
--- the same, counted from where so many levels more are left
+-- asks, counted from where n levels more are left
 abbrev pub lowered : ℕ → List Ask → List Ask
 lowered n = map (lower n)
 
+-- a block's place in a whole reading. In `@x[b] c` it says of the block `[b]` what is read of it,
+-- and what the reading gives and asks before it, for `@x`, and after it, for ` c`
 pub record Spot (A : Type 0) : Type 0 where
-  -- the block: where it begins, how many levels fewer are left there, in which state it begins, and what is read there
+  -- the block: where it begins in the whole, in characters, how many levels fewer are left there,
+  -- the state in which it begins, and what is read there
   pub at : ℕ
   pub name : Block
   pub fewer : ℕ
   pub start : State
   pub reads : Meaning (Unit {0})
-  -- what it reached, what it took back, the nodes that it gave before its own, and its own
+  -- what its reading gave: the point that it reached, how many nodes it took back, its hints for
+  -- nodes before it, the nodes that it gave before its own, and its own
   pub reached : Point
   pub takes_back : ℕ
   pub advises : List (List ℕ)
   pub front : List Tree
   pub node : Tree
-  -- the whole that it stands in: the value, what was taken behind it, the state, what was taken back, and the nodes around its own
+  -- the whole: its answer, how many characters it takes after the block, the point that it reaches,
+  -- how many nodes it took back, its hints for nodes before it, and its nodes with a hole for the
+  -- block's own
   pub value : A
   pub rest : ℕ
   pub state : Point
   pub back : ℕ
   pub hints : List (List ℕ)
   pub hole : Hole
-  -- what was asked before it, and behind its end, counted from there
+  -- what was asked before the block, and after it, counted from its end; and whether the limit of
+  -- depth was met there
   pub before : List Ask
   pub after : List Ask
   pub met_before : Bool
   pub met_after : Bool
 
--- the whole, where the block gives this outcome and this node
+-- the outcome of the whole, if the block gives this outcome with this node
 abbrev pub around : {A : Type 0} → Spot A → Outcome (Unit {0}) → Tree → Outcome A
 around c b x = record {
   value = c.value;
@@ -72,7 +82,8 @@ around c b x = record {
   met = c.met_before || (b.met || c.met_after);
 }
 
--- an outcome of the block that may stand there
+-- an outcome of the block that may take the place of the one it had: the same but for what was
+-- taken, asked and met, and for its own node, whose head is a block's
 pub record Fits {A : Type 0} (c : Spot A) (b : Outcome (Unit {0})) (x : Tree) : Type 0 where
   pub state : b.state ≡ c.reached
   pub back : b.back ≡ c.takes_back
@@ -80,13 +91,13 @@ pub record Fits {A : Type 0} (c : Spot A) (b : Outcome (Unit {0})) (x : Tree) : 
   pub nodes : b.nodes ≡ c.front ++ x ∷ []
   pub head : x.head ≡ block_head c.name
 
--- what the block gives, where the whole begins here
+-- what the block gives, if the whole begins at this place
 abbrev pub unit_at : {A : Type 0} → Spot A → Place → Outcome (Unit {0})
 unit_at c z = c.reads (moved c.at z) (point_of c.start)
 
 -- ---- a spot in a larger whole
 
--- with another answer
+-- the spot in a whole with another answer
 abbrev pub valued : {A B : Type 0} → B → Spot A → Spot B
 valued v c = record {
   at = c.at;
@@ -111,7 +122,8 @@ valued v c = record {
   met_after = c.met_after;
 }
 
--- followed by what this outcome is of; a hint of it doesn't reach the node with the hole, which is no error
+-- the spot in a whole that goes on with this outcome. A hint of it doesn't reach the node with the
+-- hole, which isn't an error
 abbrev pub then_spot : {A B : Type 0} → Spot B → Outcome A → Spot A
 then_spot c q = record (valued q.value c) {
   rest = c.rest + q.taken;
@@ -121,7 +133,7 @@ then_spot c q = record (valued q.value c) {
   met_after = c.met_after || q.met;
 }
 
--- after what this outcome is of
+-- the spot in a whole that begins with this outcome
 abbrev pub after_spot : {A B : Type 0} → Outcome B → Spot A → Spot A
 after_spot o c = record c {
   at = o.taken + c.at;
@@ -132,15 +144,15 @@ after_spot o c = record c {
   met_before = o.met || c.met_before;
 }
 
--- with other nodes around its own
+-- the spot with other nodes around its own, and another point reached
 abbrev pub rehole : {A : Type 0} → Point → Spot A → Hole → Spot A
 rehole s c g = record c { hole = g; state = s }
 
--- read one level deeper
+-- the spot in a whole that is read one level deeper
 abbrev pub sunk_spot : {A : Type 0} → Spot A → Spot A
 sunk_spot c = record c { fewer = suc c.fewer; before = sunk c.before; after = sunk c.after }
 
--- in a block that begins in this state
+-- the spot in a block that begins at this point, between the block's two marks
 abbrev pub closed_spot : Block → Point → Spot (Unit {0}) → Spot (Unit {0})
 closed_spot b s c = record c {
   before = marked 0 0 0 (mark.Opens b) (state_of s) ∷ c.before;
@@ -148,7 +160,7 @@ closed_spot b s c = record c {
   state = forgot c.state;
 }
 
--- what a block gives, with nothing known of the trivia behind it
+-- what a block gives, with nothing known of the trivia after it
 abbrev pub ended : Outcome (Unit {0}) → Outcome (Unit {0})
 ended o = record o { state = forgot o.state }
 
@@ -158,7 +170,8 @@ last_node [] = error_of [] []
 last_node (t ∷ []) = t
 last_node (t ∷ u ∷ ts) = last_node (u ∷ ts)
 
--- the block itself, which begins at this point with nothing known of the trivia, between its two marks
+-- the spot of a block itself, which begins at this point with nothing known of the trivia, between
+-- its two marks
 abbrev pub here_spot : Block → Meaning (Unit {0}) → Place → Point → Spot (Unit {0})
 here_spot b m z s =
     let o = m z (forgot s) in
