@@ -1,5 +1,5 @@
 pub mod Codes
+pub mod Placed
 pub mod Records
-pub mod Tags
 pub mod Walk
 pub mod Said

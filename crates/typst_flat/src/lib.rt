@@ -10,6 +10,7 @@ mod bytes;
 mod codes;
 mod fill;
 mod kinds;
+mod nodes;
 mod records;
 mod said;
 mod tags;

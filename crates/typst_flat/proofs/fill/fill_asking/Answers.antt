@@ -2,13 +2,12 @@ use Rattle.std.proofs.Common.{◌≡◌, ◌-◌, ◌^◌, ◌<◌, ◌∷◌, S
 use Rattle.typst_tree.specs.Tree.{nodes}
 use Rattle.typst_tree.specs.Linked.{linked}
 use Rattle.typst_tree.specs.Steps.{At}
-use Rattle.typst_highlight.specs.Spans.{numbers_from}
-use Rattle.typst_flat.specs.Records.{filled, meets, met_in, node_record}
+use Rattle.typst_flat.specs.Records.{filled, met_in, node_record}
 use Rattle.typst_flat.specs.Walk.{Comes, ahead}
 use Rattle.typst_flat.proofs.Filling.{first_left, left_next, none_left, length_mapped, step_fits, step_full}
-use Rattle.typst_flat.proofs.Whole.{ahead_first, first_root, met_most}
-use Rattle.typst_flat.proofs.fill.fill_nodes_in.Goals as goal
-use Rattle.typst_flat.proofs.fill.fill_nodes_in.Goals.{then-count-room, else-count-room}
+use Rattle.typst_flat.proofs.Whole.{ahead_first, met_most}
+use Rattle.typst_flat.proofs.fill.fill_asking.Goals as goal
+use Rattle.typst_flat.proofs.fill.fill_asking.Goals.{then-count-room, else-count-room}
 
 pub nodes-init : goal.nodes-init
 nodes-init c =
@@ -20,7 +19,6 @@ nodes-init c =
       left = ahead_first c.args.stretch w.stretch w.root.now c.args.root.now w.number c.new-walk.ensures.stretch c.new-walk.ensures.root c.new-walk.ensures.number;
       short = omega arith;
       room = refl;
-      tags = c.in_ok-tags.ensures;
     }
 
 pub next-requires-clause-counted : goal.next-requires-clause-counted
@@ -48,7 +46,6 @@ nodes-preserved c =
       ready = comes.1.1.1;
       left = left_next c.nodes.count met a (ahead c.next.new.self) here;
       short = omega (arith, first.within);
-      tags = c.nodes.invariant.tags;
       room = elim c.if-count-room.branch [
         | then-count-room w ↦ w.room-is ∙ step_fits node_record c.nodes.count met a (ahead c.next.new.self) c.nodes.room c.args.room.now _ here c.nodes.invariant.room w.record_of.ensures (omega (arith, w.if-count-room.true))
         | else-count-room w ↦ w.room-is ∙ step_full node_record c.nodes.count met a (ahead c.next.new.self) c.nodes.room c.args.room.now here c.nodes.invariant.room (omega (arith, w.if-count-room.false))
@@ -68,11 +65,3 @@ returns-clause-room c =
     let comes : Comes c.nodes.walk None c.next.new.self = subst (λ o. Comes c.nodes.walk o c.next.new.self) c.in_default.is c.in_ok-place.ensures.comes in
     let all = none_left c.nodes.count met (c.nodes.invariant.left ∙ comes) c.nodes.invariant.short in
     c.nodes.invariant.room ∙ ap (λ xs. filled (map node_record xs) c.args.room.now) all.0
-
-pub record_of-requires-clause-tags : goal.record_of-requires-clause-tags
-record_of-requires-clause-tags c =
-    let a : At = linked c.in-Some.place.node in
-    let w = c.nodes.walk in
-    let comes : Comes w (Some c.in-Some.place) c.next.new.self = subst (λ o. Comes w o c.next.new.self) c.in-Some.is c.in_ok-place.ensures.comes in
-    let root : a.root ≡ c.args.root.now = first_root (meets w.stretch) w.root.now (numbers_from w.number (nodes w.root.now - w.number)) a (ahead c.next.new.self) comes.0 ∙ c.nodes.invariant.root in
-    rw root c.nodes.invariant.tags
