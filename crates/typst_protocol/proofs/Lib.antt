@@ -8,8 +8,10 @@
 --   a body whose lone surrogates are U+FFFD  Mending: mends-unit, mends-piece, mends-end
 --   bytes that were written piece by piece   Writing: Appends-piece
 --   addresses of one document                SameAddress: same-as, same-with
+--   an object that is written                Events: ends-map
 
 pub mod Again
+pub mod Events
 pub mod Heads
 pub mod Lines
 pub mod Mending

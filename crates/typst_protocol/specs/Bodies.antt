@@ -3,7 +3,7 @@ use Rattle.std.specs.Prelude.{ℕ, List, [], ◌++◌, codes, Some}
 use Rattle.serde.specs.Event.{Log}
 use Rattle.serde_json.specs.Sent.{IsTextOf}
 use Rattle.typst_protocol.specs.declared.refusal.Refusal.{Refusal}
-use Rattle.typst_protocol.specs.declared.refusal.Refusal.TheVariants.{OutOfPlace, UnknownMethod, BadParameters, OutOfMemory, NotInitialized, LostDocument}
+use Rattle.typst_protocol.specs.declared.refusal.Refusal.TheVariants.{OutOfPlace, UnknownMethod, BadParameters, OutOfMemory, NotInitialized, LostDocument, NotRenamable, NotAnIdentifier, NotALabel}
 use Rattle.typst_protocol.specs.declared.refusal.Unread.{Unread}
 use Rattle.typst_protocol.specs.declared.refusal.Unread.TheVariants as unread
 use Rattle.typst_protocol.specs.declared.refusal.Loss.{Loss}
@@ -29,6 +29,9 @@ code_of BadParameters = codes "-32602"
 code_of OutOfMemory = codes "-32603"
 code_of NotInitialized = codes "-32002"
 code_of LostDocument = codes "-32801"
+code_of NotRenamable = codes "-32803"
+code_of NotAnIdentifier = codes "-32803"
+code_of NotALabel = codes "-32803"
 
 -- the message of a refusal
 abbrev pub message_of : Refusal → List ℕ
@@ -38,6 +41,9 @@ message_of BadParameters = codes "the parameters do not fit"
 message_of OutOfMemory = codes "out of memory"
 message_of NotInitialized = codes "not initialized"
 message_of LostDocument = codes "the text is not known: open the document again, or send it whole"
+message_of NotRenamable = codes "nothing that this document defines stands there"
+message_of NotAnIdentifier = codes "the new name is not an identifier"
+message_of NotALabel = codes "the new name is not the name of a label"
 
 -- or that member is the error of a refusal
 abbrev pub failure : List ℕ → Refusal → List ℕ
@@ -64,7 +70,7 @@ warning text = notification (codes "window/showMessage") (codes "{\"type\":2,\"m
 -- the text that warns of a loss
 abbrev pub text_of : Loss → List ℕ
 text_of loss.Document = codes "The text of a document is lost: close it and open it again."
-text_of loss.All = codes "The server ends: a message could not be read."
+text_of loss.All = codes "A message could not be read: close the documents and open them again."
 
 -- a text is the JSON of what a value writes, from nothing on
 abbrev pub IsJsonOf : (Log → Log → Type 0) → List ℕ → Type 0

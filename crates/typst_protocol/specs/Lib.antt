@@ -5,6 +5,7 @@ pub mod Escapes
 pub mod Methods
 pub mod Messages
 pub mod Parameters
+pub mod Written
 -- Frames.
 pub mod Frames
 pub mod Header

@@ -2,7 +2,7 @@
 use Rattle.std.specs.Prelude.{ℕ, List, [], ◌∷◌, codes, Option, None, Some, if◌then◌else◌}
 use Rattle.std.specs.Str.{bytes_eq}
 use Rattle.typst_protocol.specs.declared.method.Method.{Method}
-use Rattle.typst_protocol.specs.declared.method.Method.TheVariants.{Initialize, Shutdown, TokensFull, TokensDelta, TokensRange, Symbols, Foldings, Selections, Definition, References, Highlights}
+use Rattle.typst_protocol.specs.declared.method.Method.TheVariants.{Initialize, Shutdown, TokensFull, TokensDelta, TokensRange, Symbols, Foldings, Selections, Definition, References, Highlights, Rename, PrepareRename, Hover, Completion, DocumentLinks, CodeActions, Diagnostics, OnTypeFormatting, WorkspaceSymbols}
 use Rattle.typst_protocol.specs.declared.method.Event.{Event}
 use Rattle.typst_protocol.specs.declared.method.Event.TheVariants.{Opened, Changed, Closed, Exit}
 
@@ -25,6 +25,15 @@ methods =
     ∷ (codes "textDocument/definition", Definition)
     ∷ (codes "textDocument/references", References)
     ∷ (codes "textDocument/documentHighlight", Highlights)
+    ∷ (codes "textDocument/rename", Rename)
+    ∷ (codes "textDocument/prepareRename", PrepareRename)
+    ∷ (codes "textDocument/hover", Hover)
+    ∷ (codes "textDocument/completion", Completion)
+    ∷ (codes "textDocument/documentLink", DocumentLinks)
+    ∷ (codes "textDocument/codeAction", CodeActions)
+    ∷ (codes "textDocument/diagnostic", Diagnostics)
+    ∷ (codes "textDocument/onTypeFormatting", OnTypeFormatting)
+    ∷ (codes "workspace/symbol", WorkspaceSymbols)
     ∷ []
 
 -- what a notification tells, by its name

@@ -1,11 +1,12 @@
 -- What the parameters of a message say.
-use Rattle.std.specs.Prelude.{◌≡◌, ℕ, ℤ, pos, List, [], ◌∷◌, codes, MatchResult, Result, Bool, false, if◌then◌else◌, Float, Option, None, Some, option_map, option_and_then, unwrap_or}
+use Rattle.std.specs.Prelude.{◌≡◌, ℕ, ℤ, pos, List, [], ◌∷◌, codes, MatchResult, Result, Bool, true, false, ◌||◌, is_some, if◌then◌else◌, Float, Option, None, Some, option_map, option_and_then, unwrap_or}
 use Rattle.std.specs.Float.{binary64, float_to_signed, float_to_unsigned}
 use Rattle.std.specs.Float.Ieee.{eq, of_int}
 use Rattle.std.specs.Int.{w32}
-use Rattle.std.specs.Option.{option_or}
+use Rattle.std.specs.Option.{option_map_or, option_or}
+use Rattle.std.specs.Str.{bytes_eq}
 use Rattle.serde_json.specs.Data.{Data, null, boolean, number, string, array, object, Num, unsigned, negative, float, Items, no_items, item}
-use Rattle.serde_json.specs.Find.{get, as_str, as_bool, as_number, as_i64, as_array}
+use Rattle.serde_json.specs.Find.{get, as_str, as_bool, as_number, as_i64, as_array, as_object}
 use Rattle.serde_json.specs.View.{view}
 use Rattle.typst_positions.specs.declared.columns.Encoding.{Encoding}
 use Rattle.typst_positions.specs.declared.columns.Encoding.TheVariants.{Utf8, Utf16}
@@ -110,6 +111,18 @@ changes value = option_and_then as_array (member (codes "contentChanges") value)
 abbrev pub previous_tokens : Option Data → Option (List ℕ)
 previous_tokens value = text_in (codes "previousResultId") value
 
+-- the name to put in the place of another one
+abbrev pub new_name : Option Data → Option (List ℕ)
+new_name value = text_in (codes "newName") value
+
+-- the character that was typed
+abbrev pub typed : Option Data → Option (List ℕ)
+typed value = text_in (codes "ch") value
+
+-- what names are to contain that are looked for
+abbrev pub query : Option Data → Option (List ℕ)
+query value = text_in (codes "query") value
+
 -- whether a value is true
 abbrev pub is_true : Option Data → Bool
 is_true value = unwrap_or (option_and_then as_bool value) false
@@ -122,13 +135,33 @@ includes_label value = is_true (member (codes "includeDeclaration") (member (cod
 abbrev pub capabilities : List ℕ → Option Data → Option Data
 capabilities subject value = member subject (member (codes "capabilities") value)
 
+-- what it says of a kind of request about documents
+abbrev pub feature : List ℕ → Option Data → Option Data
+feature name value = member name (capabilities (codes "textDocument") value)
+
 -- whether the client takes an outline as a tree
 abbrev pub takes_trees : Option Data → Bool
-takes_trees value = is_true (member (codes "hierarchicalDocumentSymbolSupport") (member (codes "documentSymbol") (capabilities (codes "textDocument") value)))
+takes_trees value = is_true (member (codes "hierarchicalDocumentSymbolSupport") (feature (codes "documentSymbol") value))
+
+-- whether the client asks whether a name can be renamed before it renames it
+abbrev pub prepares_renames : Option Data → Bool
+prepares_renames value = is_true (member (codes "prepareSupport") (feature (codes "rename") value))
+
+-- whether a value is an object
+abbrev pub is_object : Option Data → Bool
+is_object value = is_some (option_and_then as_object value)
+
+-- whether the client takes what can be done about a stretch as edits
+abbrev pub takes_actions : Option Data → Bool
+takes_actions value = is_object (member (codes "codeActionLiteralSupport") (feature (codes "codeAction") value))
+
+-- whether the client asks for errors and warnings by itself
+abbrev pub asks_diagnostics : Option Data → Bool
+asks_diagnostics value = is_object (feature (codes "diagnostic") value)
 
 -- what the client says of folding
 abbrev pub folding : Option Data → Option Data
-folding value = member (codes "foldingRange") (capabilities (codes "textDocument") value)
+folding value = feature (codes "foldingRange") value
 
 -- whether the client folds whole lines alone
 abbrev pub folds_lines : Option Data → Bool
@@ -166,6 +199,28 @@ unless_null (number n) = Some (number n)
 unless_null (string s) = Some (string s)
 unless_null (array ds) = Some (array ds)
 unless_null (object ms) = Some (object ms)
+
+-- a kind of actions covers quick fixes if it is theirs, or the empty one, which covers all
+abbrev pub covers_fixes : List ℕ → Bool
+covers_fixes kind = bytes_eq kind (codes "quickfix") || bytes_eq kind []
+
+-- one of the kinds covers quick fixes
+abbrev pub any_covers : Items → Bool
+any_covers no_items = false
+any_covers (item kind kinds) = option_map_or covers_fixes (as_str kind) false || any_covers kinds
+
+-- all actions are wanted where no kinds are named
+abbrev pub covered : Option Data → Option Bool
+covered None = Some true
+covered (Some kinds) = option_map any_covers (as_array kinds)
+
+-- whether quick fixes are wanted in a context, which lists problems
+abbrev pub fixes_in : Data → Option Bool
+fixes_in context = option_and_then (λ problems. covered (option_and_then unless_null (get (codes "only") context))) (option_and_then as_array (get (codes "diagnostics") context))
+
+-- whether quick fixes are wanted among what can be done
+abbrev pub wants_fixes : Option Data → Option Bool
+wants_fixes value = option_and_then fixes_in (member (codes "context") value)
 
 -- a text takes the place of the range that a change names, and of all where it names none
 abbrev pub edit_of : Option Data → List ℕ → Option Edit

@@ -6,7 +6,7 @@
 //!   [`Notification`], or a response. [`Method`] and [`Event`] are what they ask and tell, [`Params`] of
 //!   what.
 //! - [`mend`] makes a body that writes lone surrogates one that can be read, and [`is_same`] tells whether
-//!   two addresses name one document; [`meant`] is the document that what is no message may have been about.
+//!   two addresses name one document; [`neighbour`] is the address of a file that a document names; [`meant`] is the document that what is no message may have been about.
 //! - [`success`], [`failure`] and [`notification`] are the bodies that are sent, [`json_of`] is the text of
 //!   one of the [`values`] in them, [`Refusal`] is why a request is refused,
 //!   [`Unread`] why a body isn't taken for a message, and [`Loss`] what isn't known any more.
@@ -22,7 +22,7 @@ pub mod refusal;
 pub mod response;
 pub mod values;
 
-pub use address::is_same;
+pub use address::{is_same, neighbour};
 pub use escapes::mend;
 pub use message::{Id, Message, Notification, Request, meant, read_json};
 pub use method::{Event, Method};

@@ -28,6 +28,24 @@ pub enum Method {
     References,
     /// The labels and references of a name.
     Highlights,
+    /// To give a name another one.
+    Rename,
+    /// Whether the name at a position can be given another one.
+    PrepareRename,
+    /// What is known of what stands at a position.
+    Hover,
+    /// What a word may become.
+    Completion,
+    /// What leads elsewhere.
+    DocumentLinks,
+    /// What can be done about a stretch.
+    CodeActions,
+    /// The errors and warnings.
+    Diagnostics,
+    /// What is to be edited after a character that was typed.
+    OnTypeFormatting,
+    /// What all documents define by a name.
+    WorkspaceSymbols,
 }
 
 impl Method {
@@ -47,6 +65,15 @@ impl Method {
             "textDocument/definition" => Some(Method::Definition),
             "textDocument/references" => Some(Method::References),
             "textDocument/documentHighlight" => Some(Method::Highlights),
+            "textDocument/rename" => Some(Method::Rename),
+            "textDocument/prepareRename" => Some(Method::PrepareRename),
+            "textDocument/hover" => Some(Method::Hover),
+            "textDocument/completion" => Some(Method::Completion),
+            "textDocument/documentLink" => Some(Method::DocumentLinks),
+            "textDocument/codeAction" => Some(Method::CodeActions),
+            "textDocument/diagnostic" => Some(Method::Diagnostics),
+            "textDocument/onTypeFormatting" => Some(Method::OnTypeFormatting),
+            "workspace/symbol" => Some(Method::WorkspaceSymbols),
             _ => None,
         }
     }

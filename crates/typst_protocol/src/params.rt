@@ -126,6 +126,49 @@ impl<'a> Params<'a> {
         name.ok_or(Refusal::BadParameters)
     }
 
+    /// The name to put in the place of another one.
+    pub fn new_name(self) -> Result<&'a str, Refusal>
+        ensures { Finds (λ name. name.now) (spec.new_name (seen self.entry)) result }
+    {
+        let name = self.get("newName").and_then(Value::as_str);
+        name.ok_or(Refusal::BadParameters)
+    }
+
+    /// The character that was typed.
+    pub fn typed(self) -> Result<&'a str, Refusal>
+        ensures { Finds (λ typed. typed.now) (spec.typed (seen self.entry)) result }
+    {
+        let typed = self.get("ch").and_then(Value::as_str);
+        typed.ok_or(Refusal::BadParameters)
+    }
+
+    /// What names are to contain that are looked for.
+    pub fn query(self) -> Result<&'a str, Refusal>
+        ensures { Finds (λ query. query.now) (spec.query (seen self.entry)) result }
+    {
+        let query = self.get("query").and_then(Value::as_str);
+        query.ok_or(Refusal::BadParameters)
+    }
+
+    /// Whether quick fixes are wanted among what can be done. The context has to list problems; the kinds of
+    /// actions may lack, and all are wanted then.
+    pub fn wants_fixes(self) -> Result<bool, Refusal>
+        ensures { Finds (λ wanted. wanted) (spec.wants_fixes (seen self.entry)) result }
+    {
+        let context = self.get("context").ok_or(Refusal::BadParameters)?;
+        let problems = context.get("diagnostics").and_then(Value::as_array);
+        if problems.is_none() {
+            return Err(Refusal::BadParameters);
+        }
+        match context.get("only") {
+            Some(kinds) if !kinds.is_null() => match kinds.as_array() {
+                Some(kinds) => Ok(any_covers(kinds.as_slice())),
+                None => Err(Refusal::BadParameters),
+            },
+            _ => Ok(true),
+        }
+    }
+
     /// Whether the label is wanted among the references.
     pub fn includes_label(self) -> bool
         ensures { result ≡ spec.includes_label (seen self.entry) }
@@ -142,21 +185,52 @@ impl<'a> Params<'a> {
         self.get("capabilities")?.get(subject)
     }
 
+    /// What the client says of a kind of request about documents.
+    fn feature(self, name: &str) -> Option<&'a Value>
+        ensures { option_map (λ v. view v.now) result ≡ spec.feature name.now (seen self.entry) }
+    {
+        self.capabilities("textDocument")?.get(name)
+    }
+
     /// Whether the client takes an outline as a tree.
     pub fn takes_trees(self) -> bool
         ensures { result ≡ spec.takes_trees (seen self.entry) }
     {
-        let document = self.capabilities("textDocument");
-        let symbols = document.and_then(|document| document.get("documentSymbol"));
+        let symbols = self.feature("documentSymbol");
         let taken = symbols.and_then(|symbols| symbols.get("hierarchicalDocumentSymbolSupport"));
         taken.and_then(Value::as_bool).unwrap_or(false)
+    }
+
+    /// Whether the client asks whether a name can be renamed before it renames it.
+    pub fn prepares_renames(self) -> bool
+        ensures { result ≡ spec.prepares_renames (seen self.entry) }
+    {
+        let rename = self.feature("rename");
+        let prepared = rename.and_then(|rename| rename.get("prepareSupport"));
+        prepared.and_then(Value::as_bool).unwrap_or(false)
+    }
+
+    /// Whether the client takes what can be done about a stretch as edits.
+    pub fn takes_actions(self) -> bool
+        ensures { result ≡ spec.takes_actions (seen self.entry) }
+    {
+        let actions = self.feature("codeAction");
+        let literals = actions.and_then(|actions| actions.get("codeActionLiteralSupport"));
+        literals.is_some_and(Value::is_object)
+    }
+
+    /// Whether the client asks for errors and warnings by itself.
+    pub fn asks_diagnostics(self) -> bool
+        ensures { result ≡ spec.asks_diagnostics (seen self.entry) }
+    {
+        self.feature("diagnostic").is_some_and(Value::is_object)
     }
 
     /// What the client says of folding.
     fn folding(self) -> Option<&'a Value>
         ensures { option_map (λ v. view v.now) result ≡ spec.folding (seen self.entry) }
     {
-        self.capabilities("textDocument")?.get("foldingRange")
+        self.feature("foldingRange")
     }
 
     /// Whether the client folds whole lines alone.
@@ -198,6 +272,25 @@ fn first_encoding(names: &[Value]) -> Option<Encoding>
         }
     }
     None
+}
+
+/// Whether one of some kinds of actions covers quick fixes.
+fn any_covers(kinds: &[Value]) -> bool
+    ensures { result ≡ spec.any_covers (items_view kinds.now) }
+{
+    for kind in kinds {
+        if kind.as_str().is_some_and(covers_fixes) {
+            return true;
+        }
+    }
+    false
+}
+
+/// Whether a kind of actions covers quick fixes. The empty kind covers all.
+fn covers_fixes(kind: &str) -> bool
+    ensures { result ≡ spec.covers_fixes kind.now }
+{
+    kind == "quickfix" || kind.is_empty()
 }
 
 /// The encoding with a name.

@@ -22,6 +22,12 @@ pub enum Refusal {
     NotInitialized,
     /// The text of the document isn't known any more.
     LostDocument,
+    /// What stands at the position can't be renamed.
+    NotRenamable,
+    /// The new name of a name is no identifier.
+    NotAnIdentifier,
+    /// The new name of a label is none that a label can have.
+    NotALabel,
 }
 
 impl Refusal {
@@ -39,6 +45,15 @@ impl Refusal {
             Refusal::NotInitialized => "{\"code\":-32002,\"message\":\"not initialized\"}",
             Refusal::LostDocument => {
                 "{\"code\":-32801,\"message\":\"the text is not known: open the document again, or send it whole\"}"
+            }
+            Refusal::NotRenamable => {
+                "{\"code\":-32803,\"message\":\"nothing that this document defines stands there\"}"
+            }
+            Refusal::NotAnIdentifier => {
+                "{\"code\":-32803,\"message\":\"the new name is not an identifier\"}"
+            }
+            Refusal::NotALabel => {
+                "{\"code\":-32803,\"message\":\"the new name is not the name of a label\"}"
             }
         }
     }
@@ -117,7 +132,7 @@ impl Loss {
                 "{\"jsonrpc\":\"2.0\",\"method\":\"window/showMessage\",\"params\":{\"type\":2,\"message\":\"The text of a document is lost: close it and open it again.\"}}"
             }
             Loss::All => {
-                "{\"jsonrpc\":\"2.0\",\"method\":\"window/showMessage\",\"params\":{\"type\":2,\"message\":\"The server ends: a message could not be read.\"}}"
+                "{\"jsonrpc\":\"2.0\",\"method\":\"window/showMessage\",\"params\":{\"type\":2,\"message\":\"A message could not be read: close the documents and open them again.\"}}"
             }
         }
     }
