@@ -3,7 +3,7 @@ use Rattle.std.proofs.Common.{◌≡◌, ℕ, zero, suc, ◌+◌, ◌-◌, ◌<�
 use Rattle.std.specs.Prelude.{slice_range}
 use Rattle.std.proofs.lemmas.Bool.Decides.{leb_tells}
 use Rattle.std.proofs.lemmas.List.{drop_all}
-use Rattle.typst_highlight.specs.declared.tags.Tag.{Tag}
+use Rattle.typst_features.specs.declared.styles.Style.{Style}
 use Rattle.typst_features.specs.declared.tokens.Token.{Token}
 use Rattle.typst_features.specs.Tokens.{ends_line, token, lines}
 
@@ -15,28 +15,28 @@ cut text at e l m =
     ap (λ n. take n (drop at text)) count ∙ ap (take (suc (e - (at + 1)))) first
 
 -- of a byte that ends a line, or doesn't
-abbrev cases : Tag → ℕ → ℕ → List ℕ → Bool → List Token
-cases t a n bs ends = if ends then token t a n ++ lines t (a + n + 1) 0 bs else lines t a (n + 1) bs
+abbrev cases : Style → ℕ → ℕ → List ℕ → Bool → List Token
+cases s a n bs ends = if ends then token s a n ++ lines s (a + n + 1) 0 bs else lines s a (n + 1) bs
 
 -- at a line end the token ends
-pub lines_ended : (t : Tag) (a at e : ℕ) (text : List ℕ) → a ≤ at → at < e → at < length text → ends_line (get_or text at 0) ≡ true → lines t a (at - a) (slice_range text at e) ≡ token t a (at - a) ++ lines t (at + 1) (at + 1 - (at + 1)) (slice_range text (at + 1) e)
-lines_ended t a at e text o l m ends =
+pub lines_ended : (s : Style) (a at e : ℕ) (text : List ℕ) → a ≤ at → at < e → at < length text → ends_line (get_or text at 0) ≡ true → lines s a (at - a) (slice_range text at e) ≡ token s a (at - a) ++ lines s (at + 1) (at + 1 - (at + 1)) (slice_range text (at + 1) e)
+lines_ended s a at e text o l m ends =
     let rest = slice_range text (at + 1) e in
     let here : a + (at - a) + 1 ≡ at + 1 = omega arith in
     let nothing : 0 ≡ at + 1 - (at + 1) = omega arith in
-    ap (lines t a (at - a)) (cut text at e l m)
-    ∙ (ap (cases t a (at - a) rest) ends ∙ (ap (λ k. token t a (at - a) ++ lines t k 0 rest) here ∙ ap (λ k. token t a (at - a) ++ lines t (at + 1) k rest) nothing))
+    ap (lines s a (at - a)) (cut text at e l m)
+    ∙ (ap (cases s a (at - a) rest) ends ∙ (ap (λ k. token s a (at - a) ++ lines s k 0 rest) here ∙ ap (λ k. token s a (at - a) ++ lines s (at + 1) k rest) nothing))
 
 -- elsewhere it goes on
-pub lines_going : (t : Tag) (a at e : ℕ) (text : List ℕ) → a ≤ at → at < e → at < length text → ends_line (get_or text at 0) ≡ false → lines t a (at - a) (slice_range text at e) ≡ lines t a (at + 1 - a) (slice_range text (at + 1) e)
-lines_going t a at e text o l m goes =
+pub lines_going : (s : Style) (a at e : ℕ) (text : List ℕ) → a ≤ at → at < e → at < length text → ends_line (get_or text at 0) ≡ false → lines s a (at - a) (slice_range text at e) ≡ lines s a (at + 1 - a) (slice_range text (at + 1) e)
+lines_going s a at e text o l m goes =
     let rest = slice_range text (at + 1) e in
     let more : at - a + 1 ≡ at + 1 - a = omega arith in
-    ap (lines t a (at - a)) (cut text at e l m) ∙ (ap (cases t a (at - a) rest) goes ∙ ap (λ k. lines t a k rest) more)
+    ap (lines s a (at - a)) (cut text at e l m) ∙ (ap (cases s a (at - a) rest) goes ∙ ap (λ k. lines s a k rest) more)
 
 -- behind its end nothing of a stretch is left
-pub lines_over : (t : Tag) (a at e n : ℕ) (text : List ℕ) → min e (length text) ≤ at → at - a ≡ n → lines t a (at - a) (slice_range text at e) ≡ token t a n
-lines_over t a at e n text over same =
+pub lines_over : (s : Style) (a at e n : ℕ) (text : List ℕ) → min e (length text) ≤ at → at - a ≡ n → lines s a (at - a) (slice_range text at e) ≡ token s a n
+lines_over s a at e n text over same =
     let none : slice_range text at e ≡ [] = elim (leb_tells e at) [
       | inl past ↦ let nothing : e - at ≡ 0 = omega (arith, past.1) in ap (λ k. take k (drop at text)) nothing
       | inr within ↦
@@ -44,4 +44,4 @@ lines_over t a at e n text over same =
           let nothing : drop at text ≡ [] = drop_all at text all in
           rw nothing (elim (e - at) as (λ k. take {A = ℕ} k [] ≡ []) [ zero ↦ refl | suc k ↦ refl ])
     ] in
-    ap (lines t a (at - a)) none ∙ ap (token t a) same
+    ap (lines s a (at - a)) none ∙ ap (token s a) same

@@ -1,5 +1,8 @@
 //! Edits that take an error or a warning away.
 
+ghost use Rattle.std.specs.Prelude.{◌≡◌, option_map};
+ghost use Rattle.typst_features.specs.Closers as spec;
+
 use crate::parents::{Parent, Parents, is_markup};
 use crate::report::range_of;
 use crate::typing::is_unclosed;
@@ -189,7 +192,9 @@ fn line_from(text: &str, from: usize) -> &str {
 }
 
 /// The delimiter that closes another one.
-fn closer_of(opener: &str) -> Option<&'static str> {
+fn closer_of(opener: &str) -> Option<&'static str>
+    ensures { option_map (λ closer. closer.now) result ≡ spec.closer_of opener.now }
+{
     match opener {
         "(" => Some(")"),
         "[" => Some("]"),

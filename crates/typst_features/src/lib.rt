@@ -12,6 +12,7 @@ mod expansion;
 mod fixes;
 mod folding;
 mod hovering;
+mod items;
 mod links;
 mod naming;
 mod outline;
@@ -20,6 +21,7 @@ mod renaming;
 mod report;
 mod sections;
 mod selection;
+mod styles;
 mod tokens;
 mod typing;
 
@@ -29,14 +31,17 @@ pub use expansion::expansions;
 pub use fixes::{Fix, quick_fixes};
 pub use folding::{Fold, FoldKind, foldings};
 pub use hovering::{Hover, HoverKind, hover_at};
+pub use items::{LineEdit, next_item};
 pub use links::{DocumentLink, LinkKind, document_links};
 pub use naming::{Mention, MentionKind, definitions, highlights, mention_at, mentions, references};
 pub use outline::{Symbol, SymbolKind, symbols};
 pub use renaming::{Named, Renamed, named_at};
 pub use report::{Problem, problems};
 pub use selection::{MOST_SELECTIONS, selections};
-pub use tokens::{Token, token_stretches};
+pub use styles::{Style, TokenKind};
+pub use tokens::{Token, semantic_tokens};
 pub use typing::shown_problems;
 pub use typst_names::{
-    Name, NameKind, Occurrence, OccurrenceKind, binding_of, name_at, names, uses_of,
+    Name, NameKind, Occurrence, OccurrenceKind, Role, binding_of, name_at, name_roles, names,
+    uses_of,
 };

@@ -1,3 +1,4 @@
 pub mod HoldingNodes
 pub mod LeftNames
+pub mod LeftRoles
 pub mod UsesFound

@@ -1,4 +1,4 @@
--- A node that was come to, and what of it holds a byte. Public clauses name none of it.
+-- A node with its place, and which nodes of it hold a byte (for private clauses).
 use Rattle.std.specs.Prelude.{◌≡◌, ℕ, ◌==◌, ◌&&◌, Bool, true, false, List, [], Option, None, Some}
 use Rattle.std.specs.declared.ops.Range.{Range}
 use Rattle.typst_tree.specs.Tree.{none, more}
@@ -10,12 +10,12 @@ use Rattle.typst_names.specs.declared.places.Placed.{Placed}
 abbrev pub range_of : Placed → Range ℕ
 range_of p = range p.start p.node.now.head p.node.now.kids
 
--- the ranges that hold byte b, of the node and those below it, where there is one
+-- the ranges that hold byte b, of the node and those below it, if there is a node
 abbrev pub around_it : ℕ → Option Placed → List (Range ℕ)
 around_it b None = []
 around_it b (Some p) = around b p.start (more p.node.now.head p.node.now.kids none)
 
--- the node, where there is one, holds byte b
+-- the node, if there is one, holds byte b
 abbrev pub HoldsIt : ℕ → Option Placed → Type 0
 HoldsIt b None = Unit {0}
 HoldsIt b (Some p) = holds b (range_of p) ≡ true

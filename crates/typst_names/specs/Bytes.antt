@@ -4,7 +4,7 @@ use Rattle.std.specs.declared.ops.Range.{Range}
 use Rattle.typst_kinds.specs.Head.{Head}
 use Rattle.typst_tree.specs.Tree.{Forest, joined, saturated}
 
--- where the children of a node begin that begins at byte a: behind its own text
+-- where the children of a node begin that begins at byte a: after its own text
 abbrev pub inner : ℕ → Head → ℕ
 inner a h = saturated (a + length h.text)
 

@@ -16,6 +16,7 @@ word text n = slice_range text n.range.start n.range.end
 abbrev pub is_word : List ℕ → List ℕ → Name → Bool
 is_word text w n = bytes_eq (word text n) w
 
+-- a name is used
 abbrev pub is_use : NameKind → Bool
 is_use does.Use = true
 is_use _ = false
@@ -27,50 +28,57 @@ binds does.Binding same = same
 binds does.Item same = same
 binds does.Any same = true
 
--- up to which byte a name hides what binds the word before it: up to where it holds
+-- up to which byte a name hides what binds the word before it: up to where its own binding holds
 abbrev pub hides_up_to : List ℕ → List ℕ → Name → ℕ
 hides_up_to text w n = if binds n.kind (is_word text w n) then n.until else 0
 
--- up to which byte one of some names does
+-- up to which byte one of some names hides what binds the word before them
 abbrev pub hidden : List ℕ → List ℕ → List Name → ℕ
 hidden text w [] = 0
 hidden text w (n ∷ ns) = max (hides_up_to text w n) (hidden text w ns)
 
--- a name uses a word before byte u, where it isn't hidden, which it is up to byte h
+-- a name uses a word before byte u and not before byte h, up to which the word is hidden
 abbrev pub means : List ℕ → List ℕ → ℕ → ℕ → Name → Bool
 means text w u h n = is_use n.kind && (is_word text w n && (nat_le h n.range.start && nat_lt n.range.start u))
 
+-- a name as an occurrence of a kind, if that holds
 abbrev pub stands_if : Bool → OccurrenceKind → Name → List Occurrence
 stands_if holds k n = if holds then record { kind = k; range = n.range } ∷ [] else []
 
--- THE USES of what binds a word up to byte u, of names behind it, where some names stand between: none of these hides it there
+-- THE USES, among some names, of what binds a word up to byte u: other names are between that and
+-- these, and no name before a use hides it there
 abbrev pub uses : List ℕ → List ℕ → ℕ → List Name → List Name → List Occurrence
 uses text w u between [] = []
 uses text w u between (n ∷ ns) = stands_if (means text w u (hidden text w between) n) stands.Use n ++ uses text w u (between ++ n ∷ []) ns
 
--- the last of the first so many names that hides what binds the word before it, at byte b
+-- a name, if there is one, hides what binds the word before it, at byte b
 abbrev pub hides : List ℕ → List ℕ → ℕ → Option Name → Bool
 hides text w b None = false
 hides text w b (Some n) = nat_lt b (hides_up_to text w n)
 
+-- the place of the last of the first so many names that hides what binds the word before it, at
+-- byte b
 abbrev pub last_hiding : List ℕ → List ℕ → ℕ → List Name → ℕ → Option ℕ
 last_hiding text w b names zero = None
 last_hiding text w b names (suc k) = if hides text w b (slice_get names k) then Some k else last_hiding text w b names k
 
+-- the star of an import
 abbrev pub is_any : NameKind → Bool
 is_any does.Any = true
 is_any _ = false
 
--- a place, unless the star of an import stands there
+-- a place, unless the name there is the star of an import
 abbrev pub unless_any : Option Name → ℕ → Option ℕ
 unless_any None i = None
 unless_any (Some n) i = if is_any n.kind then None else Some i
 
+-- a place, if there is one, unless the name there is the star of an import
 abbrev pub at_place : List Name → Option ℕ → Option ℕ
 at_place names None = None
 at_place names (Some i) = unless_any (slice_get names i) i
 
--- the place of what a name means: of a use the last name before it that hides all before that, of a binding its own
+-- the place of what a name means: of a use the last name before it that hides all before that, of a
+-- binding its own; none if that is the star of an import
 abbrev pub meaning : List ℕ → List Name → ℕ → Option Name → Option ℕ
 meaning text names i None = None
 meaning text names i (Some n) = if is_use n.kind then at_place names (last_hiding text (word text n) n.range.start names i) else at_place names (Some i)
@@ -79,16 +87,16 @@ meaning text names i (Some n) = if is_use n.kind then at_place names (last_hidin
 abbrev pub binding_of : List ℕ → List Name → ℕ → Option ℕ
 binding_of text names i = meaning text names i (slice_get names i)
 
--- what is said of a binding where it stands
+-- how a binding occurs
 abbrev pub stands_as : NameKind → OccurrenceKind
 stands_as does.Item = stands.Item
 stands_as _ = stands.Definition
 
--- a binding, and the uses that mean it, of the names behind it
+-- a binding, and of the names after it the uses that mean it
 abbrev pub with_uses : List ℕ → Option Name → List Name → List Occurrence
 with_uses text None ns = []
 with_uses text (Some n) ns = stands_if true (stands_as n.kind) n ++ uses text (word text n) n.until [] ns
 
--- the same of a name by its place
+-- the binding at a place among some names, and the uses after it that mean it
 abbrev pub uses_of : List ℕ → List Name → ℕ → List Occurrence
 uses_of text names i = with_uses text (slice_get names i) (drop (i + 1) names)

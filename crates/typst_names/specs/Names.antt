@@ -19,12 +19,14 @@ abbrev pub named : Option NameKind → Range ℕ → ℕ → List Name
 named None r u = []
 named (Some n) r u = record { kind = n; range = r; until = u } ∷ []
 
--- where the scope of a part ends, of a node that ends at byte e in a scope that ends at byte u
+-- up to where what is bound in a part holds, of a node that ends at byte e in a scope that ends at
+-- byte u
 abbrev pub held : Part → ℕ → ℕ → ℕ
 held p u e = if opens p then e else u
 
--- the names of trees side by side from byte a on, which are taken as this part of a scope that ends at byte u, in the order in which they
--- come to hold: of a node its own, then those of the up to three parts below it
+-- the names of trees side by side from byte a on, which are taken as this part of a scope that ends
+-- at byte u, in the order in which they come to hold: of a node its own, then those of the up to
+-- three parts below it
 abbrev pub names_in : Part → ℕ → ℕ → Forest → List Name
 names_in p u a none = []
 names_in p u a (more h ks r) =

@@ -8,15 +8,15 @@ use Rattle.typst_names.specs.declared.parts.NameKind.TheVariants as does
 use Rattle.typst_names.specs.declared.parts.Part.{Part}
 use Rattle.typst_names.specs.declared.parts.Part.TheVariants as part
 
--- what is bound in a block, in a function's parameters and body, and by a loop holds up to the end of that node; all else up to the end of
--- what it stands in
+-- what is bound in a block, in a function's parameters and body, and by a loop holds up to the end
+-- of that node; all else up to the end of what it is in
 abbrev pub opens : Part → Bool
 opens part.Block = true
 opens part.Function = true
 opens part.Loop = true
 opens _ = false
 
--- a part as it takes a child, wherever it ends
+-- the part that a child is taken as, wherever the part ends
 abbrev pub base : Part → Part
 base part.Block = part.Value
 base part.Field = part.Value
@@ -28,13 +28,14 @@ base part.Loop = part.Pattern
 base part.Alias = part.Pattern
 base p = p
 
+-- a part in which nothing counts
 abbrev pub is_nothing : Part → Bool
 is_nothing part.Nothing = true
 is_nothing _ = false
 
 -- ---- what names do
 
--- a node of the wanted kind does this, others nothing
+-- what a node does: one of the wanted kind this, others nothing
 abbrev pub told : SyntaxKind → NameKind → SyntaxKind → Option NameKind
 told wanted n k = if same wanted k then Some n else None
 
@@ -46,7 +47,7 @@ used k = if same kind.Ident k then Some does.Use else told kind.MathIdent does.U
 abbrev pub last_name : SyntaxKind → Bool → Option NameKind
 last_name k is_last = if is_last then told kind.Ident does.Item k else None
 
--- what a child of a kind does
+-- what a child of a kind does in a part
 abbrev pub says : Part → SyntaxKind → Bool → Option NameKind
 says part.Value k is_last = used k
 says part.Pattern k is_last = told kind.Ident does.Binding k
@@ -58,23 +59,23 @@ says _ k is_last = None
 
 -- ---- what changes from one child to the next
 
--- a part, and behind a mark another one
+-- a part, and after a child of the kind `mark` another one
 abbrev pub up_to : SyntaxKind → Part → Part → SyntaxKind → Part
 up_to mark next p k = if same mark k then next else p
 
--- a part, and behind what is no trivia another one
+-- a part, and after a child that isn't trivia another one
 abbrev pub up_to_one : Part → Part → SyntaxKind → Part
 up_to_one next p k = if is_trivia k then p else next
 
--- the body of a function stands behind its arrow or its equals sign
+-- how a function's children are taken: after its arrow or its equals sign comes its body
 abbrev pub behind_function : SyntaxKind → Part
 behind_function k = if same kind.Arrow k then part.Value else up_to kind.Eq part.Value part.Function k
 
--- an import binds a new name behind `as`, and items behind a colon
+-- how an import's children are taken: after `as` it binds a new name, and after a colon items
 abbrev pub behind_source : SyntaxKind → Part
 behind_source k = if same kind.As k then part.Alias else up_to kind.Colon part.Imported part.Source k
 
--- the part behind a child of a kind
+-- the part that the children after one of a kind are taken as
 abbrev pub behind : Part → SyntaxKind → Part
 behind part.Field k = up_to kind.Dot part.Nothing part.Field k
 behind part.Init k = up_to kind.Eq part.Value part.Init k
@@ -96,10 +97,11 @@ behind p k = p
 
 -- ---- what is below a child: up to three parts, of which the first comes to hold first
 
+-- a part below a node of the wanted kind, and nothing below others
 abbrev pub only : SyntaxKind → Part → SyntaxKind → Part
 only wanted p k = if same wanted k then p else part.Nothing
 
--- below a pattern, and a pair in it
+-- the part below a pattern, and below a pair in it
 abbrev pub below_pattern : Part → SyntaxKind → Part
 below_pattern inner kind.Destructuring = part.Pattern
 below_pattern inner kind.Parenthesized = part.Pattern
@@ -107,12 +109,14 @@ below_pattern inner kind.Spread = part.Pattern
 below_pattern inner kind.Named = inner
 below_pattern inner _ = part.Nothing
 
+-- the part below an item of an import
 abbrev pub below_items : SyntaxKind → Part
 below_items kind.ImportItemPath = part.Path
 below_items kind.RenamedImportItem = part.Renamed
 below_items _ = part.Nothing
 
--- of a `let` its value, of a function its defaults, of a loop what it goes over
+-- the first part below a value: of a `let` its value, of a function its defaults, of a loop what it
+-- goes over
 abbrev pub first_of_value : SyntaxKind → Part
 first_of_value kind.LetBinding = part.Init
 first_of_value kind.Closure = part.Defaults
@@ -126,13 +130,15 @@ first_of_value kind.ContentBlock = part.Block
 first_of_value kind.Contextual = part.Block
 first_of_value _ = part.Value
 
--- then of a `let` what it binds, of a function its own name, of a loop its pattern and its body
+-- the second part below a value: of a `let` what it binds, of a function its own name, of a loop
+-- its pattern and its body
 abbrev pub second_of_value : SyntaxKind → Part
 second_of_value kind.LetBinding = part.Bound
 second_of_value kind.Closure = part.OwnName
 second_of_value kind.ForLoop = part.Loop
 second_of_value _ = part.Nothing
 
+-- the first part below a child of a kind
 abbrev pub first : Part → SyntaxKind → Part
 first part.Value k = first_of_value k
 first part.Pattern k = below_pattern part.PatternPair k
@@ -145,12 +151,13 @@ first part.Imported k = only kind.ImportItems part.Items k
 first part.Items k = below_items k
 first _ k = part.Nothing
 
+-- the second part below a child of a kind
 abbrev pub second : Part → SyntaxKind → Part
 second part.Value k = second_of_value k
 second part.Init k = only kind.Closure part.OwnName k
 second _ k = part.Nothing
 
--- last of a function its parameters and its body
+-- the third part below a child of a kind: of a function its parameters and its body
 abbrev pub third : Part → SyntaxKind → Part
 third part.Value k = only kind.Closure part.Function k
 third part.Init k = only kind.Closure part.Function k

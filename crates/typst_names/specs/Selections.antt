@@ -24,7 +24,7 @@ abbrev pub different : List (Range ℕ) → List (Range ℕ)
 different [] = []
 different (r ∷ rs) = if begins rs r then different rs else r ∷ different rs
 
--- the byte, or the last one of a tree's text where that ends by it
+-- the byte, or the last one of a tree's text if that ends before it
 abbrev pub byte_in : Tree → ℕ → ℕ
 byte_in t b = min b (saturated (length (text_of t)) - 1)
 

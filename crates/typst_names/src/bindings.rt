@@ -9,18 +9,18 @@ use crate::scopes::Name;
 use std::alloc::{AllocError, Global};
 use std::ops::Range;
 
-/// What is said of a name where it stands.
+/// How a name occurs.
 #[derive(Debug, Clone, Copy, PartialEq, Eq)]
 pub enum OccurrenceKind {
-    /// It is defined, or bound.
+    /// The name is defined, or bound.
     Definition,
-    /// It is bound as an item of an import, by its name in the other file.
+    /// The name is bound as an item of an import, by its name in the other file.
     Item,
-    /// It is used.
+    /// The name is used.
     Use,
 }
 
-/// A name, and what is said of it there.
+/// A name, and how it occurs there.
 #[derive(Debug, Clone, PartialEq, Eq, Drop)]
 pub struct Occurrence {
     pub kind: OccurrenceKind,
@@ -28,7 +28,8 @@ pub struct Occurrence {
     pub range: Range<usize>,
 }
 
-/// The place, among the names of a text, of the one that holds a byte, or else of the one that ends there.
+/// The place, among the names of a text, of the one that holds a byte, or else of the one that ends there. Goes
+/// through the names up to the first.
 pub fn name_at(names: &[Name], byte: usize) -> Option<usize> {
     let mut ending = None;
     for index in 0..names.len() {
@@ -44,7 +45,7 @@ pub fn name_at(names: &[Name], byte: usize) -> Option<usize> {
 }
 
 /// The place of the binding that a name means: a binding itself, and of a use the last name before it that binds
-/// its text and whose scope goes beyond it. There is none where a name comes from elsewhere, or may come from an
+/// its text and whose scope goes beyond it. There is none if a name comes from elsewhere, or may come from an
 /// import of everything.
 pub fn binding_of(text: &str, names: &[Name], index: usize) -> Option<usize>
     ensures { result ≡ spec.binding_of text.now names.now index }
@@ -107,7 +108,7 @@ pub fn word_of<'a>(text: &'a str, name: &Name) -> &'a str {
 }
 
 /// A binding, by its place among the names of a text, and then the uses that mean it, in order: those of its text
-/// behind it that no name between them hides. It goes through the names once.
+/// after it that no name between them hides. It goes through the names once.
 pub fn uses_of(
     alloc: Global,
     text: &str,
@@ -152,7 +153,7 @@ fn add_uses(
     Ok(())
 }
 
-/// Adds a use, if it is one.
+/// Adds a name as a use, if it is one.
 fn add_if(found: &mut Vec<Occurrence>, holds: bool, name: &Name) -> Result<(), AllocError>
     ensures { OnOk result (found.new.items ≡ found.old.items ++ spec.stands_if holds stands.Use name.now) }
 {
@@ -162,7 +163,7 @@ fn add_if(found: &mut Vec<Occurrence>, holds: bool, name: &Name) -> Result<(), A
     Ok(())
 }
 
-/// Adds what is said of a name where it stands.
+/// Adds a name, and how it occurs.
 fn add(found: &mut Vec<Occurrence>, kind: OccurrenceKind, name: &Name) -> Result<(), AllocError>
     ensures { OnOk result (found.new.items ≡ found.old.items ++ spec.stands_if true kind name.now) }
 {
@@ -171,7 +172,7 @@ fn add(found: &mut Vec<Occurrence>, kind: OccurrenceKind, name: &Name) -> Result
     Ok(())
 }
 
-/// What is said of a name that is bound.
+/// How a name that is bound occurs.
 fn kind_of(kind: NameKind) -> OccurrenceKind
     ensures { result ≡ spec.stands_as kind }
 {
@@ -181,7 +182,8 @@ fn kind_of(kind: NameKind) -> OccurrenceKind
     }
 }
 
-/// Whether a name uses a word before a byte, where it isn't hidden, which it is up to another one.
+/// Whether a name uses a word before the byte `until`, and not before the byte `hidden`, up to which the word is
+/// hidden.
 fn means(text: &[u8], word: &[u8], until: usize, hidden: usize, name: &Name) -> bool
     ensures { result ≡ spec.means text.now word.now until hidden name.now }
 {

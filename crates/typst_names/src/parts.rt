@@ -8,13 +8,13 @@ use typst_kinds::SyntaxKind;
 /// What a name does.
 #[derive(Debug, Clone, Copy, PartialEq, Eq)]
 pub enum NameKind {
-    /// It is used.
+    /// The name is used.
     Use,
-    /// It is bound.
+    /// The name is bound.
     Binding,
-    /// It is bound as an item of an import, by its name in the other file.
+    /// The name is bound as an item of an import, by its name in the other file.
     Item,
-    /// The star of an import, which binds names that no one knows here.
+    /// The star of an import, which binds names that aren't known here.
     Any,
 }
 
@@ -23,58 +23,58 @@ pub enum NameKind {
 pub enum Part {
     /// Names are used.
     Value,
-    /// The same in a block, up to whose end holds what is bound in it.
+    /// Names are used in a block, up to whose end holds what is bound in it.
     Block,
-    /// The same of a field access, up to its dot.
+    /// Names are used in a field access, up to its dot.
     Field,
-    /// The same of an import, up to what it binds.
+    /// Names are used in an import, up to what it binds.
     Source,
-    /// The same of one child that is no trivia.
+    /// Names are used in one child that isn't trivia.
     Once,
     /// Names are bound.
     Pattern,
-    /// The same of a `let`, up to the equals sign.
+    /// Names are bound by a `let`, up to the equals sign.
     Bound,
-    /// The same of a parameter with a default, up to the colon.
+    /// Names are bound by a parameter with a default, up to the colon.
     Key,
-    /// The same of a loop, up to `in`. Behind what it goes over comes its body.
+    /// Names are bound by a loop, up to `in`. After what it goes over comes its body.
     Loop,
-    /// The same of an import, up to the colon.
+    /// A name is bound by an import, up to the colon.
     Alias,
     /// The parameters of a function are bound.
     Parameters,
     /// A function's own name is bound, up to its parameters.
     OwnName,
-    /// A function with its parameters, and behind the arrow or the equals sign its body.
+    /// A function with its parameters, and after the arrow or the equals sign its body.
     Function,
     /// A function, of which the defaults of its parameters count.
     Defaults,
     /// Parameters, of which the defaults count.
     DefaultValues,
-    /// A `let`: a function that it binds, or the value behind the equals sign.
+    /// A `let`: a function that it binds, or the value after the equals sign.
     Init,
-    /// A value behind a colon.
+    /// A value after a colon.
     Pair,
-    /// A pattern behind a colon.
+    /// A pattern after a colon.
     PatternPair,
-    /// What a loop goes over, behind `in`.
+    /// What a loop goes over, after `in`.
     Iterable,
-    /// A value behind the next child that is no trivia.
+    /// A value after the next child that isn't trivia.
     Passed,
-    /// What an import binds, behind the colon.
+    /// What an import binds, after the colon.
     Imported,
     /// The items of an import.
     Items,
     /// The path of an item, which is bound by its last name.
     Path,
-    /// An item with a new name behind `as`.
+    /// An item with a new name after `as`.
     Renamed,
     /// Nothing counts.
     Nothing,
 }
 
 impl Part {
-    /// The same part, wherever it ends.
+    /// The part that a child is taken as, wherever this part ends.
     pub fn base(self) -> Part
         ensures { result ≡ spec.base self }
     {
@@ -103,7 +103,7 @@ impl Part {
         }
     }
 
-    /// How the children behind one of this kind are taken.
+    /// How the children after one of this kind are taken.
     pub fn behind(self, kind: SyntaxKind) -> Part
         ensures { result ≡ spec.behind self kind }
     {
@@ -128,21 +128,21 @@ impl Part {
         }
     }
 
-    /// This part, and behind a mark another one.
+    /// This part, and after a child of the kind `mark` another one.
     fn up_to(self, mark: SyntaxKind, next: Part, kind: SyntaxKind) -> Part
         ensures { result ≡ spec.up_to mark next self kind }
     {
         if kind.same(mark) { next } else { self }
     }
 
-    /// This part, and behind what is no trivia another one.
+    /// This part, and after a child that isn't trivia another one.
     fn up_to_one(self, next: Part, kind: SyntaxKind) -> Part
         ensures { result ≡ spec.up_to_one next self kind }
     {
         if kind.is_trivia() { self } else { next }
     }
 
-    /// What a name or a star does, which is told by its kind and by whether it is the last child.
+    /// What a name or a star does, by its kind and by whether it is the last child.
     pub fn says(self, kind: SyntaxKind, is_last: bool) -> Option<NameKind>
         ensures { result ≡ spec.says self kind is_last }
     {
@@ -157,7 +157,7 @@ impl Part {
         }
     }
 
-    /// How the children of a child of this kind are taken first.
+    /// The first part that the children of a child of this kind are taken as.
     pub fn first(self, kind: SyntaxKind) -> Part
         ensures { result ≡ spec.first self kind }
     {
@@ -175,7 +175,7 @@ impl Part {
         }
     }
 
-    /// How they are taken then.
+    /// The second part that the children of a child of this kind are taken as.
     pub fn second(self, kind: SyntaxKind) -> Part
         ensures { result ≡ spec.second self kind }
     {
@@ -186,7 +186,7 @@ impl Part {
         }
     }
 
-    /// How they are taken last.
+    /// The third part that the children of a child of this kind are taken as.
     pub fn third(self, kind: SyntaxKind) -> Part
         ensures { result ≡ spec.third self kind }
     {
@@ -197,7 +197,7 @@ impl Part {
         }
     }
 
-    /// Whether nothing counts.
+    /// Whether nothing counts in this part.
     pub fn is_nothing(self) -> bool
         ensures { result ≡ spec.is_nothing self }
     {
@@ -208,7 +208,7 @@ impl Part {
     }
 }
 
-/// A function up to its body.
+/// How a function's children are taken after one of this kind: after the arrow or the equals sign comes its body.
 fn behind_function(kind: SyntaxKind) -> Part
     ensures { result ≡ spec.behind_function kind }
 {
@@ -218,7 +218,7 @@ fn behind_function(kind: SyntaxKind) -> Part
     Part::Function.up_to(SyntaxKind::Eq, Part::Value, kind)
 }
 
-/// An import up to what it binds.
+/// How an import's children are taken after one of this kind: a new name after `as`, and items after the colon.
 fn behind_source(kind: SyntaxKind) -> Part
     ensures { result ≡ spec.behind_source kind }
 {
@@ -228,7 +228,7 @@ fn behind_source(kind: SyntaxKind) -> Part
     Part::Source.up_to(SyntaxKind::Colon, Part::Imported, kind)
 }
 
-/// What a node of the wanted kind does. Others do nothing.
+/// What a node of the wanted kind does; others do nothing.
 fn told(wanted: SyntaxKind, does: NameKind, kind: SyntaxKind) -> Option<NameKind>
     ensures { result ≡ spec.told wanted does kind }
 {
@@ -256,7 +256,7 @@ fn last_name(kind: SyntaxKind, is_last: bool) -> Option<NameKind>
     }
 }
 
-/// A part below a node of the wanted kind alone.
+/// A part below a node of the wanted kind, and nothing below others.
 fn only(wanted: SyntaxKind, part: Part, kind: SyntaxKind) -> Part
     ensures { result ≡ spec.only wanted part kind }
 {
@@ -267,7 +267,7 @@ fn only(wanted: SyntaxKind, part: Part, kind: SyntaxKind) -> Part
     }
 }
 
-/// What is first below a value.
+/// The first part below a value of this kind.
 fn first_of_value(kind: SyntaxKind) -> Part
     ensures { result ≡ spec.first_of_value kind }
 {
@@ -286,7 +286,7 @@ fn first_of_value(kind: SyntaxKind) -> Part
     }
 }
 
-/// What comes then below a value.
+/// The second part below a value of this kind.
 fn second_of_value(kind: SyntaxKind) -> Part
     ensures { result ≡ spec.second_of_value kind }
 {
@@ -298,7 +298,7 @@ fn second_of_value(kind: SyntaxKind) -> Part
     }
 }
 
-/// What is below a pattern, where this is below a pair.
+/// The part below a pattern of this kind, which is `pair` below a pair in it.
 fn below_pattern(pair: Part, kind: SyntaxKind) -> Part
     ensures { result ≡ spec.below_pattern pair kind }
 {
@@ -311,7 +311,7 @@ fn below_pattern(pair: Part, kind: SyntaxKind) -> Part
     }
 }
 
-/// What is below an item of an import.
+/// The part below an item of an import, by its kind.
 fn below_items(kind: SyntaxKind) -> Part
     ensures { result ≡ spec.below_items kind }
 {

@@ -29,7 +29,7 @@ impl<'a> Placed<'a> {
         }
     }
 
-    /// A node that a walk has come to.
+    /// A node that a walk visits.
     pub fn of(visit: Visit<'a>) -> Placed<'a>
         ensures node { result.node.now ≡ visit.entry.node.now }
         ensures start { result.start ≡ visit.entry.offset }
@@ -40,7 +40,7 @@ impl<'a> Placed<'a> {
         }
     }
 
-    /// The byte at which its children begin: behind its own text, which is empty but for a leaf.
+    /// The byte at which its children begin: after its own text, which only a leaf has.
     pub fn inner_start(self) -> usize
         ensures { result ≡ spec.inner self.entry.start self.entry.node.now.head }
     {
@@ -68,7 +68,7 @@ impl<'a> Placed<'a> {
         self.start <= byte && byte < self.end()
     }
 
-    /// The node, where it holds a byte.
+    /// The node, if it holds a byte.
     pub fn if_holds(self, byte: usize) -> Option<Placed<'a>>
         ensures around { around_it byte (Some self.entry) ≡ around_it byte result }
         ensures holds { HoldsIt byte result }

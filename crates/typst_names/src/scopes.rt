@@ -18,13 +18,13 @@ use typst_tree::SyntaxNode;
 #[derive(Debug, Clone, PartialEq, Eq, Drop)]
 pub struct Name {
     pub kind: NameKind,
-    /// Its bytes.
+    /// The bytes of the name.
     pub range: Range<usize>,
     /// The byte up to which its scope goes: of what is bound, up to where it holds.
     pub until: usize,
 }
 
-/// Nodes that stand side by side from a byte on, as a part of a scope that ends at another one.
+/// Nodes side by side from a byte on, as a part of a scope that ends at another byte.
 #[derive(Clone, Copy)]
 struct Row<'a> {
     trees: &'a [SyntaxNode],
@@ -35,7 +35,7 @@ struct Row<'a> {
 
 /// The names of a tree, by the table of scopes: what is used, what is bound, and up to which byte that holds.
 /// They come in the order in which they come to hold, so that what a use means is the last binding before it of
-/// the same text that holds there: what a `let` binds stands behind its value. It goes through each node at
+/// the same text that holds there: what a `let` binds is after its value. It goes through each node at
 /// most three times.
 pub fn names(alloc: Global, root: &SyntaxNode) -> Result<Vec<Name>, AllocError>
     ensures { IfOk result (λ names. names.items ≡ spec.names root.now) }
@@ -50,7 +50,7 @@ pub fn names(alloc: Global, root: &SyntaxNode) -> Result<Vec<Name>, AllocError>
 }
 
 impl<'a> Row<'a> {
-    /// A whole tree.
+    /// The row of a whole tree.
     fn whole(root: &'a SyntaxNode) -> Row<'a>
         ensures { left result ≡ spec.names root.now }
     {
@@ -62,7 +62,7 @@ impl<'a> Row<'a> {
         }
     }
 
-    /// What follows the first node.
+    /// The row of what follows the first node.
     fn behind(self, node: Placed<'a>, rest: &'a [SyntaxNode]) -> Row<'a>
         ensures left { left result ≡ spec.names_in (scopes.behind self.entry.part node.entry.node.now.head.kind) self.entry.until (bytes.behind node.entry.start node.entry.node.now.head node.entry.node.now.kids) (forest rest.now) }
         ensures steps { steps_left result ≡ 1 + steps (forest rest.now) }
@@ -75,7 +75,7 @@ impl<'a> Row<'a> {
         }
     }
 
-    /// A part below a node.
+    /// The row of a part below a node.
     fn below(self, node: Placed<'a>, part: Part) -> Row<'a>
         ensures left { left result ≡ spec.names_in part (spec.held part self.entry.until (bytes.behind node.entry.start node.entry.node.now.head node.entry.node.now.kids)) (bytes.inner node.entry.start node.entry.node.now.head) node.entry.node.now.kids }
         ensures steps { steps_left result ≡ 1 + steps node.entry.node.now.kids }
@@ -90,7 +90,7 @@ impl<'a> Row<'a> {
     }
 }
 
-/// Takes the first node of a row: adds its own name, and the rows below and behind it.
+/// Takes the first node of a row: adds its own name, and the rows below and after it.
 fn take_next<'a>(
     found: &mut Vec<Name>,
     rows: &mut Vec<Row<'a>>,
