@@ -1,17 +1,14 @@
 -- What is read back of the numbers of tokens.
-use Rattle.std.proofs.Common.{◌≡◌, ℕ, ◌+◌, ◌-◌, ◌^◌, ◌<◌, ◌≤◌, ◌==◌, ◌⊎◌, inl, inr, Bool, true, false, cond, not, List, [], ◌∷◌, ◌++◌, length, drop, Option, None, Some, refl, sym, ap, subst, ◌∙◌, arith, append_assoc, length-drop, length-take, if◌then◌else◌}
+use Rattle.std.proofs.Common.{◌≡◌, ℕ, ◌+◌, ◌-◌, ◌^◌, ◌<◌, ◌≤◌, ◌==◌, ◌⊎◌, inl, inr, Bool, true, false, cond, not, List, [], ◌∷◌, ◌++◌, length, drop, refl, sym, ap, ◌∙◌, arith, length-drop, length-take, if◌then◌else◌}
 use Rattle.std.proofs.lemmas.Bool.{cases_lt, eq-eqb, le-leb, lt-leb, ne_eqb}
 use Rattle.std.proofs.lemmas.List.FromFn.{length-range_with_len}
 use Rattle.std.proofs.lemmas.List.Sums.{count_by-le-length, length-filter}
 use Rattle.std.specs.Char.{len_utf8}
 use Rattle.std.specs.List.{prefix_len, range_with_len}
-use Rattle.std.specs.Prelude.{slice_index, slice_range}
+use Rattle.std.specs.Prelude.{slice_index}
 use Rattle.std.specs.Str.{IsUtf8, chars}
-use Rattle.std.specs.declared.ops.Range.{Range}
-use Rattle.typst_parser.specs.Stretches.{AreJoined}
-use Rattle.typst_parser.specs.Tagged.{Tagged}
-use Rattle.typst_parser.specs.Tag.{Tag}
-use Rattle.typst_features.specs.Tokens.{ends_line, lines, stretch, stretches, token}
+use Rattle.typst_features.specs.Tokens as tokens
+use Rattle.typst_features.specs.Tokens.{end_of}
 use Rattle.typst_features.specs.declared.tokens.Token.{Token}
 use Rattle.typst_positions.specs.Columns.{column_of, measured, width}
 use Rattle.typst_positions.specs.Positions.{line_of, position_of}
@@ -21,7 +18,7 @@ use Rattle.typst_positions.specs.declared.positions.Position.{Position}
 use Rattle.typst_positions.proofs.Places.{held, position-is, some-below, start-boundary, utf8-line}
 use Rattle.typst_positions.proofs.Shifts.{count-mono}
 use Rattle.typst_positions.proofs.Widths.{total, total-text, width-le}
-use Rattle.typst_server.specs.Numbers.{Shown, clipped, decoded, encoded, end_of, five, shown, shown_in, touches}
+use Rattle.typst_server.specs.Numbers.{Shown, clipped, decoded, encoded, five, shown, shown_each}
 
 -- ---- tokens that are in order
 
@@ -167,68 +164,17 @@ small e text t u h =
       size = omega (arith, h, column-small e text (end_of t) u);
     }
 
--- ---- the tokens of stretches rise
-
-abbrev Rising : ℕ → List Token → Type 0
-Rising a [] = Unit {0}
-Rising a (t ∷ ts) = (a ≤ t.start) × Rising t.start ts
-
-lower : (a b : ℕ) (ts : List Token) → a ≤ b → Rising b ts → Rising a ts
-lower a b [] le h = tt
-lower a b (t ∷ ts) le h = (omega (arith, le, h.0), h.1)
-
-by_none : (none : Bool) (t : Tag) (a n : ℕ) (rest : List Token) → Rising a rest → Rising a ((if none then [] else record { start = a; len = n; tag = t } ∷ []) ++ rest)
-by_none true t a n rest h = h
-by_none false t a n rest h = (omega arith, h)
-
-token-rises : (t : Tag) (a n : ℕ) (rest : List Token) → Rising a rest → Rising a (token t a n ++ rest)
-token-rises t a n rest h = by_none (n == 0) t a n rest h
-
-by_end : (ends : Bool) (a : ℕ) (xs ys rest : List Token) → Rising a (xs ++ rest) → Rising a (ys ++ rest) → Rising a ((if ends then xs else ys) ++ rest)
-by_end true a xs ys rest h k = h
-by_end false a xs ys rest h k = k
-
-lines-rise : (t : Tag) (a n : ℕ) (bs : List ℕ) (rest : List Token) → Rising (a + n + length bs) rest → Rising a (lines t a n bs ++ rest)
-lines-rise t a n [] rest h = token-rises t a n rest (lower a (a + n + 0) rest (omega arith) h)
-lines-rise t a n (b ∷ bs) rest h =
-    let on : Rising (a + n + 1 + 0 + length bs) rest = lower (a + n + 1 + 0 + length bs) (a + n + length (b ∷ bs)) rest (omega arith) h in
-    let more : Rising (a + (n + 1) + length bs) rest = lower (a + (n + 1) + length bs) (a + n + length (b ∷ bs)) rest (omega arith) h in
-    let next : Rising a (lines t (a + n + 1) 0 bs ++ rest) = lower a (a + n + 1) (lines t (a + n + 1) 0 bs ++ rest) (omega arith) (lines-rise t (a + n + 1) 0 bs rest on) in
-    by_end (ends_line b) a (token t a n ++ lines t (a + n + 1) 0 bs) (lines t a (n + 1) bs) rest
-    (subst (Rising a) (sym (append_assoc (token t a n) (lines t (a + n + 1) 0 bs) rest)) (token-rises t a n (lines t (a + n + 1) 0 bs ++ rest) next))
-    (lines-rise t a (n + 1) bs rest more)
-
-stretch-rises : (text : List ℕ) (a e : ℕ) (o : Option Tag) (rest : List Token) → a ≤ e → Rising e rest → Rising a (stretch text a e o ++ rest)
-stretch-rises text a e None rest le h = lower a e rest le h
-stretch-rises text a e (Some t) rest le h =
-    lines-rise t a 0 (slice_range text a e) rest (lower (a + 0 + length (slice_range text a e)) e rest (omega (arith, le, length-take (e - a) (drop a text))) h)
-
-stretches-rise : (text : List ℕ) (a b : ℕ) (ss : List Tagged) → AreJoined a ss b → Rising a (stretches text ss)
-stretches-rise text a b [] h = tt
-stretches-rise text a b (s ∷ ss) h =
-    subst (λ k. Rising k (stretches text (s ∷ ss))) h.0
-    (stretch-rises text s.range.start s.range.end s.tag (stretches text ss) (omega (arith, h.0, h.1.0)) (stretches-rise text s.range.end b ss h.1.1))
-
 -- ---- so they are read back
 
-by_test : (test : Bool) (line column : ℕ) (s : Shown) (taken left : List Shown) → AreOrdered line column (s ∷ taken) → AreOrdered line column left → AreOrdered line column (if test then s ∷ taken else left)
-by_test true line column s taken left h k = h
-by_test false line column s taken left h k = k
-
-ordered : (e : Encoding) (text : List ℕ) (range : Range ℕ) → IsUtf8 text → length text < 2 ^ 32 → (line column a : ℕ) (ts : List Token) → ((t : Token) → a ≤ t.start → After line column (shown e text t)) → Rising a ts
-    → AreOrdered line column (shown_in e text range ts)
-ordered e text range u h line column a [] after r = tt
-ordered e text range u h line column a (t ∷ ts) after r =
-    let rest : List Shown = shown_in e text range ts in
+ordered : (e : Encoding) (text : List ℕ) → IsUtf8 text → length text < 2 ^ 32 → (line column a : ℕ) (ts : List Token) → ((t : Token) → a ≤ t.start → After line column (shown e text t)) → tokens.AreOrdered a ts
+    → AreOrdered line column (shown_each e text ts)
+ordered e text u h line column a [] after r = tt
+ordered e text u h line column a (t ∷ ts) after r =
     let s : Shown = shown e text t in
-    by_test (touches range t) line column s rest rest
-    (after t r.0, (small e text t u h, ordered e text range u h s.line s.column t.start ts (λ v le. in-order e text t.start v le) r.1))
-    (ordered e text range u h line column a ts after (lower a t.start ts r.0 r.1))
+    (after t r.0, (small e text t u h, ordered e text u h s.line s.column t.start ts (λ v le. in-order e text t.start v le) r.1))
 
 from_start : (s : Shown) → After 0 0 s
 from_start s = elim (cases_lt 0 s.line) [ inl less ↦ inl less | inr more ↦ inr (omega (arith, more), omega arith) ]
 
-pub tokens-back : (e : Encoding) (text : List ℕ) (range : Range ℕ) (ss : List Tagged) (b : ℕ) → IsUtf8 text → length text < 2 ^ 32 → AreJoined 0 ss b
-    → decoded 0 0 (encoded 0 0 (shown_in e text range (stretches text ss))) ≡ shown_in e text range (stretches text ss)
-tokens-back e text range ss b u h joined =
-    read-back 0 0 (shown_in e text range (stretches text ss)) (ordered e text range u h 0 0 0 (stretches text ss) (λ t le. from_start (shown e text t)) (stretches-rise text 0 b ss joined))
+pub tokens-back : (e : Encoding) (text : List ℕ) (ts : List Token) → IsUtf8 text → length text < 2 ^ 32 → tokens.AreOrdered 0 ts → decoded 0 0 (encoded 0 0 (shown_each e text ts)) ≡ shown_each e text ts
+tokens-back e text ts u h rising = read-back 0 0 (shown_each e text ts) (ordered e text u h 0 0 0 ts (λ t le. from_start (shown e text t)) rising)

@@ -4,6 +4,7 @@ mod Edits
 mod Encoding
 mod Growing
 mod Held
+mod Locating
 mod Publishing
 mod Records
 mod Responses

@@ -7,13 +7,13 @@ use Rattle.typst_protocol.specs.Bodies.{failure, success}
 use Rattle.serde_json.specs.Data.{Data}
 use Rattle.typst_protocol.specs.Parameters as parameters
 use Rattle.typst_protocol.specs.declared.method.Method.{Method}
-use Rattle.typst_protocol.specs.declared.method.Method.TheVariants.{Initialize, Shutdown}
+use Rattle.typst_protocol.specs.declared.method.Method.TheVariants.{Initialize, Shutdown, WorkspaceSymbols}
 use Rattle.typst_protocol.specs.declared.refusal.Refusal.{Refusal}
 use Rattle.typst_protocol.specs.declared.refusal.Refusal.TheVariants.{BadParameters, OutOfMemory}
 use Rattle.typst_server.specs.Document.{Opened}
 use Rattle.typst_server.specs.Documents.{IsMissing, found}
 use Rattle.typst_server.specs.Phases.{Follows, Responds}
-use Rattle.typst_server.specs.Results.{Answer, Gives, IsAbout, Tells, asked_of}
+use Rattle.typst_server.specs.Results.{Answer, Gives, IsAbout, OfDocuments, Tells, asked_of}
 use Rattle.typst_server.specs.declared.documents.Documents.{Documents}
 use Rattle.typst_server.specs.declared.server.Phase.TheVariants.{Running}
 use Rattle.typst_server.specs.declared.server.Standing.{Standing}
@@ -70,8 +70,16 @@ about-known uri named documents document answer is known =
     subst (λ u. IsAbout (asked_of u documents) answer) (sym is) (subst (λ f. IsAbout f answer) (sym known) tt)
 
 -- a request that neither begins a session nor ends it is about a document
-pub gives-about : (method : Method) (params : Option Data) (documents : Documents) (answer : Answer) → (method ≡ Shutdown → ⊥) → IsAbout (asked_of (parameters.uri params) documents) answer
+pub gives-about : (method : Method) (params : Option Data) (documents : Documents) (answer : Answer) → (method ≡ Shutdown → ⊥) → (method ≡ WorkspaceSymbols → ⊥) → IsAbout (asked_of (parameters.uri params) documents) answer
     → Gives Running (Some method) params documents answer
-gives-about Initialize params documents answer goes_on h = tt
-gives-about Shutdown params documents answer goes_on h = absurd (goes_on refl)
-gives-about _ params documents answer goes_on h = h
+gives-about Initialize params documents answer goes_on of_one h = tt
+gives-about Shutdown params documents answer goes_on of_one h = absurd (goes_on refl)
+gives-about WorkspaceSymbols params documents answer goes_on of_one h = absurd (of_one refl)
+gives-about _ params documents answer goes_on of_one h = h
+
+-- what is looked for isn't named, and is
+pub of_unnamed : (query : Option (List ℕ)) (why : Refusal) → query ≡ None → why ≡ BadParameters → OfDocuments query (Err why)
+of_unnamed query why unnamed bad = subst (λ q. OfDocuments q (Err why)) (sym unnamed) (ap (λ w. Err w) bad)
+
+pub of_named : (query : Option (List ℕ)) (named : List ℕ) (answer : Answer) → query ≡ Some named → OfDocuments query answer
+of_named query named answer is = subst (λ q. OfDocuments q answer) (sym is) tt

@@ -6,6 +6,7 @@ pub mod Left
 pub mod Numbers
 pub mod Phases
 pub mod Places
+pub mod Located
 pub mod Published
 pub mod Results
 pub mod Sent

@@ -1,41 +1,44 @@
 -- The numbers in which tokens are sent.
-use Rattle.std.specs.Prelude.{◌≡◌, ℕ, ◌+◌, ◌-◌, ◌^◌, ◌==◌, ◌&&◌, nat_lt, min, Bool, List, [], ◌∷◌, ◌++◌, if◌then◌else◌}
+use Rattle.std.specs.Prelude.{◌≡◌, ℕ, ◌+◌, ◌-◌, ◌^◌, ◌==◌, min, Bool, List, [], ◌∷◌, ◌++◌, if◌then◌else◌}
 use Rattle.std.specs.declared.ops.Range.{Range}
-use Rattle.typst_parser.specs.Tree.{saturated}
-use Rattle.typst_parser.specs.Stretches as tagged
-use Rattle.typst_parser.specs.Tag.{Tag}
-use Rattle.typst_parser.specs.Tag.TheVariants as tag
-use Rattle.typst_features.specs.Tokens as tokens
+use Rattle.typst_features.specs.Tokens.{end_of, tokens_in}
+use Rattle.typst_features.specs.declared.styles.TokenKind.{TokenKind}
+use Rattle.typst_features.specs.declared.styles.TokenKind.TheVariants as kind
 use Rattle.typst_features.specs.declared.tokens.Token.{Token}
 use Rattle.typst_positions.specs.Positions.{position_of}
 use Rattle.typst_positions.specs.declared.columns.Encoding.{Encoding}
 use Rattle.typst_server.specs.Document.{Opened}
 use Rattle.typst_server.specs.declared.tokens.Encoder.{Encoder}
 
--- the number of the type of token that a tag is shown as
-abbrev pub type_of : Tag → ℕ
-type_of tag.Comment = 0
-type_of tag.Keyword = 1
-type_of tag.Operator = 2
-type_of tag.MathOperator = 2
-type_of tag.Number = 3
-type_of tag.String = 4
-type_of tag.Function = 5
-type_of tag.Interpolated = 6
-type_of tag.Punctuation = 7
-type_of tag.MathGroupingParens = 7
-type_of tag.Escape = 8
-type_of tag.Strong = 9
-type_of tag.Emph = 10
-type_of tag.Link = 11
-type_of tag.Raw = 12
-type_of tag.Label = 13
-type_of tag.Ref = 14
-type_of tag.Heading = 15
-type_of tag.ListMarker = 16
-type_of tag.ListTerm = 17
-type_of tag.MathDelimiter = 18
-type_of tag.Error = 19
+-- the number of a type of token
+abbrev pub number_of : TokenKind → ℕ
+number_of kind.Comment = 0
+number_of kind.Keyword = 1
+number_of kind.Operator = 2
+number_of kind.Number = 3
+number_of kind.String = 4
+number_of kind.Function = 5
+number_of kind.Variable = 6
+number_of kind.Punctuation = 7
+number_of kind.Escape = 8
+number_of kind.Strong = 9
+number_of kind.Emph = 10
+number_of kind.Link = 11
+number_of kind.Raw = 12
+number_of kind.Label = 13
+number_of kind.Ref = 14
+number_of kind.Heading = 15
+number_of kind.Marker = 16
+number_of kind.Term = 17
+number_of kind.Delimiter = 18
+number_of kind.Error = 19
+number_of kind.Parameter = 20
+number_of kind.Property = 21
+number_of kind.Namespace = 22
+
+-- the modifiers of a token as bits: the first one says that it binds a name
+abbrev pub modifiers_of : Bool → ℕ
+modifiers_of is_declaration = if is_declaration then 1 else 0
 
 -- a token as it is shown: where it begins, how many columns it has, and the numbers of its type and its modifiers
 pub record Shown : Type 0 where
@@ -54,29 +57,26 @@ decoded line column (down ∷ right ∷ size ∷ kind ∷ modifiers ∷ numbers)
     record { line = here; column = start; size = size; kind = kind; modifiers = modifiers } ∷ decoded here start numbers
 decoded line column _ = []
 
--- where a token ends, counted up to the largest usize
-abbrev pub end_of : Token → ℕ
-end_of token = saturated (token.start + token.len)
-
 -- a token of a text is shown at the position of its start, up to that of its end
 abbrev pub shown : Encoding → List ℕ → Token → Shown
 shown encoding text token =
     let start = position_of encoding text token.start in
-    record { line = start.line; column = start.column; size = (position_of encoding text (end_of token)).column - start.column; kind = type_of token.tag; modifiers = 0 }
+    record {
+      line = start.line;
+      column = start.column;
+      size = (position_of encoding text (end_of token)).column - start.column;
+      kind = number_of token.style.kind;
+      modifiers = modifiers_of token.style.is_declaration;
+    }
 
--- whether a token has a byte of a range
-abbrev pub touches : Range ℕ → Token → Bool
-touches range token = nat_lt token.start range.end && nat_lt range.start (end_of token)
-
--- the tokens of a text with a byte of a range, as they are shown
-abbrev pub shown_in : Encoding → List ℕ → Range ℕ → List Token → List Shown
-shown_in encoding text range [] = []
-shown_in encoding text range (token ∷ rest) =
-    if touches range token then shown encoding text token ∷ shown_in encoding text range rest else shown_in encoding text range rest
+-- tokens of a text, as they are shown
+abbrev pub shown_each : Encoding → List ℕ → List Token → List Shown
+shown_each encoding text [] = []
+shown_each encoding text (token ∷ rest) = shown encoding text token ∷ shown_each encoding text rest
 
 -- the tokens of a document's tree with a byte of a range, as they are shown
 abbrev pub all_shown : Opened → Range ℕ → List Shown
-all_shown document range = shown_in document.encoding document.source.text range (tokens.stretches document.source.text (tagged.stretches document.source.root))
+all_shown document range = shown_each document.encoding document.source.text (tokens_in range document.source.text document.source.root)
 
 -- a count goes as far as the numbers of the protocol do
 abbrev pub clipped : ℕ → ℕ

@@ -7,18 +7,23 @@ use Rattle.typst_protocol.specs.declared.method.Method.{Method}
 use Rattle.typst_protocol.specs.declared.method.Method.TheVariants.{Initialize, Shutdown}
 use Rattle.typst_protocol.specs.declared.refusal.Refusal.{Refusal}
 use Rattle.typst_protocol.specs.declared.refusal.Refusal.TheVariants.{OutOfPlace, UnknownMethod, OutOfMemory, NotInitialized}
+use Rattle.typst_server.specs.declared.requests.FoldingStyle.{FoldingStyle}
 use Rattle.typst_server.specs.declared.server.Phase.{Phase}
 use Rattle.typst_server.specs.declared.server.Phase.TheVariants.{Fresh, Running, ShutDown}
 use Rattle.typst_server.specs.declared.server.Standing.{Standing}
 
+-- how a client folds, as the parameters of `initialize` say
+abbrev pub folding : Option Data → FoldingStyle
+folding params = record { lines_only = parameters.folds_lines params; limit = parameters.range_limit params }
+
 -- a session begins as the parameters of `initialize` ask for: columns are counted in the first encoding that they offer, in UTF-16 where
 -- they offer none
 abbrev pub begun : Option Data → Standing
-begun params = record { phase = Running; encoding = parameters.encoding params; takes_trees = parameters.takes_trees params }
+begun params = record { phase = Running; encoding = parameters.encoding params; takes_trees = parameters.takes_trees params; folding = folding params }
 
 -- it ends, and nothing else changes
 abbrev pub shut : Standing → Standing
-shut now = record { phase = ShutDown; encoding = now.encoding; takes_trees = now.takes_trees }
+shut now = record { phase = ShutDown; encoding = now.encoding; takes_trees = now.takes_trees; folding = now.folding }
 
 -- where a request leads from a phase, or why it is refused
 abbrev pub leads : Phase → Option Method → Option Data → Standing → Result Standing Refusal

@@ -8,7 +8,7 @@ use Rattle.typst_positions.specs.declared.columns.Encoding.TheVariants.{Utf8, Ut
 use Rattle.typst_protocol.specs.Bodies.{failure, success}
 use Rattle.typst_protocol.specs.Parameters as parameters
 use Rattle.typst_protocol.specs.declared.method.Method.{Method}
-use Rattle.typst_protocol.specs.declared.method.Method.TheVariants.{Initialize, Shutdown}
+use Rattle.typst_protocol.specs.declared.method.Method.TheVariants.{Initialize, Shutdown, WorkspaceSymbols}
 use Rattle.typst_protocol.specs.declared.refusal.Refusal.{Refusal}
 use Rattle.typst_protocol.specs.declared.refusal.Refusal.TheVariants.{BadParameters, LostDocument, OutOfMemory}
 use Rattle.typst_server.specs.Document.{Opened}
@@ -52,12 +52,18 @@ IsAbout None answer = answer ≡ Err BadParameters
 IsAbout (Some None) answer = answer ≡ Err LostDocument
 IsAbout (Some (Some document)) answer = ⊤
 
+-- what is looked for in all documents has to be named
+abbrev pub OfDocuments : Option (List ℕ) → Answer → Type 0
+OfDocuments None answer = answer ≡ Err BadParameters
+OfDocuments (Some query) answer = ⊤
+
 -- WHAT A REQUEST THAT IS ALLOWED IS ANSWERED: `initialize` with the encoding that its parameters ask for, `shutdown` with nothing, each
 -- other one by what is known of its document
 abbrev pub Gives : Phase → Option Method → Option Data → Documents → Answer → Type 0
 Gives Fresh (Some Initialize) params documents answer = IfOk answer (Names (parameters.encoding params))
 Gives Running (Some Initialize) params documents answer = ⊤
 Gives Running (Some Shutdown) params documents answer = IfOk answer (λ value. value ≡ codes "null")
+Gives Running (Some WorkspaceSymbols) params documents answer = OfDocuments (parameters.query params) answer
 Gives Running (Some method) params documents answer = IsAbout (asked_of (parameters.uri params) documents) answer
 Gives _ _ params documents answer = ⊤
 

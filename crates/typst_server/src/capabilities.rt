@@ -1,43 +1,55 @@
 //! What the server says of itself.
 ghost use Rattle.std.specs.Prelude.{◌≡◌, IfOk, OnOk};
 ghost use Rattle.std.specs.String.{string_bytes};
+ghost use Rattle.typst_protocol.specs.Parameters as parameters;
 ghost use Rattle.typst_server.specs.Numbers as spec;
 ghost use Rattle.typst_server.specs.Results.{Grows, Names, encoding_name};
 
 use std::alloc::{AllocError, Global};
-use typst_parser::Tag;
+use typst_features::TokenKind;
 use typst_positions::Encoding;
+use typst_protocol::Params;
 
 /// The names of the types of tokens, each at the place of its number.
 const TYPES: &str =
-    "[\"comment\",\"keyword\",\"operator\",\"number\",\"string\",\"function\",\"variable\",\"punctuation\",\"escape\",\"strong\",\"emph\",\"link\",\"raw\",\"label\",\"ref\",\"heading\",\"marker\",\"term\",\"delimiter\",\"error\"]";
+    "[\"comment\",\"keyword\",\"operator\",\"number\",\"string\",\"function\",\"variable\",\"punctuation\",\"escape\",\"strong\",\"emph\",\"link\",\"raw\",\"label\",\"ref\",\"heading\",\"marker\",\"term\",\"delimiter\",\"error\",\"parameter\",\"property\",\"namespace\"]";
 
-/// The number of the type of token that a tag is shown as.
-pub fn type_of(tag: Tag) -> u32
-    ensures { result ≡ spec.type_of tag }
+/// The number of a type of token.
+pub fn number_of(kind: TokenKind) -> u32
+    ensures { result ≡ spec.number_of kind }
 {
-    match tag {
-        Tag::Comment => 0,
-        Tag::Keyword => 1,
-        Tag::Operator | Tag::MathOperator => 2,
-        Tag::Number => 3,
-        Tag::String => 4,
-        Tag::Function => 5,
-        Tag::Interpolated => 6,
-        Tag::Punctuation | Tag::MathGroupingParens => 7,
-        Tag::Escape => 8,
-        Tag::Strong => 9,
-        Tag::Emph => 10,
-        Tag::Link => 11,
-        Tag::Raw => 12,
-        Tag::Label => 13,
-        Tag::Ref => 14,
-        Tag::Heading => 15,
-        Tag::ListMarker => 16,
-        Tag::ListTerm => 17,
-        Tag::MathDelimiter => 18,
-        Tag::Error => 19,
+    match kind {
+        TokenKind::Comment => 0,
+        TokenKind::Keyword => 1,
+        TokenKind::Operator => 2,
+        TokenKind::Number => 3,
+        TokenKind::String => 4,
+        TokenKind::Function => 5,
+        TokenKind::Variable => 6,
+        TokenKind::Punctuation => 7,
+        TokenKind::Escape => 8,
+        TokenKind::Strong => 9,
+        TokenKind::Emph => 10,
+        TokenKind::Link => 11,
+        TokenKind::Raw => 12,
+        TokenKind::Label => 13,
+        TokenKind::Ref => 14,
+        TokenKind::Heading => 15,
+        TokenKind::Marker => 16,
+        TokenKind::Term => 17,
+        TokenKind::Delimiter => 18,
+        TokenKind::Error => 19,
+        TokenKind::Parameter => 20,
+        TokenKind::Property => 21,
+        TokenKind::Namespace => 22,
     }
+}
+
+/// The modifiers of a token as bits: the only one says that it binds a name.
+pub fn modifiers_of(is_declaration: bool) -> u32
+    ensures { result ≡ spec.modifiers_of is_declaration }
+{
+    if is_declaration { 1 } else { 0 }
 }
 
 /// The name of an encoding.
@@ -50,28 +62,61 @@ fn name_of(encoding: Encoding) -> &'static str
     }
 }
 
-/// The answer to `initialize`, with the encoding in which columns are counted.
-pub fn capabilities(alloc: Global, encoding: Encoding) -> Result<String, AllocError>
-    ensures { IfOk result (λ text. Names encoding (string_bytes text)) }
+/// The answer to `initialize`: what the server can do for a client with these parameters, and first the
+/// encoding in which columns are counted.
+pub fn capabilities(alloc: Global, params: Params<'_>) -> Result<String, AllocError>
+    ensures { IfOk result (λ text. Names (parameters.encoding (parameters.seen params.entry)) (string_bytes text)) }
 {
     let mut text = String::from_str(alloc, "{\"capabilities\":{\"positionEncoding\":\"")?;
-    text.push_str(name_of(encoding))?;
+    text.push_str(name_of(params.encoding()))?;
     text.push_str("\",")?;
-    push_providers(&mut text)?;
+    push_providers(&mut text, params)?;
     Ok(text)
 }
 
-/// Adds what the server can do, which no encoding changes.
-fn push_providers(text: &mut String) -> Result<(), AllocError>
+/// What the server can do for every client, an entry or more in each part.
+static PROVIDERS: [&str; 9] = [
+    "\"textDocumentSync\":{\"openClose\":true,\"change\":2},",
+    "\"documentSymbolProvider\":true,\"workspaceSymbolProvider\":true,",
+    "\"foldingRangeProvider\":true,\"selectionRangeProvider\":true,",
+    "\"definitionProvider\":true,\"referencesProvider\":true,\"documentHighlightProvider\":true,",
+    "\"hoverProvider\":true,",
+    "\"completionProvider\":{\"triggerCharacters\":[\"@\",\"<\",\"#\"]},",
+    "\"documentLinkProvider\":{},",
+    "\"codeActionProvider\":{\"codeActionKinds\":[\"quickfix\"]},",
+    "\"documentOnTypeFormattingProvider\":{\"firstTriggerCharacter\":\"\\n\"},",
+];
+
+/// Renames: a client that doesn't ask whether a name can be renamed isn't told that it may.
+fn rename_provider(is_prepared: bool) -> &'static str {
+    if is_prepared {
+        "\"renameProvider\":{\"prepareProvider\":true},"
+    } else {
+        "\"renameProvider\":true,"
+    }
+}
+
+/// Adds what the server can do in every encoding.
+fn push_providers(text: &mut String, params: Params<'_>) -> Result<(), AllocError>
     ensures { OnOk result (Grows (string_bytes text.old) (string_bytes text.new)) }
 {
-    text.push_str("\"textDocumentSync\":{\"openClose\":true,\"change\":2},")?;
-    text.push_str("\"documentSymbolProvider\":true,\"foldingRangeProvider\":true,")?;
-    text.push_str("\"selectionRangeProvider\":true,\"definitionProvider\":true,")?;
-    text.push_str("\"referencesProvider\":true,\"documentHighlightProvider\":true,")?;
+    push_all(text, &PROVIDERS)?;
+    text.push_str(rename_provider(params.prepares_renames()))?;
     text.push_str("\"semanticTokensProvider\":{\"legend\":{\"tokenTypes\":")?;
     text.push_str(TYPES)?;
-    text.push_str(",\"tokenModifiers\":[]},\"range\":true,\"full\":{\"delta\":true}}},")?;
+    text.push_str(
+        ",\"tokenModifiers\":[\"declaration\"]},\"range\":true,\"full\":{\"delta\":true}}},",
+    )?;
     text.push_str("\"serverInfo\":{\"name\":\"typst_lsp\"}}")?;
+    Ok(())
+}
+
+/// Adds some texts, one after the other.
+fn push_all(text: &mut String, parts: &[&str]) -> Result<(), AllocError>
+    ensures { OnOk result (Grows (string_bytes text.old) (string_bytes text.new)) }
+{
+    for part in parts {
+        text.push_str(part)?;
+    }
     Ok(())
 }

@@ -9,7 +9,7 @@ ghost use Rattle.typst_server.specs.Documents.{IsMissing, IsUnknown, Keeps, Keep
 use crate::document::Document;
 use crate::tokens::Sent;
 use serde_json::Value;
-use std::alloc::Global;
+use std::alloc::{AllocError, Global};
 use std::collections::BTreeMap;
 use std::mem;
 use typst_positions::Encoding;
@@ -51,6 +51,17 @@ impl Documents {
             Some(Held::Lost) => Err(Refusal::LostDocument),
             None => Err(Refusal::BadParameters),
         }
+    }
+
+    /// The documents whose text is known, in the order of their addresses.
+    pub fn all_known(&self) -> Result<Vec<(&str, &Document)>, AllocError> {
+        let mut all = Vec::new(self.alloc);
+        for (uri, held) in &self.held {
+            if let Held::Known(document, _) = held {
+                all.push((uri.as_str(), document))?;
+            }
+        }
+        Ok(all)
     }
 
     /// Opens a document with a text, or gives it that text where it is open already. It is lost where

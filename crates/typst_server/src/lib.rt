@@ -4,17 +4,23 @@
 //! [`Server::answer`] takes the body of a frame and says what is to be done about it, a [`Reply`].
 #![tactic(auto)]
 
+mod actions;
 mod capabilities;
 mod diagnostics;
 mod document;
 mod documents;
+mod links;
+mod naming;
 mod outline;
 mod reply;
 mod requests;
 mod server;
+mod showing;
 mod streams;
 mod tokens;
+mod typing;
 mod walk;
+mod workspace;
 
 pub use document::Document;
 pub use documents::Documents;

@@ -72,13 +72,13 @@ fn tree_of<'a>(
 }
 
 /// The name of a symbol, which is never empty.
-fn name_of<'a>(document: &'a Document, symbol: &typst_features::Symbol) -> &'a str {
+pub fn name_of<'a>(document: &'a Document, symbol: &typst_features::Symbol) -> &'a str {
     let name = document.text_at(&symbol.name).trim();
     if name.is_empty() { NO_NAME } else { name }
 }
 
 /// The protocol's number of a kind of symbol.
-fn number_of(kind: SymbolKind) -> u8 {
+pub fn number_of(kind: SymbolKind) -> u8 {
     match kind {
         SymbolKind::Heading => 3,
         SymbolKind::Function => 12,

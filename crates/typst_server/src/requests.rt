@@ -1,35 +1,74 @@
-//! Requests about a document.
+//! What of a document can be folded and selected.
 
 use crate::document::Document;
 use crate::walk::Extents;
 use std::alloc::{AllocError, Global};
-use typst_features::{FoldKind, Mention, MentionKind};
+use typst_features::{Fold, FoldKind, expansions};
 use typst_protocol::params::position_of;
-use typst_protocol::values::{Folding, Highlight, Location, Selection};
+use typst_protocol::values::{Extent, Folding, Place, Selection};
 use typst_protocol::{Params, Refusal, json_of};
 
-/// The stretches to fold.
-pub fn foldings(alloc: Global, document: &Document) -> Result<String, Refusal> {
+/// How a client folds.
+#[derive(Clone, Copy)]
+pub struct FoldingStyle {
+    /// Whether it folds whole lines alone.
+    pub lines_only: bool,
+    /// How many stretches it wants of a document at most, if it says so.
+    pub limit: Option<usize>,
+}
+
+/// The stretches to fold: no more than the client wants, of which those that end first are told.
+pub fn foldings(
+    alloc: Global,
+    document: &Document,
+    style: FoldingStyle,
+) -> Result<String, Refusal> {
+    let most = style.limit.unwrap_or(usize::MAX);
     let mut extents = Extents::new(document);
     let mut written = Vec::new(alloc);
     for fold in &typst_features::foldings(alloc, document.root())? {
-        let extent = extents.of(&fold.range);
-        if extent.start.line == extent.end.line {
-            continue;
+        if written.len() >= most {
+            break;
         }
-        let kind = match fold.kind {
-            FoldKind::Comment => Some("comment"),
-            _ => None,
-        };
-        written.push(Folding {
-            start_line: extent.start.line,
-            start_character: extent.start.character,
-            end_line: extent.end.line,
-            end_character: extent.end.character,
-            kind,
-        })?;
+        if let Some(folding) = folding_of(fold, extents.of(&fold.range), style.lines_only) {
+            written.push(folding)?;
+        }
     }
     json_of(alloc, &written)
+}
+
+/// A stretch to fold, if it takes more than one line. Where whole lines are folded the line of a closing
+/// delimiter stays, and there are no columns.
+fn folding_of(fold: &Fold, extent: Extent, lines_only: bool) -> Option<Folding> {
+    let Extent { start, end } = extent;
+    let end_line = if lines_only && fold.is_closed {
+        end.line.saturating_sub(1)
+    } else {
+        end.line
+    };
+    if end_line <= start.line {
+        return None;
+    }
+    let column_of = |place: Place| if lines_only {
+        None
+    } else {
+        Some(place.character)
+    };
+    Some(Folding {
+        start_line: start.line,
+        start_character: column_of(start),
+        end_line,
+        end_character: column_of(end),
+        kind: kind_of(fold.kind),
+    })
+}
+
+/// The protocol's name of a kind of fold, if it has one.
+fn kind_of(kind: FoldKind) -> Option<&'static str> {
+    match kind {
+        FoldKind::Comment => Some("comment"),
+        FoldKind::Region => None,
+    }
 }
 
 /// For each of the positions the stretches around it, each with the one around it.
@@ -50,7 +89,7 @@ pub fn selections(
 fn selection_at(alloc: Global, document: &Document, byte: usize) -> Result<Selection, AllocError> {
     let mut extents = Extents::new(document);
     let mut around: Option<Box<Selection>> = None;
-    let mut ranges = typst_features::selections(alloc, document.root(), byte)?;
+    let mut ranges = expansions(alloc, document.root(), byte)?;
     ranges.reverse();
     for range in &ranges {
         let selection = Selection {
@@ -66,64 +105,4 @@ fn selection_at(alloc: Global, document: &Document, byte: usize) -> Result<Selec
             parent: None,
         }),
     }
-}
-
-/// The labels of the name at the cursor.
-pub fn definition(
-    alloc: Global,
-    document: &Document,
-    uri: &str,
-    params: Params<'_>,
-) -> Result<String, Refusal> {
-    let byte = document.byte_of(params.position()?);
-    let found = typst_features::definitions(alloc, document.root(), byte)?;
-    locations(alloc, document, uri, &found)
-}
-
-/// The references to the name at the cursor, with its labels where they are asked for.
-pub fn references(
-    alloc: Global,
-    document: &Document,
-    uri: &str,
-    params: Params<'_>,
-) -> Result<String, Refusal> {
-    let byte = document.byte_of(params.position()?);
-    let with_labels = params.includes_label();
-    let mut found = typst_features::highlights(alloc, document.root(), byte)?;
-    found.retain(|mention| with_labels || mention.kind == MentionKind::Reference);
-    locations(alloc, document, uri, &found)
-}
-
-fn locations(
-    alloc: Global,
-    document: &Document,
-    uri: &str,
-    mentions: &[Mention<'_>],
-) -> Result<String, Refusal> {
-    let mut extents = Extents::new(document);
-    let mut written = Vec::new(alloc);
-    for mention in mentions {
-        written.push(Location {
-            uri,
-            range: extents.of(&mention.range),
-        })?;
-    }
-    json_of(alloc, &written)
-}
-
-/// The labels and references of the name at the cursor.
-pub fn highlights(
-    alloc: Global,
-    document: &Document,
-    params: Params<'_>,
-) -> Result<String, Refusal> {
-    let byte = document.byte_of(params.position()?);
-    let mut extents = Extents::new(document);
-    let mut written = Vec::new(alloc);
-    for mention in &typst_features::highlights(alloc, document.root(), byte)? {
-        written.push(Highlight {
-            range: extents.of(&mention.range),
-        })?;
-    }
-    json_of(alloc, &written)
 }

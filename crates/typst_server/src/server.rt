@@ -8,7 +8,7 @@ ghost use Rattle.typst_protocol.specs.Parameters as parameters;
 ghost use Rattle.typst_protocol.specs.declared.method.Event.TheVariants as event;
 ghost use Rattle.typst_server.specs.Left.{AreSame, AreUnknown, IsDone, IsKnownAfter, IsKnownBy, IsTaken, IsTold};
 ghost use Rattle.typst_server.specs.Phases.{Follows, Responds, allowed, begun, leads, shut, status_of};
-ghost use Rattle.typst_server.specs.Results.{Gives, IsAbout, Names, Tells, asked_of, said_of};
+ghost use Rattle.typst_server.specs.Results.{Gives, IsAbout, Names, OfDocuments, Tells, asked_of, said_of};
 ghost use Rattle.typst_server.specs.Documents.{found};
 ghost use Rattle.typst_server.specs.Published.{IsNews, SaysNews};
 ghost use Rattle.typst_server.specs.Sent.{HasSent, sent_of};
@@ -21,7 +21,8 @@ use crate::diagnostics::{no_problems, problems_of};
 use crate::document::Document;
 use crate::documents::Documents;
 use crate::reply::Reply;
-use crate::{outline, requests, tokens};
+use crate::requests::FoldingStyle;
+use crate::{actions, links, naming, outline, requests, showing, tokens, typing, workspace};
 use std::alloc::{AllocError, Global};
 use typst_positions::Encoding;
 use typst_protocol::{
@@ -51,6 +52,8 @@ struct Standing {
     encoding: Encoding,
     /// Whether the client takes an outline as a tree.
     takes_trees: bool,
+    /// How it folds.
+    folding: FoldingStyle,
 }
 
 /// A session with a client.
@@ -74,6 +77,10 @@ impl Server {
                 phase: Phase::Fresh,
                 encoding: Encoding::Utf16,
                 takes_trees: false,
+                folding: FoldingStyle {
+                    lines_only: false,
+                    limit: None,
+                },
             },
             documents: Documents::new(alloc),
             next_number: 1,
@@ -203,6 +210,7 @@ impl Server {
             Some(method) => match method {
                 Method::Initialize => Err(Refusal::OutOfPlace),
                 Method::Shutdown => self.shut_down(),
+                Method::WorkspaceSymbols => self.ask_documents(params),
                 _ => self.ask_document(method, params),
             },
             None => Err(Refusal::UnknownMethod),
@@ -215,11 +223,15 @@ impl Server {
         ensures documents { AreSame self.old.documents self.new.documents }
     {
         let encoding = params.encoding();
-        let text = capabilities(self.alloc, encoding)?;
+        let text = capabilities(self.alloc, params)?;
         self.standing = Standing {
             phase: Phase::Running,
             encoding,
             takes_trees: params.takes_trees(),
+            folding: FoldingStyle {
+                lines_only: params.folds_lines(),
+                limit: params.range_limit(),
+            },
         };
         Ok(text)
     }
@@ -232,6 +244,13 @@ impl Server {
         let value = String::from_str(self.alloc, "null")?;
         self.standing.phase = Phase::ShutDown;
         Ok(value)
+    }
+
+    /// The value that answers a request about all documents.
+    fn ask_documents(&self, params: Params<'_>) -> Result<String, Refusal>
+        ensures { OfDocuments (parameters.query (parameters.seen params.entry)) (said_of result) }
+    {
+        workspace::symbols(self.alloc, &self.documents, params)
     }
 
     /// The value that answers a request about a document.
@@ -281,11 +300,18 @@ impl Server {
         match method {
             Method::TokensRange => tokens::range(alloc, document, params),
             Method::Symbols => outline::symbols(alloc, document, uri, self.standing.takes_trees),
-            Method::Foldings => requests::foldings(alloc, document),
+            Method::Foldings => requests::foldings(alloc, document, self.standing.folding),
             Method::Selections => requests::selections(alloc, document, params),
-            Method::Definition => requests::definition(alloc, document, uri, params),
-            Method::References => requests::references(alloc, document, uri, params),
-            Method::Highlights => requests::highlights(alloc, document, params),
+            Method::Definition => naming::definition(alloc, document, uri, params),
+            Method::References => naming::references(alloc, document, uri, params),
+            Method::Highlights => naming::highlights(alloc, document, params),
+            Method::PrepareRename => naming::prepare_rename(alloc, document, params),
+            Method::Rename => naming::rename(alloc, document, uri, params),
+            Method::Hover => showing::hover(alloc, document, params),
+            Method::Completion => showing::completion(alloc, document, params),
+            Method::DocumentLinks => links::links(alloc, document, uri),
+            Method::CodeActions => actions::actions(alloc, document, uri, params),
+            Method::OnTypeFormatting => typing::edits_after(alloc, document, params),
             _ => Err(Refusal::UnknownMethod),
         }
     }

@@ -1,17 +1,15 @@
 //! The tokens of a document: what of it is shown how.
 ghost use Rattle.std.specs.Prelude.{◌≡◌, ◌^◌, ◌<◌, [], length, IfOk, OnOk, option_map};
 ghost use Rattle.std.specs.String.{string_bytes};
-ghost use Rattle.typst_server.specs.Numbers as spec;
 ghost use Rattle.typst_server.specs.Sent.{AreAll, IsSentAs, Leads, TellsOf, made_by};
-ghost use Rattle.typst_server.specs.Numbers.{IsAdded, all_shown, clipped, decoded, encoded, shown, shown_in};
+ghost use Rattle.typst_server.specs.Numbers.{IsAdded, all_shown, clipped, decoded, encoded, shown, shown_each};
 
-use crate::capabilities::type_of;
+use crate::capabilities::{modifiers_of, number_of};
 use crate::document::Document;
 use crate::walk::Walk;
 use std::alloc::{AllocError, Global};
 use std::ops::Range;
-use typst_features::{Token, edit_between, token_stretches};
-use typst_parser::tag_stretches;
+use typst_features::{Token, edit_between, semantic_tokens};
 use typst_protocol::values::{Place, TokenChanges, TokenEdit, Tokens};
 use typst_protocol::{Params, Refusal, json_of};
 
@@ -32,7 +30,7 @@ impl Sent {
 }
 
 /// The tokens of a document in the numbers of the protocol, five for each: lines and columns from the
-/// token before it on, its length, its type and no modifiers. Only those in some bytes count.
+/// token before it on, its length, its type and its modifiers. Only those in some bytes count.
 fn numbers_of(
     alloc: Global,
     document: &Document,
@@ -41,41 +39,19 @@ fn numbers_of(
     ensures numbers { IfOk result (λ numbers. numbers.items ≡ encoded 0 0 (all_shown document.now within.now)) }
     ensures decoded { length document.now.source.text < 2 ^ 32 → IfOk result (λ numbers. decoded 0 0 numbers.items ≡ all_shown document.now within.now) }
 {
-    let tagged = tag_stretches(alloc, document.root())?;
-    let tokens = token_stretches(alloc, document.text(), tagged.as_slice())?;
-    encode(alloc, document, tokens.as_slice(), within)
+    let tokens = semantic_tokens(alloc, document.root(), document.text(), within)?;
+    encode(alloc, document, tokens.as_slice())
 }
 
 /// Some tokens of a document in these numbers.
-fn encode(
-    alloc: Global,
-    document: &Document,
-    tokens: &[Token],
-    within: &Range<usize>,
-) -> Result<Vec<u32>, AllocError>
-    ensures { IfOk result (λ numbers. numbers.items ≡ encoded 0 0 (shown_in document.now.encoding document.now.source.text within.now tokens.now)) }
+fn encode(alloc: Global, document: &Document, tokens: &[Token]) -> Result<Vec<u32>, AllocError>
+    ensures { IfOk result (λ numbers. numbers.items ≡ encoded 0 0 (shown_each document.now.encoding document.now.source.text tokens.now)) }
 {
     let mut encoder = Encoder::new(alloc, document);
     for token in tokens {
-        if touches(token, within) {
-            encoder.add(token)?;
-        }
+        encoder.add(token)?;
     }
     Ok(encoder.numbers)
-}
-
-/// Whether a token has a byte of a range.
-fn touches(token: &Token, range: &Range<usize>) -> bool
-    ensures { result ≡ spec.touches range.now token.now }
-{
-    token.start < range.end && range.start < end_of(token)
-}
-
-/// Where a token ends.
-fn end_of(token: &Token) -> usize
-    ensures { result ≡ spec.end_of token.now }
-{
-    token.start.saturating_add(token.len)
 }
 
 /// Tokens on their way into numbers.
@@ -110,14 +86,14 @@ impl<'a> Encoder<'a> {
             line,
             character: column,
         } = self.walk.go_to(token.start);
-        let end = self.walk.go_to(end_of(token));
+        let end = self.walk.go_to(token.end());
         let before = if line == self.line { self.column } else { 0 };
         let numbers = [
             number(line.saturating_sub(self.line)),
             number(column.saturating_sub(before)),
             number(end.character.saturating_sub(column)),
-            type_of(token.tag),
-            0,
+            number_of(token.style.kind),
+            modifiers_of(token.style.is_declaration),
         ];
         self.numbers.extend_from_slice(&numbers)?;
         self.line = line;

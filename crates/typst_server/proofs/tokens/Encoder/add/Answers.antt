@@ -5,7 +5,8 @@ use Rattle.typst_positions.specs.declared.positions.Position.{Position}
 use Rattle.typst_server.proofs.tokens.Encoder.add.Goals as goal
 use Rattle.typst_server.proofs.tokens.Encoder.add.Goals.{then-line-self, else-line-self}
 use Rattle.typst_server.specs.Document.{Opened}
-use Rattle.typst_server.specs.Numbers.{clipped, end_of, shown}
+use Rattle.typst_features.specs.Tokens.{end_of}
+use Rattle.typst_server.specs.Numbers.{clipped, shown}
 
 pub returns-clause-added : goal.returns-clause-added
 returns-clause-added c =
@@ -19,7 +20,7 @@ returns-clause-added c =
     let last = position_of walk.encoding walk.source.text (end_of c.args.token.now) in
     let there : to.character ≡ last.column =
     ap (λ (p : Position). p.column)
-    (c.go_to-end.ensures.place ∙ ap (λ (d : Opened). position_of d.encoding d.source.text c.end_of.result) c.go_to-line.ensures.document ∙ ap (position_of walk.encoding walk.source.text) c.end_of.ensures) in
+    (c.go_to-end.ensures.place ∙ ap (λ (d : Opened). position_of d.encoding d.source.text c.end.result) c.go_to-line.ensures.document ∙ ap (position_of walk.encoding walk.source.text) c.end.ensures) in
     let size : to.character - from.character ≡ s.size = ap (λ n. n - from.character) there ∙ ap (λ n. last.column - n) column in
     let before : c.if-line-self.before ≡ (if s.line == old.line then old.column else 0) = elim c.if-line-self.branch [
       | then-line-self w ↦ w.before-is ∙ sym (ap (λ b. if b then old.column else 0) (eq-eqb s.line old.line (sym line ∙ w.if-line-self.true)))
@@ -29,14 +30,16 @@ returns-clause-added c =
     let second : c.number-2.result ≡ clipped (s.column - (if s.line == old.line then old.column else 0)) =
     c.number-2.ensures ∙ ap clipped (c.saturating_sub-2.ensures ∙ ap (λ n. n - c.if-line-self.before) column ∙ ap (λ n. s.column - n) before) in
     let third : c.number-3.result ≡ clipped s.size = c.number-3.ensures ∙ ap clipped (c.saturating_sub-3.ensures ∙ size) in
-    let kind : c.type_of.result ≡ s.kind = c.type_of.ensures in
+    let kind : c.number_of.result ≡ s.kind = c.number_of.ensures in
+    let modifiers : c.modifiers_of.result ≡ s.modifiers = c.modifiers_of.ensures in
     record {
       numbers =
           c.in_ok-extend_from_slice.ensures.items
-          ∙ ap (λ n. old.numbers.items ++ n ∷ c.number-2.result ∷ c.number-3.result ∷ c.type_of.result ∷ 0 ∷ []) first
-          ∙ ap (λ n. old.numbers.items ++ clipped (s.line - old.line) ∷ n ∷ c.number-3.result ∷ c.type_of.result ∷ 0 ∷ []) second
-          ∙ ap (λ n. old.numbers.items ++ clipped (s.line - old.line) ∷ clipped (s.column - (if s.line == old.line then old.column else 0)) ∷ n ∷ c.type_of.result ∷ 0 ∷ []) third
-          ∙ ap (λ n. old.numbers.items ++ clipped (s.line - old.line) ∷ clipped (s.column - (if s.line == old.line then old.column else 0)) ∷ clipped s.size ∷ n ∷ 0 ∷ []) kind;
+          ∙ ap (λ n. old.numbers.items ++ n ∷ c.number-2.result ∷ c.number-3.result ∷ c.number_of.result ∷ c.modifiers_of.result ∷ []) first
+          ∙ ap (λ n. old.numbers.items ++ clipped (s.line - old.line) ∷ n ∷ c.number-3.result ∷ c.number_of.result ∷ c.modifiers_of.result ∷ []) second
+          ∙ ap (λ n. old.numbers.items ++ clipped (s.line - old.line) ∷ clipped (s.column - (if s.line == old.line then old.column else 0)) ∷ n ∷ c.number_of.result ∷ c.modifiers_of.result ∷ []) third
+          ∙ ap (λ n. old.numbers.items ++ clipped (s.line - old.line) ∷ clipped (s.column - (if s.line == old.line then old.column else 0)) ∷ clipped s.size ∷ n ∷ c.modifiers_of.result ∷ []) kind
+          ∙ ap (λ n. old.numbers.items ++ clipped (s.line - old.line) ∷ clipped (s.column - (if s.line == old.line then old.column else 0)) ∷ clipped s.size ∷ s.kind ∷ n ∷ []) modifiers;
       line = line;
       column = column;
     }

@@ -1,0 +1,11 @@
+use Rattle.std.proofs.Common.{◌≡◌, take}
+use Rattle.std.specs.Prelude.{map}
+use Rattle.typst_server.specs.Located.{AreAt, IsHighlightOf}
+use Rattle.typst_server.proofs.naming.highlighted.Given as goal
+
+abbrev pub invariant-loop-occurrence : goal.invariant-loop-occurrence
+invariant-loop-occurrence l =
+    record {
+      document : l.extents ≡ l.document;
+      located : AreAt (IsHighlightOf l.document) (map (λ o. o.range) (take l.occurrence-index l.occurrences)) l.highlighted.items;
+    }
