@@ -17,8 +17,6 @@ use Rattle.typst_probe.specs.declared.word.edit_word.EditWord.{EditWord}
 use Rattle.typst_probe.specs.declared.word.edit_word.EditWord.TheVariants as edit_word
 use Rattle.typst_probe.specs.declared.word.program_word.ProgramWord.{ProgramWord}
 use Rattle.typst_probe.specs.declared.word.program_word.ProgramWord.TheVariants as program_word
-use Rattle.typst_probe.specs.declared.word.feature_word.FeatureWord.{FeatureWord}
-use Rattle.typst_probe.specs.declared.word.feature_word.FeatureWord.TheVariants as feature_word
 
 -- the word that a name stands for, of those for what is printed
 abbrev pub printed_word_named : List ℕ → Option PrintedWord
@@ -85,33 +83,9 @@ edit_word_named name =
 abbrev pub program_word_named : List ℕ → Option ProgramWord
 program_word_named name =
     if bytes_eq name (codes "runs") then Some program_word.Runs
-    else (if bytes_eq name (codes "check") then Some program_word.Check
-    else (if bytes_eq name (codes "outline") then Some program_word.Outline
-    else (if bytes_eq name (codes "foldings") then Some program_word.Foldings
-    else (if bytes_eq name (codes "selections") then Some program_word.Selections
-    else (if bytes_eq name (codes "mentions") then Some program_word.Mentions
-    else (if bytes_eq name (codes "problems") then Some program_word.Problems
-    else (if bytes_eq name (codes "semantic-tokens") then Some program_word.SemanticTokens
-    else (if bytes_eq name (codes "deltas") then Some program_word.Deltas
-    else (if bytes_eq name (codes "session") then Some program_word.Session
-    else (if bytes_eq name (codes "session-cut") then Some program_word.SessionCut
-    else (if bytes_eq name (codes "session-refused") then Some program_word.SessionRefused
     else (if bytes_eq name (codes "run") then Some program_word.Run
-    else (if bytes_eq name (codes "call") then Some program_word.Call
-    else None)))))))))))))
-
--- the word that a name stands for, of those for what a language server tells beside
-abbrev pub feature_word_named : List ℕ → Option FeatureWord
-feature_word_named name =
-    if bytes_eq name (codes "expansions") then Some feature_word.Expansions
-    else (if bytes_eq name (codes "names") then Some feature_word.Names
-    else (if bytes_eq name (codes "occurrences") then Some feature_word.Occurrences
-    else (if bytes_eq name (codes "shown-problems") then Some feature_word.ShownProblems
-    else (if bytes_eq name (codes "quick-fixes") then Some feature_word.QuickFixes
-    else (if bytes_eq name (codes "document-links") then Some feature_word.DocumentLinks
-    else (if bytes_eq name (codes "hover") then Some feature_word.Hover
-    else (if bytes_eq name (codes "completions") then Some feature_word.Completions
-    else None)))))))
+    else (if bytes_eq name (codes "check") then Some program_word.Check
+    else None))
 
 -- the first word that there is
 abbrev pub first_word : Option Word → Option Word → Option Word
@@ -125,8 +99,7 @@ word_named name =
     (first_word (option_map word.Read (read_word_named name))
     (first_word (option_map word.Tree (tree_word_named name))
     (first_word (option_map word.Edit (edit_word_named name))
-    (first_word (option_map word.Program (program_word_named name))
-    (option_map word.Feature (feature_word_named name))))))
+    (option_map word.Program (program_word_named name)))))
 
 -- all that a word for what is printed answers about a text
 abbrev pub printed_as : PrintedWord → List ℕ → List ℕ
@@ -143,4 +116,3 @@ printed_by (word.Read _) text = None
 printed_by (word.Tree _) text = None
 printed_by (word.Edit _) text = None
 printed_by (word.Program _) text = None
-printed_by (word.Feature _) text = None

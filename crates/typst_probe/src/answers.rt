@@ -1,11 +1,10 @@
 //! The word `edits`.
 
-use crate::edits::{Edit, Made, edit_of};
-use crate::escapes::with_line_feeds;
 use crate::spans::refusal;
-use crate::whole::{Wanted, are_same, fault};
 use std::alloc::{AllocError, Global};
 use typst_cli::{Source, SourceError, UnicodeClasses};
+use typst_edited::{Edit, Made, Wanted, are_same, edit_of, fault};
+use typst_rows::with_line_feeds;
 
 /// What edits of a text answer that are made one after the other: they stand on the first lines, and the
 /// text comes behind an empty line. Each has a line with the bytes that it reads, and a line for each

@@ -1,11 +1,11 @@
 //! The word `calls`.
 
-use crate::edits::{Edit, Made, edit_of};
 use crate::in_a_row::number_before;
 use crate::spans::refusal;
 use std::alloc::{AllocError, Global};
 use std::cell::Cell;
 use typst_cli::SourceError;
+use typst_edited::{Edit, Made, edit_of};
 use typst_tests::Counting;
 
 /// Which bytes an edit reads, and whether classes are asked at least so often when the source is made,

@@ -1,11 +1,10 @@
 //! The word `chain`.
 
-use crate::edits::Edit;
 use crate::everywhere::fault_of_edit;
 use crate::spans::refusal;
-use crate::whole::Wanted;
 use std::alloc::{AllocError, Global};
 use typst_cli::{Command, Source, UnicodeClasses};
+use typst_edited::{Edit, Wanted};
 
 /// The name of a chain, what stands before its links, a link, and what stands behind them.
 type Parts = (&'static str, &'static str, &'static str, &'static str);

@@ -1,9 +1,9 @@
 //! The word `edit-lines`.
 
-use crate::edits::{Edit, edit_of};
-use crate::escapes::with_line_feeds;
 use std::alloc::{AllocError, Global};
 use typst_cli::Lines;
+use typst_edited::{Edit, edit_of};
+use typst_rows::with_line_feeds;
 
 /// The text after an edit of its lines, and below it where these start, as the word `lines` has it. The first
 /// line has the edit's words, and the text comes behind that line.

@@ -1,10 +1,9 @@
 //! The words `everywhere`, `everywhere-in-turn` and `everywhere-at`.
 
-use crate::edits::{Edit, Made};
 use crate::spans;
-use crate::whole::{Wanted, fault};
 use std::alloc::{AllocError, Global};
 use typst_cli::{Classes, Source, SourceError, UnicodeClasses};
+use typst_edited::{Edit, Made, Wanted, fault};
 use typst_tests::{Narrow, Wide};
 
 /// What is put in at each place.

@@ -1,12 +1,10 @@
 //! The word `in-a-row`.
 
-use crate::draws::Draws;
-use crate::edits::{Edit, Made};
-use crate::escapes::with_line_feeds;
 use crate::spans::refusal;
-use crate::whole::{Wanted, fault};
 use std::alloc::{AllocError, Global};
 use typst_cli::{Source, SourceError, UnicodeClasses};
+use typst_edited::{Draws, Edit, Made, Wanted, fault};
+use typst_rows::with_line_feeds;
 
 /// How many edits agree that are drawn and made of one source, one after the other. The first line has
 /// their numbers (`Numbers`), the second one what they put in, with `|` between, and the text comes

@@ -3,156 +3,29 @@
 use std::alloc::{AllocError, Global};
 use typst_cli::tree::variant_name;
 use typst_cli::{SyntaxKind, Tag};
+use typst_flat::{kind_count, kind_of_code};
 
-/// All kinds of nodes, in the order of their definitions.
-pub static KINDS: [SyntaxKind; 137] = [
-    SyntaxKind::End,
-    SyntaxKind::Error,
-    SyntaxKind::Shebang,
-    SyntaxKind::LineComment,
-    SyntaxKind::BlockComment,
-    SyntaxKind::Markup,
-    SyntaxKind::Text,
-    SyntaxKind::Space,
-    SyntaxKind::Linebreak,
-    SyntaxKind::Parbreak,
-    SyntaxKind::Escape,
-    SyntaxKind::Shorthand,
-    SyntaxKind::SmartQuote,
-    SyntaxKind::Strong,
-    SyntaxKind::Emph,
-    SyntaxKind::Raw,
-    SyntaxKind::RawLang,
-    SyntaxKind::RawDelim,
-    SyntaxKind::RawTrimmed,
-    SyntaxKind::Link,
-    SyntaxKind::Label,
-    SyntaxKind::Ref,
-    SyntaxKind::RefMarker,
-    SyntaxKind::Heading,
-    SyntaxKind::HeadingMarker,
-    SyntaxKind::ListItem,
-    SyntaxKind::ListMarker,
-    SyntaxKind::EnumItem,
-    SyntaxKind::EnumMarker,
-    SyntaxKind::TermItem,
-    SyntaxKind::TermMarker,
-    SyntaxKind::Equation,
-    SyntaxKind::Math,
-    SyntaxKind::MathText,
-    SyntaxKind::MathIdent,
-    SyntaxKind::MathFieldAccess,
-    SyntaxKind::MathShorthand,
-    SyntaxKind::MathAlignPoint,
-    SyntaxKind::MathCall,
-    SyntaxKind::MathArgs,
-    SyntaxKind::MathDelimited,
-    SyntaxKind::MathAttach,
-    SyntaxKind::MathPrimes,
-    SyntaxKind::MathFrac,
-    SyntaxKind::MathRoot,
-    SyntaxKind::Hash,
-    SyntaxKind::LeftBrace,
-    SyntaxKind::RightBrace,
-    SyntaxKind::LeftBracket,
-    SyntaxKind::RightBracket,
-    SyntaxKind::LeftParen,
-    SyntaxKind::RightParen,
-    SyntaxKind::Comma,
-    SyntaxKind::Semicolon,
-    SyntaxKind::Colon,
-    SyntaxKind::Star,
-    SyntaxKind::Underscore,
-    SyntaxKind::Dollar,
-    SyntaxKind::Plus,
-    SyntaxKind::Minus,
-    SyntaxKind::Slash,
-    SyntaxKind::Hat,
-    SyntaxKind::Dot,
-    SyntaxKind::Bang,
-    SyntaxKind::Eq,
-    SyntaxKind::EqEq,
-    SyntaxKind::ExclEq,
-    SyntaxKind::Lt,
-    SyntaxKind::LtEq,
-    SyntaxKind::Gt,
-    SyntaxKind::GtEq,
-    SyntaxKind::PlusEq,
-    SyntaxKind::HyphEq,
-    SyntaxKind::StarEq,
-    SyntaxKind::SlashEq,
-    SyntaxKind::Dots,
-    SyntaxKind::Arrow,
-    SyntaxKind::Root,
-    SyntaxKind::Not,
-    SyntaxKind::And,
-    SyntaxKind::Or,
-    SyntaxKind::None,
-    SyntaxKind::Auto,
-    SyntaxKind::Let,
-    SyntaxKind::Set,
-    SyntaxKind::Show,
-    SyntaxKind::Context,
-    SyntaxKind::If,
-    SyntaxKind::Else,
-    SyntaxKind::For,
-    SyntaxKind::In,
-    SyntaxKind::While,
-    SyntaxKind::Break,
-    SyntaxKind::Continue,
-    SyntaxKind::Return,
-    SyntaxKind::Import,
-    SyntaxKind::Include,
-    SyntaxKind::As,
-    SyntaxKind::Code,
-    SyntaxKind::Ident,
-    SyntaxKind::Bool,
-    SyntaxKind::Int,
-    SyntaxKind::Float,
-    SyntaxKind::Numeric,
-    SyntaxKind::Str,
-    SyntaxKind::CodeBlock,
-    SyntaxKind::ContentBlock,
-    SyntaxKind::Parenthesized,
-    SyntaxKind::Array,
-    SyntaxKind::Dict,
-    SyntaxKind::Named,
-    SyntaxKind::Keyed,
-    SyntaxKind::Unary,
-    SyntaxKind::Binary,
-    SyntaxKind::FieldAccess,
-    SyntaxKind::FuncCall,
-    SyntaxKind::Args,
-    SyntaxKind::Spread,
-    SyntaxKind::Closure,
-    SyntaxKind::Params,
-    SyntaxKind::LetBinding,
-    SyntaxKind::SetRule,
-    SyntaxKind::ShowRule,
-    SyntaxKind::Contextual,
-    SyntaxKind::Conditional,
-    SyntaxKind::WhileLoop,
-    SyntaxKind::ForLoop,
-    SyntaxKind::ModuleImport,
-    SyntaxKind::ImportItems,
-    SyntaxKind::ImportItemPath,
-    SyntaxKind::RenamedImportItem,
-    SyntaxKind::ModuleInclude,
-    SyntaxKind::LoopBreak,
-    SyntaxKind::LoopContinue,
-    SyntaxKind::FuncReturn,
-    SyntaxKind::Destructuring,
-    SyntaxKind::DestructAssignment,
-];
-
-/// The names of all kinds of nodes: a line for each, as the code has it and as messages have it.
+/// The names of all kinds of nodes, in the order of their definitions: a line for each, as the code has it and as
+/// messages have it.
 pub fn kinds(alloc: Global) -> Result<String, AllocError> {
     let mut printed = String::new(alloc);
-    for kind in &KINDS {
-        let (variant, name) = (variant_name(*kind), kind.name());
-        writeln!(printed, "{variant}: {name}")?;
+    for place in 0..kind_count() {
+        if let Some(kind) = kind_at(place) {
+            print_kind(&mut printed, kind)?;
+        }
     }
     Ok(printed)
+}
+
+/// The kind at a place in the order of definitions.
+fn kind_at(place: usize) -> Option<SyntaxKind> {
+    kind_of_code(u32::try_from(place).ok()?)
+}
+
+/// Prints the line of a kind.
+fn print_kind(printed: &mut String, kind: SyntaxKind) -> Result<(), AllocError> {
+    let (variant, name) = (variant_name(kind), kind.name());
+    writeln!(printed, "{variant}: {name}")
 }
 
 /// All tags: a line for each with its scope in a TextMate grammar and its class in HTML.

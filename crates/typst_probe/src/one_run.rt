@@ -1,9 +1,9 @@
 //! The word `run`.
 
-use crate::escapes::with_line_feeds;
 use std::alloc::{AllocError, Global};
 use std::str;
 use typst_cli::run;
+use typst_rows::with_line_feeds;
 
 /// What a run of the program `typst_syn` comes to: its status, and what it writes to its output and to its
 /// errors, where that is anything. The first line has the program's words with a space between two, and the

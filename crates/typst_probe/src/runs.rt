@@ -1,9 +1,8 @@
 //! The word `runs`.
 
-use crate::draws::boundary;
-use crate::edits::Edit;
 use std::alloc::{AllocError, Global};
 use typst_cli::{Command, SourceError, UnicodeClasses, run, tree};
+use typst_edited::{Edit, boundary};
 
 const WORDS: [(&str, Command); 3] = [
     ("lines", Command::Lines),

@@ -1,7 +1,6 @@
 //! The words that name what can be asked about a text.
 
 mod edit_word;
-mod feature_word;
 mod printed_word;
 mod program_word;
 mod read_word;
@@ -11,12 +10,12 @@ ghost use Rattle.std.specs.Prelude.{◌≡◌, IfOk, IfSome, string_bytes};
 ghost use Rattle.typst_probe.specs.Words.{printed_by, word_named};
 
 use crate::word::edit_word::EditWord;
-use crate::word::feature_word::FeatureWord;
 use crate::word::printed_word::PrintedWord;
 use crate::word::program_word::ProgramWord;
 use crate::word::read_word::ReadWord;
 use crate::word::tree_word::TreeWord;
 use std::alloc::{AllocError, Global};
+use typst_rows::RowWord;
 
 /// What can be asked about a text.
 #[derive(Clone, Copy)]
@@ -29,15 +28,12 @@ pub enum Word {
     Tree(TreeWord),
     /// What edits of it answer.
     Edit(EditWord),
-    /// What programs answer, and what a language server shows.
+    /// What programs answer.
     Program(ProgramWord),
-    /// What a language server tells of it beside.
-    Feature(FeatureWord),
 }
 
-impl Word {
-    /// The word of that name.
-    pub fn from_name(name: &str) -> Option<Word>
+impl RowWord for Word {
+    fn from_name(name: &str) -> Option<Word>
         ensures { result ≡ word_named name.now }
     {
         if let Some(word) = PrintedWord::from_name(name) {
@@ -52,17 +48,13 @@ impl Word {
         if let Some(word) = EditWord::from_name(name) {
             return Some(Word::Edit(word));
         }
-        if let Some(word) = ProgramWord::from_name(name) {
-            return Some(Word::Program(word));
-        }
-        match FeatureWord::from_name(name) {
-            Some(word) => Some(Word::Feature(word)),
+        match ProgramWord::from_name(name) {
+            Some(word) => Some(Word::Program(word)),
             None => None,
         }
     }
 
-    /// The whole answer about a text.
-    pub fn answer(self, alloc: Global, text: &str) -> Result<String, AllocError>
+    fn answer(self, alloc: Global, text: &str) -> Result<String, AllocError>
         ensures { IfOk result (λ answer. IfSome (printed_by self text.now) (λ printed. string_bytes answer ≡ printed)) }
     {
         match self {
@@ -71,7 +63,6 @@ impl Word {
             Word::Tree(word) => word.answer(alloc, text),
             Word::Edit(word) => word.answer(alloc, text),
             Word::Program(word) => word.answer(alloc, text),
-            Word::Feature(word) => word.answer(alloc, text),
         }
     }
 }

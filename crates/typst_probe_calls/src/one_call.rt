@@ -1,7 +1,7 @@
 //! The word `call`.
 
 use crate::library_call::{Call, call_named};
-use crate::subject::Subject;
+use crate::subject::{Subject, WRONG};
 use std::alloc::{AllocError, Global};
 
 /// Whether a call is as it has to be. The text is its name and the number from which the edits are drawn that
@@ -40,7 +40,9 @@ fn called(
             subject.take(alloc, call)?
         }
     };
-    let told = if answer == twin.take(alloc, call)? {
+    let told = if answer == WRONG {
+        "another value"
+    } else if answer == twin.take(alloc, call)? {
         standing(alloc, subject, twin)?
     } else {
         "another answer"

@@ -1,13 +1,16 @@
 //! What a language server offers at places of a text: the words `expansions`, `shown-problems`, `quick-fixes`,
-//! `document-links`, `hover` and `completions`.
+//! `document-links`, `hover`, `completions` and `next-item`.
 
 use std::alloc::{AllocError, Global};
 use std::ops::Range;
-use typst_cli::{Severity, SyntaxNode, UnicodeClasses, parse};
 use typst_features::{
     CompletionKind, Fix, HoverKind, LinkKind, completions_at, document_links, expansions, hover_at,
-    problems, quick_fixes, shown_problems,
+    next_item, problems, quick_fixes, shown_problems,
 };
+use typst_grammar::parse;
+use typst_kinds::Severity;
+use typst_lines::UnicodeClasses;
+use typst_tree::SyntaxNode;
 
 /// What selections at bytes of a text grow to, which the first line names: a line for each byte.
 pub fn expanded(alloc: Global, text: &str) -> Result<String, AllocError> {
@@ -151,4 +154,18 @@ fn show_completions(
         write!(shown, " {word}")?;
     }
     shown.push_str("\n")
+}
+
+/// What becomes of a text where a line was begun before a byte, which the first line names: the new text, if a line
+/// needs an edit.
+pub fn continued(alloc: Global, text: &str) -> Result<String, AllocError> {
+    let (byte, text) = text.split_once('\n').unwrap_or((text, ""));
+    let root = parse(alloc, text, &UnicodeClasses)?;
+    let Some(edit) = next_item(alloc, &root, text, byte.parse().unwrap_or(0))? else {
+        return String::from_str(alloc, "no edit\n");
+    };
+    let before = text.get(..edit.range.start).unwrap_or("?");
+    let behind = text.get(edit.range.end..).unwrap_or("?");
+    let put = edit.text.as_str();
+    format!(in alloc; "{before}{put}{behind}\n")
 }

@@ -3,11 +3,15 @@
 
 use std::alloc::{AllocError, Global};
 use std::ops::Range;
-use typst_cli::{Severity, SyntaxNode, UnicodeClasses, parse, tag_stretches};
 use typst_features::{
-    FoldKind, Mention, MentionKind, SymbolKind, definitions, edit_between, foldings, highlights,
-    problems, references, selections, symbols, token_stretches,
+    FoldKind, Mention, MentionKind, SymbolKind, Token, TokenKind, definitions, edit_between,
+    foldings, highlights, problems, references, selections, semantic_tokens, symbols,
 };
+use typst_grammar::parse;
+use typst_highlight::tag_stretches;
+use typst_kinds::Severity;
+use typst_lines::UnicodeClasses;
+use typst_tree::SyntaxNode;
 
 /// The outline of a text: a line for each entry with its depth, its kind, its name and its range.
 pub fn outline(alloc: Global, text: &str) -> Result<String, AllocError> {
@@ -132,16 +136,53 @@ pub fn reported(alloc: Global, text: &str) -> Result<String, AllocError> {
     Ok(shown)
 }
 
-/// The tokens of a text: a line for each with where it begins, how long it is, and its tag.
+/// The tokens of a text: a line for each with where it begins, how long it is, and how it is shown.
 pub fn tokens(alloc: Global, text: &str) -> Result<String, AllocError> {
     let root = parse(alloc, text, &UnicodeClasses)?;
-    let tagged = tag_stretches(alloc, &root)?;
     let mut shown = String::new(alloc);
-    for token in &token_stretches(alloc, text, tagged.as_slice())? {
-        let (start, len, tag) = (token.start, token.len, token.tag.css_class());
-        writeln!(shown, "{start}+{len} {tag}")?;
+    for token in &semantic_tokens(alloc, &root, text, &(0..text.len()))? {
+        show_token(&mut shown, token)?;
     }
     Ok(shown)
+}
+
+/// Shows the line of a token.
+fn show_token(shown: &mut String, token: &Token) -> Result<(), AllocError> {
+    let (start, len, kind) = (token.start, token.len, kind_name(token.style.kind));
+    let declared = if token.style.is_declaration {
+        " declaration"
+    } else {
+        ""
+    };
+    writeln!(shown, "{start}+{len} {kind}{declared}")
+}
+
+fn kind_name(kind: TokenKind) -> &'static str {
+    match kind {
+        TokenKind::Comment => "comment",
+        TokenKind::Keyword => "keyword",
+        TokenKind::Operator => "operator",
+        TokenKind::Number => "number",
+        TokenKind::String => "string",
+        TokenKind::Function => "function",
+        TokenKind::Variable => "variable",
+        TokenKind::Punctuation => "punctuation",
+        TokenKind::Escape => "escape",
+        TokenKind::Strong => "strong",
+        TokenKind::Emph => "emph",
+        TokenKind::Link => "link",
+        TokenKind::Raw => "raw",
+        TokenKind::Label => "label",
+        TokenKind::Ref => "ref",
+        TokenKind::Heading => "heading",
+        TokenKind::Marker => "marker",
+        TokenKind::Term => "term",
+        TokenKind::Delimiter => "delimiter",
+        TokenKind::Error => "error",
+        TokenKind::Parameter => "parameter",
+        TokenKind::Property => "property",
+        TokenKind::Namespace => "namespace",
+    }
 }
 
 /// The edit that makes the list of numbers on the second line of that on the first: from which place on, how

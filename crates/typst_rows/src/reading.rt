@@ -2,11 +2,11 @@
 
 use crate::escapes::push_decoded;
 use crate::row::Row;
-use crate::word::Word;
+use crate::row_word::RowWord;
 use std::alloc::{AllocError, Global};
 
 /// The rows of a file. What stands before the first row is passed over.
-pub fn rows(alloc: Global, file: &str) -> anyhow::Result<Vec<Row>> {
+pub fn rows<W: RowWord>(alloc: Global, file: &str) -> anyhow::Result<Vec<Row<W>>> {
     let mut reader = Reader {
         alloc,
         rows: Vec::new(alloc),
@@ -43,15 +43,15 @@ enum Part {
 
 /// Reads a file line by line.
 #[derive(Drop)]
-struct Reader {
+struct Reader<W: RowWord> {
     alloc: Global,
-    rows: Vec<Row>,
+    rows: Vec<Row<W>>,
     part: Part,
     /// How many newline characters come before the next line of the part that isn't empty.
     pending: u64,
 }
 
-impl Reader {
+impl<W: RowWord> Reader<W> {
     /// Takes a line, and gives what is wrong with it.
     fn take(&mut self, number: u64, line: &str) -> Result<Option<&'static str>, AllocError> {
         match self.part {
@@ -79,7 +79,7 @@ impl Reader {
         let Some((name, _)) = title.split_once(':') else {
             return Ok(Some("a title is a word, a colon and what the row shows"));
         };
-        let Some(word) = Word::from_name(name) else {
+        let Some(word) = W::from_name(name) else {
             return Ok(Some("no such word"));
         };
         self.rows.push(Row {

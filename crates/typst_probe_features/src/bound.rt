@@ -2,11 +2,17 @@
 
 use std::alloc::{AllocError, Global};
 use std::ops::Range;
-use typst_cli::{SyntaxNode, UnicodeClasses, parse};
-use typst_features::{Name, NameKind, Named, OccurrenceKind, binding_of, named_at, names};
+use typst_features::{
+    Name, NameKind, Named, OccurrenceKind, Role, binding_of, name_roles, named_at, names,
+};
+use typst_grammar::parse;
+use typst_highlight::tag_stretches;
+use typst_lines::UnicodeClasses;
+use typst_tree::SyntaxNode;
 
 /// The names of a text: a line for each with what it does, its range and, where that is known, the range of the
-/// binding that it means.
+/// binding that it means. What is bound by the table of scopes or by that of contexts, and not by the other one, has
+/// a line below.
 pub fn meanings(alloc: Global, text: &str) -> Result<String, AllocError> {
     let root = parse(alloc, text, &UnicodeClasses)?;
     let names = names(alloc, &root)?;
@@ -14,7 +20,45 @@ pub fn meanings(alloc: Global, text: &str) -> Result<String, AllocError> {
     for index in 0..names.len() {
         show_meaning(&mut shown, text, &names, index)?;
     }
+    show_unlike(alloc, &mut shown, &root, &names)?;
     Ok(shown)
+}
+
+/// Shows which bytes only one of the two tables has as bound.
+fn show_unlike(
+    alloc: Global,
+    shown: &mut String,
+    root: &SyntaxNode,
+    names: &[Name],
+) -> Result<(), AllocError> {
+    let tagged = tag_stretches(alloc, root)?;
+    let roles = name_roles(alloc, root)?;
+    for (stretch, role) in tagged.iter().zip(roles.iter()) {
+        let Range { start, end } = stretch.range;
+        if is_bound(names, start) != is_declared(*role) {
+            writeln!(shown, "unlike {start}..{end}")?;
+        }
+    }
+    Ok(())
+}
+
+/// Whether a name that begins at a byte is bound by the table of scopes.
+fn is_bound(names: &[Name], start: usize) -> bool {
+    for name in names {
+        let is_binding = name.kind == NameKind::Binding || name.kind == NameKind::Item;
+        if is_binding && name.range.start == start {
+            return true;
+        }
+    }
+    false
+}
+
+/// Whether a name is bound by the table of contexts.
+fn is_declared(role: Option<Role>) -> bool {
+    match role {
+        Some(Role::Variable | Role::Function | Role::Parameter | Role::Alias) => true,
+        _ => false,
+    }
 }
 
 /// Shows the line of a name.

@@ -47,7 +47,7 @@ pub enum Change {
 }
 
 /// A call that makes something else of a tree or a text.
-#[derive(Clone, Copy)]
+#[derive(Clone, Copy, PartialEq, Eq)]
 pub enum Reading {
     Preorder,
     Html,
@@ -61,6 +61,8 @@ pub enum Reading {
 pub enum Telling {
     EqualText,
     Lines,
+    LinesCompare,
+    LinesFrom,
     Source,
     Leaves,
     Nodes,
@@ -70,6 +72,7 @@ pub enum Telling {
     Tags,
     Spans,
     Characters,
+    Classes,
 }
 
 /// A call, or some that take no memory.
@@ -88,7 +91,7 @@ pub enum Call {
 }
 
 /// The names of the calls.
-static CALLS: [(&str, Call); 44] = [
+static CALLS: [(&str, Call); 47] = [
     ("start", Call::Start),
     ("none", Call::Nothing),
     ("Source::new", Call::Source(SourceCall::New)),
@@ -127,6 +130,8 @@ static CALLS: [(&str, Call); 44] = [
     ("link_prefix", Call::Read(Reading::Link)),
     ("equal-text", Call::Tell(Telling::EqualText)),
     ("lines-tell", Call::Tell(Telling::Lines)),
+    ("lines-compare", Call::Tell(Telling::LinesCompare)),
+    ("lines-from", Call::Tell(Telling::LinesFrom)),
     ("source-tells", Call::Tell(Telling::Source)),
     ("leaves-tell", Call::Tell(Telling::Leaves)),
     ("nodes-tell", Call::Tell(Telling::Nodes)),
@@ -136,6 +141,7 @@ static CALLS: [(&str, Call); 44] = [
     ("tags-tell", Call::Tell(Telling::Tags)),
     ("spans-tell", Call::Tell(Telling::Spans)),
     ("characters-tell", Call::Tell(Telling::Characters)),
+    ("classes-tell", Call::Tell(Telling::Classes)),
 ];
 
 /// The call of a name.

@@ -2,16 +2,16 @@
 
 ghost use Rattle.std.specs.Prelude.{◌≡◌, ◌≢◌, MatchOption, string_bytes};
 
-use crate::word::Word;
+use crate::row_word::RowWord;
 use std::alloc::{AllocError, Global};
 
 /// A text, and what a word is to answer about it.
 #[derive(Drop)]
-pub struct Row {
+pub struct Row<W: RowWord> {
     /// The number of the line in its file at which its title stands, from 1 on.
     pub line: u64,
     /// What is asked.
-    pub word: Word,
+    pub word: W,
     /// What it shows, with the word in front.
     pub title: String,
     /// The text.
@@ -20,7 +20,7 @@ pub struct Row {
     pub wanted: String,
 }
 
-impl Row {
+impl<W: RowWord> Row<W> {
     /// The answer, where it isn't what is wanted.
     pub fn differing(&self, alloc: Global) -> Result<Option<String>, AllocError> {
         let answer = self.word.answer(alloc, self.text.as_str())?;

@@ -2,7 +2,7 @@
 //! times.
 
 ghost use Rattle.std.specs.Prelude.{◌≡◌, IfSome, Some};
-ghost use Rattle.typst_probe.specs.Escapes.{character_named};
+ghost use Rattle.typst_rows.specs.Escapes.{character_named};
 
 use std::alloc::{AllocError, Global};
 

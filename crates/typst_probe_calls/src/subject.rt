@@ -1,19 +1,19 @@
 //! What calls of the library are made of.
 
-use crate::draws::{Draws, boundary};
-use crate::edits::{Edit, Made};
 use crate::library_call::{Call, Change, LinesCall, Reading, SourceCall, Telling, TreeCall};
-use crate::telling;
-use crate::whole::{Wanted, are_alike, are_same, are_same_lines, fault};
+use crate::{compared, telling, written};
 use std::alloc::{AllocError, Global};
 use std::ops::Range;
-use typst_cli::{
-    Lines, Source, SourceError, SubRange, SyntaxKind, SyntaxNode, UnicodeClasses, link_prefix,
-    parse, parse_code, parse_math, parse_noted, tag_stretches,
+use typst_edited::{
+    Draws, Edit, Made, Wanted, are_alike, are_same, are_same_lines, boundary, fault,
 };
 use typst_highlight::highlight_html;
 use typst_lexer::raw_node;
 use typst_lines::split_newlines;
+use typst_parser::{
+    Lines, Source, SourceError, SubRange, SyntaxKind, SyntaxNode, UnicodeClasses, parse,
+    parse_code, parse_math, parse_noted, tag_stretches,
+};
 
 /// What is edited before a call is made.
 const TEXT: &str =
@@ -31,6 +31,9 @@ const LONG: &str = "a text that is too long to stand in a node or in what it say
 /// What a call answers: two numbers.
 type Answer = Result<Range<usize>, AllocError>;
 
+/// What a call answers where a value isn't as it has to be.
+pub const WRONG: Range<usize> = 1..0;
+
 /// What calls are made of.
 #[derive(Drop)]
 pub struct Subject {
@@ -40,10 +43,69 @@ pub struct Subject {
     lines: Lines<String>,
     /// Its tree, with a warning.
     tree: SyntaxNode,
-    /// Another text.
-    other: String,
+    /// What no call changes.
+    kept: Kept,
     /// What was made of the tree.
     made: String,
+}
+
+/// What calls read and don't change.
+#[derive(Drop)]
+struct Kept {
+    /// Another text than that of the source.
+    other: String,
+    /// Its lines.
+    lines: Lines<String>,
+    /// The tree of a heading, of which it is written what comes of it.
+    heading: SyntaxNode,
+}
+
+impl Kept {
+    /// What is kept beside a source of a text.
+    fn new(alloc: Global, text: &str) -> Result<Kept, AllocError> {
+        let other = edited_text(alloc, text)?;
+        let lines = lines_of(alloc, other.as_str())?;
+        let heading = parse(alloc, written::HEADING, &UnicodeClasses)?;
+        Ok(Kept {
+            other,
+            lines,
+            heading,
+        })
+    }
+
+    /// Whether what is made of a small tree or text is what is written.
+    fn has(&self, alloc: Global, reading: Reading) -> Result<bool, AllocError> {
+        match reading {
+            Reading::Preorder => written::has_visits(alloc, &self.heading),
+            Reading::Stretches => written::has_stretches(alloc, &self.heading),
+            Reading::Newlines => written::has_lines(alloc),
+            Reading::Link => written::has_link(alloc),
+            Reading::Html => Ok(true),
+        }
+    }
+}
+
+/// The tree of a source, with a warning.
+fn warned_tree(source: &Source<UnicodeClasses>) -> Result<SyntaxNode, AllocError> {
+    let mut tree = source.root().try_clone()?;
+    tree.warn("first")?;
+    Ok(tree)
+}
+
+/// The text that an edit of its middle makes of a text.
+fn edited_text(alloc: Global, text: &str) -> Result<String, AllocError> {
+    let edited = middle_edit(text).applied(alloc, text)?;
+    Ok(edited.unwrap_or(String::new(alloc)))
+}
+
+/// The lines of a text.
+fn lines_of(alloc: Global, text: &str) -> Result<Lines<String>, AllocError> {
+    Lines::new(alloc, String::from_str(alloc, text)?)
+}
+
+/// The answer of a call that gives so much, where that is as it has to be.
+fn if_right(is_right: bool, count: usize) -> Range<usize> {
+    if is_right { 0..count } else { WRONG }
 }
 
 /// What came of a call of a source, whose numbers don't run out.
@@ -159,14 +221,13 @@ impl Subject {
     pub fn new(alloc: Global, first: u32) -> Result<Subject, AllocError> {
         let source = edited_source(alloc, first)?;
         let lines = source.lines().try_clone()?;
-        let mut tree = source.root().try_clone()?;
-        tree.warn("first")?;
-        let other = middle_edit(source.text()).applied(alloc, source.text())?;
+        let tree = warned_tree(&source)?;
+        let kept = Kept::new(alloc, source.text())?;
         Ok(Subject {
             source,
             lines,
             tree,
-            other: other.unwrap_or(String::new(alloc)),
+            kept,
             made: String::new(alloc),
         })
     }
@@ -186,7 +247,7 @@ impl Subject {
                 Ok(0..self.tree.descendants())
             }
             Call::Read(reading) => self.call_of_reading(alloc, reading),
-            Call::Tell(telling) => Ok(0..self.told(telling)),
+            Call::Tell(telling) => Ok(self.told(alloc, telling)),
         }
     }
 
@@ -204,12 +265,12 @@ impl Subject {
                 Made::Fault(_) => {}
             },
             SourceCall::Replace => {
-                let read = self.source.replace(self.other.as_str());
+                let read = self.source.replace(self.kept.other.as_str());
                 return unless_refused(read);
             }
             SourceCall::TryClone => self.source = self.source.try_clone()?,
             SourceCall::New => self.source = self.made_source(alloc)?,
-            SourceCall::Detached => self.source = detached(alloc, self.other.as_str())?,
+            SourceCall::Detached => self.source = detached(alloc, self.kept.other.as_str())?,
             SourceCall::WithRoot => self.source = self.source_with_root(alloc)?,
         }
         Ok(0..self.source.text().len())
@@ -217,31 +278,28 @@ impl Subject {
 
     /// A source of the other text, in the same file.
     fn made_source(&self, alloc: Global) -> Result<Source<UnicodeClasses>, AllocError> {
-        let text = String::from_str(alloc, self.other.as_str())?;
+        let text = String::from_str(alloc, self.kept.other.as_str())?;
         unless_refused(Source::new(alloc, self.source.id(), text, UnicodeClasses))
     }
 
     /// A source of the other text with the tree.
     fn source_with_root(&self, alloc: Global) -> Result<Source<UnicodeClasses>, AllocError> {
         let root = self.tree.try_clone()?;
-        let text = String::from_str(alloc, self.other.as_str())?;
+        let text = String::from_str(alloc, self.kept.other.as_str())?;
         Source::with_root(alloc, self.source.id(), text, root, UnicodeClasses)
     }
 
     /// A call that makes or changes lines.
     fn call_of_lines(&mut self, alloc: Global, call: LinesCall) -> Answer {
         match call {
-            LinesCall::New => {
-                let text = String::from_str(alloc, self.other.as_str())?;
-                self.lines = Lines::new(alloc, text)?;
-            }
+            LinesCall::New => self.lines = lines_of(alloc, self.kept.other.as_str())?,
             LinesCall::TryClone => self.lines = self.lines.try_clone()?,
             LinesCall::Edit => {
                 let edit = middle_edit(self.lines.text());
                 edit.make_of_lines(&mut self.lines)?;
             }
             LinesCall::Replace => {
-                self.lines.replace(self.other.as_str())?;
+                self.lines.replace(self.kept.other.as_str())?;
             }
         }
         Ok(0..self.lines.len_lines())
@@ -249,7 +307,7 @@ impl Subject {
 
     /// A tree of the other text, or another one.
     fn made_tree(&self, alloc: Global, call: TreeCall) -> Result<SyntaxNode, AllocError> {
-        let text = self.other.as_str();
+        let text = self.kept.other.as_str();
         match call {
             TreeCall::Parse => parse(alloc, text, &UnicodeClasses),
             TreeCall::ParseCode => parse_code(alloc, text, &UnicodeClasses),
@@ -262,43 +320,69 @@ impl Subject {
         }
     }
 
-    /// A call that makes something of the tree, or of a text.
+    /// A call that makes something of the tree, or of a text, and makes it of a small one, too, for which it is
+    /// written what has to come.
     fn call_of_reading(&mut self, alloc: Global, reading: Reading) -> Answer {
-        let count = match reading {
-            Reading::Preorder => walked(alloc, &self.tree)?,
-            Reading::Html => {
-                self.made = highlight_html(alloc, &self.tree)?;
-                self.made.len()
-            }
-            Reading::Stretches => tag_stretches(alloc, &self.tree)?.len(),
-            Reading::Newlines => split_newlines(alloc, self.other.as_str())?.len(),
-            Reading::Link => link_prefix(alloc, "https://a.b/(c)[d](e")?.0.len(),
-        };
-        Ok(0..count)
+        if reading == Reading::Html {
+            self.made = highlight_html(alloc, &self.tree)?;
+            return Ok(0..self.made.len());
+        }
+        if self.kept.has(alloc, reading)? {
+            Ok(0..self.count(alloc, reading)?)
+        } else {
+            Ok(WRONG)
+        }
+    }
+
+    /// How much is made of the tree, or of the other text.
+    fn count(&self, alloc: Global, reading: Reading) -> Result<usize, AllocError> {
+        match reading {
+            Reading::Preorder => walked(alloc, &self.tree),
+            Reading::Stretches => Ok(tag_stretches(alloc, &self.tree)?.len()),
+            Reading::Newlines => Ok(split_newlines(alloc, self.kept.other.as_str())?.len()),
+            Reading::Html | Reading::Link => Ok(0),
+        }
     }
 
     /// What calls tell that take no memory.
-    fn told(&mut self, telling: Telling) -> usize {
+    fn told(&mut self, alloc: Global, telling: Telling) -> Range<usize> {
         match telling {
-            Telling::EqualText => self.refuses_equal_text(),
-            Telling::Lines => telling::of_lines(&self.lines, self.other.as_str()),
+            Telling::EqualText => if_right(self.keeps_equal_text(), 0),
+            Telling::LinesCompare => if_right(self.compares_lines(), 0),
+            Telling::LinesFrom => if_right(compared::are_found(&self.lines), 0),
+            telling => 0..self.summed(alloc, telling),
+        }
+    }
+
+    /// What calls tell of which a sum is made.
+    fn summed(&mut self, alloc: Global, telling: Telling) -> usize {
+        match telling {
+            Telling::EqualText | Telling::LinesCompare | Telling::LinesFrom => 0,
+            Telling::Lines => telling::of_lines(&self.lines, self.kept.other.as_str()),
             Telling::Source => telling::of_source(&self.source),
             Telling::Leaves => telling::of_leaves(&self.tree),
             Telling::Nodes => telling::of_nodes(&self.tree, self.source.root()),
-            Telling::Changes => telling::of_changes(&mut self.tree),
+            Telling::Changes => telling::of_changes(alloc, &mut self.tree),
             Telling::Remarks => telling::of_remarks(&self.tree),
             Telling::Kinds => telling::of_kinds(),
             Telling::Tags => telling::of_tags(),
             Telling::Spans => telling::of_spans(),
-            Telling::Characters => telling::of_characters(self.other.as_str()),
+            Telling::Characters => telling::of_characters(self.kept.other.as_str()),
+            Telling::Classes => telling::of_classes(self.kept.other.as_str()),
         }
     }
 
-    /// 1 where the source or the lines refuse the text that they have, or say that it changes them.
-    fn refuses_equal_text(&mut self) -> usize {
-        let refuses_source = !matches!(self.source.replace(self.lines.text()), Ok(_));
-        let refuses_lines = !matches!(self.lines.replace(self.source.text()), Ok(false));
-        usize::from(refuses_source || refuses_lines)
+    /// Whether neither the source nor the lines say that the text that they have changes them.
+    fn keeps_equal_text(&mut self) -> bool {
+        let keeps_source =
+            matches!(self.source.replace(self.lines.text()), Ok(read) if read == (0..0));
+        let keeps_lines = matches!(self.lines.replace(self.source.text()), Ok(false));
+        keeps_source && keeps_lines
+    }
+
+    /// Whether lines are equal where their texts are.
+    fn compares_lines(&self) -> bool {
+        compared::compare(&self.lines, self.source.lines(), &self.kept.lines)
     }
 
     /// Whether another one has the same text, lines and trees, spans too, and what was made is the same.

@@ -1,8 +1,8 @@
 //! Whether a source holds what its text asks for.
 
-use crate::edits::Edit;
+use crate::edit::Edit;
 use std::alloc::{AllocError, Global};
-use typst_cli::{Classes, FileId, Lines, Source, SyntaxNode, parse};
+use typst_parser::{Classes, FileId, Lines, Source, SyntaxNode, parse};
 
 /// The tree and the lines of a text, made anew.
 #[derive(Drop)]

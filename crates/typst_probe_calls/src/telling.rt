@@ -1,13 +1,21 @@
 //! Calls that take no memory. What several tell is summed up as a number, the same for what is the same.
 
-use crate::names::KINDS;
+ghost use Rattle.std.specs.Prelude.{◌≡◌};
+ghost use Rattle.std.specs.List.{list_all};
+ghost use Rattle.std.specs.Str.{chars};
+ghost use Rattle.typst_lines.specs.Classes.{in_line};
+
+use std::alloc::Global;
 use std::ops::Range;
-use typst_cli::{
+use typst_flat::{kind_count, kind_of_code};
+use typst_kinds::{Assoc, BinOp, SyntaxSet, UnOp, set};
+use typst_lines::{
+    Classes, MathClass, is_id_continue, is_id_start, is_ident, is_valid_label_literal_id,
+};
+use typst_parser::{
     Diagnostic, FileId, Hint, Lines, LinkedNode, Severity, Source, Span, SpanNumber, SubRange,
     SyntaxKind, SyntaxNode, Tag, UnicodeClasses, highlight, is_newline, is_ordered,
 };
-use typst_kinds::{Assoc, BinOp, SyntaxSet, UnOp, set};
-use typst_lines::{is_id_continue, is_id_start, is_ident, is_valid_label_literal_id};
 
 /// A sum with a number more, in an order that tells.
 fn more(sum: usize, number: usize) -> usize {
@@ -195,8 +203,8 @@ fn of_node(sum: usize, node: &SyntaxNode, other: &SyntaxNode) -> usize {
     more_if(sum, &told)
 }
 
-/// `synthesize`, `convert_to_kind`, `convert_child_to_kind` and `numberize`.
-pub fn of_changes(tree: &mut SyntaxNode) -> usize {
+/// `synthesize`, `convert_to_kind`, `convert_child_to_kind` and `numberize`; `inner` of no children.
+pub fn of_changes(alloc: Global, tree: &mut SyntaxNode) -> usize {
     tree.synthesize(Span::detached());
     tree.convert_to_kind(SyntaxKind::Math);
     tree.convert_child_to_kind(0, SyntaxKind::Code);
@@ -204,7 +212,8 @@ pub fn of_changes(tree: &mut SyntaxNode) -> usize {
         Some(file) => tree.numberize(file, 2..1 << 47).is_ok(),
         None => false,
     };
-    usize::from(is_numbered)
+    let inner = SyntaxNode::inner(SyntaxKind::Markup, Vec::new(alloc));
+    more(usize::from(is_numbered), inner.len())
 }
 
 /// `severity`, `sub_range`, `message` and `hints` of each remark about a tree's root and its children.
@@ -245,10 +254,17 @@ fn bytes_of(range: Option<SubRange>) -> Option<Range<usize>> {
 /// Of each kind what [`of_kind`] has.
 pub fn of_kinds() -> usize {
     let mut sum = 0;
-    for kind in &KINDS {
-        sum = of_kind(sum, *kind);
+    for place in 0..kind_count() {
+        if let Some(kind) = kind_at(place) {
+            sum = of_kind(sum, kind);
+        }
     }
     sum
+}
+
+/// The kind at a place in the order of definitions.
+fn kind_at(place: usize) -> Option<SyntaxKind> {
+    kind_of_code(u32::try_from(place).ok()?)
 }
 
 /// `name`, the seven tests of a kind, its operators, and sets with and without it.
@@ -308,6 +324,49 @@ pub fn of_spans() -> usize {
         number.get() == 9,
     ];
     more_if(0, &told)
+}
+
+/// `is_xid_start`, `is_xid_continue`, `is_alphabetic`, `is_alphanumeric`, `is_numeric`, `is_word` and `math_class`
+/// of each character of a text, and `cluster` of each of its lines.
+pub fn of_classes(text: &str) -> usize {
+    let mut sum = 0;
+    for character in text.chars() {
+        sum = of_class(sum, character);
+    }
+    for line in text.split('\n') {
+        sum = more_of(sum, &[first_cluster(line)]);
+    }
+    sum
+}
+
+/// What the classes of Unicode tell of a character.
+fn of_class(sum: usize, character: char) -> usize {
+    let classes = UnicodeClasses;
+    let told = [
+        classes.is_xid_start(character),
+        classes.is_xid_continue(character),
+        classes.is_alphabetic(character),
+        classes.is_alphanumeric(character),
+        classes.is_numeric(character),
+        classes.is_word(character),
+        classes.math_class(character) == Some(MathClass::Opening),
+    ];
+    more_if(sum, &told)
+}
+
+/// How many bytes the first cluster of a line has that isn't empty.
+fn first_cluster(line: &str) -> Option<usize> {
+    if line.is_empty() || !is_line(line) {
+        return None;
+    }
+    Some(UnicodeClasses.cluster(line))
+}
+
+/// Whether no character is a newline character.
+fn is_line(line: &str) -> bool
+    ensures { result ≡ list_all in_line (chars line.now) }
+{
+    line.chars().all(|c| !is_newline(c))
 }
 
 /// `is_newline`, `is_id_start` and `is_id_continue` of each character of a text, `is_ident` and

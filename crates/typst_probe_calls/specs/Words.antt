@@ -1,0 +1,11 @@
+-- The word of the program.
+use Rattle.std.specs.Prelude.{ℕ, List, codes, Option, None, Some, if◌then◌else◌}
+use Rattle.std.specs.Str.{bytes_eq}
+use Rattle.typst_probe_calls.specs.declared.word.Word.{Word}
+use Rattle.typst_probe_calls.specs.declared.word.Word.TheVariants as word
+
+-- the word that a name stands for
+abbrev pub word_named : List ℕ → Option Word
+word_named name =
+    if bytes_eq name (codes "call") then Some word.Call
+    else None
