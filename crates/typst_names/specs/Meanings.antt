@@ -1,12 +1,36 @@
 -- What names mean.
-use Rattle.std.specs.Prelude.{ℕ, ◌+◌, ◌&&◌, nat_le, nat_lt, max, Bool, true, false, List, [], ◌∷◌, ◌++◌, Option, None, Some, drop, slice_get, suc, zero, slice_range, if◌then◌else◌}
+use Rattle.std.specs.Prelude.{ℕ, ◌+◌, ◌==◌, ◌&&◌, nat_le, nat_lt, max, Bool, true, false, List, [], ◌∷◌, ◌++◌, Option, None, Some, drop, slice_get, suc, zero, slice_range, if◌then◌else◌}
+use Rattle.std.specs.Option.{option_or}
 use Rattle.std.specs.Str.{bytes_eq}
+use Rattle.typst_names.specs.Selections.{holds}
 use Rattle.typst_names.specs.declared.parts.NameKind.{NameKind}
 use Rattle.typst_names.specs.declared.parts.NameKind.TheVariants as does
 use Rattle.typst_names.specs.declared.bindings.Occurrence.{Occurrence}
 use Rattle.typst_names.specs.declared.bindings.OccurrenceKind.{OccurrenceKind}
 use Rattle.typst_names.specs.declared.bindings.OccurrenceKind.TheVariants as stands
 use Rattle.typst_names.specs.declared.scopes.Name.{Name}
+
+-- ---- where a name stands
+
+-- the place of the first of some names that holds byte b, where the first has the place i
+abbrev pub first_holding : ℕ → ℕ → List Name → Option ℕ
+first_holding b i [] = None
+first_holding b i (n ∷ ns) = if holds b n.range then Some i else first_holding b (i + 1) ns
+
+-- the place of a name, if it ends at byte b
+abbrev pub if_ends : ℕ → ℕ → Name → Option ℕ
+if_ends b i n = if n.range.end == b then Some i else None
+
+-- the place of the last of some names that ends at byte b, where the first has the place i
+abbrev pub last_ending : ℕ → ℕ → List Name → Option ℕ
+last_ending b i [] = None
+last_ending b i (n ∷ ns) = option_or (last_ending b (i + 1) ns) (if_ends b i n)
+
+-- THE NAME AT A BYTE, by its place: the first that holds the byte, or else the last that ends there
+abbrev pub name_at : List Name → ℕ → Option ℕ
+name_at names b = option_or (first_holding b 0 names) (last_ending b 0 names)
+
+-- ---- what a name is bound by
 
 -- the bytes of a name
 abbrev pub word : List ℕ → Name → List ℕ

@@ -2,7 +2,9 @@
 
 ghost use Rattle.std.specs.Prelude.{◌≡◌, ◌++◌, ◌<◌, ◌≤◌, [], IfOk, IfSome, OnOk, length, slice_get, true};
 ghost use Rattle.typst_names.specs.declared.bindings.OccurrenceKind.TheVariants as stands;
+ghost use Rattle.std.specs.Option.{option_or};
 ghost use Rattle.typst_names.specs.Meanings as spec;
+ghost use Rattle.typst_names.specs.Selections as selections;
 
 use crate::parts::NameKind;
 use crate::scopes::Name;
@@ -28,20 +30,38 @@ pub struct Occurrence {
     pub range: Range<usize>,
 }
 
-/// The place, among the names of a text, of the one that holds a byte, or else of the one that ends there. Goes
+/// The place, among the names of a text, of the first that holds a byte, or else of the last that ends there. Goes
 /// through the names up to the first.
-pub fn name_at(names: &[Name], byte: usize) -> Option<usize> {
+pub fn name_at(names: &[Name], byte: usize) -> Option<usize>
+    ensures { result ≡ spec.name_at names.now byte }
+{
     let mut ending = None;
     for index in 0..names.len() {
-        let range = &names[index].range;
-        if range.start <= byte && byte < range.end {
+        let name = &names[index];
+        if holds(name, byte) {
             return Some(index);
         }
-        if range.end == byte {
-            ending = Some(index);
-        }
+        ending = last_ending(name, byte, index, ending);
     }
     ending
+}
+
+/// Whether a name holds a byte.
+fn holds(name: &Name, byte: usize) -> bool
+    ensures { result ≡ selections.holds byte name.now.range }
+{
+    name.range.start <= byte && byte < name.range.end
+}
+
+/// The place of a name if it ends at a byte, or else one before it.
+fn last_ending(name: &Name, byte: usize, index: usize, before: Option<usize>) -> Option<usize>
+    ensures { result ≡ option_or (spec.if_ends byte index name.now) before }
+{
+    if name.range.end == byte {
+        Some(index)
+    } else {
+        before
+    }
 }
 
 /// The place of the binding that a name means: a binding itself, and of a use the last name before it that binds

@@ -13,7 +13,7 @@ mod roles;
 mod scopes;
 
 pub use bindings::{Occurrence, OccurrenceKind, binding_of, name_at, uses_of, word_of};
-pub use contexts::Role;
+pub use contexts::{Context, Role};
 pub use parts::NameKind;
 pub use places::Placed;
 pub use roles::name_roles;
