@@ -40,6 +40,10 @@ abbrev pub stretches : List ℕ → List Tagged → List (Option Role) → List 
 stretches text [] rs = []
 stretches text (s ∷ rest) rs = stretch text s.range.start s.range.end (style_of s.tag (first_role rs)) ++ stretches text rest (drop 1 rs)
 
+-- all tokens of a text, by the stretches of its tree and what its names are
+abbrev pub all_tokens : List ℕ → Tree → List Token
+all_tokens text root = stretches text (tagged.stretches root) (roles root)
+
 -- ---- those in a range, as few as possible
 
 -- where a token ends, counted up to the largest usize
@@ -79,7 +83,7 @@ merged ts = merged_after None ts
 
 -- ALL THAT IS SHOWN of a text with a byte of a range: the tokens of the tree's stretches by tag and role, neighbours that are shown alike as one
 abbrev pub tokens_in : Range ℕ → List ℕ → Tree → List Token
-tokens_in range text root = merged (touching range (stretches text (tagged.stretches root) (roles root)))
+tokens_in range text root = merged (touching range (all_tokens text root))
 
 -- each token begins at a byte or after it, and so do those after it
 abbrev pub AreOrdered : ℕ → List Token → Type 0

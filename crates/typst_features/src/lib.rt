@@ -20,6 +20,7 @@ mod parents;
 mod renaming;
 mod report;
 mod sections;
+mod seeking;
 mod selection;
 mod styles;
 mod tokens;

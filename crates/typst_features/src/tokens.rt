@@ -1,9 +1,11 @@
 //! Semantic tokens: what of a text is shown how, line by line.
 
-ghost use Rattle.std.specs.Prelude.{◌≡◌, ◌-◌, ◌++◌, IfOk, OnOk, [], ◌∷◌, drop};
+ghost use Rattle.std.specs.Prelude.{◌≡◌, ◌-◌, ◌++◌, ◌^◌, ◌<◌, IfOk, OnOk, [], ◌∷◌, drop, true};
+ghost use Rattle.typst_tree.specs.Tree.{nodes};
 ghost use Rattle.typst_features.specs.Styles as styles;
 ghost use Rattle.typst_features.specs.Tokens as spec;
 
+use crate::seeking::{Wanted, tokens_near};
 use crate::styles::{Style, style_of};
 use std::alloc::{AllocError, Global};
 use std::ops::Range;
@@ -60,9 +62,16 @@ impl Token {
     }
 }
 
+/// A range of less than this part of a text is sought in the tree, and not picked from all tokens.
+const PART: usize = 8;
+
 /// What of a text with a byte of a range is shown how: its stretches with their tags, and its names by what they
 /// are, cut where a line ends, by LF, CR LF or CR. No token holds a line end, none is empty, and neighbours that
-/// are shown alike are one. It goes through the tree twice.
+/// are shown alike are one.
+///
+/// For a range of less than an eighth of the text it goes into the nodes that touch the range, and over the
+/// children before them of the nodes on the way there: see `tokens_near`. Otherwise, and where that would take
+/// longer, it goes through the tree twice.
 pub fn semantic_tokens(
     alloc: Global,
     root: &SyntaxNode,
@@ -72,10 +81,48 @@ pub fn semantic_tokens(
     ensures tokens { IfOk result (λ tokens. tokens.items ≡ spec.tokens_in within.now text.now root.now) }
     ensures ordered { IfOk result (λ tokens. spec.AreOrdered 0 tokens.items) }
 {
+    let tokens = tokens_for(alloc, root, text, within)?;
+    merge(alloc, tokens.as_slice(), within)
+}
+
+/// The tokens of a text with a byte of a range, neighbours apart, and maybe others.
+fn tokens_for(
+    alloc: Global,
+    root: &SyntaxNode,
+    text: &str,
+    within: &Range<usize>,
+) -> Result<Vec<Token>, AllocError>
+    ensures { IfOk result (λ tokens. spec.touching within.now tokens.items ≡ spec.touching within.now (spec.all_tokens text.now root.now)) }
+{
+    if is_part(root, within) {
+        let wanted = Wanted { root, text, within };
+        if let Some(tokens) = tokens_near(alloc, &wanted)? {
+            return Ok(tokens);
+        }
+    }
+    let tokens = all_tokens(alloc, root, text)?;
+    Ok(tokens)
+}
+
+/// Whether a range is a small part of a tree's text, and the tree's nodes can be counted.
+fn is_part(root: &SyntaxNode, within: &Range<usize>) -> bool
+    ensures { result ≡ true → nodes root.now < 2 ^ 64 - 1 }
+{
+    if root.descendants() >= usize::MAX {
+        return false;
+    }
+    let bytes = within.end.saturating_sub(within.start);
+    bytes < root.len() / PART
+}
+
+/// All tokens of a text, neighbours apart.
+fn all_tokens(alloc: Global, root: &SyntaxNode, text: &str) -> Result<Vec<Token>, AllocError>
+    ensures { IfOk result (λ tokens. tokens.items ≡ spec.all_tokens text.now root.now) }
+{
     let tagged = tag_stretches(alloc, root)?;
     let roles = name_roles(alloc, root)?;
     let tokens = line_tokens(alloc, text, tagged.as_slice(), roles.as_slice())?;
-    merge(alloc, tokens.as_slice(), within)
+    Ok(tokens)
 }
 
 /// The tokens of stretches, by their tags and their roles.
@@ -105,7 +152,7 @@ fn role_at(roles: &[Option<Role>], index: usize) -> Option<Role>
 }
 
 /// Adds the tokens of a stretch.
-fn add_stretch(
+pub fn add_stretch(
     tokens: &mut Vec<Token>,
     text: &str,
     stretch: &Tagged,

@@ -17,8 +17,9 @@ shown_word_named name =
     else (if bytes_eq name (codes "mentions") then Some shown_word.Mentions
     else (if bytes_eq name (codes "problems") then Some shown_word.Problems
     else (if bytes_eq name (codes "semantic-tokens") then Some shown_word.SemanticTokens
+    else (if bytes_eq name (codes "tokens-in") then Some shown_word.TokensIn
     else (if bytes_eq name (codes "deltas") then Some shown_word.Deltas
-    else None))))))
+    else None)))))))
 
 -- the word that a name stands for, of those for what is offered at places
 abbrev pub offered_word_named : List ℕ → Option OfferedWord

@@ -13,7 +13,7 @@ use word::Word;
 
 const USAGE: &str =
     "usage: typst_probe_features rows FILE.. | outline | foldings | selections | mentions | problems |
-    semantic-tokens | deltas | expansions | names | occurrences | shown-problems | quick-fixes | document-links |
+    semantic-tokens | tokens-in | deltas | expansions | names | occurrences | shown-problems | quick-fixes | document-links |
     hover | completions | next-item";
 
 /// `rows FILE..` compares all rows of the files, and any other word answers about the text on

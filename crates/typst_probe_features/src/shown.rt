@@ -1,5 +1,5 @@
 //! What a language server shows of a text: the words `outline`, `foldings`, `selections`, `mentions`,
-//! `problems`, `semantic-tokens` and `deltas`.
+//! `problems`, `semantic-tokens`, `tokens-in` and `deltas`.
 
 use std::alloc::{AllocError, Global};
 use std::ops::Range;
@@ -144,6 +144,27 @@ pub fn tokens(alloc: Global, text: &str) -> Result<String, AllocError> {
         show_token(&mut shown, token)?;
     }
     Ok(shown)
+}
+
+/// The tokens in ranges of a text, which the first line names: a line for each range, and below it the lines of
+/// its tokens.
+pub fn tokens_in(alloc: Global, text: &str) -> Result<String, AllocError> {
+    let (ranges, text) = text.split_once('\n').unwrap_or((text, ""));
+    let root = parse(alloc, text, &UnicodeClasses)?;
+    let mut shown = String::new(alloc);
+    for range in ranges.split(' ') {
+        writeln!(shown, "{range}")?;
+        for token in &semantic_tokens(alloc, &root, text, &range_named(range))? {
+            show_token(&mut shown, token)?;
+        }
+    }
+    Ok(shown)
+}
+
+/// The range that is written as its first byte and its end.
+fn range_named(range: &str) -> Range<usize> {
+    let (start, end) = range.split_once("..").unwrap_or((range, ""));
+    start.parse().unwrap_or(0)..end.parse().unwrap_or(0)
 }
 
 /// Shows the line of a token.

@@ -21,6 +21,8 @@ pub enum ShownWord {
     Problems,
     /// The semantic tokens of the text.
     SemanticTokens,
+    /// The semantic tokens of ranges of the text.
+    TokensIn,
     /// The edit between two lists of numbers.
     Deltas,
 }
@@ -37,6 +39,7 @@ impl ShownWord {
             "mentions" => Some(ShownWord::Mentions),
             "problems" => Some(ShownWord::Problems),
             "semantic-tokens" => Some(ShownWord::SemanticTokens),
+            "tokens-in" => Some(ShownWord::TokensIn),
             "deltas" => Some(ShownWord::Deltas),
             _ => None,
         }
@@ -51,6 +54,7 @@ impl ShownWord {
             ShownWord::Mentions => shown::mentioned(alloc, text),
             ShownWord::Problems => shown::reported(alloc, text),
             ShownWord::SemanticTokens => shown::tokens(alloc, text),
+            ShownWord::TokensIn => shown::tokens_in(alloc, text),
             ShownWord::Deltas => shown::delta(alloc, text),
         }
     }
