@@ -7,12 +7,12 @@ use crate::request::Request;
 use std::env::{Env, FillError};
 use std::process::ExitCode;
 use std::{io, str};
-use typst_server::serve;
+use typst_server::{ShownErrors, serve};
 
 /// The version of Typst whose grammar this is.
 const VERSION: &str = "0.15.1";
 
-const USAGE: &str = "usage: typst_lsp [--stdio | --version | --help]";
+const USAGE: &str = "usage: typst_lsp [--stdio] [--all-errors] | --version | --help";
 
 const HELP: &str =
     "A language server for Typst. An editor starts it and speaks with it over standard input and output.
@@ -20,16 +20,17 @@ const HELP: &str =
 Usage: typst_lsp [OPTIONS]
 
 Options:
-      --stdio    Speaks over standard input and output, as it does without this option
-  -h, --help     Print help
-  -V, --version  Print version
+      --stdio       Speaks over standard input and output, as it does without this option
+      --all-errors  Shows also errors that only follow from a delimiter that nothing closes
+  -h, --help        Print help
+  -V, --version     Print version
 ";
 
 /// Ends with the status that `serve` gives; with 0 where the version or the help is printed, and with 1 where it
 /// can't be; and with 2 for other words.
 fn main(rt: HostRuntime) -> ExitCode {
     let status = match request_of(&rt) {
-        Some(Request::Serve) => serve(rt.alloc(), rt.reader(), &mut rt.stdout()),
+        Some(Request::Serve(errors)) => serve(rt.alloc(), errors, rt.reader(), &mut rt.stdout()),
         Some(Request::Version) => status_of(println!(rt; "typst_lsp {VERSION}")),
         Some(Request::Help) => status_of(print!(rt; "{HELP}")),
         None => {
@@ -40,28 +41,35 @@ fn main(rt: HostRuntime) -> ExitCode {
     ExitCode::from(status)
 }
 
-/// What the words behind the program's name ask for: without any, for a session. None is read that is longer
-/// than those that are known, so this takes no memory.
+/// What the words behind the program's name ask for: without any, for a session. This takes no memory.
 fn request_of(rt: &HostRuntime) -> Option<Request> {
     let mut room = [0; 16];
-    let len = match rt.arg(1, &mut room) {
-        Ok(len) => len,
-        Err(FillError::NotPresent) => return Some(Request::Serve),
-        Err(FillError::TooLong) => return None,
+    let mut request = match word_at(rt, 1, &mut room) {
+        Some(word) => Request::from_word(word)?,
+        None => return Some(Request::Serve(ShownErrors::WithoutCascades)),
     };
-    if has_word(rt, 2) {
-        return None;
+    for number in 2..usize::MAX {
+        match word_at(rt, number, &mut room) {
+            Some(word) => {
+                request = request.with(word)?;
+            }
+            None => break,
+        }
     }
-    match str::from_utf8(&room[..len]) {
-        Ok(word) => Request::from_word(word),
-        Err(_) => None,
-    }
+    Some(request)
 }
 
-/// Whether there is a word of that number.
-fn has_word(rt: &HostRuntime, number: usize) -> bool {
-    let mut room = [0; 1];
-    !matches!(rt.arg(number, &mut room), Err(FillError::NotPresent))
+/// The word of a number, if there are so many. One that is longer than those that are known, or no text, is read
+/// as the empty one, which asks for nothing.
+fn word_at<'a>(rt: &HostRuntime, number: usize, room: &'a mut [u8; 16]) -> Option<&'a str> {
+    match rt.arg(number, room) {
+        Ok(len) => match str::from_utf8(&room[..len]) {
+            Ok(word) => Some(word),
+            Err(_) => Some(""),
+        },
+        Err(FillError::NotPresent) => None,
+        Err(FillError::TooLong) => Some(""),
+    }
 }
 
 /// The status for what was printed.

@@ -5,10 +5,16 @@ use std::alloc::{AllocError, Global};
 use std::cell::Cell;
 use std::io::{self, ErrorKind, Read, Write};
 use std::str;
-use typst_server::serve;
+use typst_server::{ShownErrors, serve};
 
 /// Room for what is written about one frame, in bytes.
 const ROOM: usize = 10_000;
+
+/// What the person is warned by.
+const WARNING: &str = "\"method\":\"window/showMessage\"";
+
+/// How a body ends that says that a document has no errors and warnings.
+const NO_PROBLEMS: &str = "\"diagnostics\":[]}}";
 
 /// Gives frames, one after the other, and counts those that it has begun to give.
 #[derive(Drop)]
@@ -80,7 +86,8 @@ pub fn exchange(alloc: Global, frames: &[String]) -> Result<Session, AllocError>
         begun: &begun,
         taken,
     };
-    let status = serve(alloc, sender, &mut recipient);
+    let errors = ShownErrors::WithoutCascades;
+    let status = serve(alloc, errors, sender, &mut recipient);
     Ok(Session {
         status,
         begun: begun.get(),
@@ -94,13 +101,36 @@ impl Session {
         self.status == other.status && self.taken == other.taken
     }
 
-    /// The body of the one frame that was written about the message of a number, empty where there is none.
+    /// What was written about the message of a number.
+    fn written(&self, number: usize) -> Option<&str> {
+        str::from_utf8(self.taken.get(number.saturating_add(1))?.as_slice()).ok()
+    }
+
+    /// The body of the first frame that was written about the message of a number, empty where there is none.
     pub fn body(&self, number: usize) -> Option<&str> {
-        let taken = self.taken.get(number.saturating_add(1))?;
-        if taken.is_empty() {
+        let written = self.written(number)?;
+        if written.is_empty() {
             return Some("");
         }
-        body_of(str::from_utf8(taken.as_slice()).ok()?.strip_prefix(HEAD)?)
+        let frames = written.strip_prefix(HEAD)?;
+        body_of(frames.split_once(HEAD).map_or(frames, |(first, _)| first))
+    }
+
+    /// Whether the person is warned about the message of a number, and nothing is told after that except that
+    /// documents have no errors and warnings.
+    pub fn tells_loss(&self, number: usize) -> bool {
+        let Some((_, rest)) = self
+            .written(number)
+            .and_then(|written| written.split_once(WARNING))
+        else {
+            return false;
+        };
+        for frame in rest.split(HEAD).skip(1) {
+            if !body_of(frame).is_some_and(|body| body.ends_with(NO_PROBLEMS)) {
+                return false;
+            }
+        }
+        true
     }
 
     /// What the message of a number is told.

@@ -12,7 +12,7 @@ use typst_rows::ended;
 use word::Word;
 
 const USAGE: &str =
-    "usage: typst_probe_server rows FILE.. | session | session-cut | session-refused";
+    "usage: typst_probe_server rows FILE.. | session | session-all-errors | session-cut | session-refused";
 
 /// `rows FILE..` compares all rows of the files, and any other word answers about the text on
 /// standard input. Ends with status 1 where a row disagrees or something fails, and with status 2

@@ -209,7 +209,7 @@ impl<'a> Client<'a> {
             let Some(subject) = self.subjects.get_mut(place) else {
                 return false;
             };
-            if subject.name == message.subject || heard == "nameless" {
+            if subject.name == message.subject || matches!(heard, "nameless" | "all-lost") {
                 let Some(is_once) = subject.go_on(rules, message.effect, heard) else {
                     return false;
                 };
@@ -234,8 +234,9 @@ impl<'a> Client<'a> {
 }
 
 /// What is heard about the message of a number: `nothing`, what is `expected`, that memory was `refused` for
-/// it, or for one that isn't named (`nameless`), that the text of a document is `lost`, that it is `not-open`,
-/// that it isn't the time for a request (`not-now`), or what mustn't be heard (`other`).
+/// it, or for one that isn't named (`nameless`), with the warning that all documents are lost (`all-lost`), that
+/// the person is `warned` of the loss of one, that the text of a document is `lost`, that it is `not-open`, that
+/// it isn't the time for a request (`not-now`), or what mustn't be heard (`other`).
 fn heard(clean: &Session, session: &Session, number: usize, message: Message<'_>) -> &'static str {
     let Some(body) = session.body(number) else {
         return "other";
@@ -243,7 +244,11 @@ fn heard(clean: &Session, session: &Session, number: usize, message: Message<'_>
     if body.is_empty() {
         return "nothing";
     }
-    if body == NAMELESS {
+    let is_nameless = body == NAMELESS;
+    if session.tells_loss(number) {
+        return if is_nameless { "all-lost" } else { "warned" };
+    }
+    if is_nameless {
         return "nameless";
     }
     let tells = told(body);

@@ -1,13 +1,16 @@
-//! The words `session` and `session-cut`. A row's text is what a client sends to the language server, a
-//! message a line.
+//! The words `session`, `session-all-errors` and `session-cut`. A row's text is what a client sends to the
+//! language server, a message a line.
 
 use std::alloc::{AllocError, Global};
 use std::str;
-use typst_server::serve;
+use typst_server::{ShownErrors, serve};
 use typst_tests::streams::{PACES, Pace, Reader, Room, Writer};
 
 /// What stands before the length in a frame's head.
 pub const HEAD: &str = "Content-Length: ";
+
+/// The errors that are shown in a session that is cut off.
+const SHOWN: ShownErrors = ShownErrors::WithoutCascades;
 
 /// Writes a message as a frame.
 pub fn push_frame(sent: &mut String, message: &str) -> Result<(), AllocError> {
@@ -34,15 +37,16 @@ struct Session {
 
 impl Session {
     /// What is answered to a reader, by a writer with this room.
-    fn of(alloc: Global, input: Reader<'_>, room: Room) -> Session {
+    fn of(alloc: Global, errors: ShownErrors, input: Reader<'_>, room: Room) -> Session {
         let mut output = Writer::new(alloc, room);
-        let status = serve(alloc, input, &mut output);
+        let status = serve(alloc, errors, input, &mut output);
         Session { status, output }
     }
 
     /// What is answered to these bytes, which are sent and answered at a pace.
-    fn at_pace(alloc: Global, sent: &[u8], pace: Pace) -> Session {
-        Session::of(alloc, Reader::ending(sent, pace), Room::ample(pace))
+    fn at_pace(alloc: Global, errors: ShownErrors, sent: &[u8], pace: Pace) -> Session {
+        let input = Reader::ending(sent, pace);
+        Session::of(alloc, errors, input, Room::ample(pace))
     }
 
     /// What it wrote.
@@ -69,10 +73,10 @@ fn print_body(printed: &mut String, frame: &str) -> Result<(), AllocError> {
 
 /// What a session answers, however little is read or written at a time, and wherever that is interrupted: a
 /// line for each message behind the answer to the first, and one for a status that isn't 0.
-pub fn answer(alloc: Global, text: &str) -> Result<String, AllocError> {
+pub fn answer(alloc: Global, errors: ShownErrors, text: &str) -> Result<String, AllocError> {
     let sent = frames(alloc, text)?;
-    let session = Session::at_pace(alloc, sent.as_bytes(), Pace::Whole);
-    match unlike_pace(alloc, sent.as_bytes(), &session) {
+    let session = Session::at_pace(alloc, errors, sent.as_bytes(), Pace::Whole);
+    match unlike_pace(alloc, errors, sent.as_bytes(), &session) {
         Some(pace) => format!(in alloc; "other answers at {pace:?}\n"),
         None => printed(alloc, &session),
     }
@@ -88,9 +92,9 @@ fn frames(alloc: Global, messages: &str) -> Result<String, AllocError> {
 }
 
 /// The first pace at which a session isn't as another one.
-fn unlike_pace(alloc: Global, sent: &[u8], session: &Session) -> Option<Pace> {
+fn unlike_pace(alloc: Global, errors: ShownErrors, sent: &[u8], session: &Session) -> Option<Pace> {
     for pace in PACES {
-        if !Session::at_pace(alloc, sent, pace).is_same(session) {
+        if !Session::at_pace(alloc, errors, sent, pace).is_same(session) {
             return Some(pace);
         }
     }
@@ -122,7 +126,7 @@ pub fn cut_answer(alloc: Global, text: &str) -> Result<String, AllocError> {
             return format!(in alloc; "other answers where it is cut off at {end}\n");
         }
     }
-    let session = Session::at_pace(alloc, sent.as_bytes(), Pace::Whole);
+    let session = Session::at_pace(alloc, SHOWN, sent.as_bytes(), Pace::Whole);
     match unlike_full(alloc, sent.as_bytes(), &session) {
         Some(room) => format!(in alloc; "other answers with room for {room}\n"),
         None => last(alloc, &session),
@@ -140,7 +144,7 @@ fn last(alloc: Global, session: &Session) -> Result<String, AllocError> {
 /// The first place from the start of the last message on where a session that is cut off, or can't be read any
 /// more, doesn't end with status 1 and the answers to the messages before.
 fn unlike_cut(alloc: Global, sent: &[u8], start: usize) -> Option<usize> {
-    let before = Session::at_pace(alloc, sent.get(..start).unwrap_or(sent), Pace::Whole);
+    let before = Session::at_pace(alloc, SHOWN, sent.get(..start).unwrap_or(sent), Pace::Whole);
     for end in start..sent.len() {
         let given = sent.get(..end).unwrap_or(sent);
         if before.status != 1 || !is_cut_off(alloc, given, &before) {
@@ -153,15 +157,15 @@ fn unlike_cut(alloc: Global, sent: &[u8], start: usize) -> Option<usize> {
 /// Whether a session whose input ends, or fails, behind these bytes is as another one.
 fn is_cut_off(alloc: Global, given: &[u8], before: &Session) -> bool {
     let room = Room::ample(Pace::Whole);
-    let failed = Session::of(alloc, Reader::failing(given, Pace::Whole), room);
-    failed.is_same(before) && Session::at_pace(alloc, given, Pace::Whole).is_same(before)
+    let failed = Session::of(alloc, SHOWN, Reader::failing(given, Pace::Whole), room);
+    failed.is_same(before) && Session::at_pace(alloc, SHOWN, given, Pace::Whole).is_same(before)
 }
 
 /// The least room with which a session doesn't end with status 1 and with all the answers up to there.
 fn unlike_full(alloc: Global, sent: &[u8], whole: &Session) -> Option<usize> {
     for room in 0..whole.written().len() {
         let input = Reader::ending(sent, Pace::Whole);
-        let session = Session::of(alloc, input, Room::of(room, Pace::Whole));
+        let session = Session::of(alloc, SHOWN, input, Room::of(room, Pace::Whole));
         if session.status != 1 || whole.written().get(..room) != Some(session.written()) {
             return Some(room);
         }

@@ -1,61 +1,378 @@
--- What is known of documents, from a map to the next.
-use Rattle.std.proofs.Common.{◌≡◌, ℕ, List, [], ◌∷◌, map, Bool, true, false, cond, Option, None, Some, option_map, option_and_then, refl, sym, ap, subst, ◌∙◌}
-use Rattle.std.proofs.lemmas.Map.Text.{btree_map_updates_text}
+-- What is known of documents, from a list of them to the next.
+use Rattle.std.proofs.Common.{◌≡◌, ℕ, ◌+◌, ◌<◌, ◌≤◌, List, [], ◌∷◌, ◌++◌, length, get_or, take, Bool, true, false, cond, not, Option, None, Some, option_map, option_and_then, inl, inr, refl, sym, ap, subst, ◌∙◌, arith, rules}
+use Rattle.std.proofs.Math.ListN.{set}
+use Rattle.std.proofs.lemmas.Bool.Decides.{nat_tests}
+use Rattle.std.proofs.lemmas.List.{take_all, take_more, take_more_set}
+use Rattle.std.proofs.lemmas.List.Folds.{find-append, find-set, find_at, find_past}
+use Rattle.std.proofs.lemmas.List.Quantifiers.{position-Some}
+use Rattle.std.proofs.lemmas.Option.{slice_get-get_or, slice_get_past}
 use Rattle.std.proofs.lemmas.Slice.Eq.{bytes_eq-Decides}
-use Rattle.std.specs.BTreeMap.{BTreeMap, UpdatesBy, get_by_text}
-use Rattle.std.specs.Cmp.Lexicographic.{slice_cmp}
-use Rattle.std.specs.Map.{lookup}
-use Rattle.std.specs.Ordering.{nat_cmp}
+use Rattle.std.specs.List.{filter, find, position, position_or_len, slice_get}
+use Rattle.std.specs.Option.{option_or}
+use Rattle.std.specs.Prelude.{nat_lt}
 use Rattle.std.specs.Str.{bytes_eq}
-use Rattle.std.specs.Prelude.{String}
-use Rattle.std.specs.String.{string_bytes, string_cmp}
-use Rattle.std.specs.declared.alloc.Global.{Global}
-use Rattle.typst_server.specs.Documents.{IsUnknown, known}
-use Rattle.typst_server.specs.Sent.{last_of}
-use Rattle.typst_server.specs.declared.documents.Held.{Held}
+use Rattle.std.specs.String.{string_bytes}
+use Rattle.typst_protocol.proofs.SameAddress.{same-as, same-with}
+use Rattle.typst_protocol.specs.Addresses.{is_same}
+use Rattle.typst_positions.specs.declared.columns.Encoding.{Encoding}
+use Rattle.typst_server.specs.Document.{Opened}
+use Rattle.typst_server.specs.Documents.{IsUnknown, Keeps, KeepsOthers, Knows, found, is_known, is_named, known}
+use Rattle.typst_protocol.specs.declared.refusal.Loss.{Loss}
+use Rattle.typst_server.specs.Left.{AreSame, AreUnknown, IsWarned, LosesNone}
+use Rattle.typst_server.specs.Sent.{IsKept, MayDrop, last_of}
+use Rattle.typst_server.specs.declared.documents.Documents.{Documents}
+use Rattle.typst_server.specs.declared.documents.Entry.{Entry}
 use Rattle.typst_server.specs.declared.documents.Held.TheVariants.{Lost}
+use Rattle.typst_server.specs.declared.tokens.Sent.{Sent}
 
--- the others stay where one is set or taken out
-pub others-updated : (uri : List ℕ) (m n : BTreeMap (String Global) Held) (w : Option Held) → UpdatesBy string_cmp (λ k. slice_cmp nat_cmp uri (string_bytes k)) m n w → (other : List ℕ) → bytes_eq uri other ≡ false
-    → option_map known (get_by_text n other) ≡ option_map known (get_by_text m other)
-others-updated uri m n w updates other apart = ap (λ h. option_map known h) (btree_map_updates_text uri m n w updates other ∙ ap (λ b. cond b w (get_by_text m other)) apart)
+-- ---- addresses
 
-known-by : (uri : List ℕ) (m n : BTreeMap (String Global) Held) (v w : Held) → UpdatesBy string_cmp (λ k. slice_cmp nat_cmp uri (string_bytes k)) m n (Some w) → get_by_text m uri ≡ Some v → known w ≡ known v
-    → (other : List ℕ) (test : Bool) → bytes_eq uri other ≡ test → option_map known (get_by_text n other) ≡ option_map known (get_by_text m other)
-known-by uri m n v w updates was same other true is =
-    ap (option_map known) (btree_map_updates_text uri m n (Some w) updates other ∙ ap (λ b. cond b (Some w) (get_by_text m other)) is)
-    ∙ ap (λ k. Some k) same
-    ∙ sym (ap (option_map known) (subst (λ o. get_by_text m o ≡ Some v) ((bytes_eq-Decides uri other).0 is) was))
-known-by uri m n v w updates was same other false is =
-    ap (option_map known) (btree_map_updates_text uri m n (Some w) updates other ∙ ap (λ b. cond b (Some w) (get_by_text m other)) is)
+bytes-self : (x : List ℕ) → bytes_eq x x ≡ true
+bytes-self x = (bytes_eq-Decides x x).1 refl
+
+pub same-self : (uri : List ℕ) → is_same uri uri ≡ true
+same-self uri = search (rules, bytes-self)
+
+apart-turned : (uri other : List ℕ) (test : Bool) → is_same other uri ≡ test → is_same uri other ≡ false → test ≡ false
+apart-turned uri other false is far = refl
+apart-turned uri other true is far = let here : is_same other other ≡ is_same uri other = same-as other uri other is in let self : is_same other other ≡ true = same-self other in cc
+
+-- an address that isn't that of a document is that of no entry with its address
+apart : (uri other : List ℕ) (e : Entry) → is_named uri e ≡ true → is_same uri other ≡ false → is_named other e ≡ false
+apart uri other e named far = same-with uri (string_bytes e.uri) other named ∙ apart-turned uri other (is_same other uri) refl far
+
+-- by both addresses of a document the same is found
+found-same : (uri other : List ℕ) (xs : List Entry) → is_same uri other ≡ true → find (is_named other) xs ≡ find (is_named uri) xs
+found-same uri other [] h = refl
+found-same uri other (e ∷ es) h =
+    ap (λ b. cond b (Some e) (find (is_named other) es)) (sym (same-as uri other (string_bytes e.uri) h)) ∙ ap (λ r. cond (is_named uri e) (Some e) r) (found-same uri other es h)
+
+-- ---- an entry that is set
+
+placed-by : (p : Entry → Bool) (xs : List Entry) (i : ℕ) (test : Bool) → cond test (Some (position_or_len p xs)) None ≡ Some i → i ≡ position_or_len p xs
+placed-by p xs i true h = cc
+placed-by p xs i false h = cc
+
+placed : (p : Entry → Bool) (xs : List Entry) (i : ℕ) → position p xs ≡ Some i → i ≡ position_or_len p xs
+placed p xs i h = placed-by p xs i (nat_lt (position_or_len p xs) (length xs)) h
+
+-- the entry of a document is replaced by another one, and no other entry
+pub record Sets (uri : List ℕ) (xs ys : List Entry) (old new : Entry) : Type 0 where
+  pub before : find (is_named uri) xs ≡ Some old
+  pub behind : find (is_named uri) ys ≡ Some new
+  pub others : (other : List ℕ) → is_same uri other ≡ false → find (is_named other) ys ≡ find (is_named other) xs
+
+-- an index that `position` gives is within the list
+pub within-place : (uri : List ℕ) (xs : List Entry) (i : ℕ) (d : Entry) → position (is_named uri) xs ≡ Some i → i < length xs
+within-place uri xs i d h = (position-Some (is_named uri) xs i d h).0
+
+pub sets-named : (uri : List ℕ) (xs : List Entry) (i : ℕ) (d e : Entry) → position (is_named uri) xs ≡ Some i → is_named uri e ≡ true → Sets uri xs (set xs i e) (get_or xs i d) e
+sets-named uri xs i d e h named =
+    let at = position-Some (is_named uri) xs i d h in
+    record {
+      before = find_at (is_named uri) xs ∙ ap (slice_get xs) (sym (placed (is_named uri) xs i h)) ∙ slice_get-get_or xs i d at.0;
+      behind = find-set (is_named uri) xs i e (placed (is_named uri) xs i h) at.0 named;
+      others = λ other far. find_past (is_named other) xs i e d (apart uri other (get_or xs i d) at.1 far) (apart uri other e named far);
+    }
+
+-- the same where the address stays
+pub sets : (uri : List ℕ) (xs : List Entry) (i : ℕ) (d e : Entry) → position (is_named uri) xs ≡ Some i → e.uri ≡ (get_or xs i d).uri → Sets uri xs (set xs i e) (get_or xs i d) e
+sets uri xs i d e h same = sets-named uri xs i d e h (ap (λ a. is_same uri (string_bytes a)) same ∙ (position-Some (is_named uri) xs i d h).1)
+
+-- an entry that was read is replaced by another one with its address
+pub sets-at : (uri : List ℕ) (xs : List Entry) (i : ℕ) (old new : Entry) → Some i ≡ position (is_named uri) xs → old ≡ get_or xs i old → new.uri ≡ old.uri → Sets uri xs (set xs i new) old new
+sets-at uri xs i old new h is same = subst (λ o. Sets uri xs (set xs i new) o new) (sym is) (sets uri xs i old new (sym h) (same ∙ ap (λ (e : Entry). e.uri) is))
+
+-- the same where the address is written otherwise
+pub renames-at : (uri : List ℕ) (xs : List Entry) (i : ℕ) (old new : Entry) → Some i ≡ position (is_named uri) xs → old ≡ get_or xs i old → string_bytes new.uri ≡ uri → Sets uri xs (set xs i new) old new
+renames-at uri xs i old new h is same =
+    subst (λ o. Sets uri xs (set xs i new) o new) (sym is) (sets-named uri xs i old new (sym h) (ap (is_same uri) same ∙ same-self uri))
+
+past : (a b : ℕ) → nat_lt a b ≡ false → b ≤ a
+past a b h = grind (arith, nat_tests)
+
+none-by : (p : Entry → Bool) (xs : List Entry) (test : Bool) → nat_lt (position_or_len p xs) (length xs) ≡ test → cond test (Some (position_or_len p xs)) None ≡ None → find p xs ≡ None
+none-by p xs true is h = cc
+none-by p xs false is h = find_at p xs ∙ slice_get_past xs (position_or_len p xs) (past (position_or_len p xs) (length xs) is)
+
+-- one that has no place isn't found
+pub not-placed : (uri : List ℕ) (xs : List Entry) → None ≡ position (is_named uri) xs → find (is_named uri) xs ≡ None
+not-placed uri xs h = none-by (is_named uri) xs (nat_lt (position_or_len (is_named uri) xs) (length xs)) refl (sym h)
+
+-- ---- what is known afterwards
+
+abbrev shown : Option Entry → Option (Option Opened)
+shown e = option_map (λ entry. known entry.held) e
+
+pub others-set : (uri : List ℕ) (xs ys : List Entry) (old new : Entry) → Sets uri xs ys old new → (other : List ℕ) → is_same uri other ≡ false → shown (find (is_named other) ys) ≡ shown (find (is_named other) xs)
+others-set uri xs ys old new s other far = ap shown (s.others other far)
+
+known-by : (uri other : List ℕ) (xs ys : List Entry) (old new : Entry) (test : Bool) → is_same uri other ≡ test → Sets uri xs ys old new → known new.held ≡ known old.held → shown (find (is_named other) ys) ≡ shown (find (is_named other) xs)
+known-by uri other xs ys old new true is s same =
+    ap shown (found-same uri other ys is ∙ s.behind) ∙ ap (λ k. Some k) same ∙ sym (ap shown (found-same uri other xs is ∙ s.before))
+known-by uri other xs ys old new false is s same = ap shown (s.others other is)
 
 -- what is known stays where one is set of which the same is known
-pub known-updated : (uri : List ℕ) (m n : BTreeMap (String Global) Held) (v w : Held) → UpdatesBy string_cmp (λ k. slice_cmp nat_cmp uri (string_bytes k)) m n (Some w) → get_by_text m uri ≡ Some v → known w ≡ known v
-    → (other : List ℕ) → option_map known (get_by_text n other) ≡ option_map known (get_by_text m other)
-known-updated uri m n v w updates was same other = known-by uri m n v w updates was same other (bytes_eq uri other) refl
+pub known-set : (uri : List ℕ) (xs ys : List Entry) (old new : Entry) → Sets uri xs ys old new → known new.held ≡ known old.held → (other : List ℕ) → shown (find (is_named other) ys) ≡ shown (find (is_named other) xs)
+known-set uri xs ys old new s same other = known-by uri other xs ys old new (is_same uri other) refl s same
 
--- one that is set is found, and others as they were
-pub is-updated : (uri : List ℕ) (m n : BTreeMap (String Global) Held) (w : Held) → UpdatesBy string_cmp (λ k. slice_cmp nat_cmp uri (string_bytes k)) m n (Some w) → get_by_text n uri ≡ Some w
-is-updated uri m n w updates = btree_map_updates_text uri m n (Some w) updates uri ∙ ap (λ b. cond b (Some w) (get_by_text m uri)) ((bytes_eq-Decides uri uri).1 refl)
+-- what is set is found
+pub shown-set : (uri : List ℕ) (xs ys : List Entry) (old new : Entry) → Sets uri xs ys old new → shown (find (is_named uri) ys) ≡ Some (known new.held)
+shown-set uri xs ys old new s = ap shown s.behind
 
-pub others-sent : (uri : List ℕ) (m n : BTreeMap (String Global) Held) (w : Option Held) → UpdatesBy string_cmp (λ k. slice_cmp nat_cmp uri (string_bytes k)) m n w → (other : List ℕ) → bytes_eq uri other ≡ false
-    → option_and_then last_of (get_by_text n other) ≡ option_and_then last_of (get_by_text m other)
-others-sent uri m n w updates other apart = ap (option_and_then last_of) (btree_map_updates_text uri m n w updates other ∙ ap (λ b. cond b w (get_by_text m other)) apart)
+pub shown-before : (uri : List ℕ) (xs ys : List Entry) (old new : Entry) → Sets uri xs ys old new → shown (find (is_named uri) xs) ≡ Some (known old.held)
+shown-before uri xs ys old new s = ap shown s.before
 
--- what is lost is open
-pub inserted-lost : (uri : List ℕ) (key : String Global) (m n : BTreeMap (String Global) Held) → string_bytes key ≡ uri → UpdatesBy string_cmp (string_cmp key) m n (Some Lost) → option_map known (get_by_text n uri) ≡ Some None
-inserted-lost uri key m n is updates =
-    ap (λ h. option_map known h) (btree_map_updates_text (string_bytes key) m n (Some Lost) updates uri ∙ ap (λ b. cond b (Some Lost) (get_by_text m uri)) ((bytes_eq-Decides (string_bytes key) uri).1 is))
+-- ---- what was sent
 
-pub others-inserted : (uri : List ℕ) (key : String Global) (m n : BTreeMap (String Global) Held) (w : Option Held) → string_bytes key ≡ uri → UpdatesBy string_cmp (string_cmp key) m n w → (other : List ℕ)
-    → bytes_eq uri other ≡ false → option_map known (get_by_text n other) ≡ option_map known (get_by_text m other)
-others-inserted uri key m n w is updates other apart = others-updated (string_bytes key) m n w updates other (ap (λ b. bytes_eq b other) is ∙ apart)
+pub sent-set : (uri : List ℕ) (xs ys : List Entry) (old new : Entry) → Sets uri xs ys old new → option_and_then (λ entry. last_of entry.held) (find (is_named uri) ys) ≡ last_of new.held
+sent-set uri xs ys old new s = ap (option_and_then (λ (entry : Entry). last_of entry.held)) s.behind
 
-one-lost : (test : Bool) (rest : Option Held) → IsUnknown (option_map known rest) → IsUnknown (option_map known (cond test (Some Lost) rest))
-one-lost true rest h = tt
-one-lost false rest h = h
+drop-by : (uri other : List ℕ) (xs ys : List Entry) (old new : Entry) (test : Bool) → is_same uri other ≡ test → Sets uri xs ys old new → MayDrop (last_of old.held) (last_of new.held)
+    → MayDrop (option_and_then (λ entry. last_of entry.held) (find (is_named other) xs)) (option_and_then (λ entry. last_of entry.held) (find (is_named other) ys))
+drop-by uri other xs ys old new true is s may =
+    subst (λ e. MayDrop (option_and_then (λ entry. last_of entry.held) e) (option_and_then (λ entry. last_of entry.held) (find (is_named other) ys))) (sym (found-same uri other xs is ∙ s.before))
+    (subst (λ e. MayDrop (last_of old.held) (option_and_then (λ entry. last_of entry.held) e)) (sym (found-same uri other ys is ∙ s.behind)) may)
+drop-by uri other xs ys old new false is s may = inl (ap (option_and_then (λ (entry : Entry). last_of entry.held)) (s.others other is))
 
--- nothing is known where each is lost
-pub lookup-lost : (test : String Global → Bool) (es : List (String Global × Held)) → IsUnknown (option_map known (lookup test (map (λ e. (e.0, Lost)) es)))
-lookup-lost test [] = tt
-lookup-lost test (e ∷ es) = one-lost (test e.0) (lookup test (map (λ x. (x.0, Lost)) es)) (lookup-lost test es)
+-- of no document others are kept where one is set of which none others are
+pub drop-set : (uri : List ℕ) (xs ys : List Entry) (old new : Entry) → Sets uri xs ys old new → MayDrop (last_of old.held) (last_of new.held) → (other : List ℕ)
+    → MayDrop (option_and_then (λ entry. last_of entry.held) (find (is_named other) xs)) (option_and_then (λ entry. last_of entry.held) (find (is_named other) ys))
+drop-set uri xs ys old new s may other = drop-by uri other xs ys old new (is_same uri other) refl s may
+
+-- ---- entries that are taken out, put in, or all lost
+
+left-by : (uri : List ℕ) (e : Entry) (kept : List Entry) (test : Bool) → is_named uri e ≡ test → find (is_named uri) kept ≡ None → find (is_named uri) (cond (not test) (e ∷ kept) kept) ≡ None
+left-by uri e kept true is h = h
+left-by uri e kept false is h = ap (λ b. cond b (Some e) (find (is_named uri) kept)) is ∙ h
+
+-- one that is taken out isn't found
+pub none-left : (uri : List ℕ) (xs : List Entry) → find (is_named uri) (filter (λ e. not (is_named uri e)) xs) ≡ None
+none-left uri [] = refl
+none-left uri (e ∷ es) = left-by uri e (filter (λ e. not (is_named uri e)) es) (is_named uri e) refl (none-left uri es)
+
+others-by : (uri other : List ℕ) (e : Entry) (kept rest : List Entry) (test : Bool) → is_named uri e ≡ test → is_same uri other ≡ false → find (is_named other) kept ≡ find (is_named other) rest
+    → find (is_named other) (cond (not test) (e ∷ kept) kept) ≡ find (is_named other) (e ∷ rest)
+others-by uri other e kept rest true is far h = h ∙ sym (ap (λ b. cond b (Some e) (find (is_named other) rest)) (apart uri other e is far))
+others-by uri other e kept rest false is far h = ap (λ r. cond (is_named other e) (Some e) r) h
+
+pub others-left : (uri other : List ℕ) (xs : List Entry) → is_same uri other ≡ false → find (is_named other) (filter (λ e. not (is_named uri e)) xs) ≡ find (is_named other) xs
+others-left uri other [] far = refl
+others-left uri other (e ∷ es) far = others-by uri other e (filter (λ e. not (is_named uri e)) es) es (is_named uri e) refl far (others-left uri other es far)
+
+drop-left-by : (uri other : List ℕ) (xs : List Entry) (test : Bool) → is_same uri other ≡ test
+    → MayDrop (option_and_then (λ entry. last_of entry.held) (find (is_named other) xs)) (option_and_then (λ entry. last_of entry.held) (find (is_named other) (filter (λ e. not (is_named uri e)) xs)))
+drop-left-by uri other xs true is = inr (ap (option_and_then (λ (entry : Entry). last_of entry.held)) (found-same uri other (filter (λ e. not (is_named uri e)) xs) is ∙ none-left uri xs))
+drop-left-by uri other xs false is = inl (ap (option_and_then (λ (entry : Entry). last_of entry.held)) (others-left uri other xs is))
+
+pub drop-left : (uri other : List ℕ) (xs : List Entry)
+    → MayDrop (option_and_then (λ entry. last_of entry.held) (find (is_named other) xs)) (option_and_then (λ entry. last_of entry.held) (find (is_named other) (filter (λ e. not (is_named uri e)) xs)))
+drop-left uri other xs = drop-left-by uri other xs (is_same uri other) refl
+
+-- one that is put in, and isn't known, is found where none was
+unknown-in-by : (e : Entry) (before : Option Entry) (test : Bool) → e.held ≡ Lost → IsUnknown (shown before) → IsUnknown (shown (option_or before (cond test (Some e) None)))
+unknown-in-by e None true lost h = subst (λ k. IsUnknown (Some (known k))) (sym lost) tt
+unknown-in-by e None false lost h = tt
+unknown-in-by e (Some x) test lost h = h
+
+pub unknown-in : (uri : List ℕ) (xs : List Entry) (e : Entry) → e.held ≡ Lost → IsUnknown (shown (find (is_named uri) xs)) → IsUnknown (shown (find (is_named uri) (xs ++ e ∷ [])))
+unknown-in uri xs e lost h = subst (λ f. IsUnknown (shown f)) (sym (find-append (is_named uri) xs (e ∷ []))) (unknown-in-by e (find (is_named uri) xs) (is_named uri e) lost h)
+
+or-none : (a : Option Entry) → option_or a None ≡ a
+or-none None = refl
+or-none (Some x) = refl
+
+pub others-in : (uri other : List ℕ) (xs : List Entry) (e : Entry) → is_named uri e ≡ true → is_same uri other ≡ false → find (is_named other) (xs ++ e ∷ []) ≡ find (is_named other) xs
+others-in uri other xs e named far =
+    find-append (is_named other) xs (e ∷ [])
+    ∙ ap (λ b. option_or (find (is_named other) xs) (cond b (Some e) None)) (apart uri other e named far)
+    ∙ or-none (find (is_named other) xs)
+
+sent-in-by : (e : Entry) (before : Option Entry) (test : Bool) → e.held ≡ Lost
+    → option_and_then (λ entry. last_of entry.held) (option_or before (cond test (Some e) None)) ≡ option_and_then (λ entry. last_of entry.held) before
+sent-in-by e None true lost = ap last_of lost
+sent-in-by e None false lost = refl
+sent-in-by e (Some x) test lost = refl
+
+pub sent-in : (other : List ℕ) (xs : List Entry) (e : Entry) → e.held ≡ Lost
+    → option_and_then (λ entry. last_of entry.held) (find (is_named other) (xs ++ e ∷ [])) ≡ option_and_then (λ entry. last_of entry.held) (find (is_named other) xs)
+sent-in other xs e lost = ap (option_and_then (λ (entry : Entry). last_of entry.held)) (find-append (is_named other) xs (e ∷ [])) ∙ sent-in-by e (find (is_named other) xs) (is_named other e) lost
+
+-- where each is lost nothing is known
+abbrev pub AreLost : List Entry → Type 0
+AreLost [] = Unit {0}
+AreLost (e ∷ es) = (e.held ≡ Lost) × AreLost es
+
+lost-push : (xs : List Entry) (e : Entry) → AreLost xs → e.held ≡ Lost → AreLost (xs ++ e ∷ [])
+lost-push [] e h lost = (lost, tt)
+lost-push (x ∷ xs) e h lost = (h.0, lost-push xs e h.1 lost)
+
+-- one more is lost
+pub lost-more : (xs : List Entry) (i : ℕ) (e : Entry) → i < length xs → AreLost (take i xs) → e.held ≡ Lost → AreLost (take (i + 1) (set xs i e))
+lost-more xs i e within h lost = subst AreLost (sym (take_more_set xs i e within)) (lost-push (take i xs) e h lost)
+
+lost-by : (e : Entry) (rest : Option Entry) (test : Bool) → e.held ≡ Lost → IsUnknown (shown rest) → IsUnknown (shown (cond test (Some e) rest))
+lost-by e rest true lost h = subst (λ k. IsUnknown (Some (known k))) (sym lost) tt
+lost-by e rest false lost h = h
+
+pub all-lost : (uri : List ℕ) (xs : List Entry) → AreLost xs → IsUnknown (shown (find (is_named uri) xs))
+all-lost uri [] h = tt
+all-lost uri (e ∷ es) h = lost-by e (find (is_named uri) es) (is_named uri e) h.0 (all-lost uri es h.1)
+
+lost-sent-by : (e : Entry) (rest : Option Entry) (test : Bool) → e.held ≡ Lost → option_and_then (λ entry. last_of entry.held) rest ≡ None → option_and_then (λ entry. last_of entry.held) (cond test (Some e) rest) ≡ None
+lost-sent-by e rest true lost h = ap last_of lost
+lost-sent-by e rest false lost h = h
+
+pub all-lost-sent : (uri : List ℕ) (xs : List Entry) → AreLost xs → option_and_then (λ entry. last_of entry.held) (find (is_named uri) xs) ≡ None
+all-lost-sent uri [] h = refl
+all-lost-sent uri (e ∷ es) h = lost-sent-by e (find (is_named uri) es) (is_named uri e) h.0 (all-lost-sent uri es h.1)
+
+-- what isn't known is unknown
+pub unknown : (k : Option (Option Opened)) → is_known k ≡ false → IsUnknown k
+unknown None h = tt
+unknown (Some None) h = tt
+unknown (Some (Some document)) h = cc
+
+-- ---- what isn't lost
+
+loses-by : (uri other : List ℕ) (old new : Documents) (test : Bool) → is_same uri other ≡ test → KeepsOthers uri old new → (found uri new ≡ Some None → IsUnknown (found uri old)) → found other new ≡ Some None → IsUnknown (found other old)
+loses-by uri other old new true is others here lost =
+    subst (λ f. IsUnknown (shown f)) (sym (found-same uri other old.entries.items is)) (here (sym (ap shown (found-same uri other new.entries.items is)) ∙ lost))
+loses-by uri other old new false is others here lost = subst IsUnknown (sym lost ∙ others other is) tt
+
+-- where the others stay none is lost if that one isn't
+pub loses_none : (uri : List ℕ) (old new : Documents) → KeepsOthers uri old new → (found uri new ≡ Some None → IsUnknown (found uri old)) → LosesNone old new
+loses_none uri old new others here = λ other lost. loses-by uri other old new (is_same uri other) refl others here lost
+
+-- one step after the other
+pub drop-both : (a b c : Option Sent) → MayDrop a b → MayDrop b c → MayDrop a c
+drop-both a b c (inl first) (inl second) = inl (second ∙ first)
+drop-both a b c (inl first) (inr none) = inr none
+drop-both a b c (inr none) (inl second) = inr (second ∙ none)
+drop-both a b c (inr first) (inr none) = inr none
+
+-- ---- losses that are told
+
+-- where one is told nothing more is owed
+pub warned_some : (lost : Option Loss) (loss : Loss) (old new : Documents) → lost ≡ Some loss → IsWarned lost old new
+warned_some None loss old new h = cc
+warned_some (Some l) loss old new h = tt
+
+pub warned_none : (lost : Option Loss) (old new : Documents) → lost ≡ None → LosesNone old new → IsWarned lost old new
+warned_none lost old new is h = subst (λ l. IsWarned l old new) (sym is) h
+
+-- all are lost
+pub warned_all : (lost : Option Loss) (old new : Documents) → (lost ≡ None → AreUnknown old) → IsWarned lost old new
+warned_all None old new h = λ uri gone. h refl uri
+warned_all (Some l) old new h = tt
+
+-- nothing changes
+pub warned_same : (old new : Documents) → AreSame old new → LosesNone old new
+warned_same old new same = λ uri gone. subst IsUnknown (sym gone ∙ same uri) tt
+
+still_known : (k : Option (Option Opened)) → is_known k ≡ true → k ≡ Some None → ⊥
+still_known None h gone = cc
+still_known (Some None) h gone = cc
+still_known (Some (Some document)) h gone = cc
+
+pub none_lost : (documents : Documents) → LosesNone documents documents
+none_lost documents = λ uri gone. subst IsUnknown (sym gone) tt
+
+-- a document may be lost
+pub warned_by : (lost : Option Loss) (uri : List ℕ) (old new : Documents) (was : Bool) → was ≡ is_known (found uri old) → KeepsOthers uri old new → (lost ≡ None → was ≡ true → is_known (found uri new) ≡ true) → IsWarned lost old new
+warned_by None uri old new true is others h = loses_none uri old new others (λ gone. absurd (still_known (found uri new) (h refl refl) gone))
+warned_by None uri old new false is others h = loses_none uri old new others (λ gone. unknown (found uri old) (sym is))
+warned_by (Some l) uri old new was is others h = tt
+
+-- a document is known now, or lost
+pub warned_open : (lost : Option Loss) (uri : List ℕ) (old new : Documents) → KeepsOthers uri old new → (lost ≡ None → true ≡ true → is_known (found uri new) ≡ true) → IsWarned lost old new
+warned_open None uri old new others h = loses_none uri old new others (λ gone. absurd (still_known (found uri new) (h refl refl) gone))
+warned_open (Some l) uri old new others h = tt
+
+-- a document is closed
+pub warned_close : (lost : Option Loss) (uri : List ℕ) (old new : Documents) → KeepsOthers uri old new → found uri new ≡ None → IsWarned lost old new
+warned_close None uri old new others closed = loses_none uri old new others (λ gone. let e : None ≡ Some None = sym closed ∙ gone in cc)
+warned_close (Some l) uri old new others closed = tt
+
+-- ---- steps of the open documents
+
+pub lost-set : (uri : List ℕ) (xs ys : List Entry) (old new : Entry) → Sets uri xs ys old new → new.held ≡ Lost → IsUnknown (shown (find (is_named uri) ys))
+lost-set uri xs ys old new s lost = subst (λ e. IsUnknown (shown e)) (sym s.behind) (subst (λ k. IsUnknown (Some (known k))) (sym lost) tt)
+
+pub lost-may : (old new : Entry) → new.held ≡ Lost → MayDrop (last_of old.held) (last_of new.held)
+lost-may old new lost = inr (ap last_of lost)
+
+pub unknown-none : (e : Option Entry) → e ≡ None → IsUnknown (shown e)
+unknown-none e h = subst (λ f. IsUnknown (shown f)) (sym h) tt
+
+pub lost-whole : (xs : List Entry) (i : ℕ) → length xs ≤ i → AreLost (take i xs) → AreLost xs
+lost-whole xs i past h = subst AreLost (take_all i xs past) h
+
+pub keeps-set : (encoding : Encoding) (step : Option (List ℕ) → Option (List ℕ)) (uri : List ℕ) (xs ys : List Entry) (old new : Entry) → Sets uri xs ys old new
+    → Keeps encoding step (Some (known old.held)) (Some (known new.held)) → Keeps encoding step (shown (find (is_named uri) xs)) (shown (find (is_named uri) ys))
+keeps-set encoding step uri xs ys old new s h =
+    subst (λ e. Keeps encoding step (shown e) (shown (find (is_named uri) ys))) (sym s.before) (subst (λ e. Keeps encoding step (Some (known old.held)) (shown e)) (sym s.behind) h)
+
+pub knows-none : (encoding : Encoding) (text : Option (List ℕ)) (e : Option Entry) → e ≡ None → Knows encoding (shown e) text
+knows-none encoding text e h = subst (λ f. Knows encoding (shown f) text) (sym h) tt
+
+pub kept-set : (uri : List ℕ) (xs ys : List Entry) (old new : Entry) → Sets uri xs ys old new → (sent : Sent) → IsKept (Some (known old.held)) sent (last_of new.held)
+    → IsKept (shown (find (is_named uri) xs)) sent (option_and_then (λ entry. last_of entry.held) (find (is_named uri) ys))
+kept-set uri xs ys old new s sent h =
+    subst (λ e. IsKept (shown e) sent (option_and_then (λ entry. last_of entry.held) (find (is_named uri) ys))) (sym s.before)
+    (subst (λ e. IsKept (Some (known old.held)) sent (option_and_then (λ entry. last_of entry.held) e)) (sym s.behind) h)
+
+pub kept-none : (sent : Sent) (e : Option Entry) → e ≡ None → IsKept (shown e) sent (option_and_then (λ entry. last_of entry.held) e)
+kept-none sent e h = subst (λ f. IsKept (shown f) sent (option_and_then (λ entry. last_of entry.held) f)) (sym h) tt
+
+pub others-sent : (uri : List ℕ) (xs ys : List Entry) (old new : Entry) → Sets uri xs ys old new → (other : List ℕ) → is_same uri other ≡ false
+    → option_and_then (λ entry. last_of entry.held) (find (is_named other) ys) ≡ option_and_then (λ entry. last_of entry.held) (find (is_named other) xs)
+others-sent uri xs ys old new s other far = ap (option_and_then (λ (entry : Entry). last_of entry.held)) (s.others other far)
+
+sent-kept-by : (uri other : List ℕ) (xs ys : List Entry) (old new : Entry) (test : Bool) → is_same uri other ≡ test → Sets uri xs ys old new → last_of new.held ≡ last_of old.held
+    → option_and_then (λ entry. last_of entry.held) (find (is_named other) ys) ≡ option_and_then (λ entry. last_of entry.held) (find (is_named other) xs)
+sent-kept-by uri other xs ys old new true is s same =
+    ap (option_and_then (λ (entry : Entry). last_of entry.held)) (found-same uri other ys is ∙ s.behind) ∙ same ∙ sym (ap (option_and_then (λ (entry : Entry). last_of entry.held)) (found-same uri other xs is ∙ s.before))
+sent-kept-by uri other xs ys old new false is s same = others-sent uri xs ys old new s other is
+
+pub sent-kept : (uri : List ℕ) (xs ys : List Entry) (old new : Entry) → Sets uri xs ys old new → last_of new.held ≡ last_of old.held → (other : List ℕ)
+    → option_and_then (λ entry. last_of entry.held) (find (is_named other) ys) ≡ option_and_then (λ entry. last_of entry.held) (find (is_named other) xs)
+sent-kept uri xs ys old new s same other = sent-kept-by uri other xs ys old new (is_same uri other) refl s same
+
+pub knows-unknown : (encoding : Encoding) (k : Option (Option Opened)) (text : Option (List ℕ)) → IsUnknown k → Knows encoding k text
+knows-unknown encoding None text h = tt
+knows-unknown encoding (Some None) text h = tt
+knows-unknown encoding (Some (Some document)) text h = absurd h
+
+-- none of some entries is known
+abbrev pub AreUnknownAll : List Entry → Type 0
+AreUnknownAll [] = Unit {0}
+AreUnknownAll (e ∷ es) = (is_known (Some (known e.held)) ≡ false) × AreUnknownAll es
+
+unknown-push : (xs : List Entry) (e : Entry) → AreUnknownAll xs → is_known (Some (known e.held)) ≡ false → AreUnknownAll (xs ++ e ∷ [])
+unknown-push [] e h none = (none, tt)
+unknown-push (x ∷ xs) e h none = (h.0, unknown-push xs e h.1 none)
+
+-- one more isn't known
+pub unknown-more : (xs : List Entry) (i : ℕ) (e : Entry) → i < length xs → e ≡ get_or xs i e → AreUnknownAll (take i xs) → is_known (Some (known e.held)) ≡ false → AreUnknownAll (take (i + 1) xs)
+unknown-more xs i e within is h none = subst AreUnknownAll (sym (take_more xs i e within ∙ ap (λ x. take i xs ++ x ∷ []) (sym is))) (unknown-push (take i xs) e h none)
+
+unknown-by : (e : Entry) (rest : Option Entry) (test : Bool) → is_known (Some (known e.held)) ≡ false → IsUnknown (shown rest) → IsUnknown (shown (cond test (Some e) rest))
+unknown-by e rest true none h = unknown (Some (known e.held)) none
+unknown-by e rest false none h = h
+
+all-unknown-in : (uri : List ℕ) (xs : List Entry) → AreUnknownAll xs → IsUnknown (shown (find (is_named uri) xs))
+all-unknown-in uri [] h = tt
+all-unknown-in uri (e ∷ es) h = unknown-by e (find (is_named uri) es) (is_named uri e) h.0 (all-unknown-in uri es h.1)
+
+pub all-unknown : (uri : List ℕ) (xs : List Entry) (i : ℕ) → length xs ≤ i → AreUnknownAll (take i xs) → IsUnknown (shown (find (is_named uri) xs))
+all-unknown uri xs i past h = all-unknown-in uri xs (subst AreUnknownAll (take_all i xs past) h)
+
+pub lost-in : (uri : List ℕ) (xs es : List Entry) → xs ≡ es → AreLost es → IsUnknown (shown (find (is_named uri) xs))
+lost-in uri xs es same h = subst (λ ys. IsUnknown (shown (find (is_named uri) ys))) (sym same) (all-lost uri es h)
+
+pub lost-sent-in : (uri : List ℕ) (xs es : List Entry) → xs ≡ es → AreLost es → option_and_then (λ entry. last_of entry.held) (find (is_named uri) xs) ≡ None
+lost-sent-in uri xs es same h = ap (λ ys. option_and_then (λ (entry : Entry). last_of entry.held) (find (is_named uri) ys)) same ∙ all-lost-sent uri es h
+
+pub unknown-in-all : (uri : List ℕ) (xs es : List Entry) (i : ℕ) → es ≡ xs → length es ≤ i → AreUnknownAll (take i es) → IsUnknown (shown (find (is_named uri) xs))
+unknown-in-all uri xs es i same past h = subst (λ ys. IsUnknown (shown (find (is_named uri) ys))) same (all-unknown uri es i past h)

@@ -4,10 +4,12 @@ mod Edits
 mod Encoding
 mod Growing
 mod Held
+mod Keeping
 mod Locating
 mod Publishing
 mod Records
 mod Responses
+mod Taking
 mod Texts
 mod Transcripts
 mod Walking

@@ -1,43 +1,46 @@
 -- Responses to requests.
 use Rattle.std.proofs.Common.{◌≡◌, ℕ, List, Option, None, Some, Result, Ok, Err, IfOk, MatchResult, inl, inr, refl, ap, subst, sym, ◌∙◌}
-use Rattle.std.specs.Prelude.{String}
+use Rattle.std.specs.Prelude.{⊤, String}
 use Rattle.std.specs.String.{string_bytes}
 use Rattle.std.specs.declared.alloc.Global.{Global}
 use Rattle.typst_protocol.specs.Bodies.{failure, success}
 use Rattle.serde_json.specs.Data.{Data}
 use Rattle.typst_protocol.specs.Parameters as parameters
 use Rattle.typst_protocol.specs.declared.method.Method.{Method}
-use Rattle.typst_protocol.specs.declared.method.Method.TheVariants.{Initialize, Shutdown, WorkspaceSymbols}
+use Rattle.typst_protocol.specs.declared.method.Method.TheVariants.{Initialize, Shutdown, WorkspaceSymbols, Diagnostics, Definition, References, Highlights}
 use Rattle.typst_protocol.specs.declared.refusal.Refusal.{Refusal}
 use Rattle.typst_protocol.specs.declared.refusal.Refusal.TheVariants.{BadParameters, OutOfMemory}
 use Rattle.typst_server.specs.Document.{Opened}
 use Rattle.typst_server.specs.Documents.{IsMissing, found}
-use Rattle.typst_server.specs.Phases.{Follows, Responds}
-use Rattle.typst_server.specs.Results.{Answer, Gives, IsAbout, OfDocuments, Tells, asked_of}
+use Rattle.typst_server.specs.Made.{IsLed, standing_after}
+use Rattle.typst_server.specs.Phases.{Responds, leads}
+use Rattle.typst_server.specs.Results.{Answer, Gives, IsAbout, IsOf, Looks, OfDocuments, Tells, said_of}
+use Rattle.typst_server.specs.declared.diagnostics.ShownErrors.{ShownErrors}
 use Rattle.typst_server.specs.declared.documents.Documents.{Documents}
+use Rattle.typst_server.specs.declared.server.Made.{Made}
 use Rattle.typst_server.specs.declared.server.Phase.TheVariants.{Running}
 use Rattle.typst_server.specs.declared.server.Standing.{Standing}
 
-refused : (to : Result Standing Refusal) (old new : Standing) (refusal : Refusal) (id text : List ℕ) → Follows {T = String Global} to old new (Err refusal) → text ≡ failure id refusal → Responds to old new id text
-refused (Ok standing) old new refusal id text h is = inr ((refusal, is), h)
-refused (Err why) old new refusal id text h is = let same : refusal ≡ why = cc (h.0) in (inl (is ∙ ap (λ r. failure id r) same), h.1)
-
-stays : (to : Result Standing Refusal) (old new : Standing) (refusal : Refusal) → Follows {T = String Global} to old new (Err refusal) → new ≡ old
-stays (Ok standing) old new refusal h = h
-stays (Err why) old new refusal h = h.1
-
 -- a request that is refused has the error that says why, if memory suffices
-pub responds-refused : {E : Type 0} (result : Result (String Global) E) (to : Result Standing Refusal) (old new : Standing) (refusal : Refusal) (id : List ℕ) → Follows {T = String Global} to old new (Err refusal)
-    → IfOk result (λ body. string_bytes body ≡ failure id refusal) → MatchResult result (λ text. Responds to old new id (string_bytes text)) (λ _. new ≡ old)
-responds-refused (Ok text) to old new refusal id h is = refused to old new refusal id (string_bytes text) h is
-responds-refused (Err e) to old new refusal id h is = stays to old new refusal h
+refused : (to : Result Standing Refusal) (now : Standing) (refusal : Refusal) (id text : List ℕ) → IsLed to now (Err refusal) → text ≡ failure id refusal → Responds to now now id text
+refused (Ok standing) now refusal id text h is = inr ((refusal, is), refl)
+refused (Err why) now refusal id text h is = let same : refusal ≡ why = cc h in (inl (is ∙ ap (λ r. failure id r) same), refl)
 
--- a response that holds the value tells it, and one that holds the refusal tells that
-pub tells-value : {E : Type 0} (given : Answer → Type 0) (result : Result (String Global) E) (id value : List ℕ) → given (Ok value) → IfOk result (λ body. string_bytes body ≡ success id value)
-    → IfOk result (λ body. Tells given id (string_bytes body))
-tells-value given (Ok text) id value may told = record { answer = Ok value; told = told; meant = inl may }
-tells-value given (Err e) id value may told = tt
+pub responds-refused : {E : Type 0} (result : Result (String Global) E) (to : Result Standing Refusal) (now : Standing) (refusal : Refusal) (id : List ℕ) → IsLed to now (Err refusal)
+    → IfOk result (λ body. string_bytes body ≡ failure id refusal) → MatchResult result (λ text. Responds to now now id (string_bytes text)) (λ _. now ≡ now)
+responds-refused (Ok text) to now refusal id h is = refused to now refusal id (string_bytes text) h is
+responds-refused (Err e) to now refusal id h is = refl
 
+-- one that is answered goes where it leads
+pub responds_made : (to : Result Standing Refusal) (old new : Standing) (made : Made) (id text : List ℕ) → IsLed to old (Ok made) → new ≡ standing_after made.effect old → text ≡ success id (string_bytes made.value)
+    → Responds to old new id text
+responds_made (Ok standing) old new made id text h stands is = inl ((string_bytes made.value, is), stands ∙ h)
+responds_made (Err why) old new made id text h stands is = cc
+
+pub tells_made : (given : Answer → Type 0) (id text value : List ℕ) → given (Ok value) → text ≡ success id value → Tells given id text
+tells_made given id text value may told = record { answer = Ok value; told = told; meant = inl may }
+
+-- a response that holds the refusal tells that
 pub tells-refusal : {E : Type 0} (given : Answer → Type 0) (result : Result (String Global) E) (id : List ℕ) (why : Refusal) → given (Err why) → IfOk result (λ body. string_bytes body ≡ failure id why)
     → IfOk result (λ body. Tells given id (string_bytes body))
 tells-refusal given (Ok text) id why may told = record { answer = Err why; told = told; meant = inl may }
@@ -52,30 +55,58 @@ pub tells-memory : (given : Answer → Type 0) (id text : List ℕ) → text ≡
 tells-memory given id text told = record { answer = Err OutOfMemory; told = told; meant = inr refl }
 
 -- a document that isn't named, and one of which nothing is known
-pub about-unnamed : (uri : Option (List ℕ)) (documents : Documents) (why : Refusal) → uri ≡ None → why ≡ BadParameters → IsAbout (asked_of uri documents) (Err why)
-about-unnamed uri documents why unnamed bad = subst (λ u. IsAbout (asked_of u documents) (Err why)) (sym unnamed) (ap (λ w. Err w) bad)
+pub about_unnamed : (which : ShownErrors) (method : Method) (uri : Option (List ℕ)) (documents : Documents) (why : Refusal) → uri ≡ None → why ≡ BadParameters → IsOf which method uri documents (Err why)
+about_unnamed which method uri documents why unnamed bad = subst (λ u. IsOf which method u documents (Err why)) (sym unnamed) (ap (λ w. Err w) bad)
 
-missing : (known : Option (Option Opened)) (why : Refusal) → IsMissing known why → IsAbout known (Err why)
-missing None why h = ap (λ w. Err w) h
-missing (Some None) why h = ap (λ w. Err w) h
-missing (Some (Some document)) why h = absurd h
+missing : (which : ShownErrors) (method : Method) (uri : List ℕ) (known : Option (Option Opened)) (why : Refusal) → IsMissing known why → IsAbout which method uri known (Err why)
+missing which method uri None why h = ap (λ w. Err w) h
+missing which method uri (Some None) why h = ap (λ w. Err w) h
+missing which method uri (Some (Some document)) why h = absurd h
 
-pub about-missing : (uri : Option (List ℕ)) (named : List ℕ) (documents : Documents) (why : Refusal) → uri ≡ Some named → IsMissing (found named documents) why → IsAbout (asked_of uri documents) (Err why)
-about-missing uri named documents why is h = subst (λ u. IsAbout (asked_of u documents) (Err why)) (sym is) (missing (found named documents) why h)
+pub about_missing : (which : ShownErrors) (method : Method) (uri : Option (List ℕ)) (named : List ℕ) (documents : Documents) (why : Refusal) → uri ≡ Some named → IsMissing (found named documents) why
+    → IsOf which method uri documents (Err why)
+about_missing which method uri named documents why is h = subst (λ u. IsOf which method u documents (Err why)) (sym is) (missing which method named (found named documents) why h)
 
 -- one that is known
-pub about-known : (uri : Option (List ℕ)) (named : List ℕ) (documents : Documents) (document : Opened) (answer : Answer) → uri ≡ Some named → found named documents ≡ Some (Some document)
-    → IsAbout (asked_of uri documents) answer
-about-known uri named documents document answer is known =
-    subst (λ u. IsAbout (asked_of u documents) answer) (sym is) (subst (λ f. IsAbout f answer) (sym known) tt)
+pub about_known : (which : ShownErrors) (method : Method) (uri : Option (List ℕ)) (named : List ℕ) (documents : Documents) (document : Opened) (answer : Answer) → uri ≡ Some named
+    → found named documents ≡ Some (Some document) → IfOk answer (Looks which method named document) → IsOf which method uri documents answer
+about_known which method uri named documents document answer is known h =
+    subst (λ u. IsOf which method u documents answer) (sym is) (subst (λ f. IsAbout which method named f answer) (sym known) h)
+
+-- what is said of it
+said_ok : (P : List ℕ → Type 0) (result : Result (String Global) Refusal) → IfOk result (λ text. P (string_bytes text)) → IfOk (said_of result) P
+said_ok P (Ok text) h = h
+said_ok P (Err why) h = tt
+
+pub looked : (which : ShownErrors) (method : Method) (uri : List ℕ) (document : Opened) (value : Result (String Global) Refusal) (answer : Answer) → answer ≡ said_of value
+    → IfOk value (λ text. Looks which method uri document (string_bytes text)) → IfOk answer (Looks which method uri document)
+looked which method uri document value answer is h = subst (λ a. IfOk a (Looks which method uri document)) (sym is) (said_ok (Looks which method uri document) value h)
+
+-- of tokens nothing more is stated there
+pub looked_tokens : (answer : Answer) → IfOk answer (λ _. ⊤)
+looked_tokens (Ok value) = tt
+looked_tokens (Err why) = tt
+
+looks_rest : (which : ShownErrors) (method : Method) (uri : List ℕ) (document : Opened) (value : List ℕ) → (method ≡ Diagnostics → ⊥) → (method ≡ Definition → ⊥) → (method ≡ References → ⊥) → (method ≡ Highlights → ⊥)
+    → Looks which method uri document value
+looks_rest which Diagnostics uri document value d e r h = absurd (d refl)
+looks_rest which Definition uri document value d e r h = absurd (e refl)
+looks_rest which References uri document value d e r h = absurd (r refl)
+looks_rest which Highlights uri document value d e r h = absurd (h refl)
+looks_rest which _ uri document value d e r h = tt
+
+pub looked_rest : (which : ShownErrors) (method : Method) (uri : List ℕ) (document : Opened) (result : Result (String Global) Refusal) → (method ≡ Diagnostics → ⊥) → (method ≡ Definition → ⊥) → (method ≡ References → ⊥)
+    → (method ≡ Highlights → ⊥) → IfOk result (λ text. Looks which method uri document (string_bytes text))
+looked_rest which method uri document (Ok text) d e r h = looks_rest which method uri document (string_bytes text) d e r h
+looked_rest which method uri document (Err why) d e r h = tt
 
 -- a request that neither begins a session nor ends it is about a document
-pub gives-about : (method : Method) (params : Option Data) (documents : Documents) (answer : Answer) → (method ≡ Shutdown → ⊥) → (method ≡ WorkspaceSymbols → ⊥) → IsAbout (asked_of (parameters.uri params) documents) answer
-    → Gives Running (Some method) params documents answer
-gives-about Initialize params documents answer goes_on of_one h = tt
-gives-about Shutdown params documents answer goes_on of_one h = absurd (goes_on refl)
-gives-about WorkspaceSymbols params documents answer goes_on of_one h = absurd (of_one refl)
-gives-about _ params documents answer goes_on of_one h = h
+pub gives_about : (which : ShownErrors) (method : Method) (params : Option Data) (documents : Documents) (answer : Answer) → (method ≡ Shutdown → ⊥) → (method ≡ WorkspaceSymbols → ⊥)
+    → IsOf which method (parameters.uri params) documents answer → Gives Running which (Some method) params documents answer
+gives_about which Initialize params documents answer goes_on of_one h = tt
+gives_about which Shutdown params documents answer goes_on of_one h = absurd (goes_on refl)
+gives_about which WorkspaceSymbols params documents answer goes_on of_one h = absurd (of_one refl)
+gives_about which _ params documents answer goes_on of_one h = h
 
 -- what is looked for isn't named, and is
 pub of_unnamed : (query : Option (List ℕ)) (why : Refusal) → query ≡ None → why ≡ BadParameters → OfDocuments query (Err why)
@@ -83,3 +114,10 @@ of_unnamed query why unnamed bad = subst (λ q. OfDocuments q (Err why)) (sym un
 
 pub of_named : (query : Option (List ℕ)) (named : List ℕ) (answer : Answer) → query ≡ Some named → OfDocuments query answer
 of_named query named answer is = subst (λ q. OfDocuments q answer) (sym is) tt
+
+-- a request that neither begins a session nor ends it leaves the server where it stands
+pub goes_on : (method : Method) (params : Option Data) (now : Standing) (result : Result Made Refusal) → (method ≡ Initialize → ⊥) → (method ≡ Shutdown → ⊥)
+    → IfOk result (λ made. standing_after made.effect now ≡ now) → IsLed (leads Running (Some method) params now) now result
+goes_on Initialize params now result begins ends h = absurd (begins refl)
+goes_on Shutdown params now result begins ends h = absurd (ends refl)
+goes_on _ params now result begins ends h = h

@@ -1,18 +1,28 @@
 -- Transcripts that grow reply by reply.
-use Rattle.std.proofs.Common.{◌≡◌, ℕ, List, [], ◌∷◌, ◌++◌, Option, None, Some, inl, IfSome, Result, Ok, Err, refl, sym, ap, subst, ◌∙◌, append_assoc, append-nil, arith}
+use Rattle.std.proofs.Common.{◌≡◌, ℕ, ◌+◌, ◌<◌, ◌≤◌, List, [], ◌∷◌, ◌++◌, length, take, drop, get_or, Option, None, Some, inl, IfSome, Result, Ok, Err, refl, sym, ap, subst, ◌∙◌, append_assoc, append-nil, take-append-drop, arith}
 use Rattle.std.proofs.KnownBytes.{Appends-nil, Appends-trans}
 use Rattle.std.proofs.lemmas.Grind.{flat_map-append}
+use Rattle.std.proofs.lemmas.List.{map-append, map_more, take_all}
+use Rattle.std.specs.Prelude.{String, map}
+use Rattle.std.specs.String.{string_bytes}
+use Rattle.std.specs.declared.alloc.Global.{Global}
+use Rattle.typst_protocol.specs.Frames.{written}
 use Rattle.std.specs.Io.KnownBytes.{Appends}
 use Rattle.std.specs.List.{AllByRecursion}
-use Rattle.typst_protocol.proofs.Writing.{begins-after}
+use Rattle.typst_protocol.proofs.Writing.{begins-after, begins-front}
 use Rattle.typst_protocol.specs.Escapes.{mended}
-use Rattle.typst_protocol.specs.Stream.{Answers, AnswersAfter, Passes, Reads, Stream}
+use Rattle.typst_protocol.specs.Stream.{Answers, AnswersAfter, Begins, Passes, Reads, Stream}
 use Rattle.typst_protocol.specs.declared.frames.reader.End.{End}
 use Rattle.typst_protocol.specs.declared.frames.reader.Frame.{Frame}
 use Rattle.typst_protocol.specs.declared.frames.reader.Frame.TheVariants.{Body, TooLong, OutOfMemory}
+use Rattle.typst_protocol.specs.Bodies.{nameless, text_of, warning}
+use Rattle.typst_protocol.specs.declared.refusal.Loss.{Loss}
+use Rattle.typst_protocol.specs.declared.refusal.Unread.{Unread}
 use Rattle.typst_protocol.specs.declared.refusal.Unread.TheVariants as unread
 use Rattle.typst_server.specs.Sessions.{IsHandled, IsNew, LosesAll}
-use Rattle.typst_server.specs.Transcript.{AnswersFrame, AreAnswered, Ends, EndsBy, GoesOn, IsAnswered, IsFirst, IsNoExit, IsReason, IsStatus, Sends, Serves, Turns, WentOut, sent, transcript}
+use Rattle.typst_server.specs.Transcript.{AnswersFrame, AreAnswered, Ends, EndsBy, GoesOn, IsAnswered, IsFirst, IsNoExit, IsReason, IsStatus, Sends, Serves, Turns, WentOut, frames_of, sent, told, transcript, warnings}
+use Rattle.typst_server.specs.declared.diagnostics.ShownErrors.{ShownErrors}
+use Rattle.typst_server.specs.declared.reply.News.{News}
 use Rattle.typst_server.specs.declared.reply.Reply.{Reply}
 use Rattle.typst_server.specs.declared.reply.Reply.TheVariants as reply
 use Rattle.typst_server.specs.declared.server.Server.{Server}
@@ -97,7 +107,7 @@ gives-up from to stream a b left before = record { answers = before.answers; res
 -- the reply to a frame that was read is one to its body
 unread-handled : (old new : Server) (body : List ℕ) (answer : Reply) → LosesAll old new unread.OutOfMemory answer → IsHandled old new body answer
 unread-handled old new body answer h =
-    subst (IsHandled old new body) (sym h.reply) (record { reply = (inl refl, h.standing); documents = h.lost })
+    subst (IsHandled old new body) (sym h.reply) (record { reply = (inl refl, h.emptied, h.standing); documents = inl (tt, h.lost); warned = h.warned; tokens = h.tokens })
 
 answered-of : (old new : Server) (f : List ℕ × List ℕ) (what : Frame) (held : List ℕ) (left : Option (List ℕ)) (answer : Reply) → Passes f what held left → AnswersFrame old new what held answer → IsAnswered old new f.0 answer
 answered-of old new f Body held left answer p h = record { read = λ _. subst (λ body. IsHandled old new (mended body) answer) p.1 h; too_long = λ long. absurd (omega (arith, p.0, long)) }
@@ -174,7 +184,80 @@ never-began server None old = tt
 never-began server (Some stream) old = record { answers = []; rest = stream; answered = (refl, refl); out = Appends-nil old; reason = tt }
 
 -- the status by the end, where that was new
-pub serves-known : (first last : Server) (known old new : Option (List ℕ)) (why : Ended) (status : ℕ) → IsNew first → IfSome known (λ stream. Ends first last stream old new why) → IsStatus why last.standing.phase status
-    → IfSome known (λ stream. Serves stream old new status)
-serves-known first last None old new why status fresh ends given = tt
-serves-known first last (Some stream) old new why status fresh ends given = record { why = why; first = first; last = last; fresh = fresh; ends = ends; given = given }
+pub serves-known : (which : ShownErrors) (first last : Server) (known old new : Option (List ℕ)) (why : Ended) (status : ℕ) → IsNew which first → IfSome known (λ stream. Ends first last stream old new why) → IsStatus why last.standing.phase status
+    → IfSome known (λ stream. Serves which stream old new status)
+serves-known which first last None old new why status fresh ends given = tt
+serves-known which first last (Some stream) old new why status fresh ends given = record { why = why; first = first; last = last; fresh = fresh; ends = ends; given = given }
+
+-- one more body is written
+pub frames-more : (bodies : List (String Global)) (i : ℕ) (d : String Global) → i < length bodies
+    → frames_of (map string_bytes (take (i + 1) bodies)) ≡ frames_of (map string_bytes (take i bodies)) ++ written (string_bytes (get_or bodies i d))
+frames-more bodies i d within =
+    ap frames_of (map_more string_bytes bodies i d within)
+    ∙ flat_map-append written (map string_bytes (take i bodies)) (string_bytes (get_or bodies i d) ∷ [])
+    ∙ ap (λ bs. frames_of (map string_bytes (take i bodies)) ++ bs) (append-nil (written (string_bytes (get_or bodies i d))))
+
+-- all bodies are those up to an index, and the others
+pub frames-split : (bodies : List (String Global)) (i : ℕ) → frames_of (map string_bytes bodies) ≡ frames_of (map string_bytes (take i bodies)) ++ frames_of (map string_bytes (drop i bodies))
+frames-split bodies i =
+    ap (λ bs. frames_of (map string_bytes bs)) (sym (take-append-drop i bodies))
+    ∙ ap frames_of (map-append string_bytes (take i bodies) (drop i bodies))
+    ∙ flat_map-append written (map string_bytes (take i bodies)) (map string_bytes (drop i bodies))
+
+-- where one isn't written a beginning of all is
+pub begins-at : (a b c : Option (List ℕ)) (bodies : List (String Global)) (i : ℕ) (d : String Global) → i < length bodies → Appends a b (frames_of (map string_bytes (take i bodies)))
+    → Begins b c (written (string_bytes (get_or bodies i d))) → Begins a c (frames_of (map string_bytes bodies))
+begins-at a b c bodies i d within before h =
+    let one : Begins a c (frames_of (map string_bytes (take (i + 1) bodies))) =
+    subst (Begins a c) (sym (frames-more bodies i d within)) (begins-after a b c (frames_of (map string_bytes (take i bodies))) (written (string_bytes (get_or bodies i d))) before h) in
+    subst (Begins a c) (sym (frames-split bodies (i + 1))) (begins-front a c (frames_of (map string_bytes (take (i + 1) bodies))) (frames_of (map string_bytes (drop (i + 1) bodies))) one)
+
+pub more-written : (a b c : Option (List ℕ)) (bodies : List (String Global)) (i : ℕ) (d : String Global) → i < length bodies → Appends a b (frames_of (map string_bytes (take i bodies)))
+    → Appends b c (written (string_bytes (get_or bodies i d))) → Appends a c (frames_of (map string_bytes (take (i + 1) bodies)))
+more-written a b c bodies i d within before h =
+    subst (Appends a c) (sym (frames-more bodies i d within)) (Appends-trans a b c (frames_of (map string_bytes (take i bodies))) (written (string_bytes (get_or bodies i d))) before h)
+
+pub all-written : (a b : Option (List ℕ)) (bodies : List (String Global)) (i : ℕ) → length bodies ≤ i → Appends a b (frames_of (map string_bytes (take i bodies))) → Appends a b (frames_of (map string_bytes bodies))
+all-written a b bodies i past h = subst (λ bs. Appends a b (frames_of (map string_bytes bs))) (take_all i bodies past) h
+
+-- bodies behind bodies
+pub frames-both : (xs ys : List (List ℕ)) → frames_of (xs ++ ys) ≡ frames_of xs ++ frames_of ys
+frames-both xs ys = flat_map-append written xs ys
+
+-- one body is sent by its frame
+pub frames-one : (body : List ℕ) → frames_of (body ∷ []) ≡ written body
+frames-one body = append-nil (written body)
+
+-- what is written of a loss is its warning
+pub warned-bytes : (lost : Option Loss) (loss : Loss) (bytes : List ℕ) → lost ≡ Some loss → bytes ≡ warning (text_of loss) → written bytes ≡ frames_of (warnings lost)
+warned-bytes lost loss bytes is same = ap written same ∙ sym (frames-one (warning (text_of loss))) ∙ ap (λ l. frames_of (warnings l)) (sym is)
+
+-- a beginning of a warning is one of all that is told
+pub news-front : (a b : Option (List ℕ)) (news : News) → Begins a b (frames_of (warnings news.lost)) → Begins a b (frames_of (told news))
+news-front a b news h =
+    let published : List (List ℕ) = map string_bytes news.published.items in
+    subst (Begins a b) (sym (frames-both (warnings news.lost) published)) (begins-front a b (frames_of (warnings news.lost)) (frames_of published) h)
+
+pub news-after : (a b c : Option (List ℕ)) (news : News) (bodies : List (String Global)) → bodies ≡ news.published.items → Appends a b (frames_of (warnings news.lost)) → Begins b c (frames_of (map string_bytes bodies))
+    → Begins a c (frames_of (told news))
+news-after a b c news bodies same before h =
+    let published : List (List ℕ) = map string_bytes news.published.items in
+    subst (Begins a c) (sym (frames-both (warnings news.lost) published))
+    (begins-after a b c (frames_of (warnings news.lost)) (frames_of published) before (subst (λ bs. Begins b c (frames_of (map string_bytes bs))) same h))
+
+-- a reply without a name sends its refusal, and then what is told
+pub nameless-front : (a b : Option (List ℕ)) (answer : Reply) (why : Unread) (news : News) (bytes : List ℕ) → answer ≡ reply.Nameless why news → bytes ≡ nameless why → Begins a b (written bytes) → Begins a b (sent answer)
+nameless-front a b answer why news bytes is same h =
+    subst (λ x. Begins a b (sent x)) (sym is) (begins-front a b (written (nameless why)) (frames_of (told news)) (subst (λ bs. Begins a b (written bs)) same h))
+
+pub nameless-after : (a b c : Option (List ℕ)) (answer : Reply) (why : Unread) (news : News) (bytes : List ℕ) → answer ≡ reply.Nameless why news → bytes ≡ nameless why → Appends a b (written bytes)
+    → Begins b c (frames_of (told news)) → Begins a c (sent answer)
+nameless-after a b c answer why news bytes is same before h =
+    subst (λ x. Begins a c (sent x)) (sym is)
+    (begins-after a b c (written (nameless why)) (frames_of (told news)) (subst (λ bs. Appends a b (written bs)) same before) h)
+
+pub nameless-whole : (a b c : Option (List ℕ)) (answer : Reply) (why : Unread) (news : News) (bytes : List ℕ) → answer ≡ reply.Nameless why news → bytes ≡ nameless why → Appends a b (written bytes)
+    → Appends b c (frames_of (told news)) → Appends a c (sent answer)
+nameless-whole a b c answer why news bytes is same before h =
+    subst (λ x. Appends a c (sent x)) (sym is)
+    (Appends-trans a b c (written (nameless why)) (frames_of (told news)) (subst (λ bs. Appends a b (written bs)) same before) h)

@@ -14,9 +14,11 @@ use Rattle.typst_protocol.specs.declared.method.Event.TheVariants as event
 use Rattle.typst_protocol.specs.declared.refusal.Unread.{Unread}
 use Rattle.typst_protocol.specs.declared.refusal.Unread.TheVariants as unread
 use Rattle.typst_server.specs.Phases.{Responds, allowed, status_of}
-use Rattle.typst_server.specs.Published.{SaysNews}
+use Rattle.typst_server.specs.Published.{EmptiesAll, SaysNews}
 use Rattle.typst_server.specs.Results.{Gives, Tells}
+use Rattle.typst_server.specs.declared.diagnostics.ShownErrors.{ShownErrors}
 use Rattle.typst_server.specs.declared.documents.Documents.{Documents}
+use Rattle.typst_server.specs.declared.reply.News.{News}
 use Rattle.typst_server.specs.declared.reply.Reply.{Reply}
 use Rattle.typst_server.specs.declared.reply.Reply.TheVariants as reply
 use Rattle.typst_server.specs.declared.server.Phase.TheVariants.{Running}
@@ -34,19 +36,19 @@ told_by name = named events name
 abbrev pub IsReplyTo : Standing → Standing → Documents → Documents → Message → Reply → Type 0
 IsReplyTo old new before behind (message.Request r) (reply.Response text) =
     Responds (allowed old (named methods r.method.now) (parameters.seen r.params)) old new r.id (string_bytes text)
-    × Tells (Gives old.phase (named methods r.method.now) (parameters.seen r.params) before) r.id (string_bytes text)
-IsReplyTo old new before behind (message.Request r) (reply.Nameless why) = IsOfMemory why × (new ≡ old)
+    × Tells (Gives old.phase old.errors (named methods r.method.now) (parameters.seen r.params) before) r.id (string_bytes text)
+IsReplyTo old new before behind (message.Request r) (reply.Nameless why news) = IsOfMemory why × EmptiesAll news × (new ≡ old)
 IsReplyTo old new before behind (message.Request r) _ = ⊥
 IsReplyTo old new before behind (message.Notification n) (reply.Response text) = ⊥
-IsReplyTo old new before behind (message.Notification n) (reply.Nameless why) = ⊥
+IsReplyTo old new before behind (message.Notification n) (reply.Nameless why news) = ⊥
 IsReplyTo old new before behind (message.Notification n) (reply.Exit status) = (told_by n.method.now ≡ Some event.Exit) × (status ≡ status_of old.phase) × (new ≡ old)
-IsReplyTo old new before behind (message.Notification n) (reply.Notification text) = (old.phase ≡ Running) × (new ≡ old) × SaysNews (parameters.seen n.params) behind (string_bytes text)
+IsReplyTo old new before behind (message.Notification n) (reply.News news) = (old.phase ≡ Running) × (new ≡ old) × SaysNews new.errors (parameters.seen n.params) behind news
 IsReplyTo old new before behind (message.Notification n) reply.Nothing = new ≡ old
 IsReplyTo old new before behind message.Response answer = (answer ≡ reply.Nothing) × (new ≡ old)
 
--- what a client does with a document is answered by a notification between `initialize` and `shutdown` alone, or by nothing
+-- what a client does with a document is answered by notifications between `initialize` and `shutdown` alone, or by nothing
 abbrev pub TakesEvent : Standing → Standing → Option Data → Documents → Reply → Type 0
-TakesEvent old new params behind (reply.Notification text) = (old.phase ≡ Running) × (new ≡ old) × SaysNews params behind (string_bytes text)
+TakesEvent old new params behind (reply.News news) = (old.phase ≡ Running) × (new ≡ old) × SaysNews new.errors params behind news
 TakesEvent old new params behind reply.Nothing = new ≡ old
 TakesEvent old new params behind _ = ⊥
 
@@ -76,7 +78,7 @@ pub record IsAsked (old new : Standing) (documents : Documents) (body text : Lis
   pub id : Data
   pub asked : said value ≡ asks id
   pub response : Responds (allowed old (option_and_then (named methods) (method_of value)) (parameters.params value)) old new (compact_text id) text
-  pub answer : Tells (Gives old.phase (option_and_then (named methods) (method_of value)) (parameters.params value) documents) (compact_text id) text
+  pub answer : Tells (Gives old.phase old.errors (option_and_then (named methods) (method_of value)) (parameters.params value) documents) (compact_text id) text
 
 -- a body tells that all ends
 pub record IsExit (body : List ℕ) : Type 0 where
@@ -86,17 +88,17 @@ pub record IsExit (body : List ℕ) : Type 0 where
   pub exit : option_and_then told_by (method_of value) ≡ Some event.Exit
 
 -- a body tells something of a document, and this is said of it
-pub record IsNoticed (behind : Documents) (body text : List ℕ) : Type 0 where
+pub record IsNoticed (which : ShownErrors) (behind : Documents) (body : List ℕ) (news : News) : Type 0 where
   pub value : Data
   pub read : read_text body ≡ Some value
   pub told : said value ≡ tells
-  pub news : SaysNews (parameters.params value) behind text
+  pub says : SaysNews which (parameters.params value) behind news
 
 -- what may be done about a body, and where the server stands behind it: only a request has a response, with its identifier, and what is no
--- message has one without; where memory is refused anything may get the latter
+-- message has one without, with notifications that say that documents have no problems; where memory is refused anything may get the latter
 abbrev pub IsAnswer : Standing → Standing → Documents → Documents → List ℕ → Reply → Type 0
 IsAnswer old new before behind body (reply.Response text) = IsAsked old new before body (string_bytes text)
-IsAnswer old new before behind body (reply.Nameless why) = (IsOfMemory why ⊎ IsNoMessage body why) × (new ≡ old)
-IsAnswer old new before behind body (reply.Notification text) = IsNoticed behind body (string_bytes text) × (old.phase ≡ Running) × (new ≡ old)
+IsAnswer old new before behind body (reply.Nameless why news) = (IsOfMemory why ⊎ IsNoMessage body why) × EmptiesAll news × (new ≡ old)
+IsAnswer old new before behind body (reply.News news) = IsNoticed new.errors behind body news × (old.phase ≡ Running) × (new ≡ old)
 IsAnswer old new before behind body reply.Nothing = Says body (λ what. (what ≡ tells) ⊎ (what ≡ responds)) × (new ≡ old)
 IsAnswer old new before behind body (reply.Exit status) = IsExit body × (status ≡ status_of old.phase) × (new ≡ old)

@@ -1,16 +1,18 @@
 -- The open documents, and what is known of their texts.
-use Rattle.std.specs.Prelude.{◌≡◌, ⊤, ℕ, List, false, Option, None, Some, option_map}
-use Rattle.std.specs.Str.{bytes_eq}
-use Rattle.std.specs.BTreeMap.{get_by_text}
+use Rattle.std.specs.Prelude.{◌≡◌, ⊤, ℕ, List, Bool, true, false, Option, None, Some, option_map}
+use Rattle.std.specs.List.{find}
+use Rattle.std.specs.String.{string_bytes}
 use Rattle.serde_json.specs.Data.{Items, no_items, item}
 use Rattle.typst_lines.specs.UnicodeTables.{unicode_classes}
 use Rattle.typst_parser.specs.Headline.{Headline}
 use Rattle.typst_positions.specs.declared.columns.Encoding.{Encoding}
+use Rattle.typst_protocol.specs.Addresses.{is_same}
 use Rattle.typst_protocol.specs.Parameters.{Edit, whole, ranged, edit}
 use Rattle.typst_protocol.specs.declared.refusal.Refusal.{Refusal}
 use Rattle.typst_protocol.specs.declared.refusal.Refusal.TheVariants.{BadParameters, LostDocument}
 use Rattle.typst_server.specs.Document.{Opened, changed}
 use Rattle.typst_server.specs.declared.documents.Documents.{Documents}
+use Rattle.typst_server.specs.declared.documents.Entry.{Entry}
 use Rattle.typst_server.specs.declared.documents.Held.{Held}
 use Rattle.typst_server.specs.declared.documents.Held.TheVariants.{Known, Lost}
 
@@ -19,9 +21,23 @@ abbrev pub known : Held → Option Opened
 known (Known document sent) = Some document
 known Lost = None
 
--- what is known of the document with an address, where one is open
+-- an address is that of an open document if the two are the same decoded
+abbrev pub is_named : List ℕ → Entry → Bool
+is_named uri entry = is_same uri (string_bytes entry.uri)
+
+-- the document with an address, where one is open
+abbrev pub entry_of : List ℕ → Documents → Option Entry
+entry_of uri documents = find (is_named uri) documents.entries.items
+
+-- what is known of it
 abbrev pub found : List ℕ → Documents → Option (Option Opened)
-found uri documents = option_map known (get_by_text documents.held uri)
+found uri documents = option_map (λ entry. known entry.held) (entry_of uri documents)
+
+-- whether something is known of a document
+abbrev pub is_known : Option (Option Opened) → Bool
+is_known None = false
+is_known (Some None) = false
+is_known (Some (Some document)) = true
 
 -- why there is nothing to look at: no such document is open, or its text isn't known
 abbrev pub IsMissing : Option (Option Opened) → Refusal → Type 0
@@ -65,4 +81,4 @@ IsUnknown (Some (Some document)) = ⊥
 
 -- the other documents are as they were
 abbrev pub KeepsOthers : List ℕ → Documents → Documents → Type 0
-KeepsOthers uri old new = (other : List ℕ) → bytes_eq uri other ≡ false → found other new ≡ found other old
+KeepsOthers uri old new = (other : List ℕ) → is_same uri other ≡ false → found other new ≡ found other old

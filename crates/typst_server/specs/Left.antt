@@ -1,9 +1,9 @@
 -- What messages leave known of the open documents.
-use Rattle.std.specs.Prelude.{◌≡◌, ℕ, List, Option, None, Some, option_and_then}
+use Rattle.std.specs.Prelude.{◌≡◌, ⊤, ◌⊎◌, ℕ, List, Option, None, Some, option_and_then}
 use Rattle.serde_json.specs.Data.{Data, Items}
 use Rattle.serde_json.specs.Read.{read as read_text}
 use Rattle.typst_positions.specs.declared.columns.Encoding.{Encoding}
-use Rattle.typst_protocol.specs.Messages.{Said, asks, tells, responds, babbles, said}
+use Rattle.typst_protocol.specs.Messages.{IsUnreadBody, Said, asks, tells, responds, babbles, meant, said}
 use Rattle.typst_protocol.specs.Parameters as parameters
 use Rattle.typst_protocol.specs.declared.message.Message.{Message}
 use Rattle.typst_protocol.specs.declared.message.Message.TheVariants as message
@@ -12,6 +12,7 @@ use Rattle.typst_protocol.specs.declared.method.Event.TheVariants as event
 use Rattle.typst_server.specs.Answers.{method_of, told_by}
 use Rattle.typst_server.specs.Documents.{IsUnknown, Keeps, KeepsOthers, Knows, after, found}
 use Rattle.typst_server.specs.declared.documents.Documents.{Documents}
+use Rattle.typst_protocol.specs.declared.refusal.Loss.{Loss}
 use Rattle.typst_server.specs.declared.reply.Reply.{Reply}
 use Rattle.typst_server.specs.declared.reply.Reply.TheVariants as reply
 use Rattle.typst_server.specs.declared.server.Phase.{Phase}
@@ -24,6 +25,28 @@ AreSame old new = (uri : List ℕ) → found uri new ≡ found uri old
 -- nothing is known of any document
 abbrev pub AreUnknown : Documents → Type 0
 AreUnknown documents = (uri : List ℕ) → IsUnknown (found uri documents)
+
+-- what may have been meant to change a document loses it alone, and what names none loses none
+abbrev pub Loses : Option (List ℕ) → Documents → Documents → Type 0
+Loses None old new = AreSame old new
+Loses (Some uri) old new = IsUnknown (found uri new) × KeepsOthers uri old new
+
+-- no document that was known is open and unknown
+abbrev pub LosesNone : Documents → Documents → Type 0
+LosesNone old new = (uri : List ℕ) → found uri new ≡ Some None → IsUnknown (found uri old)
+
+-- what is lost, as a reply says
+abbrev pub loss_of : Reply → Option Loss
+loss_of (reply.Nameless why news) = news.lost
+loss_of (reply.News news) = news.lost
+loss_of (reply.Response text) = None
+loss_of reply.Nothing = None
+loss_of (reply.Exit status) = None
+
+-- where no loss is told there is none
+abbrev pub IsWarned : Option Loss → Documents → Documents → Type 0
+IsWarned None old new = LosesNone old new
+IsWarned (Some loss) old new = ⊤
 
 -- what a list of changes makes of what is known, if there is one
 abbrev pub changed_by : Encoding → Option Items → Option (List ℕ) → Option (List ℕ)
@@ -53,12 +76,12 @@ IsTold Running encoding told params old new = IsTaken encoding told params old n
 IsTold Fresh encoding told params old new = AreSame old new
 IsTold ShutDown encoding told params old new = AreSame old new
 
--- only a notification does something with documents; of what is no message it isn't known what it was to do
+-- only a notification does something with documents, and what is no message loses the one that it may have been meant to change
 abbrev pub IsLeft : Said → Phase → Encoding → Data → Documents → Documents → Type 0
 IsLeft tells phase encoding value old new = IsTold phase encoding (option_and_then told_by (method_of value)) (parameters.params value) old new
 IsLeft (asks id) phase encoding value old new = AreSame old new
 IsLeft responds phase encoding value old new = AreSame old new
-IsLeft babbles phase encoding value old new = AreUnknown new
+IsLeft babbles phase encoding value old new = Loses (meant value) old new
 
 -- a body is the JSON of a value that leaves the documents so
 pub record LeavesSo (phase : Phase) (encoding : Encoding) (body : List ℕ) (old new : Documents) : Type 0 where
@@ -66,12 +89,11 @@ pub record LeavesSo (phase : Phase) (encoding : Encoding) (body : List ℕ) (old
   pub read : read_text body ≡ Some value
   pub left : IsLeft (said value) phase encoding value old new
 
--- WHAT A BODY LEAVES KNOWN of the documents: nothing where it was answered without an identifier, as what is no message and where
--- memory is refused before it is known which it is
+-- WHAT A BODY LEAVES KNOWN of the documents: nothing if it can't be read
 abbrev pub IsKnownAfter : Phase → Encoding → List ℕ → Documents → Documents → Reply → Type 0
-IsKnownAfter phase encoding body old new (reply.Nameless why) = AreUnknown new
+IsKnownAfter phase encoding body old new (reply.Nameless why news) = (IsUnreadBody body why × AreUnknown new) ⊎ LeavesSo phase encoding body old new
 IsKnownAfter phase encoding body old new (reply.Response text) = LeavesSo phase encoding body old new
-IsKnownAfter phase encoding body old new (reply.Notification text) = LeavesSo phase encoding body old new
+IsKnownAfter phase encoding body old new (reply.News news) = LeavesSo phase encoding body old new
 IsKnownAfter phase encoding body old new reply.Nothing = LeavesSo phase encoding body old new
 IsKnownAfter phase encoding body old new (reply.Exit status) = LeavesSo phase encoding body old new
 
@@ -80,11 +102,3 @@ abbrev pub IsLeftBy : Message → Phase → Encoding → Documents → Documents
 IsLeftBy (message.Notification n) phase encoding old new = IsTold phase encoding (told_by n.method.now) (parameters.seen n.params) old new
 IsLeftBy (message.Request r) phase encoding old new = AreSame old new
 IsLeftBy message.Response phase encoding old new = AreSame old new
-
--- and of what is done about it
-abbrev pub IsKnownBy : Message → Phase → Encoding → Documents → Documents → Reply → Type 0
-IsKnownBy m phase encoding old new (reply.Nameless why) = AreUnknown new
-IsKnownBy m phase encoding old new (reply.Response text) = IsLeftBy m phase encoding old new
-IsKnownBy m phase encoding old new (reply.Notification text) = IsLeftBy m phase encoding old new
-IsKnownBy m phase encoding old new reply.Nothing = IsLeftBy m phase encoding old new
-IsKnownBy m phase encoding old new (reply.Exit status) = IsLeftBy m phase encoding old new

@@ -7,8 +7,10 @@ pub mod Numbers
 pub mod Phases
 pub mod Places
 pub mod Located
+pub mod Made
 pub mod Published
 pub mod Results
 pub mod Sent
 pub mod Sessions
+pub mod Tokens
 pub mod Transcript

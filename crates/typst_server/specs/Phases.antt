@@ -1,5 +1,5 @@
 -- Where a session stands, and what may be asked there.
-use Rattle.std.specs.Prelude.{◌≡◌, ◌⊎◌, ℕ, List, Option, None, Some, Result, Ok, Err, MatchResult}
+use Rattle.std.specs.Prelude.{◌≡◌, ◌⊎◌, ℕ, List, Option, None, Some, Result, Ok, Err}
 use Rattle.serde_json.specs.Data.{Data}
 use Rattle.typst_protocol.specs.Bodies.{failure, success}
 use Rattle.typst_protocol.specs.Parameters as parameters
@@ -7,6 +7,7 @@ use Rattle.typst_protocol.specs.declared.method.Method.{Method}
 use Rattle.typst_protocol.specs.declared.method.Method.TheVariants.{Initialize, Shutdown}
 use Rattle.typst_protocol.specs.declared.refusal.Refusal.{Refusal}
 use Rattle.typst_protocol.specs.declared.refusal.Refusal.TheVariants.{OutOfPlace, UnknownMethod, OutOfMemory, NotInitialized}
+use Rattle.typst_server.specs.declared.diagnostics.ShownErrors.{ShownErrors}
 use Rattle.typst_server.specs.declared.requests.FoldingStyle.{FoldingStyle}
 use Rattle.typst_server.specs.declared.server.Phase.{Phase}
 use Rattle.typst_server.specs.declared.server.Phase.TheVariants.{Fresh, Running, ShutDown}
@@ -18,16 +19,24 @@ folding params = record { lines_only = parameters.folds_lines params; limit = pa
 
 -- a session begins as the parameters of `initialize` ask for: columns are counted in the first encoding that they offer, in UTF-16 where
 -- they offer none
-abbrev pub begun : Option Data → Standing
-begun params = record { phase = Running; encoding = parameters.encoding params; takes_trees = parameters.takes_trees params; folding = folding params }
+abbrev pub begun : ShownErrors → Option Data → Standing
+begun which params =
+    record {
+      phase = Running;
+      encoding = parameters.encoding params;
+      takes_trees = parameters.takes_trees params;
+      folding = folding params;
+      pulls = parameters.asks_diagnostics params;
+      errors = which;
+    }
 
 -- it ends, and nothing else changes
 abbrev pub shut : Standing → Standing
-shut now = record { phase = ShutDown; encoding = now.encoding; takes_trees = now.takes_trees; folding = now.folding }
+shut now = record now { phase = ShutDown }
 
 -- where a request leads from a phase, or why it is refused
 abbrev pub leads : Phase → Option Method → Option Data → Standing → Result Standing Refusal
-leads Fresh (Some Initialize) params now = Ok (begun params)
+leads Fresh (Some Initialize) params now = Ok (begun now.errors params)
 leads Fresh _ params now = Err NotInitialized
 leads Running None params now = Err UnknownMethod
 leads Running (Some Initialize) params now = Err OutOfPlace
@@ -44,11 +53,6 @@ abbrev pub status_of : Phase → ℕ
 status_of Fresh = 1
 status_of Running = 1
 status_of ShutDown = 0
-
--- a value goes where its request leads, and a refusal stays
-abbrev pub Follows : {T : Type 0} → Result Standing Refusal → Standing → Standing → Result T Refusal → Type 0
-Follows (Err refusal) old new value = (value ≡ Err refusal) × (new ≡ old)
-Follows (Ok standing) old new value = MatchResult value (λ _. new ≡ standing) (λ _. new ≡ old)
 
 -- a response with a result, which is its request's
 abbrev pub IsSuccess : List ℕ → List ℕ → Type 0

@@ -2,17 +2,21 @@
 use Rattle.std.specs.Prelude.{◌≡◌, ⊤, ◌⊎◌, ℕ, List, ◌++◌, codes, Option, None, Some, Result, Ok, Err, IfOk, String}
 use Rattle.std.specs.String.{string_bytes}
 use Rattle.std.specs.declared.alloc.Global.{Global}
+use Rattle.std.specs.declared.ops.Range.{Range}
 use Rattle.serde_json.specs.Data.{Data}
 use Rattle.typst_positions.specs.declared.columns.Encoding.{Encoding}
 use Rattle.typst_positions.specs.declared.columns.Encoding.TheVariants.{Utf8, Utf16}
 use Rattle.typst_protocol.specs.Bodies.{failure, success}
 use Rattle.typst_protocol.specs.Parameters as parameters
 use Rattle.typst_protocol.specs.declared.method.Method.{Method}
-use Rattle.typst_protocol.specs.declared.method.Method.TheVariants.{Initialize, Shutdown, WorkspaceSymbols}
+use Rattle.typst_protocol.specs.declared.method.Method.TheVariants.{Initialize, Shutdown, WorkspaceSymbols, Diagnostics, Definition, References, Highlights}
 use Rattle.typst_protocol.specs.declared.refusal.Refusal.{Refusal}
 use Rattle.typst_protocol.specs.declared.refusal.Refusal.TheVariants.{BadParameters, LostDocument, OutOfMemory}
 use Rattle.typst_server.specs.Document.{Opened}
 use Rattle.typst_server.specs.Documents.{found}
+use Rattle.typst_server.specs.Located.{TellsHighlights, TellsLocations}
+use Rattle.typst_server.specs.Published.{Reports}
+use Rattle.typst_server.specs.declared.diagnostics.ShownErrors.{ShownErrors}
 use Rattle.typst_server.specs.declared.documents.Documents.{Documents}
 use Rattle.typst_server.specs.declared.server.Phase.{Phase}
 use Rattle.typst_server.specs.declared.server.Phase.TheVariants.{Fresh, Running}
@@ -41,16 +45,32 @@ pub record Grows (old new : List ℕ) : Type 0 where
   pub more : List ℕ
   pub grown : new ≡ old ++ more
 
--- what is known of the document that parameters name, where they name one that is open
-abbrev pub asked_of : Option (List ℕ) → Documents → Option (Option Opened)
-asked_of None documents = None
-asked_of (Some uri) documents = found uri documents
+-- a value is the JSON of locations in a document
+abbrev pub Locates : List ℕ → Opened → List ℕ → Type 0
+Locates uri document value = (ranges : List (Range ℕ)) × TellsLocations document uri ranges value
+
+-- or of stretches of it
+abbrev pub Shows : Opened → List ℕ → Type 0
+Shows document value = (ranges : List (Range ℕ)) × TellsHighlights document ranges value
+
+-- WHAT IS SAID OF A DOCUMENT with an address whose text is known: its errors and warnings, or where in it something stands
+abbrev pub Looks : ShownErrors → Method → List ℕ → Opened → List ℕ → Type 0
+Looks which Diagnostics uri document value = Reports which document value
+Looks which Definition uri document value = Locates uri document value
+Looks which References uri document value = Locates uri document value
+Looks which Highlights uri document value = Shows document value
+Looks which _ uri document value = ⊤
 
 -- only of a document that is known there is a value: where none is open, and where its text isn't known, the answer is the refusal that says so
-abbrev pub IsAbout : Option (Option Opened) → Answer → Type 0
-IsAbout None answer = answer ≡ Err BadParameters
-IsAbout (Some None) answer = answer ≡ Err LostDocument
-IsAbout (Some (Some document)) answer = ⊤
+abbrev pub IsAbout : ShownErrors → Method → List ℕ → Option (Option Opened) → Answer → Type 0
+IsAbout which method uri None answer = answer ≡ Err BadParameters
+IsAbout which method uri (Some None) answer = answer ≡ Err LostDocument
+IsAbout which method uri (Some (Some document)) answer = IfOk answer (Looks which method uri document)
+
+-- the document is the one that the parameters name
+abbrev pub IsOf : ShownErrors → Method → Option (List ℕ) → Documents → Answer → Type 0
+IsOf which method None documents answer = answer ≡ Err BadParameters
+IsOf which method (Some uri) documents answer = IsAbout which method uri (found uri documents) answer
 
 -- what is looked for in all documents has to be named
 abbrev pub OfDocuments : Option (List ℕ) → Answer → Type 0
@@ -59,13 +79,13 @@ OfDocuments (Some query) answer = ⊤
 
 -- WHAT A REQUEST THAT IS ALLOWED IS ANSWERED: `initialize` with the encoding that its parameters ask for, `shutdown` with nothing, each
 -- other one by what is known of its document
-abbrev pub Gives : Phase → Option Method → Option Data → Documents → Answer → Type 0
-Gives Fresh (Some Initialize) params documents answer = IfOk answer (Names (parameters.encoding params))
-Gives Running (Some Initialize) params documents answer = ⊤
-Gives Running (Some Shutdown) params documents answer = IfOk answer (λ value. value ≡ codes "null")
-Gives Running (Some WorkspaceSymbols) params documents answer = OfDocuments (parameters.query params) answer
-Gives Running (Some method) params documents answer = IsAbout (asked_of (parameters.uri params) documents) answer
-Gives _ _ params documents answer = ⊤
+abbrev pub Gives : Phase → ShownErrors → Option Method → Option Data → Documents → Answer → Type 0
+Gives Fresh which (Some Initialize) params documents answer = IfOk answer (Names (parameters.encoding params))
+Gives Running which (Some Initialize) params documents answer = ⊤
+Gives Running which (Some Shutdown) params documents answer = IfOk answer (λ value. value ≡ codes "null")
+Gives Running which (Some WorkspaceSymbols) params documents answer = OfDocuments (parameters.query params) answer
+Gives Running which (Some method) params documents answer = IsOf which method (parameters.uri params) documents answer
+Gives _ which _ params documents answer = ⊤
 
 -- the response that tells an answer
 abbrev pub response_of : List ℕ → Answer → List ℕ

@@ -1,6 +1,5 @@
 -- The tokens that were sent, and what a client makes of changes of them.
 use Rattle.std.specs.Prelude.{◌≡◌, ⊤, ◌⊎◌, ℕ, ◌+◌, ◌^◌, ◌<◌, List, [], ◌∷◌, ◌++◌, length, take, drop, Option, None, Some, option_and_then, option_map, if◌then◌else◌}
-use Rattle.std.specs.BTreeMap.{get_by_text}
 use Rattle.std.specs.Fmt.{decimal}
 use Rattle.std.specs.Str.{bytes_eq}
 use Rattle.std.specs.String.{string_bytes}
@@ -9,6 +8,7 @@ use Rattle.typst_protocol.specs.declared.values.TokenEdit.{TokenEdit}
 use Rattle.typst_protocol.specs.declared.values.Tokens.{Tokens}
 use Rattle.typst_server.specs.Document.{Opened, all_bytes}
 use Rattle.typst_server.specs.Numbers.{all_shown, decoded}
+use Rattle.typst_server.specs.Documents.{entry_of}
 use Rattle.typst_server.specs.declared.documents.Documents.{Documents}
 use Rattle.typst_server.specs.declared.documents.Held.{Held}
 use Rattle.typst_server.specs.declared.documents.Held.TheVariants.{Known, Lost}
@@ -23,7 +23,7 @@ last_of Lost = None
 
 -- the same of the document with an address
 abbrev pub sent_of : List ℕ → Documents → Option Sent
-sent_of uri documents = option_and_then last_of (get_by_text documents.held uri)
+sent_of uri documents = option_and_then (λ entry. last_of entry.held) (entry_of uri documents)
 
 -- tokens, if they were sent under this name
 abbrev pub if_named : List ℕ → Option Sent → Option Sent
@@ -33,6 +33,10 @@ if_named name (Some sent) = if bytes_eq (string_bytes sent.name) name then Some 
 -- what was sent last stays so, or isn't kept
 abbrev pub MayDrop : Option Sent → Option Sent → Type 0
 MayDrop old new = (new ≡ old) ⊎ (new ≡ None)
+
+-- of no document others are kept than before
+abbrev pub KeepsSent : Documents → Documents → Type 0
+KeepsSent old new = (uri : List ℕ) → MayDrop (sent_of uri old) (sent_of uri new)
 
 -- tokens of a document that is known are those that were sent last
 abbrev pub IsKept : Option (Option Opened) → Sent → Option Sent → Type 0

@@ -1,7 +1,6 @@
 -- What goes out while a stream of frames is answered.
-use Rattle.std.specs.Prelude.{◌≡◌, ⊤, ℕ, ◌<◌, ◌≤◌, List, [], ◌∷◌, ◌++◌, length, Option, None, Some, Ok}
+use Rattle.std.specs.Prelude.{◌≡◌, ⊤, ℕ, ◌<◌, ◌≤◌, List, [], ◌∷◌, ◌++◌, length, map, Option, None, Some, Ok}
 use Rattle.std.specs.List.{AllByRecursion, flat_map}
-use Rattle.std.specs.Option.{option_map_or}
 use Rattle.std.specs.String.{string_bytes}
 use Rattle.std.specs.Io.KnownBytes.{Appends}
 use Rattle.typst_protocol.specs.Frames.{frame, written}
@@ -9,11 +8,14 @@ use Rattle.typst_protocol.specs.Stream.{Begins, EndsSo, longest}
 use Rattle.typst_protocol.specs.declared.frames.reader.End.TheVariants.{Clean}
 use Rattle.typst_protocol.specs.declared.frames.reader.Frame.{Frame}
 use Rattle.typst_protocol.specs.declared.frames.reader.Frame.TheVariants.{Body, TooLong, OutOfMemory}
-use Rattle.typst_protocol.specs.Bodies.{nameless}
+use Rattle.typst_protocol.specs.Bodies.{nameless, text_of, warning}
 use Rattle.typst_protocol.specs.Escapes.{mended}
 use Rattle.typst_protocol.specs.declared.refusal.Unread.TheVariants as unread
 use Rattle.typst_server.specs.Phases.{status_of}
 use Rattle.typst_server.specs.Sessions.{IsHandled, IsNew, LosesAll}
+use Rattle.typst_protocol.specs.declared.refusal.Loss.{Loss}
+use Rattle.typst_server.specs.declared.diagnostics.ShownErrors.{ShownErrors}
+use Rattle.typst_server.specs.declared.reply.News.{News}
 use Rattle.typst_server.specs.declared.reply.Reply.{Reply}
 use Rattle.typst_server.specs.declared.reply.Reply.TheVariants as reply
 use Rattle.typst_server.specs.declared.server.Phase.{Phase}
@@ -21,17 +23,30 @@ use Rattle.typst_server.specs.declared.server.Server.{Server}
 use Rattle.typst_server.specs.declared.streams.Ended.{Ended}
 use Rattle.typst_server.specs.declared.streams.Ended.TheVariants as ended
 
--- the body that a reply sends, if it sends one
-abbrev pub body_of : Reply → Option (List ℕ)
-body_of reply.Nothing = None
-body_of (reply.Response text) = Some (string_bytes text)
-body_of (reply.Nameless why) = Some (nameless why)
-body_of (reply.Notification text) = Some (string_bytes text)
-body_of (reply.Exit status) = None
+-- the warning of a loss
+abbrev pub warnings : Option Loss → List (List ℕ)
+warnings None = []
+warnings (Some loss) = warning (text_of loss) ∷ []
 
--- the bytes that a reply sends: the frame of its body
+-- the bodies that are sent of documents: a warning if there is a loss, and then notifications
+abbrev pub told : News → List (List ℕ)
+told news = warnings news.lost ++ map string_bytes news.published.items
+
+-- the bodies that a reply sends, in order
+abbrev pub bodies_of : Reply → List (List ℕ)
+bodies_of reply.Nothing = []
+bodies_of (reply.Response text) = string_bytes text ∷ []
+bodies_of (reply.Nameless why news) = nameless why ∷ told news
+bodies_of (reply.News news) = told news
+bodies_of (reply.Exit status) = []
+
+-- the bytes of some bodies: their frames
+abbrev pub frames_of : List (List ℕ) → List ℕ
+frames_of bodies = flat_map written bodies
+
+-- the bytes that a reply sends
 abbrev pub sent : Reply → List ℕ
-sent answer = option_map_or written (body_of answer) []
+sent answer = frames_of (bodies_of answer)
 
 -- THE TRANSCRIPT of some replies: their frames, in order
 abbrev pub transcript : List Reply → List ℕ
@@ -92,13 +107,13 @@ IsStatus (ended.Input Clean) phase status = status ≡ status_of phase
 IsStatus (ended.Exit said) phase status = status ≡ said
 IsStatus _ phase status = status ≡ 1
 
--- what was answered to a stream, in a session that begins with no document open, and went out before this status was given. Behind each
+-- what was answered to a stream, in a session that shows these errors and begins with no document open, and went out before this status was given. Behind each
 -- message nothing is known of a document, or it has the text that the edits of the protocol give, with its tree: `IsHandled` says so step by step
-pub record Serves (stream : List ℕ) (old new : Option (List ℕ)) (status : ℕ) : Type 0 where
+pub record Serves (which : ShownErrors) (stream : List ℕ) (old new : Option (List ℕ)) (status : ℕ) : Type 0 where
   pub why : Ended
   pub first : Server
   pub last : Server
-  pub fresh : IsNew first
+  pub fresh : IsNew which first
   pub ends : Ends first last stream old new why
   pub given : IsStatus why last.standing.phase status
 

@@ -75,7 +75,7 @@ pub fn capabilities(alloc: Global, params: Params<'_>) -> Result<String, AllocEr
 }
 
 /// What the server can do for every client, an entry or more in each part.
-static PROVIDERS: [&str; 9] = [
+static PROVIDERS: [&str; 8] = [
     "\"textDocumentSync\":{\"openClose\":true,\"change\":2},",
     "\"documentSymbolProvider\":true,\"workspaceSymbolProvider\":true,",
     "\"foldingRangeProvider\":true,\"selectionRangeProvider\":true,",
@@ -83,9 +83,20 @@ static PROVIDERS: [&str; 9] = [
     "\"hoverProvider\":true,",
     "\"completionProvider\":{\"triggerCharacters\":[\"@\",\"<\",\"#\"]},",
     "\"documentLinkProvider\":{},",
-    "\"codeActionProvider\":{\"codeActionKinds\":[\"quickfix\"]},",
     "\"documentOnTypeFormattingProvider\":{\"firstTriggerCharacter\":\"\\n\"},",
 ];
+
+/// What can be done about a stretch, for clients that take it as edits.
+const ACTIONS: &str = "\"codeActionProvider\":{\"codeActionKinds\":[\"quickfix\"]},";
+
+/// Errors and warnings, for clients that ask for them.
+const DIAGNOSTICS: &str =
+    "\"diagnosticProvider\":{\"interFileDependencies\":false,\"workspaceDiagnostics\":false},";
+
+/// An entry, for a client that takes it.
+fn if_taken(is_taken: bool, entry: &'static str) -> &'static str {
+    if is_taken { entry } else { "" }
+}
 
 /// Renames: a client that doesn't ask whether a name can be renamed isn't told that it may.
 fn rename_provider(is_prepared: bool) -> &'static str {
@@ -102,6 +113,8 @@ fn push_providers(text: &mut String, params: Params<'_>) -> Result<(), AllocErro
 {
     push_all(text, &PROVIDERS)?;
     text.push_str(rename_provider(params.prepares_renames()))?;
+    text.push_str(if_taken(params.takes_actions(), ACTIONS))?;
+    text.push_str(if_taken(params.asks_diagnostics(), DIAGNOSTICS))?;
     text.push_str("\"semanticTokensProvider\":{\"legend\":{\"tokenTypes\":")?;
     text.push_str(TYPES)?;
     text.push_str(

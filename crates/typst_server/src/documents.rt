@@ -1,19 +1,21 @@
 //! The documents that are open.
-ghost use Rattle.std.specs.Prelude.{◌≡◌, ℕ, false, option_map, IfOk, List, MatchResult, None, OnErr, Some};
-ghost use Rattle.std.specs.Str.{bytes_eq};
+ghost use Rattle.std.specs.Prelude.{◌≡◌, ℕ, false, option_map, IfOk, List, MatchResult, None, Some, is_some, position};
+ghost use Rattle.std.specs.String.{string_bytes};
 ghost use Rattle.serde_json.specs.View.{items_view, view};
+ghost use Rattle.typst_protocol.specs.Addresses.{is_same};
 ghost use Rattle.typst_protocol.specs.Parameters.{edit, edit_in};
-ghost use Rattle.typst_server.specs.Sent.{IsKept, MayDrop, if_named, last_of, sent_of};
-ghost use Rattle.typst_server.specs.Documents.{IsMissing, IsUnknown, Keeps, KeepsOthers, Knows, after, found, known, next};
+ghost use Rattle.typst_server.specs.Sent.{IsKept, KeepsSent, MayDrop, if_named, last_of, sent_of};
+ghost use Rattle.typst_server.specs.Documents as spec;
+ghost use Rattle.typst_server.specs.Documents.{IsMissing, IsUnknown, Keeps, KeepsOthers, Knows, after, found, is_named, known, next};
+ghost use Rattle.typst_server.specs.Left.{AreSame, AreUnknown};
 
 use crate::document::Document;
 use crate::tokens::Sent;
 use serde_json::Value;
 use std::alloc::{AllocError, Global};
-use std::collections::BTreeMap;
 use std::mem;
 use typst_positions::Encoding;
-use typst_protocol::{Change, Refusal};
+use typst_protocol::{Change, Refusal, is_same};
 
 /// What is known of an open document.
 #[derive(Drop)]
@@ -24,11 +26,21 @@ pub enum Held {
     Lost,
 }
 
-/// The open documents, by their addresses.
+/// An open document.
+#[derive(Drop)]
+pub struct Entry {
+    /// Its address, as the client wrote it last.
+    uri: String,
+    /// What is known of it.
+    held: Held,
+}
+
+/// The open documents. Addresses are compared decoded: to find one takes no memory, and the time of a
+/// comparison with each, of which there are few.
 #[derive(Drop)]
 pub struct Documents {
     alloc: Global,
-    held: BTreeMap<String, Held>,
+    entries: Vec<Entry>,
 }
 
 impl Documents {
@@ -38,42 +50,125 @@ impl Documents {
     {
         Documents {
             alloc,
-            held: BTreeMap::new(alloc),
+            entries: Vec::new(alloc),
         }
+    }
+
+    /// All that are open.
+    pub fn entries(&self) -> &[Entry]
+        ensures { result.now ≡ self.now.entries.items }
+    {
+        self.entries.as_slice()
+    }
+
+    /// The document with an address, if it is open.
+    fn entry_of(&self, uri: &str) -> Option<&Entry>
+        ensures { option_map (λ entry. entry.now) result ≡ spec.entry_of uri.now self.now }
+    {
+        self.entries
+            .iter()
+            .find(|entry| is_same(uri, entry.uri.as_str()))
+    }
+
+    /// Where it stands among those that are open.
+    fn place_of(&self, uri: &str) -> Option<usize>
+        ensures { result ≡ position (is_named uri.now) self.now.entries.items }
+    {
+        self.entries
+            .iter()
+            .position(|entry| is_same(uri, entry.uri.as_str()))
     }
 
     /// The document with an address. It refuses where there is none, and where its text isn't known.
     pub fn get(&self, uri: &str) -> Result<&Document, Refusal>
         ensures { MatchResult result (λ document. found uri.now self.now ≡ Some (Some document.now)) (IsMissing (found uri.now self.now)) }
     {
-        match self.held.get(uri) {
-            Some(Held::Known(document, _)) => Ok(document),
-            Some(Held::Lost) => Err(Refusal::LostDocument),
-            None => Err(Refusal::BadParameters),
+        let Some(entry) = self.entry_of(uri) else {
+            return Err(Refusal::BadParameters);
+        };
+        match &entry.held {
+            Held::Known(document, _) => Ok(document),
+            Held::Lost => Err(Refusal::LostDocument),
         }
     }
 
-    /// The documents whose text is known, in the order of their addresses.
+    /// Whether the text of a document is known.
+    pub fn knows(&self, uri: &str) -> bool
+        ensures { result ≡ spec.is_known (found uri.now self.now) }
+    {
+        match self.entry_of(uri) {
+            Some(entry) => entry.is_known(),
+            None => false,
+        }
+    }
+
+    /// Whether the text of any document is known.
+    pub fn knows_any(&self) -> bool
+        ensures { result ≡ false → AreUnknown self.now }
+    {
+        for entry in &self.entries {
+            if entry.is_known() {
+                return true;
+            }
+        }
+        false
+    }
+
+    /// The documents whose text is known, with their addresses.
     pub fn all_known(&self) -> Result<Vec<(&str, &Document)>, AllocError> {
         let mut all = Vec::new(self.alloc);
-        for (uri, held) in &self.held {
-            if let Held::Known(document, _) = held {
-                all.push((uri.as_str(), document))?;
+        for entry in &self.entries {
+            if let Held::Known(document, _) = &entry.held {
+                all.push((entry.uri.as_str(), document))?;
             }
         }
         Ok(all)
     }
 
-    /// Opens a document with a text, or gives it that text where it is open already. It is lost where
-    /// memory is refused.
-    pub fn open(&mut self, uri: &str, text: &str, encoding: Encoding) -> Result<(), Refusal>
+    /// Opens a document with a text, or gives it that text where it is open already. Where memory is
+    /// refused its text isn't known, or it isn't open.
+    pub fn open(&mut self, uri: &str, text: &str, encoding: Encoding)
         ensures text { Knows encoding (found uri.now self.new) (Some text.now) }
         ensures others { KeepsOthers uri.now self.old self.new }
+        ensures sent { KeepsSent self.old self.new }
     {
         self.lose(uri);
+        if self.enter(uri).is_ok() {
+            self.give(uri, Change::Whole(text), encoding);
+        }
+    }
+
+    /// Has a document open, under its address as the client writes it. Of one that wasn't open nothing is
+    /// known.
+    fn enter(&mut self, uri: &str) -> Result<(), AllocError>
+        ensures unknown { IsUnknown (found uri.now self.old) → IsUnknown (found uri.now self.new) }
+        ensures others { KeepsOthers uri.now self.old self.new }
+        ensures sent { KeepsSent self.old self.new }
+    {
+        if self.entry_of(uri).is_some() {
+            return self.rename(uri);
+        }
         let name = String::from_str(self.alloc, uri)?;
-        self.held.insert(name, Held::Lost)?;
-        self.give(uri, Change::Whole(text), encoding);
+        self.entries.push(Entry {
+            uri: name,
+            held: Held::Lost,
+        })?;
+        Ok(())
+    }
+
+    /// Has a document, if it is open, under its address as the client writes it.
+    fn rename(&mut self, uri: &str) -> Result<(), AllocError>
+        ensures known { AreSame self.old self.new }
+        ensures sent { (other : List ℕ) → sent_of other self.new ≡ sent_of other self.old }
+    {
+        let Some(place) = self.place_of(uri) else {
+            return Ok(());
+        };
+        if self.entries[place].uri.as_str() == uri {
+            return Ok(());
+        }
+        let name = String::from_str(self.alloc, uri)?;
+        self.entries[place].uri = name;
         Ok(())
     }
 
@@ -82,6 +177,20 @@ impl Documents {
     pub fn change(&mut self, uri: &str, changes: &[Value], encoding: Encoding)
         ensures text { Keeps encoding (λ text. after encoding text (items_view changes.now)) (found uri.now self.old) (found uri.now self.new) }
         ensures others { KeepsOthers uri.now self.old self.new }
+        ensures sent { KeepsSent self.old self.new }
+    {
+        if self.rename(uri).is_ok() {
+            self.make_all(uri, changes, encoding);
+        } else {
+            self.lose(uri);
+        }
+    }
+
+    /// Makes changes of a document.
+    fn make_all(&mut self, uri: &str, changes: &[Value], encoding: Encoding)
+        ensures text { Keeps encoding (λ text. after encoding text (items_view changes.now)) (found uri.now self.old) (found uri.now self.new) }
+        ensures others { KeepsOthers uri.now self.old self.new }
+        ensures sent { KeepsSent self.old self.new }
     {
         for value in changes {
             self.make(uri, value, encoding);
@@ -92,6 +201,7 @@ impl Documents {
     fn make(&mut self, uri: &str, value: &Value, encoding: Encoding)
         ensures text { Keeps encoding (λ text. next encoding text (edit (view value.now))) (found uri.now self.old) (found uri.now self.new) }
         ensures others { KeepsOthers uri.now self.old self.new }
+        ensures sent { KeepsSent self.old self.new }
     {
         let Some(change) = Change::of(value) else {
             return self.lose(uri);
@@ -103,11 +213,11 @@ impl Documents {
     fn give(&mut self, uri: &str, change: Change<'_>, encoding: Encoding)
         ensures text { Keeps encoding (λ text. next encoding text (Some (edit_in change.entry))) (found uri.now self.old) (found uri.now self.new) }
         ensures others { KeepsOthers uri.now self.old self.new }
+        ensures sent { KeepsSent self.old self.new }
     {
         let alloc = self.alloc;
-        if let Some(held) = self.held.get_mut(uri) {
-            let before = mem::replace(held, Held::Lost);
-            *held = before.changed(alloc, change, encoding);
+        if let Some(place) = self.place_of(uri) {
+            self.entries[place].change(alloc, change, encoding);
         }
     }
 
@@ -115,17 +225,17 @@ impl Documents {
     pub fn sent_as(&self, uri: &str, name: &str) -> Option<&Sent>
         ensures { option_map (λ sent. sent.now) result ≡ if_named name.now (sent_of uri.now self.now) }
     {
-        self.held.get(uri)?.sent_as(name)
+        self.entry_of(uri)?.held.sent_as(name)
     }
 
     /// Keeps tokens of a document as those that were sent last.
     pub fn keep(&mut self, uri: &str, sent: Sent)
-        ensures known { (other : List ℕ) → found other self.new ≡ found other self.old }
+        ensures known { AreSame self.old self.new }
         ensures sent { IsKept (found uri.now self.old) sent (sent_of uri.now self.new) }
-        ensures others { (other : List ℕ) → bytes_eq uri.now other ≡ false → sent_of other self.new ≡ sent_of other self.old }
+        ensures others { (other : List ℕ) → is_same uri.now other ≡ false → sent_of other self.new ≡ sent_of other self.old }
     {
-        if let Some(held) = self.held.get_mut(uri) {
-            held.keep(sent);
+        if let Some(place) = self.place_of(uri) {
+            self.entries[place].keep(sent);
         }
     }
 
@@ -133,31 +243,81 @@ impl Documents {
     pub fn lose(&mut self, uri: &str)
         ensures lost { IsUnknown (found uri.now self.new) }
         ensures others { KeepsOthers uri.now self.old self.new }
+        ensures sent { KeepsSent self.old self.new }
     {
-        if let Some(held) = self.held.get_mut(uri) {
-            *held = Held::Lost;
+        if let Some(place) = self.place_of(uri) {
+            self.entries[place].lose();
         }
     }
 
     /// The text of no document is known any more.
     pub fn lose_all(&mut self)
-        ensures { (uri : List ℕ) → IsUnknown (found uri self.new) }
+        ensures lost { AreUnknown self.new }
+        ensures sent { KeepsSent self.old self.new }
     {
-        self.held.retain(|_, held| {
-            *held = Held::Lost;
-            true
-        });
+        for entry in self.entries.iter_mut() {
+            entry.lose();
+        }
     }
 
-    /// Closes a document. It refuses where it isn't open.
-    pub fn close(&mut self, uri: &str) -> Result<(), Refusal>
+    /// Closes a document, and tells whether it was open.
+    pub fn close(&mut self, uri: &str) -> bool
         ensures closed { found uri.now self.new ≡ None }
-        ensures err { OnErr result (found uri.now self.old ≡ None) }
+        ensures was_open { result ≡ is_some (spec.entry_of uri.now self.old) }
         ensures others { KeepsOthers uri.now self.old self.new }
+        ensures sent { KeepsSent self.old self.new }
     {
-        match self.held.remove(uri) {
-            Some(_) => Ok(()),
-            None => Err(Refusal::BadParameters),
+        let was_open = self.entry_of(uri).is_some();
+        self.entries
+            .retain(|entry| !is_same(uri, entry.uri.as_str()));
+        was_open
+    }
+}
+
+impl Entry {
+    /// The address, as the client wrote it last.
+    pub fn uri(&self) -> &str
+        ensures { result.now ≡ string_bytes self.now.uri }
+    {
+        self.uri.as_str()
+    }
+
+    /// Whether the text is known.
+    pub fn is_known(&self) -> bool
+        ensures { result ≡ spec.is_known (Some (known self.now.held)) }
+    {
+        match self.held {
+            Held::Known(_, _) => true,
+            Held::Lost => false,
+        }
+    }
+
+    /// The text isn't known any more.
+    fn lose(&mut self)
+        ensures uri { self.new.uri ≡ self.old.uri }
+        ensures lost { self.new.held ≡ Held.Lost }
+    {
+        self.held = Held::Lost;
+    }
+
+    /// Makes a change.
+    fn change(&mut self, alloc: Global, change: Change<'_>, encoding: Encoding)
+        ensures uri { self.new.uri ≡ self.old.uri }
+        ensures known { Keeps encoding (λ text. next encoding text (Some (edit_in change.entry))) (Some (known self.old.held)) (Some (known self.new.held)) }
+        ensures sent { MayDrop (last_of self.old.held) (last_of self.new.held) }
+    {
+        let before = mem::replace(&mut self.held, Held::Lost);
+        self.held = before.changed(alloc, change, encoding);
+    }
+
+    /// Keeps tokens as those that were sent last.
+    fn keep(&mut self, sent: Sent)
+        ensures uri { self.new.uri ≡ self.old.uri }
+        ensures known { known self.new.held ≡ known self.old.held }
+        ensures sent { IsKept (Some (known self.old.held)) sent (last_of self.new.held) }
+    {
+        if let Held::Known(_, last) = &mut self.held {
+            *last = Some(sent);
         }
     }
 }
@@ -175,16 +335,6 @@ impl Held {
             Some(sent)
         } else {
             None
-        }
-    }
-
-    /// Keeps tokens as those that were sent last.
-    fn keep(&mut self, sent: Sent)
-        ensures known { known self.new ≡ known self.old }
-        ensures sent { IsKept (Some (known self.old)) sent (last_of self.new) }
-    {
-        if let Held::Known(_, last) = self {
-            *last = Some(sent);
         }
     }
 

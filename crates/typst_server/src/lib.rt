@@ -22,6 +22,7 @@ mod typing;
 mod walk;
 mod workspace;
 
+pub use diagnostics::ShownErrors;
 pub use document::Document;
 pub use documents::Documents;
 pub use reply::Reply;

@@ -2,6 +2,7 @@
 ghost use Rattle.std.specs.Prelude.{IfOk, map};
 ghost use Rattle.std.specs.String.{string_bytes};
 ghost use Rattle.typst_server.specs.Located.{AreAt, IsHighlightOf, IsLocationOf, TellsHighlights, TellsLocations};
+ghost use Rattle.typst_server.specs.Results.{Locates, Shows};
 
 use crate::document::Document;
 use crate::walk::Extents;
@@ -21,7 +22,9 @@ pub fn definition(
     document: &Document,
     uri: &str,
     params: Params<'_>,
-) -> Result<String, Refusal> {
+) -> Result<String, Refusal>
+    ensures { IfOk result (λ text. Locates uri.now document.now (string_bytes text)) }
+{
     let mut found = occurrences(alloc, document, params)?;
     found.retain(|occurrence| is_defined(occurrence.kind));
     locations(alloc, document, uri, &found)
@@ -33,7 +36,9 @@ pub fn references(
     document: &Document,
     uri: &str,
     params: Params<'_>,
-) -> Result<String, Refusal> {
+) -> Result<String, Refusal>
+    ensures { IfOk result (λ text. Locates uri.now document.now (string_bytes text)) }
+{
     let with_definitions = params.includes_label();
     let mut found = occurrences(alloc, document, params)?;
     found.retain(|occurrence| with_definitions || !is_defined(occurrence.kind));
@@ -41,11 +46,9 @@ pub fn references(
 }
 
 /// Where the label or the name at the cursor stands.
-pub fn highlights(
-    alloc: Global,
-    document: &Document,
-    params: Params<'_>,
-) -> Result<String, Refusal> {
+pub fn highlights(alloc: Global, document: &Document, params: Params<'_>) -> Result<String, Refusal>
+    ensures { IfOk result (λ text. Shows document.now (string_bytes text)) }
+{
     let found = occurrences(alloc, document, params)?;
     shown(alloc, document, &found)
 }

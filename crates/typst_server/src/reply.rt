@@ -1,8 +1,8 @@
 //! What the server does about a message.
-ghost use Rattle.std.specs.Prelude.{◌≡◌, option_map};
-ghost use Rattle.typst_server.specs.Transcript.{body_of};
+ghost use Rattle.std.specs.Prelude.{◌≡◌, [], None};
 
-use typst_protocol::Unread;
+use std::alloc::Global;
+use typst_protocol::{Loss, Unread};
 
 /// What the server does about a message.
 #[derive(Drop)]
@@ -11,25 +11,32 @@ pub enum Reply {
     Nothing,
     /// It answers a request, with this body.
     Response(String),
-    /// It answers what isn't taken for a message.
-    Nameless(Unread),
-    /// It tells something, with this body.
-    Notification(String),
+    /// It answers what isn't taken for a message, and tells what is lost by it.
+    Nameless(Unread, News),
+    /// It tells something of documents.
+    News(News),
     /// It ends, with this status.
     Exit(u8),
 }
 
-impl Reply {
-    /// The body that is sent, if one is.
-    pub fn body(&self) -> Option<&str>
-        ensures { option_map (λ body. body.now) result ≡ body_of self.now }
+/// What the server tells of documents.
+#[derive(Drop)]
+pub struct News {
+    /// What was known and isn't any more. The person is warned of it before the rest is told.
+    pub lost: Option<Loss>,
+    /// The bodies of notifications that publish errors and warnings, in order.
+    pub published: Vec<String>,
+}
+
+impl News {
+    /// Nothing is lost or published.
+    pub fn none(alloc: Global) -> News
+        ensures lost { result.lost ≡ None }
+        ensures published { result.published.items ≡ [] }
     {
-        let body = match self {
-            Reply::Response(body) => body,
-            Reply::Notification(body) => body,
-            Reply::Nameless(unread) => return Some(unread.response()),
-            _ => return None,
-        };
-        Some(body.as_str())
+        News {
+            lost: None,
+            published: Vec::new(alloc),
+        }
     }
 }

@@ -7,4 +7,6 @@ returns c =
     let b = grows-more _ _ _ _ a c.in_ok-push_str-2.ensures.bytes in
     let d = grows-more _ _ _ _ b c.in_ok-push_str-3.ensures.bytes in
     let e = grows-more _ _ _ _ d c.in_ok-push_str-4.ensures.bytes in
-    grows-more _ _ _ _ e c.in_ok-push_str-5.ensures.bytes
+    let f = grows-more _ _ _ _ e c.in_ok-push_str-5.ensures.bytes in
+    let h = grows-more _ _ _ _ f c.in_ok-push_str-6.ensures.bytes in
+    grows-more _ _ _ _ h c.in_ok-push_str-7.ensures.bytes

@@ -1,5 +1,5 @@
 use Rattle.std.proofs.Common.{◌≡◌, IfNone, IfSome, None, subst}
-use Rattle.typst_server.proofs.Transcripts.{ends-known, more-known}
+use Rattle.typst_server.proofs.Transcripts.{ends-known, gives-up-known, more-known}
 use Rattle.typst_server.proofs.streams.answer_all.Goals as goal
 use Rattle.typst_server.specs.Transcript.{GoesOn, Turns}
 
@@ -23,3 +23,8 @@ loop-turn-preserved g c =
       unended = unended;
       known = more-known c.args.server.now mid to (g.R.Read.remaining c.args.input) (g.W.Write.contents c.args.output.now) before behind left next c.loop-turn.invariant.known turn;
     }
+
+pub returns : goal.returns
+returns g c =
+    gives-up-known c.args.server.now c.loop-turn.server (g.R.Read.remaining c.args.input) (g.W.Write.contents c.args.output.now) (g.W.Write.contents c.loop-turn.output) c.loop-turn.frames.left
+    c.loop-turn.invariant.known

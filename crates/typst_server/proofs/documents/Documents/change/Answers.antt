@@ -1,22 +1,8 @@
-use Rattle.std.proofs.Common.{◌<◌, arith, get_or, length, subst}
-use Rattle.serde_json.specs.View.{view}
-use Rattle.typst_protocol.specs.Parameters.{edit}
-use Rattle.typst_server.proofs.Texts.{made-more, others-both}
+use Rattle.std.proofs.Common.{subst}
+use Rattle.serde_json.specs.View.{items_view}
+use Rattle.typst_server.specs.Documents.{Keeps, after, found}
 use Rattle.typst_server.proofs.documents.Documents.change.Goals as goal
-use Rattle.typst_server.specs.Documents.{Keeps, found, next}
 
-pub loop-value-preserved : goal.loop-value-preserved
-loop-value-preserved c =
-    let old = found c.args.uri.now c.args.self.now in
-    let mid = found c.args.uri.now c.loop-value.self in
-    let new = found c.args.uri.now c.make.new.self in
-    let encoding = c.args.encoding in
-    let values = c.args.changes.now in
-    let i = c.loop-value.value-index in
-    let within : i < length values = omega arith in
-    let step : Keeps encoding (λ text. next encoding text (edit (view (get_or values i c.value-item.result)))) mid new =
-    subst (λ v. Keeps encoding (λ text. next encoding text (edit (view v))) mid new) c.value-item.is c.make.ensures.text in
-    record {
-      made = made-more encoding old mid new values i c.value-item.result within step c.loop-value.invariant.made;
-      others = others-both c.args.uri.now c.args.self.now c.loop-value.self c.make.new.self c.loop-value.invariant.others c.make.ensures.others;
-    }
+pub returns-then-is_ok-clause-text : goal.returns-then-is_ok-clause-text
+returns-then-is_ok-clause-text c =
+    subst (λ f. Keeps c.args.encoding (λ text. after c.args.encoding text (items_view c.args.changes.now)) f (found c.args.uri.now c.make_all.new.self)) (c.rename.ensures.known c.args.uri.now) c.make_all.ensures.text

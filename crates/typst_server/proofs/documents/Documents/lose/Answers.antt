@@ -1,7 +1,22 @@
-use Rattle.std.proofs.Common.{rules}
-use Rattle.typst_server.proofs.Held.{others-updated}
-use Rattle.typst_server.specs.declared.documents.Held.TheVariants.{Lost}
+use Rattle.std.proofs.Common.{sym, ◌∙◌}
+use Rattle.std.specs.Vec as Vec
+use Rattle.typst_server.proofs.Held.{drop-set, lost-may, lost-set, not-placed, others-set, sets-at, unknown-none}
 use Rattle.typst_server.proofs.documents.Documents.lose.Goals as goal
 
+pub returns-in-Some-clause-lost : goal.returns-in-Some-clause-lost
+returns-in-Some-clause-lost c =
+    let s = sets-at c.args.uri.now c.args.self.now.entries.items c.in-Some.place c.index_mut.result.now c.lose.new.self c.in-Some.ensures c.index_mut.ensures.value c.lose.ensures.uri in
+    lost-set c.args.uri.now c.args.self.now.entries.items (Vec.with_item c.args.self.now.entries c.in-Some.place c.lose.new.self).items c.index_mut.result.now c.lose.new.self s c.lose.ensures.lost
+
 pub returns-in-Some-clause-others : goal.returns-in-Some-clause-others
-returns-in-Some-clause-others c = others-updated c.args.uri.now c.args.self.now.held (c.get_mut.follows.lender Lost) _ ((c.get_mut.follows.holds Lost).3 (search rules))
+returns-in-Some-clause-others c =
+    let s = sets-at c.args.uri.now c.args.self.now.entries.items c.in-Some.place c.index_mut.result.now c.lose.new.self c.in-Some.ensures c.index_mut.ensures.value c.lose.ensures.uri in
+    others-set c.args.uri.now c.args.self.now.entries.items (Vec.with_item c.args.self.now.entries c.in-Some.place c.lose.new.self).items c.index_mut.result.now c.lose.new.self s
+
+pub returns-in-Some-clause-sent : goal.returns-in-Some-clause-sent
+returns-in-Some-clause-sent c =
+    let s = sets-at c.args.uri.now c.args.self.now.entries.items c.in-Some.place c.index_mut.result.now c.lose.new.self c.in-Some.ensures c.index_mut.ensures.value c.lose.ensures.uri in
+    drop-set c.args.uri.now c.args.self.now.entries.items (Vec.with_item c.args.self.now.entries c.in-Some.place c.lose.new.self).items c.index_mut.result.now c.lose.new.self s (lost-may c.index_mut.result.now c.lose.new.self c.lose.ensures.lost)
+
+pub returns-in_default-clause-lost : goal.returns-in_default-clause-lost
+returns-in_default-clause-lost c = unknown-none _ (not-placed c.args.uri.now c.args.self.now.entries.items (sym c.in_default.is ∙ c.place_of.ensures))

@@ -1,3 +1,4 @@
+use Rattle.std.proofs.Common.{inl}
 use Rattle.std.specs.String.{string_bytes}
 use Rattle.typst_protocol.specs.Methods.{methods, named}
 use Rattle.typst_protocol.specs.Parameters as parameters
@@ -12,5 +13,8 @@ returns-clause-reply c =
     let method = named methods c.args.request.method.now in
     let params = parameters.seen c.args.request.params in (
       responds-memory (allowed now.standing method params) now.standing c.respond.new.self.standing c.args.request.id (string_bytes c.in-Ok.refused) c.in-Err.ensures.response c.in-Ok.ensures,
-      tells-memory (Gives now.standing.phase method params now.documents) c.args.request.id (string_bytes c.in-Ok.refused) c.in-Ok.ensures,
+      tells-memory (Gives now.standing.phase now.standing.errors method params now.documents) c.args.request.id (string_bytes c.in-Ok.refused) c.in-Ok.ensures,
     )
+
+pub returns-clause-tokens : goal.returns-clause-tokens
+returns-clause-tokens c = inl c.in-Err.ensures.tokens

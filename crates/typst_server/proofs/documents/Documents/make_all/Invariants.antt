@@ -1,10 +1,12 @@
 use Rattle.typst_server.proofs.Texts.{Made}
-use Rattle.typst_server.proofs.documents.Documents.change.Given as goal
+use Rattle.typst_server.proofs.documents.Documents.make_all.Given as goal
 use Rattle.typst_server.specs.Documents.{KeepsOthers, found}
+use Rattle.typst_server.specs.Sent.{KeepsSent}
 
 abbrev pub invariant-loop-value : goal.invariant-loop-value
 invariant-loop-value l =
     record {
       made : Made l.encoding (found l.uri l.fn.self) (found l.uri l.self) l.changes l.value-index;
       others : KeepsOthers l.uri l.fn.self l.self;
+      sent : KeepsSent l.fn.self l.self;
     }

@@ -1,9 +1,9 @@
-use Rattle.std.proofs.Common.{◌+◌, ◌≡◌, refl, ap, subst, sym, ◌∙◌, get_or, take}
+use Rattle.std.proofs.Common.{◌+◌, ◌≡◌, ap, subst, sym, ◌∙◌, get_or, take}
 use Rattle.std.specs.Prelude.{map}
-use Rattle.typst_features.specs.Problems.{node, reported}
+use Rattle.typst_features.specs.Problems.{reported}
 use Rattle.typst_server.proofs.Publishing.{published-all, published-more}
-use Rattle.typst_server.proofs.diagnostics.problems_of.Goals as goal
-use Rattle.typst_server.specs.Published.{ArePublished, IsPublished}
+use Rattle.typst_server.proofs.diagnostics.items_of.Goals as goal
+use Rattle.typst_server.specs.Published.{ArePublished, IsPublished, problems_of}
 
 pub loop-problem-preserved : goal.loop-problem-preserved
 loop-problem-preserved c =
@@ -18,17 +18,12 @@ loop-problem-preserved c =
       document = c.in_ok-published.ensures.document ∙ c.loop-problem.invariant.document;
       published =
           subst (λ ps. ArePublished document (map reported (take (i + 1) items)) ps) (sym c.in_ok-push.ensures.items)
-          (published-more document items c.loop-problem.diagnostics.items i c.problem-item.result made c.loop-problem-test.true c.loop-problem.invariant.published one);
+          (published-more document items c.loop-problem.items.items i c.problem-item.result made c.loop-problem-test.true c.loop-problem.invariant.published one);
     }
 
 pub returns : goal.returns
 returns c =
     let document = c.args.document.now in
     let items = c.deref-problem-items.result.now in
-    let whole : map reported items ≡ node 0 document.source.root =
-    ap (map reported) c.deref-problem-items.ensures.value ∙ c.in_ok-found.ensures ∙ ap (node 0) c.root.ensures.value in
-    record {
-      named = refl;
-      versioned = refl;
-      published = published-all document items (node 0 document.source.root) c.loop-problem.diagnostics.items c.loop-problem.problem-index c.loop-problem-test.false whole c.loop-problem.invariant.published;
-    }
+    let whole : map reported items ≡ problems_of c.args.errors document = ap (map reported) c.deref-problem-items.ensures.value ∙ c.in_ok-found.ensures in
+    published-all document items (problems_of c.args.errors document) c.loop-problem.items.items c.loop-problem.problem-index c.loop-problem-test.false whole c.loop-problem.invariant.published

@@ -1,0 +1,27 @@
+use Rattle.std.proofs.Common.{refl, option_map, ap, inl, ◌∙◌}
+use Rattle.typst_protocol.specs.Addresses.{is_same}
+use Rattle.typst_server.proofs.Held.{others-in, same-self, sent-in, unknown-in}
+use Rattle.typst_server.specs.Documents.{known}
+use Rattle.typst_server.specs.declared.documents.Entry.{Entry}
+use Rattle.typst_server.specs.declared.documents.Held.TheVariants.{Lost}
+use Rattle.typst_server.proofs.documents.Documents.enter.Goals as goal
+
+pub returns-clause-unknown : goal.returns-clause-unknown
+returns-clause-unknown c =
+    let new : Entry = record { uri = c.in_ok-name.name; held = Lost } in
+    λ h. rw c.in_ok-push.ensures.items (unknown-in c.args.uri.now c.args.self.now.entries.items new refl h)
+
+pub returns-clause-others : goal.returns-clause-others
+returns-clause-others c =
+    let new : Entry = record { uri = c.in_ok-name.name; held = Lost } in
+    λ other far.
+    rw c.in_ok-push.ensures.items
+    (
+    ap (option_map (λ (entry : Entry). known entry.held))
+    (others-in c.args.uri.now other c.args.self.now.entries.items new (ap (is_same c.args.uri.now) c.in_ok-name.ensures.ok ∙ same-self c.args.uri.now) far)
+    )
+
+pub returns-clause-sent : goal.returns-clause-sent
+returns-clause-sent c =
+    let new : Entry = record { uri = c.in_ok-name.name; held = Lost } in
+    λ other. inl (rw c.in_ok-push.ensures.items (sent-in other c.args.self.now.entries.items new refl))
