@@ -31,7 +31,7 @@ use Rattle.typst_edits.proofs.RootPieces.{root-pieces-law}
 -- ---- a candidate's tree
 
 module _ (k : CharClasses) (front old new rest : List ℕ) (c : Candidate) where
-  -- the tree of the new text is the old one with these nodes in its place
+  -- The new text's tree is the old one with these nodes in the candidate's place.
   abbrev Fits : List Tree → Type 0
   Fits ts = tree k (front ++ (new ++ rest)) ≡ put_at c.path c.from c.to ts (tree k (front ++ (old ++ rest)))
 
@@ -48,7 +48,7 @@ gives-tree-law apart k front old new rest root c ts same chosen (of_pieces (inne
     let well = inner-candidate-law apart k levels front old new rest root s there name level c i n m past t u same chosen pieces (sym path) start led end h in
     subst (Fits k front old new rest c) (sym is) (inner-pieces-law k levels front old new rest s there name level c i n m past t u well.0 (sym path) start led end h well.1)
 
--- ---- a tree numbered anew
+-- ---- a tree with new numbers
 
 each-bare : (sp : SpanValue) (f : Forest) → bare_forest (with_each (spanned sp) f) ≡ bare_forest f
 each-bare sp none = refl
@@ -74,7 +74,7 @@ chosen-of {X = X} xs earlier c later e = subst (λ ys. Among c ys) (sym e) (in-f
     in-front [] = this later
     in-front (y ∷ ys) = that y (ys ++ c ∷ later) (in-front ys)
 
--- a tree that is a text's, spans aside, is an inner node
+-- A tree that is a text's, spans aside, is an inner node.
 inner-as : (k : CharClasses) (text : List ℕ) (root : Tree) → bare root ≡ bare (tree k text) → IsTrue root.head.is_inner
 inner-as k text root e = subst (λ (b : Bool). IsTrue b) (sym (ap (λ (t : Tree). t.head.is_inner) e)) (tree-inner k text)
 

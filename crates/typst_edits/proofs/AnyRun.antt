@@ -54,7 +54,7 @@ use Rattle.typst_edits.proofs.Widths.{width-append}
 
 -- ---- among the children
 
--- A candidate is children of a run around a stretch, and the first of them isn't empty, but the first of all.
+-- A candidate is children of a run around a stretch; its first child isn't empty, unless it is the run's first.
 pub record Seated (front old : List ℕ) (at : ℕ) (ts : List Tree) (c : Candidate) : Type 0 where
   pub there : 0 < c.from → c.from < length ts
   pub full : (some : 0 < c.from) → 0 < length (text_of (child-at at ts c.from (there some)).node)
@@ -79,7 +79,7 @@ seated front old path at ts cuts c o all =
     })
 
 module _ (front old : List ℕ) (at : ℕ) (ts : List Tree) (c d : Candidate) (s : Seated front old at ts c) (o : Seated front old at ts d) where
-  -- a candidate ends behind the child where another one begins
+  -- A candidate ends after the child where another one begins.
   pub seats-in-order : d.from ≤ c.to
   seats-in-order = at-most d.from c.to (λ l.
       (let back = begins_order at ts c.to d.from (omega (arith, l)) in
@@ -108,7 +108,7 @@ module _ (front old : List ℕ) (at : ℕ) (ts : List Tree) (c d : Candidate) (s
 pub seat-stands : (front old : List ℕ) (at : ℕ) (ts : List Tree) (c : Candidate) → Seated front old at ts c → 0 < c.from → StandsAt at ts c.from c.start
 seat-stands front old at ts c s some = subst (λ b. StandsAt at ts c.from b) (sym s.begin) (stands at ts c.from (child-at at ts c.from (s.there some)) (s.full some))
 
--- two that begin at one byte begin with the same child
+-- Two candidates that begin at one byte begin with the same child.
 pub one-seat : (front old : List ℕ) (at : ℕ) (ts : List Tree) (c d : Candidate) → Seated front old at ts c → Seated front old at ts d → c.start ≡ d.start → (0 < c.from ↔ 0 < d.from) → c.from ≡ d.from
 one-seat front old at ts c d s o same both =
     neither c.from d.from (λ l. not-before front old at ts c d s o same (both.1 (omega (arith, l))) l) (λ l. not-before front old at ts d c o s (sym same) (both.0 (omega (arith, l))) l)
@@ -123,7 +123,7 @@ abbrev line_in : Bool → Tag → Bool
 line_in b (tag.Piece line) = line
 line_in b _ = b
 
--- an entry says one thing
+-- An entry says one thing.
 says-once : (es : List Entry) (a b : ℕ) (x y : Bool × ℕ) → SaysPiece es a x → SaysPiece es b y → a ≡ b → x ≡ y
 says-once es a b x y s o e =
     let same : s.entry ≡ o.entry = ap (entry_or s.entry) (sym s.is ∙ ap (slice_get es) e ∙ o.is) in
@@ -131,7 +131,7 @@ says-once es a b x y s o e =
     let count : x.1 ≡ y.1 = sym s.count ∙ ap (λ (n : Entry). n.count) same ∙ o.count in
     (λ j. (line j, count j))
 
--- where as many bytes were passed the same place is
+-- Where as many bytes were passed is the same place.
 one-place : (a b : ℕ) (text : List ℕ) → b ≤ length text → position (moved a (start_of text)) ≡ width (take b text) → moved a (start_of text) ≡ moved b (start_of text)
 one-place a b text l e =
     let most = min-most a (length text) in
@@ -146,12 +146,12 @@ pub entries-listed : (at : ℕ) (ns : Option (List Note)) → entries_from at ns
 entries-listed at None = refl
 entries-listed at (Some ns) = refl
 
--- from which entry on all looks have to begin behind the stretch: the one behind the pieces, or where there is none another one
+-- The entry from which on all looks have to begin after the stretch is the one after the pieces, or another one where there is none.
 abbrev pub looks_by : ℕ → ℕ → ℕ → ℕ
 looks_by zero alone to = alone
 looks_by (suc n) alone to = to
 
--- which pieces of a run, and how far past a stretch they end
+-- Which pieces of a run a candidate is, and how far past a stretch they end.
 pub record Span : Type 0 where
   pub i : ℕ
   pub n : ℕ
@@ -165,7 +165,7 @@ abbrev trivia_or : Trivia → Option Trivia → Trivia
 trivia_or t None = t
 trivia_or t (Some u) = u
 
--- Pieces that are read so, behind so many characters, begin and end where a candidate does.
+-- Pieces that are read like this, after a given number of characters, begin and end where a candidate does.
 pub record Found (front old rest : List ℕ) (c : Candidate) (q : Sequence) (opened i n past : ℕ) (t : Trivia) : Type 0 where
   pub go : AllGo (first_of i q)
   pub go_on : AllGo (then_of i n q)
@@ -180,7 +180,7 @@ right-of f (inr b) = b
 
 -- ---- pieces that end at the same place
 
--- where as many pieces end is one end, however they are counted
+-- Where as many pieces end is one end, however they are counted.
 pub record SameEnd (q : Sequence) (i n j m : ℕ) : Type 0 where
   pub value : (then_end i n q).value ≡ (then_end j m q).value
   pub state : (then_end i n q).state ≡ (then_end j m q).state
@@ -200,7 +200,7 @@ same-end q i n j m sum =
       taken = taken;
     }
 
--- what meets behind them in two texts meets however they are counted
+-- What agrees after them in two texts agrees however they are counted.
 pub meets-too : (r : Sequence) (y x : Place) (e o f g : End (Bool × ℕ)) (t u : Trivia) → y ≡ x → e.value ≡ o.value → e.state ≡ o.state → f.value ≡ g.value → f.state ≡ g.state → MeetsBehind r y e f t u → MeetsBehind r x o g t u
 meets-too r y x e o f g t u place value state value_now state_now h =
     let there = subst (λ p. MeetsBehind r p e f t u) place h in
@@ -212,7 +212,7 @@ meets-too r y x e o f g t u place value state value_now state_now h =
 
 -- ---- a run, read by itself
 
--- behind some pieces of a run the next begins at its first token
+-- After some pieces of a run the next begins at its first token.
 cut-some : {k : CharClasses} {text : List ℕ} (r : Run k text) (i : ℕ) (z : Place) → 0 < i → (let e = first_end i (read_as r z) in cut_at r i z ≡ opened_by r z + (e.taken + gap_of e.state.known))
 cut-some {k} {text} r i z l =
     let e = first_end i (read_as r z) in
@@ -240,15 +240,15 @@ module _ (k : CharClasses) (front old new rest : List ℕ) (r : Run k (front ++ 
   abbrev es : List Entry
   es = entries_in k text
 
-  -- how the pieces behind i are read by themselves on the new text
+  -- how the pieces after the first i are read by themselves in the new text
   abbrev pub read_from : ℕ → Reading
   read_from i = reading_on which levels (first_end i q).value (moved (cut_at r i z) w)
 
-  -- so many characters stand before the token behind m of them
+  -- A given number of characters stand before the token after m of them.
   abbrev pub far_by : ℕ → ℕ → ℕ
   far_by i m = let x = read_from i in let e = end_on (run_level k levels which) (stops_of which) x.carried m x.place in cut_at r i z + (e.taken + gap_of e.state.known)
 
-  -- m pieces that are read by themselves are those of the new text's run
+  -- If m pieces are read by themselves, they are those of the new text's run.
   pub record AlikeBy (i m : ℕ) (u : Trivia) : Type 0 where
     pub go : AllGo (read_by k (read_from i) m)
     pub sum : end_by r i m u w ≡ far_by i m
@@ -266,7 +266,7 @@ module _ (k : CharClasses) (front old new rest : List ℕ) (r : Run k (front ++ 
   pub found-by : (c : Candidate) (i n past : ℕ) (t : Trivia) → IsPieces k front old rest r c i n past t → FoundHere c i n past t
   found-by c i n past t p = record { go = p.go; go_on = p.go_on; known = p.known; ends = p.ends; start = p.start; end = p.end }
 
-  -- no pieces end behind the text, with their trivia
+  -- No pieces end after the text, with their trivia.
   abbrev pub AreWithin : Type 0
   AreWithin = (m : ℕ) → opened_by r z ≤ length text → opened_by r z + ((first_end m q).taken + gap_of (first_end m q).state.known) ≤ length text
 
@@ -298,14 +298,14 @@ module _ (k : CharClasses) (front old new rest : List ℕ) (r : Run k (front ++ 
     -- where its end is met
     pub meets : (m : ℕ) (x y : Bool × ℕ) → (which ≡ of.Block → y.1 ≡ x.1) → Agrees r true m x y
     pub met : (m : ℕ) (x y : Bool × ℕ) → Agrees r true m x y → which ≡ of.Block → y.1 ≡ x.1
-    -- from which entry on looks have to begin behind the stretch, where it has no expression
+    -- the entry from which on looks have to begin after the stretch, where the run has no expression
     pub alone : ℕ
     pub alone_from : (to : ℕ) → LooksFrom es which (number count) to alone
     pub within : AreWithin
-    -- as many as end at one place are as many
+    -- As many as end at one place are as many.
     pub counts : (i n m : ℕ) → AllGo (first_of i q) → AllGo (then_of i n q) → AllGo (then_of i m q)
         → (then_end i n q).taken + gap_of (then_end i n q).state.known ≡ (then_end i m q).taken + gap_of (then_end i m q).state.known → n ≡ m
-    -- more pieces that are read by themselves end further on
+    -- More pieces that are read by themselves end further on.
     pub further : (i m j : ℕ) → m < j → AllGo (read_by k (read_from i) j) → far_by i m < far_by i j
     -- of a candidate that is pieces of it
     pub before : (c : Candidate) (i n past : ℕ) (t : Trivia) → IsPieces k front old rest r c i n past t → number i < front_in k front old rest ↔ Before k front old rest r i
@@ -319,9 +319,9 @@ module _ (k : CharClasses) (front old new rest : List ℕ) (r : Run k (front ++ 
     pub whole : c.is_block ≡ false
     pub path : path_to r ≡ c.path
     pub seat : Seated front old (run_from r) (kids_of_run r) c
-    -- however it passes, its pieces are these
+    -- However it passes, its pieces are these.
     pub passes : (ts : List Tree) → Gives k front old new rest c ts → ((m : ℕ) × (u : Trivia) × PassesPieces k front old new rest r i n m past t u × (ts ≡ nodes_now r i m u w))
-    -- where the pieces behind d more are read by themselves, and it passes, the entries from there on are exchanged
+    -- Where it passes and the pieces after d more are read by themselves, the entries from there on are exchanged.
     pub units : (first : Candidate) (d left m : ℕ) (u : Trivia) → 0 < d → n ≡ d + left → 0 < left → IsPieces k front old rest r first (i + d) left past t → Before k front old rest r (i + d) → Behind k front old rest r (i + d) left past t
         → AllGo (then_of (i + d) m v) → (then_end (i + d) m v).state.known ≡ Some u → PassesPieces k front old new rest r i n (d + m) past t u
         → units_of (log k now) ≡ spliced (e.number (i + d)) (e.number (i + n)) (entries_by first.start (notes_by k (read_from (i + d)) m)) (units_of (log k text))
@@ -397,7 +397,7 @@ module _ (k : CharClasses) (front old new rest : List ℕ) (r : Run k (front ++ 
         let trivia : t ≡ u = ap (trivia_or t) (sym f.known ∙ ap (λ a. (then_end i a q).state.known) count ∙ there.known) in
         (λ x. span (first x) (count x) (room x) (trivia x))
 
-    -- so however it passes, these pieces do
+    -- So however it passes, these pieces do.
     pub passes-too : (d : ℕ) (b : Trivia) (ts : List Tree) → PassesPieces k front old new rest r j m d far u b → ts ≡ nodes_now r j d b w → ((d : ℕ) × (b : Trivia) × PassesPieces k front old new rest r i n d past t b × (ts ≡ nodes_now r i d b w))
     passes-too d b ts h made =
         let x : PassesPieces k front old new rest r i n d past t b × (ts ≡ nodes_now r i d b w) = subst (λ (x : Span). PassesPieces k front old new rest r x.i x.n d x.past x.trivia b × (ts ≡ nodes_now r x.i d b w)) (sym one-span) (h, made) in
@@ -419,7 +419,7 @@ module _ (k : CharClasses) (front old new rest : List ℕ) (r : Run k (front ++ 
     some-in zero f = absurd (f refl)
     some-in (suc n) f = omega arith
 
-    -- without a piece it is the run's end
+    -- Without a piece it is the run's end.
     pub none-last : n ≡ 0 → IsLast es (e.number i)
     none-last none =
         let alone = p.empty none in
@@ -530,7 +530,7 @@ module _ (k : CharClasses) (front old new rest : List ℕ) (r : Run k (front ++ 
     abbrev pub Read : ℕ → Type 0
     Read m = PassesRead k front old new rest c (read_from i) (e.number i) (e.number (i + n)) (looks_by n e.alone (e.number (i + n))) (first_end (i + n) q).value m
 
-    -- m pieces pass the test, and their nodes are those that are read
+    -- If m pieces pass the test, their nodes are those that are read.
     pub record Given (m : ℕ) : Type 0 where
       pub behind : Trivia
       pub passes : PassesPieces k front old new rest r i n m past t behind
@@ -613,7 +613,7 @@ module _ (k : CharClasses) (front old new rest : List ℕ) (r : Run k (front ++ 
       units = units;
     }
 
-  -- ---- where the reading begins behind d more pieces
+  -- ---- the reading begins after d more pieces
 
   -- what a reading says of a candidate, by numbers
   pub record Keys : Type 0 where
@@ -637,7 +637,7 @@ module _ (k : CharClasses) (front old new rest : List ℕ) (r : Run k (front ++ 
 
   module _ (entry : ℕ) (e : Entered entry) (root : Tree) (same : bare root ≡ bare (tree k (front ++ (old ++ rest)))) (first c : Candidate) (i j n past n0 past0 : ℕ) (t t0 : Trivia)
       (a : Chosen entry e c i n past t) (b : Chosen entry e first (i + suc j) n0 past0 t0) (begun : e.number (i + suc j) < front_in k front old rest) where
-    -- so many pieces stand before the reading begins
+    -- A given number of pieces stand before the reading begins.
     abbrev d : ℕ
     d = suc j
 
@@ -650,7 +650,7 @@ module _ (k : CharClasses) (front old new rest : List ℕ) (r : Run k (front ++ 
     clear : TakesNone mid q
     clear = b.is.none (omega arith)
 
-    -- it begins before the stretch, where pieces of the candidate are left
+    -- It begins before the stretch, where pieces of the candidate are left.
     first-early : first.start < width front
     first-early = b.seat.early (b.is.led.0 (omega arith))
 
@@ -671,7 +671,7 @@ module _ (k : CharClasses) (front old new rest : List ℕ) (r : Run k (front ++ 
         more-than zero (suc y) f = omega arith
         more-than (suc x) (suc y) f = let l = more-than x y (λ l. f (omega (arith, l))) in omega (arith, l)
 
-        -- a candidate without a piece is the whole run
+        -- A candidate without a piece is the whole run.
         some-pieces : 0 < n
         some-pieces = by n refl
           where
@@ -753,7 +753,7 @@ module _ (k : CharClasses) (front old new rest : List ℕ) (r : Run k (front ++ 
     some-n : 0 < n
     some-n = let l = left-is in omega (arith, l)
 
-    -- so many pieces of the reading pass where the old ones and they do
+    -- A given number of pieces of the reading pass where the old ones together with them do.
     record Passed (m : ℕ) : Type 0 where
       behind : Trivia
       go : AllGo (then_of mid m v)
@@ -899,7 +899,7 @@ module _ (k : CharClasses) (front old new rest : List ℕ) (r : Run k (front ++ 
 
   -- ---- both
 
-  -- what is found of a candidate is what its pieces say
+  -- What is found of a candidate is what its pieces say.
   module _ (entry : ℕ) (e : Entered entry) (c : Candidate) (i n past : ℕ) (t : Trivia) (p : IsPieces k front old rest r c i n past t) (g : FoundRun k front old new rest c which levels entry) where
     found-from : g.from ≡ e.number i
     found-from = (ends-are entry e c i n past t p g.from g.to g.ends).0
@@ -947,7 +947,7 @@ module _ (k : CharClasses) (front old new rest : List ℕ) (r : Run k (front ++ 
         let looks = looks-are entry e c i n past t a.is g.from g.to g.looks g.looks_from from some ∙ to in
         subst (λ x. ServedBy root first c x) (λ x. record { reading = sym reading x; mid = sym mid x; from = sym from x; to = sym to x; looks = sym looks x; carried_end = sym end x }) (later entry e root same first c i j n past n0 past0 t t0 a b there)
 
-    -- a reading that begins with one candidate serves each that begins there or earlier
+    -- A reading that begins with one candidate serves each that begins there or earlier.
     pub served : (i0 : ℕ) → Chosen entry e first i0 n0 past0 t0 → c.start ≤ first.start → Served k front old new rest root which levels entry first c f g
     served i0 b l =
         let sum : i0 ≡ i + (i0 - i) = not-more i0 i (λ less. (let more = e.cuts i0 i less a.is.go in let one = a.is.start in let two = b.is.start in omega (arith, more, one, two, l))) in

@@ -106,7 +106,7 @@ child-bare (c ∷ cs) (suc n) = child-bare cs n
 got-bare : (at n m : ℕ) (ts : List Tree) → n ≡ m → child_at (laid at (map bare ts)) n ≡ option_map bare_child (child_at (laid at ts) m)
 got-bare at n m ts e = (λ i. child_at (laid-bare at ts i) (e i)) ∙ child-bare (laid at ts) m
 
--- what is made of a child, if there is one, is the same where it is of each child
+-- What is made of a child, if there is one, is the same if it is the same for each child.
 chosen-bare : (f g : Child → List Candidate) (n o : Option Child) → n ≡ option_map bare_child o → ((c : Child) → f (bare_child c) ≡ g c)
     → (elim n as (λ _. List Candidate) [ None ↦ [] | Some c ↦ f c ]) ≡ (elim o as (λ _. List Candidate) [ None ↦ [] | Some c ↦ g c ])
 chosen-bare f g n o e h = ap (λ (m : Option Child). elim m as (λ _. List Candidate) [ None ↦ [] | Some c ↦ f c ]) e ∙ by-child o
@@ -115,7 +115,7 @@ chosen-bare f g n o e h = ap (λ (m : Option Child). elim m as (λ _. List Candi
     by-child None = refl
     by-child (Some c) = h c
 
--- those that a node's child gives, by those within it
+-- The candidates that a node's child gives, by those within it.
 abbrev from_child : List Note → ℕ → ℕ → List ℕ → ℕ → ℕ → Head → List Tree → (List ℕ → Option (List ℕ) → ℕ → List Candidate) → Child → List Candidate
 from_child ns rs re path at inside h ts below c =
     let cs = laid inside ts in
@@ -132,7 +132,7 @@ from-child-bare ns rs re path at inside h ts now below same c =
     then same (path ++ near.first j ∷ []) (run_in ns at h.kind k) (near.first j) j ++ (if is_block k then children-bare true path inside ts (near.first j) (suc (near.first j)) j ∷ [] else [])
     else []
 
--- those at a node with other children, which are the same, spans aside
+-- The candidates at a node with other children that are the same, spans aside.
 candidates-in : (ns : List Note) (rs re : ℕ) (path : List ℕ) (run : Option (List ℕ)) (at inside : ℕ) (h : Head) (us ts : List Tree) (now below : List ℕ → Option (List ℕ) → ℕ → List Candidate)
     → us ≡ map bare ts → ((path : List ℕ) (run : Option (List ℕ)) (i : ℕ) → now path run i ≡ below path run i)
     → (elim (child_at (laid inside us) (first_near rs (laid inside us))) as (λ _. List Candidate) [ None ↦ [] | Some c ↦ from_child ns rs re path at inside h us now c ]) ++ of_run rs re path inside us run

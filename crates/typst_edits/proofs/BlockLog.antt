@@ -30,7 +30,7 @@ module _ (k : CharClasses) (text : List ℕ) (c : Spot (Unit {0})) where
   abbrev pub own_asks : List Ask
   own_asks = shift c.at (lowered c.fewer (unit_at c (start_of text)).asks)
 
-  -- The log up to where it begins; and whatever is noted of what is asked in it stands between its two notes.
+  -- The log up to where the block begins; whatever is noted of what is asked in it stands between its two notes.
   pub record BlockLog : Type 0 where
     pub earlier : List Note
     pub opens : Note
@@ -45,7 +45,7 @@ module _ (k : CharClasses) (text : List ℕ) (c : Spot (Unit {0})) where
     pub name_end : closes.mark ≡ mark.Closes
     pub end : closes.before ≡ width (take (c.at + (unit_at c (start_of text)).taken) text)
     pub levels_end : closes.levels ≡ max_depth - c.fewer
-    -- as many notes stand before its own as are noted before it
+    -- As many notes stand before its own as are noted before it.
     pub number : notes_in c.before ≡ suc (length earlier)
     pub reads : unit_at c (start_of text) ≡ ended (block_at k (max_depth - c.fewer) c.name (moved c.at (start_of text)) (point_of c.start))
 

@@ -68,7 +68,7 @@ state-taken : (e : Bool) (text : List ℕ) (r : Reading) (s t : Point) → renew
 state-taken true text r s t = refl
 state-taken false text r s t = refl
 
--- what takes the token at hand needs no more of the state than how that is read
+-- What takes the token at hand needs no more of the state than how that token is read.
 abbrev Begins : Level → Parser (Unit {0}) → Type 0
 Begins l p = (r : Reading) (z : Place) (s t : Point) → hand_of l z s ≡ hand_of l z t → hand_asks_of l z s ≡ hand_asks_of l z t → run l p z (entered r s) ≡ run l p z (entered r t)
 
@@ -89,7 +89,7 @@ begins-eat l r z s t h a =
 abbrev Read : Type 0
 Read = ℕ × (ℕ × (List (List ℕ) × (List Tree × (List Ask × Bool))))
 
--- all but the state
+-- all except the state
 abbrev read_of : {A : Type 0} → Outcome A → Read
 read_of o = (o.taken, (o.back, (o.hints, (o.nodes, (o.asks, o.met)))))
 
@@ -103,7 +103,7 @@ same-read o p e = record {
   met = ap (λ (r : Read). r.1.1.1.1.1) e;
 }
 
--- a block by what is asked for its first token, twice, how many nodes of trivia stand before it, and what stands in it
+-- A block by what is asked for its first token, twice, by how many nodes of trivia stand before it, and by what stands in it.
 abbrev view : Block → Point → List Ask → List Ask → ℕ → Outcome Bool → Read
 view b s first second n o =
     let w = wrapped (enclosing b) n o in
@@ -116,7 +116,7 @@ module _ (l : Level) (b : Block) (r : Reading) (p : Parser (Unit {0})) (begins :
   abbrev inner_of : Place → Point → Outcome Bool
   inner_of z s = run l (next p (λ _. q)) z (entered r s)
 
-  -- the point behind the look at its first token, and behind the second look
+  -- the point after the look at its first token, and after the second look
   abbrev looked_at : Place → Point → Point
   looked_at z s = asked (hand_of l z s) s
 
@@ -129,7 +129,7 @@ module _ (l : Level) (b : Block) (r : Reading) (p : Parser (Unit {0})) (begins :
   unfolding run
   inner-same z s t h a = ap (λ o. joined o (run l q (moved o.taken z) o.state)) (begins r z s t h a)
 
-  -- where both points show the same token at hand
+  -- Where both points show the same token at hand.
   module _ (z : Place) (s t : State) (e : s.held.mode ≡ t.held.mode) (clear : at_trivia l.classes s.held.mode z ≡ false) where
     abbrev known_at : State → Point
     known_at u = asked (first_hand l.classes z u.held.mode) (point_of u)

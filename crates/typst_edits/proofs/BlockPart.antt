@@ -49,7 +49,7 @@ block-part-law text c u ns e =
 
 -- ---- places
 
--- a place on, the text is as long as before
+-- Further on the text is as long as before.
 width-kept : (n : ℕ) (b a : List ℕ) → width (moved_from n b a).before + width (moved_from n b a).ahead ≡ width b + width a
 width-kept zero b a = refl
 width-kept (suc n) b [] = refl

@@ -43,7 +43,7 @@ module _ (r : Sequence) where
       let e = first_end i r in
       repeated-chain (turn_of r) within i (true, 0) r.place r.point g ∙ ap (chain (first_of i r)) (repeated-chain (turn_of r) within n e.value (moved e.taken r.place) e.state h)
 
-  -- how much they take
+  -- how many characters they take
   pub split-taken : (i n : ℕ) → (chain (first_of i r) (chain (then_of i n r) (rest_of i n r))).taken ≡ ((first_end i r).taken + (then_end i n r).taken) + (rest_of i n r).taken
   split-taken i n =
       let e = first_end i r in
@@ -61,7 +61,7 @@ module _ (k : CharClasses) (levels : ℕ) where
   sane p = sane-run (inner k levels) (sane-meaning (rules k) k (suc levels)) (λ b. sane-plain tt) p
 
   module _ (z : Place) (s : Point) where
-    -- the block by its run, and what comes behind so many characters, in a state
+    -- the block by its run and by what comes after a given number of characters, in a state
     abbrev pub content_by : Outcome (Bool × ℕ) → Outcome (Unit {0}) → Outcome Bool → Outcome (Unit {0})
     content_by r t close = content_of (look_first k levels z s) (look_again k levels z s) (bracket k levels z s) (body_of (run_of (bracket k levels z s).state (inner_lead k levels z s) r t)) close
 
@@ -83,7 +83,7 @@ module _ (k : CharClasses) (levels : ℕ) where
     unfolding run content_block node node_with_trivia markup_is_empty
     content-open = refl
 
-    -- what is read in it, where a level is left
+    -- what is read in it, if a level is left
     abbrev exprs_of : Outcome (Bool × ℕ) → Outcome (Unit {0})
     exprs_of o =
         let x = (bracket k levels z s).state in
@@ -122,12 +122,12 @@ module _ (k : CharClasses) (levels : ℕ) where
         ∙ ap (λ j. by_run q j q.state) (split-taken r i n)
         ∙ ap (by_run q (((first_end i r).taken + (then_end i n r).taken) + (rest_of i n r).taken)) (split-state r i n)
 
-    -- how much it takes
+    -- how many characters it takes
     pub content-taken : (r : Outcome (Bool × ℕ)) (t : Outcome (Unit {0})) (close : Outcome Bool) → (content_by r t close).taken ≡ (bracket k levels z s).taken + (r.taken + (t.taken + close.taken))
     unfolding run
     content-taken r t close = omega arith
 
-  -- what comes behind the run, at a place
+  -- what comes after the run, at a place
   abbrev flush_at : Place → Point → Outcome (Unit {0})
   flush_at z s = run (inner k levels) flush_trivia z s
 

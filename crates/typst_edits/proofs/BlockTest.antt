@@ -71,7 +71,7 @@ use Rattle.typst_edits.proofs.Widths.{width-append, width-moved}
 
 -- ---- a block's numbers
 
--- what stands between its two notes is nested
+-- What stands between its two notes is nested.
 within-block : (k : CharClasses) (text : List ℕ) (c : Spot (Unit {0})) (opens : ℕ) → Among c (blocks_of_text k text) → notes_in c.before ≡ suc opens
     → Nested (max_depth - c.fewer) (take (notes_in (unit_at c (start_of text)).asks) (drop (suc opens) (listed (log k text).notes)))
 within-block k text c opens there number =
@@ -85,7 +85,7 @@ within-block k text c opens there number =
     ∙ ap (λ m. take m tail) (sym n.long) ∙ take-append_seam n.inner (n.closes ∷ n.later) in
     subst (Nested (max_depth - c.fewer)) (sym is) n.nested
 
--- the units say all by the list of notes
+-- The units say everything by the list of notes.
 pub noted-units : (h : Log) (ns : List Note) → h.notes ≡ Some ns → (P : List Entry → ℕ → Type 0) → P (entries_by 0 ns) (back_of (last_start 0 ns) h.least) → P (units_of h).entries (units_of h).back
 noted-units h ns e P p = subst (λ o. (let ms = elim o as (λ _. List Note) [ None ↦ [] | Some ls ↦ ls ] in P (entries_by 0 ms) (back_of (last_start 0 ms) h.least))) (sym e) p
 
@@ -190,7 +190,7 @@ pub byte-at : (at : ℕ) (text : List ℕ) → position (moved at (start_of text
 unfolding position
 byte-at at text = width-moved at text
 
--- what is kept of its reading where all before it shows the same
+-- what stays of its reading where all before it shows the same
 pub record Same (o u : Outcome (Unit {0})) : Type 0 where
   pub taken : o.taken ≡ u.taken
   pub nodes : o.nodes ≡ u.nodes
@@ -310,7 +310,7 @@ module _ (k : CharClasses) (front old new rest : List ℕ) where
 
 -- ---- two spots where a candidate is
 
--- what the entries say of a block, and where it begins
+-- What the entries say of a block, and where it begins.
 record Key : Type 0 where
   from : ℕ
   to : ℕ
@@ -348,7 +348,7 @@ module _ (k : CharClasses) (front old new rest : List ℕ) (c : Candidate) where
   abbrev key_of : (s : Spot (Unit {0})) → Numbers k front old rest c s → Key
   key_of s n = record { from = n.from; to = n.to; levels = max_depth - s.fewer; name = s.name; mode = s.start.held.mode; at = s.at }
 
-  -- a candidate has one
+  -- A candidate has one.
   one-key : (s r : Spot (Unit {0})) (n : Numbers k front old rest c s) (m : Numbers k front old rest c r) → c.start ≡ width (take s.at (front ++ (old ++ rest))) → c.start ≡ width (take r.at (front ++ (old ++ rest))) → key_of s n ≡ key_of r m
   one-key s r n m e f =
       let one = length-append front (old ++ rest) in
@@ -371,7 +371,7 @@ module _ (k : CharClasses) (front old new rest : List ℕ) (c : Candidate) where
     pub numbered : (s : Spot (Unit {0})) → Among s (blocks_of_text k (front ++ (old ++ rest))) → path_of s.hole ≡ c.path ++ c.from ∷ [] → Numbers k front old rest c s
     numbered s there path = numbers in_order k front old rest c s big there (spot-place k (front ++ (old ++ rest)) s there) (met s there path).0 b.starts b.ends
 
-    -- however it passes, it does so by its key
+    -- However it passes, it does so by its key.
     gives-passing : (s : Spot (Unit {0})) (there : Among s (blocks_of_text k (front ++ (old ++ rest)))) (path : path_of s.hole ≡ c.path ++ c.from ∷ []) (ts : List Tree) → Gives k front old new rest c ts → Passing ts (key_of s (numbered s there path))
     gives-passing s there path ts (of_block r past block chosen where_it_is passes made) =
         let n = numbered s there path in
@@ -483,7 +483,7 @@ units-listed h = by-notes h.notes
 
 -- ---- the law
 
--- where a block begins that a reading that was given up covers, no entry begins one
+-- Where a block within a reading that was given up begins, no entry begins one.
 none-second : InOrderLaw → (k : CharClasses) (front old rest : List ℕ) (c : Candidate) (b : BlockAt [] 0 (width front) (width (front ++ old)) (parsed k max_depth (front ++ (old ++ rest))).nodes c) (s : Spot (Unit {0}))
     → Among s (seconds_of_text k (front ++ (old ++ rest))) → IsOf b.hole b.node s → (from : ℕ) → opening_of c.start 0 0 (entries_in k (front ++ (old ++ rest))) ≡ Some from → ⊥
 none-second in_order k front old rest c b s there of from opens =

@@ -29,7 +29,7 @@ alter-one x i [] e = absurd (omega (arith, e))
 alter-one x zero (t ∷ ts) e = refl
 alter-one x (suc i) (t ∷ ts) e = ap (λ us. t ∷ us) (alter-one x i ts (omega (arith, e)))
 
--- one of several nodes changed by functions that do the same to each that is like it
+-- One of several nodes, changed by functions that do the same to each node that is like it.
 alter-there : (P : Tree → Type 0) (f g : Tree → Tree) (n : ℕ) (ts : List Tree) → ((t : Tree) → P t → f t ≡ g t) → At P (slice_get ts n) → alter n f ts ≡ alter n g ts
 alter-there P f g n [] e a = refl
 alter-there P f g zero (t ∷ ts) e a = ap (λ u. u ∷ ts) (e t a)
@@ -47,7 +47,7 @@ replaced-one : (path : List ℕ) (from : ℕ) (x : Tree) (ts : List Tree) → in
 replaced-one [] from x ts = ap (λ us. inner_of kind.Markup (forest (alter from (put [] x) us))) (sym (trees_forest ts))
 replaced-one (n ∷ path) from x ts = ap (λ us. inner_of kind.Markup (forest (alter n (put (path ++ from ∷ []) x) us))) (sym (trees_forest ts))
 
--- the tree of the new text, be it of any length
+-- The tree of the new text, whatever its length.
 pub block-tree : (k : CharClasses) (front old new rest : List ℕ) (c : Candidate) (s : Spot (Unit {0})) (past : ℕ) → Among s (blocks_of_text k (front ++ (old ++ rest)))
     → path_of s.hole ≡ c.path ++ c.from ∷ [] → c.to ≡ suc c.from → Reaches c.path c.from c.to (tree k (front ++ (old ++ rest))) → Passes front old new rest s past
     → tree k (front ++ (new ++ rest)) ≡ put_at c.path c.from c.to (last_node (unit_at s (text_with front new rest)).nodes ∷ []) (tree k (front ++ (old ++ rest)))

@@ -64,11 +64,11 @@ ends-plain b a o e = record {
   empties = e.empties;
 }
 
--- what stands between the delimiters of a block: where the second is missing the first is an error
+-- What stands between the delimiters of a block: where the second is missing, the first is an error.
 abbrev pub enclosing : Block → Bool → Shape
 enclosing b closed = encloses (kind_of b) closed
 
--- it becomes one node
+-- It becomes one node.
 ends-enclosing : (b : Block) (n : ℕ) (closed : Bool) (o : Outcome Bool) → o.value ≡ closed → EndsIn b (wrapped (enclosing b) n o)
 ends-enclosing b n true o e = record {
   front = take (n + o.back) o.nodes;

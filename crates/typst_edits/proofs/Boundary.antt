@@ -42,11 +42,11 @@ pub record KnownAt (s : Point) : Type 0 where
 
 -- ---- where a piece ends
 
--- the note where pieces end, so many characters on
+-- the note where pieces end, a given number of characters further on
 abbrev pub piece_mark : ℕ → Bool × ℕ → Point → Ask
 piece_mark at x s = marked at (gap_of s.known) 0 (mark.Piece x.0 x.1) (state_of s)
 
--- what was asked up to a place ends with a note of a piece between these looks, asked twice
+-- What was asked up to a place ends with a note of a piece between these looks, which are made twice.
 pub record Ends (asks : List Ask) (at : ℕ) (x : Bool × ℕ) (s : Point) (looks : List Ask) : Type 0 where
   pub early : List Ask
   pub is : asks ≡ early ++ (shift at looks ++ piece_mark at x s ∷ shift at looks)
@@ -161,7 +161,7 @@ module _ (l : Level) (stops : SyntaxKind → Bool) (x : Bool × ℕ) (z : Place)
       (marks-append P deep.asks (shift deep.taken second) (deep-marks P some f) (marks-shift P deep.taken second (none-hand (shifted deep.taken) l.classes deep.state.held deep.state.known there))) in
       subst (λ u. AllMarks P u) (sym gone-asks) (marks-append P early_asks _ early (marks-append P (shift n looks) _ behind (own, behind)))
 
-  -- by what it asks before its last looks, none of which notes anything on its own level
+  -- by what it asks before its last looks, none of which notes anything on the piece's own level
   pub turn-asks : ends stops x.1 ahead.kind ≡ false → (let o = run l (markup_turn true stops x) z s in let looks = hand_asks_of l there after in o.asks ≡ early_asks ++ (shift o.taken looks ++ piece_mark o.taken o.value.1 o.state ∷ shift o.taken looks))
   turn-asks go =
       let looks = hand_asks_of l there after in
@@ -190,7 +190,7 @@ module _ (l : Level) (stops : SyntaxKind → Bool) (x : Bool × ℕ) (z : Place)
   known-by true e h = let f : true ≡ false = sym h ∙ stopped-is e in cc
   known-by false e h = subst (λ (o : Outcome (Bool × (Bool × ℕ))). KnownAt o.state) (sym (turn-is e)) (record { trivia = _; is = refl })
 
-  -- the trivia behind it are known
+  -- the trivia after it are known
   pub turn-known : (run l (markup_turn true stops x) z s).value.0 ≡ true → KnownAt (run l (markup_turn true stops x) z s).state
   turn-known h = known-by (ends stops x.1 ahead.kind) refl h
 
@@ -198,7 +198,7 @@ module _ (l : Level) (stops : SyntaxKind → Bool) (x : Bool × ℕ) (z : Place)
   going-by true e h = let f : true ≡ false = sym h ∙ stopped-is e in cc
   going-by false e h = e
 
-  -- one that goes on isn't stopped
+  -- A piece that goes on isn't stopped.
   pub going-on : (run l (markup_turn true stops x) z s).value.0 ≡ true → ends stops x.1 ahead.kind ≡ false
   going-on h = going-by (ends stops x.1 ahead.kind) refl h
 
@@ -240,7 +240,7 @@ module _ (m : Bool × ℕ → Meaning (Bool × (Bool × ℕ))) (looks : Place �
       subst (λ w. Ends (o.asks ++ shift o.taken (asks_of os)) (o.taken + e.taken) e.value e.state (looks w e.state)) (sym place)
       (later-ends (asks_of os) o.asks (looks (moved e.taken (moved o.taken z)) e.state) o.taken e.taken e.value e.state (made-ends n o.value.1 (moved o.taken z) o.state g.1))
 
-  -- pieces behind others
+  -- pieces after others
   pub made-add : (i n : ℕ) (x : Bool × ℕ) (z : Place) (s : Point) → (let e = end_of x s (made m i x z s) in let f = end_of e.value e.state (made m n e.value (moved e.taken z) e.state) in
       end_of x s (made m (i + n) x z s) ≡ record f { taken = e.taken + f.taken })
   made-add zero n x z s =
@@ -293,7 +293,7 @@ begins-either : {A : Type 0} (b : Bool) (ls : List Ask) (o q : Outcome A) → Be
 begins-either true ls o q h i = h
 begins-either false ls o q h i = i
 
--- pieces begin by asking for the token at hand
+-- Pieces begin by asking for the token at hand.
 module _ (r : Sequence) where
   abbrev pub looks_in : Place → Point → List Ask
   looks_in z s = hand_asks_of r.level z s
@@ -314,7 +314,7 @@ module _ (r : Sequence) where
 
 -- ---- looks in one list and another
 
--- looks of one list and of another, counted from so many characters before
+-- looks of one list and of another, counted from a given number of characters before
 pub end-split : (n d : ℕ) (ls ks : List Ask) → AllEndBy n (shift d (ls ++ ks)) → AllEndBy n (shift d ls) × AllEndBy n (shift d ks)
 end-split n d [] ks h = (tt, h)
 end-split n d (looked at look ∷ ls) ks h = let i = end-split n d ls ks h.1 in ((h.0, i.0), i.1)
@@ -362,7 +362,7 @@ module _ (lv : ℕ) (z : Place) (ls ks : List Ask) (at gap fewer : ℕ) (m : Mar
     all : (b : ℕ) → b < lowest later log_all.least → AllFrom b z ks
     back : (b : ℕ) → b < 2 ^ 64 - 1 → AllFrom b z ks → b < lowest later log_all.least
 
-  -- the notes behind it, whatever they are compared with
+  -- the notes after it, whatever they are compared with
   one-note : OneNote
   one-note =
       let h = with_note gap (lv - fewer) m s (moved at z) log_before in
@@ -386,11 +386,11 @@ module _ (lv : ℕ) (z : Place) (ls ks : List Ask) (at gap fewer : ℕ) (m : Mar
 
 -- by the point before the look at its first token, and that look
 module _ (r : Sequence) (first : Point) (same : state_of first ≡ state_of r.point) (ls : List Ask) where
-  -- what is asked in the run, where this is asked behind j pieces
+  -- what is asked in the run, where this is asked after j pieces
   abbrev pub asks_in : ℕ → List Ask → List Ask
   asks_in j behind = piece_mark 0 (true, 0) first ∷ ((ls ++ asks_of (first_of j r)) ++ shift (first_end j r).taken behind)
 
-  -- what was asked before the note and behind it, counted from so many characters before
+  -- what was asked before the note and after it, counted from a given number of characters before
   pub record Boundary (j : ℕ) (behind : List Ask) : Type 0 where
     pub early : List Ask
     pub gap : ℕ
@@ -446,7 +446,7 @@ module _ (r : Sequence) (first : Point) (same : state_of first ≡ state_of r.po
         late_from = λ n d z l h. from-first n d z looks next.more (subst (λ u. AllFrom n z (shift d u)) next.is h);
       }
 
--- ---- a note of a text, and what its numbers say of what was asked before it and behind it
+-- ---- a note of a text, and what its numbers say of what was asked before it and after it
 
 module _ (k : CharClasses) (text : List ℕ) where
   pub record Told (early behind : List Ask) (at gap fewer : ℕ) (m : Mark) (s : State) : Type 0 where

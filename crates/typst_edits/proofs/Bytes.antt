@@ -31,9 +31,9 @@ use Rattle.typst_edits.proofs.Names.{named-level}
 use Rattle.typst_edits.proofs.Widths.{width-none, width-append, width-onto, width-moved, far-by, far-to, near-by, near-to}
 use Rattle.typst_edits.proofs.Within.{AllAt, at-first, at-second, in-level}
 
--- ---- the log of asks one behind the other
+-- ---- the log of asks one after the other
 
--- so many notes more
+-- Asks add a given number of notes to a log.
 pub record Noted (ns : List Note) (h : Log) : Type 0 where
   pub more : List Note
   pub is : h.notes ≡ Some (ns ++ more)
@@ -108,7 +108,7 @@ both-by b m n h = (omega (arith, h), omega (arith, h))
 both-to : (b m n : ℕ) → m ≤ b → n ≤ b → max m n ≤ b
 both-to b m n h k = omega (arith, h, k)
 
--- behind a note nothing was looked at yet
+-- Since a note nothing has been looked at yet.
 none-yet : (b : ℕ) (notes : Option (List Note)) (ns : List Note) (reach : ℕ) → notes ≡ Some ns → reach_behind notes reach ≤ b
 none-yet b notes ns reach e = subst (λ o. reach_behind o reach ≤ b) (sym e) (omega arith)
 
@@ -175,7 +175,7 @@ below b m n h = (omega (arith, h), omega (arith, h))
 above : (b m n : ℕ) → b < m → b < n → b < min m n
 above b m n h k = omega (arith, h, k)
 
--- behind a note nothing was looked at yet
+-- Since a note nothing has been looked at yet.
 pub newly : (b : ℕ) (notes : Option (List Note)) (ns : List Note) (least : ℕ) → notes ≡ Some ns → b < 2 ^ 64 - 1 → b < least_behind notes least
 newly b notes ns least e big = subst (λ o. b < least_behind o least) (sym e) big
 
@@ -203,7 +203,7 @@ least-by lv z (marked at gap fewer m s ∷ asks) h ns e =
       back = λ b big l f. above b h.least (lowest i.more last) l (i.back b big (newly b h.notes ns h.least e big) f);
     }
 
--- behind a stretch
+-- after a stretch
 pub begin-by : (front old rest : List ℕ) (end past : ℕ) (asks : List Ask) → end ≡ (length front + length old) + past → AllAt (length (front ++ (old ++ rest))) (shift end asks) → AllFrom (width (front ++ old)) (text_with front old rest) (shift end asks)
     → AllBeginIn past rest asks
 begin-by front old rest end past [] e a f = tt
@@ -232,7 +232,7 @@ begin-to front old rest end past (marked at gap fewer m s ∷ asks) e f = begin-
 
 -- ---- the two notes of a block
 
--- a log whose asks are these, with a mark between the first and the second, and one between the second and the third
+-- A log of these asks, with a mark between the first and the second and one between the second and the third.
 record Split (lv : ℕ) (z : Place) (h : Log) (first second third : List Ask) (at fewer end gap less : ℕ) (m n : Mark) (s t : State) : Type 0 where
   is : h ≡ logged lv z (with_note gap (lv - less) n t (moved end z) (logged lv z (with_note 0 (lv - fewer) m s (moved at z) (logged lv z no_log first)) second)) third
 

@@ -15,7 +15,7 @@ use Rattle.typst_edits.proofs.Every.{every-append, every-by, every-if}
 use Rattle.typst_edits.proofs.Placed.{left_text}
 use Rattle.typst_edits.proofs.Walk.{length-texts}
 
--- a node of a block's kind in a hole among some nodes, where the first of these begins at a byte: it begins before a stretch and ends behind it
+-- A node of a block's kind stands in a hole among some nodes, the first of which begins at a byte; it begins before a stretch and ends after it.
 pub record BlockAt (path : List ℕ) (at rs re : ℕ) (ts : List Tree) (c : Candidate) : Type 0 where
   pub hole : Hole
   pub node : Tree
@@ -64,7 +64,7 @@ split-child at (suc i) (t ∷ ts) c e =
 
 -- ---- those of a node
 
--- what is found of the one of an index of some trees side by side
+-- What is found of the tree of an index among some trees side by side.
 abbrev In : List ℕ → ℕ → ℕ → ℕ → ℕ → Forest → Candidate → Type 0
 In path index at rs re none c = Unit {0}
 In path zero at rs re (more h ks r) c = BlockAt path (at + length h.text) rs re (trees ks) c
@@ -73,7 +73,7 @@ In path (suc index) at rs re (more h ks r) c = In path index (at + length (h.tex
 abbrev Finds : List ℕ → ℕ → ℕ → ℕ → ℕ → Forest → Candidate → Type 0
 Finds path index at rs re f c = c.is_block ≡ true → In path index at rs re f c
 
--- in the one of an index there is one
+-- In the tree of that index there is one.
 in-child : (path : List ℕ) (index at rs re : ℕ) (f : Forest) (d : Child) (c : Candidate) → child_at (laid at (trees f)) index ≡ Some d → In path index at rs re f c → BlockAt path (d.start + length d.node.head.text) rs re (trees d.node.kids) c
 in-child path index at rs re none d c e b = absurd (cc)
 in-child path zero at rs re (more h ks r) d c e b =

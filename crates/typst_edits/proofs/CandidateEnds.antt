@@ -30,7 +30,7 @@ use Rattle.typst_edits.proofs.RunTrees.{standing-still}
 
 -- ---- children
 
--- a node that stands from a byte on
+-- A node occupies bytes from a given one on.
 abbrev pub child : ℕ → Tree → Child
 child at t = record { start = at; end = at + length (text_of t); node = t }
 
@@ -75,7 +75,7 @@ child-at from (t ∷ ts) (suc index) h =
       holds = λ f. c.holds f;
     }
 
--- behind the last child
+-- after the last child
 pub begins-last : (from : ℕ) (ts : List Tree) (n : ℕ) → length ts ≤ n → begins from ts n ≡ from + bytes_of ts
 begins-last from [] n h = omega arith
 begins-last from (t ∷ ts) zero h = absurd (omega (arith, h))
@@ -101,7 +101,7 @@ begun-before from rs (t ∷ ts) n h = by-test n (nat_lt from rs) refl h (begun-b
     by-test (suc n) true e h next = next n (omega (arith, h))
     by-test n false e h next = absurd (omega (arith, h))
 
--- and behind those that end at a byte or before it, and one more, the byte is past
+-- After those that end at a byte or before it, and one more, the byte is passed.
 ended-behind : (from re : ℕ) (ts : List Tree) (n : ℕ) → ended re (laid from ts) < n → ended re (laid from ts) < length ts → re ≤ begins from ts n
 ended-behind from re [] n h l = absurd (omega (arith, l))
 ended-behind from re (t ∷ ts) zero h l = absurd (omega (arith, h))
@@ -112,7 +112,7 @@ ended-behind from re (t ∷ ts) (suc n) h l = by-test (nat_le (from + length (te
     by-test true e h l next = next (omega (arith, h)) (omega (arith, l))
     by-test false e h l next = let past : re < from + length (text_of t) = grind (arith, nat_tests) in let least = begins-from (from + length (text_of t)) ts n in omega (arith, past, least)
 
--- where it isn't empty, it stands there
+-- Where it isn't empty, it occupies that byte.
 pub stands : (from : ℕ) (ts : List Tree) (index : ℕ) (c : ChildAt from ts index) → 0 < length (text_of c.node) → StandsAt from ts index (begins from ts index)
 stands from ts index c full = record { left = c.left; node = c.node; right = c.right; is = c.is; here = c.here; begins = c.at_is ∙ sym c.begin; full = full }
 
@@ -129,12 +129,12 @@ if-so : (f : ℕ → Bool) (n : ℕ) (b : Bool) → f (suc n) ≡ b → (0 < bac
 if-so f n true e h l = h l
 if-so f n false e h l = e
 
--- back to one of which it doesn't hold
+-- Back to one for which it doesn't hold.
 pub back-stop : (f : ℕ → Bool) (n : ℕ) → 0 < back_past f n → f (back_past f n) ≡ false
 back-stop f zero h = absurd (omega (arith, h))
 back-stop f (suc n) h = if-so f n (f (suc n)) refl (back-stop f n) h
 
--- past those of which it holds
+-- Past those for which it holds.
 pub back-all : (f : ℕ → Bool) (n w : ℕ) → back_past f n < w → w ≤ n → f w ≡ true
 back-all f zero w h l = absurd (omega (arith, h, l))
 back-all f (suc n) w h l = by-test (f (suc n)) refl h (back-all f n w)
@@ -149,7 +149,7 @@ back-all f (suc n) w h l = by-test (f (suc n)) refl h (back-all f n w)
     by-test true e g ih = by-last (nat_lt w (suc n)) refl e (ih g)
     by-test false e g ih = absurd (omega (arith, g, l))
 
--- on to one of which it doesn't hold
+-- On to one for which it doesn't hold.
 pub on-stop : (f : ℕ → Bool) (limit n : ℕ) → on_past f limit n < n + limit → f (on_past f limit n) ≡ false
 on-stop f zero n h = absurd (omega (arith, h))
 on-stop f (suc limit) n h = by-test (f n) refl h (on-stop f limit (suc n))
@@ -160,7 +160,7 @@ on-stop f (suc limit) n h = by-test (f n) refl h (on-stop f limit (suc n))
 
 -- ---- what clings
 
--- trivia and errors cling to what stands before them, and are no hash
+-- Trivia and errors cling to what stands before them, and are no hash.
 abbrev pub Quiet : Tree → Type 0
 Quiet t = (clings t ≡ true) × (is_hash t ≡ false)
 
@@ -178,7 +178,7 @@ abbrev pub LeadsIf : List ℕ → ℕ → List Tree → Type 0
 LeadsIf cuts at [] = Unit {0}
 LeadsIf cuts at (t ∷ ts) = (0 < length (text_of t)) × (is_among at cuts ≡ true)
 
--- Of several nodes, the first of which begins at a byte, the one of an index clings, and so do all behind it before the next that leads.
+-- Of several nodes, the first of which begins at a byte, the one of an index clings, and so do all after it up to the next that leads.
 pub record LoneError (cuts : List ℕ) (from : ℕ) (ts : List Tree) (index : ℕ) : Type 0 where
   pub left : List Tree
   pub error : Tree
@@ -196,7 +196,7 @@ leads-if : (cuts : List ℕ) (at : ℕ) (ts : List Tree) → LeadsIf cuts at ts 
 leads-if cuts at [] h l = absurd (omega (arith, l))
 leads-if cuts at (t ∷ ts) h l = leads-so cuts at t h.0 h.1
 
--- what stands at it, or behind it and before any that leads, clings
+-- What stands at it, or after it and before any that leads, clings.
 quiet-until : (cuts : List ℕ) (from : ℕ) (ts : List Tree) (index w : ℕ) → LoneError cuts from ts index → index ≤ w → w < length ts → ((v : ℕ) → index < v → v ≤ w → holds_at (λ c. not (leads cuts c)) (laid from ts) v ≡ true)
     → (holds_at (λ c. clings c.node) (laid from ts) w ≡ true) × (holds_at (λ c. is_hash c.node) (laid from ts) w ≡ false)
 quiet-until cuts from ts index w e from_here there none_lead = by-test (nat_lt w past) refl
@@ -331,7 +331,7 @@ module _ (cuts : List ℕ) (from : ℕ) (ts : List Tree) (rs re x : ℕ) (order 
   pub from-early : 0 < stretch.from → begins from ts stretch.from < rs
   from-early some = begun-before from rs ts stretch.from (omega (arith, some, from-hashed, hashed-clung, clung-near))
 
-  -- it ends behind the bytes, if all children do
+  -- it ends after the bytes, if all children do
   pub to-late : re ≤ from + bytes_of ts → re ≤ begins from ts stretch.to
   to-late all = by-test (nat_lt (ended re cs) (length ts)) refl
     where
@@ -349,7 +349,7 @@ module _ (cuts : List ℕ) (from : ℕ) (ts : List Tree) (rs re x : ℕ) (order 
           let last = begins-last from ts stretch.to (omega (arith, none_more, least, same)) in
           omega (arith, last, all)
 
-  -- and so it ends behind its start
+  -- and so it ends after its start
   pub from-less : 0 < stretch.from → begins from ts stretch.from < begins from ts stretch.to
   from-less some =
       let c = child-at from ts stretch.from (from-there some) in
@@ -358,7 +358,7 @@ module _ (cuts : List ℕ) (from : ℕ) (ts : List Tree) (rs re x : ℕ) (order 
       let at = c.begin in
       omega (arith, full, past, at)
 
-  -- where it doesn't end with the last child, the child behind it isn't empty and no error
+  -- where it doesn't end with the last child, the child after it is neither empty nor an error
   to-stop : (more : stretch.to < length ts) → (let c = child-at from ts stretch.to more in (clings c.node ≡ false) × (0 < length (text_of c.node)))
   to-stop more =
       let test = λ (c : Child). clings c.node || not (leads cuts c) in
@@ -390,7 +390,7 @@ module _ (cuts : List ℕ) (from : ℕ) (ts : List Tree) (rs re x : ℕ) (order 
   pub to-last : begins from ts stretch.to ≡ from + bytes_of ts → stretch.to ≡ length ts
   to-last e = neither stretch.to (length ts) (λ more. (let c = child-at from ts stretch.to more in let full = (to-stop more).1 in let within = child-within from ts stretch.to c in let at = c.begin in omega (arith, e, full, within, at))) (λ over. (let t = to-there in omega (arith, over, t)))
 
-  -- its first child is no error with only what clings behind it, up to a child that leads
+  -- its first child isn't an error followed only by what clings, up to a child that leads
   pub not-lone : 0 < stretch.from → LoneError cuts from ts stretch.from → ⊥
   not-lone some e = by-test (nat_lt 0 clung && holds_at hash cs (clung - 1)) refl
     where
@@ -414,13 +414,13 @@ module _ (cuts : List ℕ) (from : ℕ) (ts : List Tree) (rs re x : ℕ) (order 
 
 -- ---- a run's pieces
 
--- A node leads at a byte, and is an error with only what clings behind it, up to the next that leads.
+-- A node leads at a byte, and is an error followed only by what clings, up to the next that leads.
 pub record LoneAt (cuts : List ℕ) (from : ℕ) (ts : List Tree) (at : ℕ) : Type 0 where
   pub index : ℕ
   pub leads : LeadsAt from ts at index
   pub lone : LoneError cuts from ts index
 
--- The nodes behind n pieces behind i: the first of them leads at a byte.
+-- The nodes after n pieces that follow the first i: the first of them leads at a byte.
 pub record FollowsAt (r : Sequence) (i n : ℕ) (from : ℕ) (ts : List Tree) (at : ℕ) : Type 0 where
   pub front : List Tree
   pub back : List Tree
@@ -428,7 +428,7 @@ pub record FollowsAt (r : Sequence) (i n : ℕ) (from : ℕ) (ts : List Tree) (a
   pub leads : LeadsAt from ts at (length front)
   pub wrong : begins_wrong (behind_known (then_end i n r).state (onwards_by i n r).nodes) ≡ begins_wrong back
 
--- What n pieces behind i say of the nodes that their run gives, the first of which begins at a byte; they begin and end at two others. What is said of their end may count on pieces where some stand before them.
+-- What n pieces that follow the first i say of the nodes that their run gives, the first of which begins at a byte; they begin and end at two others. What is said of their end may count on pieces being there if some stand before them.
 pub record Parted (r : Sequence) (cuts : List ℕ) (from : ℕ) (ts : List Tree) (i n start end : ℕ) : Type 0 where
   pub empty : 0 < i → n ≡ 0 → end ≡ start
   pub minded : 0 < i → 0 < n → minds_at r (first_place i r) (first_end i r) ≡ true → LoneAt cuts from ts start
@@ -495,7 +495,7 @@ module _ (cuts : List ℕ) (from : ℕ) (ts : List Tree) (rs re x : ℕ) (order 
         let back : f.back ≡ c.node ∷ c.right = same-behind f.front f.back c.left (c.node ∷ c.right) (sym f.is ∙ c.is) (sym index ∙ sym c.here) in
         f.wrong ∙ ap begins_wrong back ∙ to-right cuts from ts rs re x order more
 
-    -- so a stretch begins well that begins and ends where they do
+    -- So a stretch that begins and ends where they do begins well.
     pub begun : Begun r from ts i n start end s
     begun = record {
       starts = λ l. (some l, mild l);
@@ -507,7 +507,7 @@ module _ (cuts : List ℕ) (from : ℕ) (ts : List Tree) (rs re x : ℕ) (order 
 
 -- ---- what pieces give
 
--- Among the nodes of their run n pieces behind i stand so, with the trivia behind them, and begin and end at two bytes; those behind them take back so many.
+-- Among the nodes of their run the n pieces that follow the first i stand like this, with the trivia after them, and begin and end at two bytes; those after them take back a given number of errors.
 pub record GivesAt (r : Sequence) (from : ℕ) (ts : List Tree) (i n : ℕ) (t : Trivia) (start end : ℕ) : Type 0 where
   pub before : List Tree
   pub back : ℕ
@@ -520,7 +520,7 @@ pub record GivesAt (r : Sequence) (from : ℕ) (ts : List Tree) (i n : ℕ) (t :
   pub next : is_over i n r ≡ false → LeadsAt from ts end (length before + length (less back (read_by i n r).nodes ++ t.nodes))
   pub last : is_over i n r ≡ true → behind ≡ []
 
--- So does the one piece behind i, whose trivia cling; where another follows, it ends at a cut.
+-- So does the one piece that follows the first i, whose trivia cling; where another follows, it ends at a cut.
 pub record GivesOne (r : Sequence) (cuts : List ℕ) (from : ℕ) (ts : List Tree) (i start : ℕ) : Type 0 where
   pub trivia : Trivia
   pub end : ℕ
@@ -544,7 +544,7 @@ leads-next cuts from ts front (y ∷ ys) at is ends l cut =
     first_or t (u ∷ us) = u
 
 module _ (r : Sequence) (cuts : List ℕ) (from : ℕ) (ts : List Tree) (i start : ℕ) (one : GivesOne r cuts from ts i start) (alone : MindsAlone (first_end i r).state (turn_of r (first_end i r).value (first_place i r) (first_end i r).state)) where
-  -- a piece that minds is an error, with only its trivia behind it
+  -- A piece that minds errors is an error, followed only by its trivia.
   lone-at : LoneAt cuts from ts start
   lone-at =
       let o = turn_of r (first_end i r).value (first_place i r) (first_end i r).state in
@@ -603,7 +603,7 @@ module _ (r : Sequence) (cuts : List ℕ) (from : ℕ) (ts : List Tree) (i n sta
       let nodes = less g.back (read_by i n r).nodes ++ t.nodes in
       sym g.ends ∙ ap (λ us. from + bytes_of us) (ap (λ us. g.before ++ us) (sym (append-nil nodes) ∙ ap (λ us. nodes ++ us) (sym (g.last over))) ∙ sym g.children)
 
-  -- so the ends of a run's pieces are known by what they give
+  -- So the ends of a run's pieces are known by what they give.
   pub parted : (0 < i → n ≡ 0 → end ≡ start) → (0 < i → 0 < n → GivesOne r cuts from ts i start)
       → (0 < i → 0 < n → minds_at r (first_place i r) (first_end i r) ≡ true → MindsAlone (first_end i r).state (turn_of r (first_end i r).value (first_place i r) (first_end i r).state))
       → Parted r cuts from ts i n start end

@@ -114,7 +114,7 @@ stretches-within cuts cs i j (suc tries) x order there =
 
 -- ---- candidates at a node
 
--- it stands in the tree, if there is one, which begins at a byte and to which a path leads
+-- It stands in the tree, if there is one, that begins at a byte and to which a path leads.
 record StandsAt (path : List ℕ) (at : ℕ) (t : Option Tree) (c : Candidate) : Type 0 where
   pub behind : List ℕ
   pub is : c.path ≡ path ++ behind
@@ -188,7 +188,7 @@ abbrev IsInner : Option Tree → Type 0
 IsInner None = Unit {0}
 IsInner (Some t) = IsTrue t.head.is_inner
 
--- those that a node's child gives, by those within it
+-- The candidates that a node's child gives, by those within it.
 child-stands : (rs re : ℕ) (path : List ℕ) (at : ℕ) (h : Head) (ks : Forest) (i : ℕ) (run : SyntaxKind → Option (List ℕ)) (below : Option (List ℕ) → List Candidate) → IsTrue h.is_inner
     → ((run : Option (List ℕ)) → IsInner (slice_get (trees ks) i) → Every (StandsAt (path ++ i ∷ []) (begins (at + length h.text) (trees ks) i) (slice_get (trees ks) i)) (below run))
     → (o : Option Child) → child_at (laid (at + length h.text) (trees ks)) i ≡ o

@@ -1,4 +1,4 @@
--- Which pieces of a run a stretch of its children is.
+-- Which pieces of a run the children of a stretch are.
 use Rattle.std.proofs.Common.{◌≡◌, ◌↔◌, ℕ, zero, suc, ◌+◌, ◌-◌, ◌<◌, ◌≤◌, ◌==◌, ne_eqb, if◌then◌else◌, Bool, true, false, nat_lt, List, [], ◌∷◌, ◌++◌, length, length-append, append_assoc, take, Some, refl, ap, sym, ◌∙◌, subst, arith}
 use Rattle.std.proofs.lemmas.Bool.Decides.{nat_tests}
 use borrow.Author.Tests.{ltb-true}
@@ -27,7 +27,7 @@ use Rattle.typst_edits.proofs.RootPieces.{take-past}
 
 -- ---- by bytes
 
--- the token behind some pieces begins at a byte
+-- the token after some pieces begins at a byte
 pub record IsCut (byte : ℕ → ℕ) (count b : ℕ) : Type 0 where
   pub index : ℕ
   pub some : 0 < index
@@ -41,7 +41,7 @@ cut-token (suc i) e l = refl
 pub is-cut : (text : List ℕ) (e : ℕ → End (Bool × ℕ)) (count b : ℕ) → CutOf text e count b → IsCut (λ i. token_byte text (e i)) count b
 is-cut text e count b c = record { index = c.index; some = c.some; few = c.few; is = c.is ∙ ap (λ d. width (take d text)) (cut-token c.index (e c.index) c.some) }
 
--- The children of a stretch are the pieces behind the first i of a run, up to the one behind j; the run has so many.
+-- The children of a stretch are the pieces of a run after the first i, up to the j-th; the run has a given number of pieces.
 pub record Picked (byte : ℕ → ℕ) (count from : ℕ) (ts : List Tree) (s : Stretch) : Type 0 where
   pub i : ℕ
   pub j : ℕ
@@ -95,7 +95,7 @@ module _ (cuts : List ℕ) (from : ℕ) (ts : List Tree) (rs re x : ℕ) (order 
           let over : length ts ≤ s.to = grind (arith, nat_tests) in
           record { j = count; few = omega arith; end = all ∙ sym (begins-last from ts s.to over); empty = λ e. e }
 
-  -- what begins at an earlier byte stands behind fewer pieces
+  -- What begins at an earlier byte stands after fewer pieces.
   by-order : (i j : ℕ) → i ≤ count → byte i < byte j → i < j
   by-order i j few less = by-test (nat_lt i j) (nat_lt j i) refl refl
     where
@@ -109,7 +109,7 @@ module _ (cuts : List ℕ) (from : ℕ) (ts : List Tree) (rs re x : ℕ) (order 
           let same = ap byte alone in
           absurd (omega (arith, less, same))
 
-  -- so there are pieces where some stand before them
+  -- So there are pieces if some stand before them.
   some : 0 < first.i → first.i < last.j
   some l =
       let less = from-less cuts from ts rs re x order (first.led.0 l) in
@@ -146,14 +146,14 @@ none-led i (suc n) f e = let some = f (omega arith) in absurd (omega (arith, som
 
 -- ---- pieces of a run
 
--- n pieces behind i of a run go on, and what trivia stand behind them is known.
+-- The n pieces of a run that follow the first i go on, and the trivia after them are known.
 pub record Standing (q : Sequence) (i n : ℕ) : Type 0 where
   pub first_go : AllGo (first_of i q)
   pub go_on : AllGo (then_of i n q)
   pub trivia : Trivia
   pub known : (then_end i n q).state.known ≡ Some trivia
 
--- so it is of those of a run of more
+-- The same holds of the pieces of a run with more.
 pub standing : (q : Sequence) (count i n : ℕ) → i + n ≤ count → AllGo (first_of count q) → ((m : ℕ) → AllGo (first_of m q) → KnownAt (first_end m q).state) → Standing q i n
 standing q count i n few go known =
     let sum : count ≡ (i + n) + (count - (i + n)) = omega (arith, few) in
@@ -178,11 +178,11 @@ module _ (k : CharClasses) (front old rest : List ℕ) (r : Run k (front ++ (old
   abbrev q : Sequence
   q = read_as r z
 
-  -- so many characters stand before the token behind i pieces
+  -- A given number of characters stand before the token after i pieces.
   abbrev pub token : ℕ → ℕ
   token i = let e = first_end i q in opened_by r z + (e.taken + gap_of e.state.known)
 
-  -- The candidate begins and ends, by its bytes, with the pieces behind i up to j; the run has so many.
+  -- The candidate begins and ends, by its bytes, with the pieces after the first i, up to the j-th; the run has a given number of pieces.
   pub record Matches (count i j : ℕ) : Type 0 where
     pub order : i ≤ j
     pub led : 0 < i ↔ 0 < c.from
@@ -196,7 +196,7 @@ module _ (k : CharClasses) (front old rest : List ℕ) (r : Run k (front ++ (old
     pub early : 0 < i → c.start < width front
     pub late : width (front ++ old) ≤ c.end
 
-  -- so it does where it is a stretch of the run's children, whose first begins where the run does
+  -- So it is if it is a stretch of the run's children, the first of which begins where the run does.
   pub matches : (path cuts : List ℕ) (from : ℕ) (ts : List Tree) (o : OfStretch (width front) (width (front ++ old)) path from ts cuts c) (order : width front ≤ width (front ++ old)) (byte : ℕ → ℕ) (count : ℕ)
       → ((i : ℕ) → byte i ≡ width (take (token i) text)) → (p : Picked byte count from ts (stretch cuts from ts (width front) (width (front ++ old)) o.more order))
       → from ≡ width (take (opened_by r z) text) → opened_by r z ≤ length front → width (front ++ old) ≤ from + bytes_of ts → Matches count p.i p.j
@@ -220,7 +220,7 @@ module _ (k : CharClasses) (front old rest : List ℕ) (r : Run k (front ++ (old
         late = subst (λ d. re ≤ d) (sym ends_is) (to-late cuts from ts rs re o.more order all);
       }
 
-  -- so far past the stretch n pieces behind i are the candidate
+  -- As the n pieces that follow the first i, the candidate ends at a given distance past the stretch.
   pub record HasPieces (i n : ℕ) (t : Trivia) : Type 0 where
     pub past : ℕ
     pub is : IsPieces k front old rest r c i n past t
@@ -241,7 +241,7 @@ module _ (k : CharClasses) (front old rest : List ℕ) (r : Run k (front ++ (old
       let x = (first_end i q).taken + gap_of (first_end i q).state.known in
       ap (λ b. opened_by r z + (if b then 0 else x)) (ne_eqb i 0 (λ e. absurd (omega (arith, l, e))))
 
-  -- where they end, with the trivia behind them
+  -- where they end, with the trivia after them
   end-token : (i n j : ℕ) (t : Trivia) → i + n ≡ j → (then_end i n q).state.known ≡ Some t → end_by r i n t z ≡ token j
   end-token i n j t sum known =
       let one = ap (λ m. (first_end m q).taken) (sym sum) in

@@ -38,7 +38,7 @@ use Rattle.typst_edits.proofs.Widths.{width-append}
 
 -- ---- a block
 
--- a candidate that is a block is one child
+-- A candidate that is a block is one child.
 abbrev One : Candidate → Type 0
 One c = c.is_block ≡ true → c.to ≡ suc c.from
 
@@ -67,13 +67,13 @@ reached k text rs re root c order same chosen =
     let there : Among c (candidate.candidates ns rs re was) = subst (λ cs. Among c cs) (bare-candidates-law ns rs re root was same) chosen in
     (among _ c _ there (candidate-places-law ns rs re was (tree-inner k text) order)).reaches
 
--- the replaced bytes end where they begin, or behind
+-- The replaced bytes end where they begin, or later.
 pub in-order : (front old : List ℕ) → width front ≤ width (front ++ old)
 in-order front old = let w = width-append front old in omega (arith, w)
 
 -- ---- pieces of a text's own run
 
--- where none are read at the start of a text, no child stands behind them: the child where a candidate ends begins behind a piece
+-- Where none are read at the start of a text, no child stands after them; the child where a candidate ends begins after a piece.
 no-piece : (k : CharClasses) (front old new rest : List ℕ) (root : Tree) (c : Candidate) (m past : ℕ) (t u : Trivia) → bare root ≡ bare (tree k (front ++ (old ++ rest)))
     → Among c (candidates k (front ++ (old ++ rest)) (width front) (width (front ++ old)) root) → c.is_block ≡ false → c.path ≡ [] → c.end ≡ width (front ++ (old ++ take past rest))
     → PassesPieces k front old new rest (root_run k (front ++ (old ++ rest))) 0 0 m past t u → StandsAt 0 (trees (tree k (front ++ (old ++ rest))).kids) c.to c.end → ⊥

@@ -73,7 +73,7 @@ pub record Gives (o : Outcome (Unit {0})) : Type 0 where
   pub hints : o.hints ≡ []
   pub few : o.state.empties < length o.nodes
 
--- a run on a level where each expression takes the token at hand
+-- A run on a level where each expression takes the token at hand.
 module _ (l : Level) (stops : SyntaxKind → Bool) (taking : Taking l stops) where
   abbrev turn : Bool × ℕ → Meaning (Bool × (Bool × ℕ))
   turn x = run l (markup_turn true stops x)
@@ -105,7 +105,7 @@ module _ (l : Level) (stops : SyntaxKind → Bool) (taking : Taking l stops) whe
       subst (λ p. (let os = made turn (suc n) x z p in Gives (together (end_of x p os).state os))) (sym is)
       (gives-before n x z s.reading s.held s.empties s.is_after_error t (subst (λ p. AllGo (made turn (suc n) x z p)) is g))
 
--- some pieces as one outcome, and what is behind them: no hint, and nothing taken back that stands before them
+-- some pieces as one outcome, and what follows them: it hints at nothing, and takes back nothing that stands before them
 pub record Apart (p o : Outcome (Unit {0})) : Type 0 where
   pub hints : p.hints ≡ []
   pub few : o.back ≤ length p.nodes
@@ -119,7 +119,7 @@ settled zero s os o (inl some) none gives back = absurd (omega (arith, some))
 settled zero s os o (inr e) none gives back = record { hints = ap (λ us. (together s us).hints) (none refl); few = omega (arith, e) }
 settled (suc n) s os o h none gives back = let g = gives (omega arith) in let few = g.few in record { hints = g.hints; few = omega (arith, few, back) }
 
--- the nodes behind some pieces and all behind them, which has trivia before it
+-- the nodes of some pieces and of all that follows, which has trivia before it
 pub stretch-is : (ts rest : List Tree) (p o : Outcome (Unit {0})) (t : Trivia) → Apart p o → o.hints ≡ [] → o.nodes ≡ t.nodes ++ rest
     → standing o (standing p ts) ≡ less p.back ts ++ ((less o.back p.nodes ++ t.nodes) ++ rest)
 stretch-is ts rest p o t g hints nodes =
@@ -137,7 +137,7 @@ module _ (r : Sequence) (taking : Taking r.level r.stops) (known : KnownAt r.poi
       let e = first_end i r in
       gives-pieces r.level r.stops taking n e.value (first_place i r) e.state some (known-made r.level r.stops i (true, 0) r.place r.point known g) h
 
-  -- with what is behind them
+  -- with what is after them
   pub run-apart : (i n : ℕ) (o : Outcome (Unit {0})) → Settles n o → o.back ≤ (then_end i n r).state.empties → AllGo (first_of i r) → AllGo (then_of i n r) → Apart (read_by i n r) o
   run-apart i n o some few g h =
       let e = first_end i r in
@@ -158,7 +158,7 @@ module _ (k : CharClasses) where
   pub top-known : (i : ℕ) (z : Place) → AllGo (pieces k i z) → KnownAt (end_at k i z).state
   top-known i z g = known-made top is_end i (true, 0) z (lead k z).state (text-known z) g
 
-  -- what is behind takes back no more than stands there
+  -- What follows takes back no more than stands there.
   pub behind-back : (i n : ℕ) (z : Place) → (onwards_from k i n z).back ≤ (end_from k i n z).state.empties
   behind-back i n z =
       let f = end_from k i n z in

@@ -21,11 +21,11 @@ use Rattle.typst_edits.proofs.Every.{Every}
 use Rattle.typst_edits.proofs.Reached.{Reached, reached-run, reached-meaning, hand-stops-there, flushed-held, reached-joined, reached-grown}
 use Rattle.typst_edits.proofs.SpotWalk.{Walks, in-any-shape, each-level}
 
--- what a block begins with is no trivia, here and where all before it shows the same
+-- What a block begins with is no trivia, here and where all before it shows the same.
 pub record Clear {A : Type 0} (k : CharClasses) (z : Place) (c : Spot A) : Type 0 where
   pub clear : (w : Place) → SameIn c.before z w → at_trivia k c.start.held.mode (moved c.at w) ≡ false
 
--- all trivia are known where a reading ends
+-- All trivia are known where a reading ends.
 abbrev pub Reaching : CharClasses → (A : Type 0) → Place → Point → Outcome A → Type 0
 Reaching k A z s o = Reached k (moved o.taken z) o.state
 
@@ -52,7 +52,7 @@ clear-walks k = record {
   in_block = λ n z s b c h. record { clear = λ w same. h.clear w same.1 };
 }
 
--- a block behind what was flushed
+-- a block after what was flushed
 clear-here : (l : Level) (b : Block) (m : Meaning (Unit {0})) (z : Place) (s : Point) → Reached l.classes z s → Clear l.classes z (after_spot (done l flushes z s) (here_spot b m (moved (done l flushes z s).taken z) (done l flushes z s).state))
 clear-here l b m z s r =
     let g = hand_at l.classes s.held s.known z in
@@ -64,7 +64,7 @@ clear-here l b m z s r =
           ∙ hand-stops-there l.classes s.held s.known z w r (same_in-first (done l flushes z s).asks _ z w same);
     }
 
--- by any rules, at every level, where nothing is known of the trivia ahead, or all of them are known
+-- by any rules, at every level, where nothing or everything is known of the trivia ahead
 module _ (r : Rules) (k : CharClasses) where
   pub clear-level : {A : Type 0} (levels : ℕ) (p : Parser A) (z : Place) (s : Point) → Reached k z s → Every (Clear k z) (level_spots r k levels p z s)
   clear-level levels p z s h =

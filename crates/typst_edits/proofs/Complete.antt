@@ -93,7 +93,7 @@ opened-trivia k m (suc n) z = none (at_trivia k m z) (shift (len_at k m z) (asks
     none true asks h = h
     none false asks h = refl
 
--- what is asked for a token notes no block
+-- What is asked for a token notes no block.
 pub opened-hand : (k : CharClasses) (held : Reading) (known : Option Trivia) (z : Place) → opened (hand_asks k held known z) ≡ []
 unfolding hand_asks ahead_asks
 opened-hand k held known z =

@@ -1,4 +1,4 @@
--- A block gives one node alone, and the state behind it follows from the reading before it.
+-- A block gives one node alone, and the state after it follows from the reading before it.
 use Rattle.std.proofs.Common.{◌≡◌, ℕ, ◌+◌, ◌<◌, ◌≤◌, max, Bool, true, false, List, [], ◌++◌, length, take, drop, Option, None, refl, ap, sym, ◌∙◌, subst, arith}
 use Rattle.typst_lines.specs.Place.{Place}
 use Rattle.typst_tree.specs.Tree.{Tree}
@@ -44,7 +44,7 @@ shape-state : (b : Block) (closed : Bool) (ts : List Tree) (s : Point) → after
 shape-state b true ts s = refl
 shape-state b false ts s = refl
 
--- the token at hand has characters, and no trivia before it
+-- The token at hand has characters, and no trivia before it.
 pub record Begun (l : Level) (z : Place) (s : Point) : Type 0 where
   pub trivia : (hand_of l z s).trivia ≡ []
   pub gap : (hand_of l z s).gap ≡ 0
@@ -59,7 +59,7 @@ module _ (l : Level) (d : (c : Call) → Sane (l.deeper c)) (e : (b : Block) →
   direct-hand : (z : Place) (s : Point) → s.known ≡ None → at_trivia l.classes s.held.mode z ≡ false → Direct (hand_of l z s) l.classes s.held.mode z
   direct-hand z s blank h = subst (λ k. Direct (hand_at l.classes s.held k z) l.classes s.held.mode z) (sym blank) (hand-direct l.classes s.held z h)
 
-  -- a block of this name, read so, which begins so
+  -- a block of this name, read like this, that begins like this
   module _ (b : Block) (r : Reading) (p : Parser (Unit {0})) (begins : Opener l p) (q : Parser Bool) where
     -- between its delimiters
     abbrev block_of : Parser (Unit {0})

@@ -1,4 +1,4 @@
--- Behind more pieces of a run the next token begins further on.
+-- After more pieces of a run the next token begins further on.
 use Rattle.std.proofs.Common.{◌≡◌, ℕ, zero, suc, ◌+◌, ◌<◌, ◌≤◌, Bool, true, List, length, take, ap, sym, arith, nat_lt}
 use Rattle.typst_lines.specs.Classes.{CharClasses}
 use Rattle.typst_lines.specs.Place.{Place, moved}
@@ -84,7 +84,7 @@ cuts-law k text i j l g =
     let most = cuts-within r leads j in
     take-longer (cut_behind i (first_end i r)) (cut_behind j (first_end j r)) text (cuts-rise r leads i j l g) (omega (arith, room, most))
 
--- and so does the token behind fewer pieces, be it none
+-- So does the token after fewer pieces, even after none.
 pub token-cuts : (k : CharClasses) (text : List ℕ) (i j : ℕ) → i < j → AllGo (pieces k j (start_of text))
     → (let z = start_of text in width (take ((end_at k i z).taken + gap_of (end_at k i z).state.known) text) < width (take (cut_behind j (end_at k j z)) text))
 unfolding run
@@ -113,7 +113,7 @@ inner-cuts-law k levels text c i j l g =
     let two = cut-from a j (first_end j r) in
     take-longer (cut_behind i (inner_end k levels i c z)) (cut_behind j (inner_end k levels j c z)) text (omega (arith, more, one, two)) (omega (arith, room, most, more, left, long, two))
 
--- the trivia behind pieces of a block's run end in the text
+-- The trivia after pieces of a block's run end in the text.
 pub inner-within : (k : CharClasses) (levels : ℕ) (text : List ℕ) (c : Spot (Unit {0})) (j : ℕ) → opened_at k levels c (start_of text) ≤ length text
     → (let e = inner_end k levels j c (start_of text) in e.taken + gap_of e.state.known ≤ length text)
 inner-within k levels text c j opened =
@@ -128,7 +128,7 @@ inner-within k levels text c j opened =
     let long = ap (λ (y : Place). length y.ahead) there in
     omega (arith, room, most, left, long, opened)
 
--- and so do those behind pieces that are read by themselves
+-- So do those after pieces that are read by themselves.
 pub alone-within : (k : CharClasses) (levels : ℕ) (x : Bool × ℕ) (m : ℕ) (y : Place) → (let e = end_alone k levels x m y in e.taken + gap_of e.state.known ≤ length y.ahead)
 alone-within k levels x m y =
     let room = (in-sane k levels peek).within y (start_point markup_reading) in

@@ -1,4 +1,4 @@
--- A content block in which no level is left notes nothing, so where notes say that pieces stand in a block a level is left.
+-- A content block in which no level is left notes nothing; so if notes say that pieces stand in a block, a level is left there.
 use Rattle.std.proofs.Common.{◌≡◌, ℕ, zero, suc, ◌-◌, ◌==◌, eq-eqb, Bool, true, false, ◌&&◌, List, [], ◌∷◌, ◌++◌, length, take, Some, None, refl, ap, sym, ◌∙◌, arith}
 use Rattle.std.specs.Prelude.{Option, nat_lt}
 use Rattle.typst_kinds.specs.declared.kind.SyntaxKind.{SyntaxKind}

@@ -61,7 +61,7 @@ after-looks [] d bs cs rest h = tt
 after-looks (looked at look ∷ asks) d bs cs rest h = (after-look at look d bs cs rest h.0 h.1, after-looks asks d bs cs rest h.2)
 after-looks (marked at gap fewer mark s ∷ asks) d bs cs rest h = (tt, after-looks asks d bs cs rest h)
 
--- so many characters past the edit
+-- a given number of characters past the edit
 pub past-is : (d : ℕ) (front mid rest : List ℕ) → moved ((length front + length mid) + d) (text_with front mid rest) ≡ moved d (record { before = onto mid (onto front []); ahead = rest })
 past-is d front mid rest =
     moved-sum (length front + length mid) d _ ∙ ap (moved d) (moved-sum (length front) (length mid) _ ∙ ap (moved (length mid)) (moved-over front (mid ++ rest) []) ∙ moved-over mid rest (onto front []))

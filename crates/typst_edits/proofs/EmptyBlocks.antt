@@ -1,4 +1,4 @@
--- Content blocks without an expression: one note between their two, and looks at nothing but the token behind their trivia.
+-- Content blocks without an expression have one note between their two, and look only at the token after their trivia.
 use Rattle.std.proofs.Common.{◌≡◌, ℕ, suc, ◌+◌, ◌-◌, Bool, true, false, ◌&&◌, ◌==◌, if◌then◌else◌, List, [], ◌∷◌, ◌++◌, length, length-append, Some, refl, ap, sym, ◌∙◌, subst, arith}
 use Rattle.typst_kinds.specs.declared.kind.SyntaxKind.{SyntaxKind}
 use Rattle.typst_kinds.specs.declared.kind.SyntaxKind.TheVariants as kind
@@ -53,7 +53,7 @@ continues : (b : Bool) (s : SyntaxKind) → (if b && false then kind.End else s)
 continues true s = refl
 continues false s = refl
 
--- where newlines don't matter, the kind at hand is that of the token behind the known trivia
+-- Where newlines don't matter, the kind at hand is that of the token after the known trivia.
 hand-token : (k : CharClasses) (m : SyntaxMode) (t : Trivia) (z : Place) → (hand_at k (record { mode = m; at_newline = newline.Continue }) (Some t) z).kind ≡ (token_at k m (moved t.gap z)).kind
 unfolding hand_at
 hand-token k m t z = continues t.newlines.any (token_at k m (moved t.gap z)).kind
@@ -84,7 +84,7 @@ close-looks l z s h =
     either P true o p h i = h
     either P false o p h i = i
 
--- what is taken behind the trivia of a run without an expression
+-- what is taken after the trivia of a run without an expression
 onwards-taken : (r : Sequence) (x : Bool × ℕ) (z : Place) (s : Point) → Knows 0 s → ends r.stops x.1 (told (hand_of r.level z s)).kind ≡ true → (onwards r x z s).taken ≡ 0
 unfolding run
 onwards-taken r x z s h e =
@@ -132,7 +132,7 @@ module _ (k : CharClasses) (levels : ℕ) (z : Place) (s : Point) where
       subst (λ (q : Outcome (Bool × ℕ)). Every (λ a. a ≡ looked 0 (token_look l (moved t.gap y))) (closing q).asks) (sym (run-stopped l ends_block (true, 0) y p e))
       (subst (λ n. Every (λ a. a ≡ looked 0 (token_look l (moved t.gap y))) (run l (close_if (same kind.RightBracket)) (moved n y) u).asks) (sym there) (close-looks l (moved t.gap y) u known_there))
 
-  -- all that is asked behind the trivia in the block
+  -- all that is asked after the trivia in the block
   past-looks : (t : Trivia) → the_run.point.known ≡ Some t → IsEmpty the_run
       → (let o = onwards the_run (true, 0) (moved t.gap the_run.place) (passed t the_run.point) in
       Looks (token_look l (moved t.gap the_run.place)) (o.asks ++ shift o.taken (closing (repeated (turn_of the_run) (true, 0) the_run.place the_run.point)).asks))
@@ -145,7 +145,7 @@ module _ (k : CharClasses) (levels : ℕ) (z : Place) (s : Point) where
       looks-append (token_look l y) o.asks _ (onwards-looks the_run (true, 0) y p h stops)
       (unmoved (token_look l y) o.taken _ (onwards-taken the_run (true, 0) y p h stops) (closing-looks t known e))
 
-  -- the token at which it ends looks back at nothing
+  -- The token at which it ends looks back at nothing.
   pub end-still : (t : Trivia) → the_run.point.known ≡ Some t → IsEmpty the_run → (token_look l (moved t.gap the_run.place)).back ≡ 0
   end-still t known e =
       let y = the_run.place in
@@ -159,7 +159,7 @@ module _ (k : CharClasses) (levels : ℕ) (z : Place) (s : Point) where
 
 -- ---- one note
 
--- as many notes come to be as there are marks
+-- As many notes are made as there are marks.
 noted-count : (lv : ℕ) (z : Place) (asks : List Ask) (h : Log) (ns ms : List Note) → h.notes ≡ Some ns → (logged lv z h asks).notes ≡ Some ms → length ms ≡ length ns + notes_in asks
 noted-count lv z [] h ns ms e f = let same : ns ≡ ms = cc in omega (arith, ap length same)
 noted-count lv z (looked at look ∷ asks) h ns ms e f = noted-count lv z asks (with_hull (hull_of look (moved at z)) h) ns ms e f
@@ -192,11 +192,11 @@ none-close P l w p =
     either P true o p h i = h
     either P false o p h i = i
 
--- it says that a run begins, where so many levels fewer are left
+-- It says that a run begins, where a given number of levels fewer are left.
 abbrev Begins : ℕ → ℕ → ℕ → Mark → State → Type 0
 Begins f at fewer m p = (fewer ≡ f) × (m ≡ mark.Piece true 0)
 
--- there is one mark, and it says so
+-- There is one mark, and it says so.
 record Single (f : ℕ) (asks : List Ask) : Type 0 where
   each : AllMarks (Begins f) asks
   size : notes_in asks ≡ 1

@@ -1,4 +1,4 @@
--- Runs without an expression: all that is asked behind their trivia is the token at their end.
+-- Runs without an expression: after their trivia only the token at their end is asked for.
 use Rattle.std.proofs.Common.{◌≡◌, ℕ, ◌+◌, Bool, true, false, ◌&&◌, ◌==◌, if◌then◌else◌, nat_lt, List, [], ◌∷◌, ◌++◌, Some, refl, ap, sym, ◌∙◌, subst, arith}
 use Rattle.typst_kinds.specs.declared.kind.SyntaxKind.{SyntaxKind}
 use Rattle.typst_kinds.specs.declared.kind.SyntaxKind.TheVariants as kind
@@ -42,7 +42,7 @@ use Rattle.typst_edits.proofs.Spots.{if-true, if-false}
 
 -- ---- looks at one token
 
--- in markup, with so many characters of trivia known
+-- in markup, with a given number of characters of trivia known
 pub record Knows (n : ℕ) (s : Point) : Type 0 where
   pub held : s.held ≡ markup_reading
   pub trivia : Trivia
@@ -76,12 +76,12 @@ flushed-held (t ∷ ts) s = refl
 pub flushed-knows : (l : Level) (z : Place) (n : ℕ) (s : Point) → Knows n s → Knows 0 (flushed_state (hand_of l z s) s)
 flushed-knows l z n s h = record { held = flushed-held (hand_of l z s).trivia s ∙ h.held; trivia = _; known = refl; gap = refl }
 
--- behind known trivia the token at hand is the same
+-- After known trivia the token at hand is the same.
 pub passed-kind : (l : Level) (z : Place) (t : Trivia) (s : Point) → s.known ≡ Some t → (hand_of l (moved t.gap z) (passed t s)).kind ≡ (hand_of l z s).kind
 unfolding hand_at
 passed-kind l z t s e = ap (λ v. (hand_at l.classes s.held v z).kind) (sym e)
 
--- every ask is this look, and there is one
+-- Each ask is this look, and there is at least one.
 pub record Looks (look : Look) (asks : List Ask) : Type 0 where
   pub each : Every (λ a. a ≡ looked 0 look) asks
   pub more : List Ask
@@ -135,7 +135,7 @@ module _ (l : Level) (stops : SyntaxKind → Bool) (x : Bool × ℕ) (z : Place)
       let is = turn-stopped h in
       if-false (o.value.0 && nat_lt 0 o.taken) _ (as_last o) (ap (λ (p : Outcome (Bool × (Bool × ℕ))). p.value.0 && nat_lt 0 p.taken) is) ∙ ap as_last is
 
--- what the flush at the end asks and leaves, where so many characters of trivia are known
+-- what the flush at the end asks and leaves, where a given number of characters of trivia are known
 pub flush-looks : (l : Level) (z : Place) (s : Point) → Knows 0 s → Every (λ a. a ≡ looked 0 (token_look l z)) (run l flush_trivia z s).asks
 unfolding run flush_trivia
 flush-looks l z s h =
@@ -146,7 +146,7 @@ flush-looks l z s h =
     subst (λ n. Every (λ a. a ≡ looked 0 (token_look l z)) (hand_asks_of l (moved n z) p ++ [])) (sym none) (every-append _ (hand_asks_of l z p) [] (looks-hand l z p (flushed-knows l z 0 s h)).each tt) in
     every-append (λ a. a ≡ looked 0 (token_look l z)) (hand_asks_of l z s) (shift hand.gap (hand_asks_of l (moved hand.gap z) p ++ [])) (looks-hand l z s h).each (unmoved (token_look l z) hand.gap _ none again)
 
--- all that is asked behind the trivia of a run without an expression
+-- all that is asked after the trivia of a run without an expression
 pub onwards-looks : (r : Sequence) (x : Bool × ℕ) (z : Place) (s : Point) → Knows 0 s → ends r.stops x.1 (told (hand_of r.level z s)).kind ≡ true → Looks (token_look r.level z) (onwards r x z s).asks
 unfolding run
 onwards-looks r x z s h e =
@@ -215,7 +215,7 @@ end-any true true d e = refl
 end-any true false d e = absurd (cc)
 end-any false c d e = e
 
--- at the text's end no token looks back
+-- At the text's end no token looks back.
 pub end-look : (k : CharClasses) (b a : List ℕ) → a ≡ [] → (look (token k mode.Markup) (record { before = b; ahead = a })).back ≡ 0
 unfolding token
 end-look k b [] e = refl

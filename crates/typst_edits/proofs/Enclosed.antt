@@ -1,4 +1,4 @@
--- What is read between two brackets gives one node alone, and the state behind it follows from the reading before it.
+-- What is read between two brackets gives one node alone, and the state after it follows from the reading before it.
 use Rattle.std.proofs.Common.{◌≡◌, ◌⊎◌, inl, inr, ℕ, ◌+◌, ◌-◌, ◌<◌, ◌≤◌, Bool, true, false, if◌then◌else◌, nat_lt, List, [], ◌∷◌, ◌++◌, length, take, length-append, length-take, append-nil, encode_utf8_all, None, refl, ap, sym, ◌∙◌, subst, arith}
 use Rattle.std.proofs.lemmas.Str.{length-le-encodes}
 use Rattle.typst_kinds.specs.declared.mode.SyntaxMode.{SyntaxMode}
@@ -28,16 +28,16 @@ use Rattle.typst_edits.proofs.Outcomes.{hints-first}
 use Rattle.typst_edits.proofs.Reached.{ahead-direct}
 use Rattle.typst_edits.proofs.Led.{some-text}
 
--- ---- the state behind it
+-- ---- the state after it
 
--- where the token to come is at hand, behind a node that is no error
+-- The state where the token to come is at hand, after a node that is no error.
 abbrev pub state_from : Reading → Point
 state_from r = record { reading = r; held = r; empties = 0; is_after_error = false; known = None }
 
 reading-is : (a b : Reading) → a.mode ≡ b.mode → a.at_newline ≡ b.at_newline → a ≡ b
 reading-is a b e f = ap (λ m. record a { mode = m }) e ∙ ap (λ (n : AtNewline). record { mode = b.mode; at_newline = n }) f
 
--- the token at hand is read in the outer reading where the inner one is left with the token read in it
+-- The token at hand is read in the outer reading if the inner one is left with the token read in it.
 left-held : (outer : Reading) (s : Point) → s.held ≡ s.reading → (left outer s).held ≡ outer
 left-held outer s h =
     on_if (λ (t : Point). t.held ≡ outer) (same_mode s.reading.mode outer.mode)
@@ -54,14 +54,14 @@ left-reading outer s = on_if (λ (t : Point). t.reading ≡ outer) (same_mode s.
 abbrev closed_state : Reading → Reading → Point
 closed_state r h = record { reading = r; held = h; empties = 0; is_after_error = false; known = None }
 
--- behind a node that is no error
+-- after a node that is no error
 pub state-left : (outer : Reading) (s : Point) → s.held ≡ s.reading → forgot (after_node false [] (left outer s)) ≡ state_from outer
 state-left outer s h = ap (λ r. closed_state r (left outer s).held) (left-reading outer s) ∙ ap (closed_state outer) (left-held outer s h)
 
 one-of : {A : Type 0} (x y : A) → (x ≡ y) ⊎ (x ≡ y) → x ≡ y
 one-of x y h = elim h [ inl e ↦ e | inr e ↦ e ]
 
--- behind what begins with a token that was taken
+-- after what begins with a token that was taken
 pub rests-alike : (r : Reading) (s : Point) → Rests r r s → s.held ≡ s.reading
 rests-alike r s h = reading-is s.held r (one-of s.held.mode r.mode h.mode) (one-of s.held.at_newline r.at_newline h.rule) ∙ sym h.reading
 
@@ -78,7 +78,7 @@ hand-direct k held z h =
     let e = ahead-direct k held.mode z h in
     record { trivia = ap (λ (a : Ahead). a.trivia) e; gap = ap (λ (a : Ahead). a.gap) e; len = ap (λ (a : Ahead). a.len) e }
 
--- a token of some characters leaves no empty error
+-- A token of some characters leaves no empty error.
 took-some : (k : CharClasses) (h : Hand) (z : Place) (s : Point) → h.gap ≡ 0 → 0 < h.len → h.len ≤ length z.ahead
     → (let t = taken_node k itself h z in (after_node (is_error t.head.kind) (text_of t) s).empties ≡ 0)
 took-some k h z s e a b =
@@ -106,7 +106,7 @@ pub record Apart {A : Type 0} (o : Outcome A) : Type 0 where
   pub back : o.back ≡ 0
   pub hints : o.hints ≡ []
 
--- behind something that gave nothing
+-- after something that gave nothing
 pub alone-after : {A B : Type 0} (o : Outcome B) (p : Outcome A) → o.nodes ≡ [] → o.back ≡ 0 → o.hints ≡ [] → Alone p → Alone (joined o p)
 alone-after o p e f g a =
     let hs = a.hints in
@@ -133,11 +133,11 @@ alone-plain a o h =
       hints = hints-first o (plain a o.state) (omega (arith, n)) ∙ h.hints;
     }
 
--- what takes some characters before it goes on takes nothing back
+-- What takes some characters before it goes on takes nothing back.
 apart-joined : {A B : Type 0} (o : Outcome B) (p : Outcome A) → o.back ≡ 0 → o.hints ≡ [] → 0 < length o.nodes → p.back ≡ 0 → Apart (joined o p)
 apart-joined o p e f g h = record { back = omega (arith, e, h); hints = hints-first o p (omega (arith, g, h)) ∙ f }
 
--- how what is enclosed begins: the token at hand is taken, and no error before it
+-- What is enclosed begins by taking the token at hand, with no error before it.
 pub record Opener (l : Level) (p : Parser (Unit {0})) : Type 0 where
   pub back : (z : Place) (s : Point) → (run l p z s).back ≡ 0
   pub hints : (z : Place) (s : Point) → (run l p z s).hints ≡ []
@@ -148,7 +148,7 @@ pub record Opener (l : Level) (p : Parser (Unit {0})) : Type 0 where
 some-taken : (ts : List Tree) (t : Tree) → 0 < length (ts ++ t ∷ [])
 some-taken ts t = let e = length-append ts (t ∷ []) in omega (arith, e)
 
--- the token alone, and nothing is asked behind it
+-- The token alone is taken, and nothing is asked after it.
 pub opener-takes : (l : Level) → Opener l (does (takes false itself))
 unfolding run
 opener-takes l = record {
@@ -159,7 +159,7 @@ opener-takes l = record {
   held = λ z s. refl;
 }
 
--- the token, and a look at the one behind it
+-- the token, and a look at the one after it
 pub opener-eat : (l : Level) → Opener l eat
 unfolding run eat eat_making
 opener-eat l = record {
@@ -193,7 +193,7 @@ module _ (l : Level) (d : (c : Call) → Sane (l.deeper c)) (e : (b : Block) →
       let a = apart-joined o n (begins.back z t) (begins.hints z t) (begins.some z t) (omega (arith, b, none)) in
       record { back = a.back; hints = a.hints }
 
-  -- and behind it the token at hand is read in its reading
+  -- After it the token at hand is read in its reading.
   pub alike-enclosed : {A : Type 0} (r : Reading) (q : Parser A) (z : Place) (s : Point) → (let t = (run l (next p (λ _. q)) z (entered r s)).state in t.held ≡ t.reading)
   unfolding run
   alike-enclosed r q z s =

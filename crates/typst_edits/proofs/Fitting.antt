@@ -1,4 +1,4 @@
--- A block that ends at the shifted end may stand where it stood: it leaves the state that it left, and gives one node of its kind.
+-- A block that ends at the shifted end may stand where it stood: it leaves the state that it left then, and gives one node of its kind.
 use Rattle.std.proofs.Common.{◌≡◌, ℕ, ◌-◌, ◌<◌, false, List, [], ◌∷◌, ◌++◌, None, refl, ap, sym, ◌∙◌, subst}
 use Rattle.typst_lines.specs.Place.{Place, moved}
 use Rattle.typst_tree.specs.Tree.{Tree}
@@ -21,7 +21,7 @@ use Rattle.typst_edits.proofs.Clear.{Clear}
 use Rattle.typst_edits.proofs.Content.{state-content, content-alone, state-code, code-alone}
 use Rattle.typst_edits.proofs.Enclosed.{Alone, state_from}
 
--- each place shows the same as itself
+-- Each place shows the same as itself.
 pub same-here : (asks : List Ask) (z : Place) → SameIn asks z z
 same-here [] z = tt
 same-here (looked at look ∷ asks) z = (record { before = refl; ahead = refl }, same-here asks z)
@@ -91,7 +91,7 @@ pub fitting : {A : Type 0} (k : CharClasses) (levels : ℕ) (c : Spot A) (z w : 
 fitting k levels c z w n clear f same some more =
     fits-left c _ _ f (leaves-by k (levels - c.fewer) c z n.reads (clear.clear z (same-here c.before z)) some) (leaves-by k (levels - c.fewer) c w n.reads (clear.clear w same) more)
 
--- before the node of a block that takes something stands nothing of its own
+-- Before the node of a block that takes something stands nothing of its own.
 pub no-front : {A : Type 0} (k : CharClasses) (levels : ℕ) (c : Spot A) (z : Place) → Named (block_at k) levels c → Clear k z c → Fits c (unit_at c z) c.node → 0 < (unit_at c z).taken → c.front ≡ []
 no-front k levels c z n clear f some =
     let a = leaves-by k (levels - c.fewer) c z n.reads (clear.clear z (same-here c.before z)) some in

@@ -1,4 +1,4 @@
--- Trivia look ahead alone, and so does a token at which a content block's run ends.
+-- Trivia look only ahead, and so does a token at which a content block's run ends.
 use Rattle.std.proofs.Common.{◌≡◌, ◌+◌, ℕ, zero, suc, Bool, true, false, not, ◌||◌, ◌&&◌, ◌==◌, nat_lt, if◌then◌else◌, List, [], ◌∷◌, ◌++◌, length, slice_get, Some, None, refl, ap, sym, ◌∙◌, subst, arith}
 use Rattle.std.specs.Char.{is_ascii_digit, is_whitespace}
 use Rattle.std.specs.Prelude.{is_none, codes}
@@ -177,7 +177,7 @@ either : (P : Reader Memory Token → Type 0) (b : Bool) (x y : Reader Memory To
 either P true x y h i = h
 either P false x y h i = i
 
--- a token of markup is so, or a closing bracket
+-- A token of markup or a closing bracket is one.
 markup-each : (P : Reader Memory Token → Type 0) (k : CharClasses) (c : ℕ) (p : Place) → ((r : Reader Memory Token) → Bare r p → P r) → P (sign kind.RightBracket) → P (markup k c)
 unfolding markup sign marker text_from
 markup-each P k c p bare bracket =
@@ -202,7 +202,7 @@ markup-each P k c p bare bracket =
     (either P (is_ascii_digit c) _ _ (bare _ (numbering-bare k p))
     (bare _ (text-bare k (moved 1 p)))))))))))))))))))))
 
--- ---- what is trivia looks ahead alone
+-- ---- what is trivia looks only ahead
 
 abbrev Fore : Reader Memory Token → Place → Type 0
 Fore r p = is_trivia (exec r p).0.kind ≡ true → (look r p).back ≡ 0
@@ -286,7 +286,7 @@ token-fore k b (c ∷ a) =
     (fore-if (c == 96) (backtick k Markup) (of_mode k Markup c) p (bare-fore (backtick k Markup) p (tick-bare k p)) (markup-fore k c p))))) in
     λ e. (let i = own e in omega (arith, i))
 
--- ---- what ends a content block's run looks ahead alone
+-- ---- what ends a content block's run looks only ahead
 
 abbrev Still : Reader Memory Token → Place → Type 0
 Still r p = ends_block (exec r p).0.kind ≡ true → (look r p).back ≡ 0
@@ -335,7 +335,7 @@ token-still k b (c ∷ a) =
 
 -- ---- the look at the token at hand
 
--- every look is ahead alone
+-- Each look is only ahead.
 abbrev pub AllAhead : List Ask → Type 0
 AllAhead [] = Unit {0}
 AllAhead (looked at seen ∷ asks) = (seen.back ≡ 0) × AllAhead asks
@@ -359,7 +359,7 @@ ahead-from z (looked at seen ∷ asks) h =
     (omega (arith, is), ahead-from z asks h.1)
 ahead-from z (marked at gap fewer m s ∷ asks) h = ahead-from z asks h
 
--- the trivia, and the token behind them where that looks ahead alone
+-- the trivia, and the token after them if that looks only ahead
 trivia-by : (k : CharClasses) (z : Place) (b : Bool) (a c : Ahead) (gap : ℕ) (later : List Ask) → at_trivia k Markup z ≡ b → a.gap ≡ len_at k Markup z + gap → c.gap ≡ 0
     → ((look (token k Markup) (moved gap (moved (len_at k Markup z) z))).back ≡ 0 → AllAhead later) → (look (token k Markup) (moved (if b then a else c).gap z)).back ≡ 0
     → AllAhead (looked 0 (look (token k Markup) z) ∷ (if b then shift (len_at k Markup z) later else []))
@@ -380,7 +380,7 @@ column-ahead : (b : Bool) (ask : Ask) → AllAhead (if b && false then ask ∷ [
 column-ahead true ask = tt
 column-ahead false ask = tt
 
--- the look at a text's first token, where that looks ahead alone
+-- the look at a text's first token, if that looks only ahead
 pub lead-ahead : (k : CharClasses) (z : Place) (t : Trivia) → (lead k z).state.known ≡ Some t → (look (token k Markup) (moved t.gap z)).back ≡ 0 → AllAhead (lead k z).asks
 unfolding read hand_at hand_asks ahead ahead_asks
 lead-ahead k z t known h =

@@ -22,7 +22,7 @@ use Rattle.typst_edits.proofs.Spots.{if-true, if-false}
 
 -- ---- notes by numbers
 
--- A note of a level among some notes, of which so many stand before it; and so many entries do among all, with those of other notes before these.
+-- A note of a level among some notes, with a given number of notes before it; among all entries, which have those of other notes before these, a given number come first.
 pub record NoteAt (lv before : ℕ) (ns : List Note) (i number : ℕ) : Type 0 where
   pub earlier : List Note
   pub note : Note
@@ -38,7 +38,7 @@ level-at lv ms n ns e = level-append lv ms (n ∷ ns) ∙ ap (λ us. of_level lv
 pub level-long : (lv : ℕ) (ms : List Note) (n : Note) (ns : List Note) → n.levels ≡ lv → length (of_level lv (ms ++ n ∷ ns)) ≡ length (of_level lv ms) + suc (length (of_level lv ns))
 level-long lv ms n ns e = ap length (level-at lv ms n ns e) ∙ length-append (of_level lv ms) (n ∷ of_level lv ns)
 
--- the one of a number says what the notes of the level do
+-- The note of a number says what the notes of the level do.
 pub says-by : (lv : ℕ) (ns : List Note) (text : List ℕ) (e : ℕ → End (Bool × ℕ)) (ms : List Note) (n : Note) (ls : List Note) (i : ℕ) → Numbered (SaysOf text e) 0 (of_level lv ns) → ns ≡ ms ++ n ∷ ls → n.levels ≡ lv
     → length (of_level lv ms) ≡ i → SaysOf text e i n
 says-by lv ns text e ms n ls i each is own index =
@@ -107,7 +107,7 @@ few-tail lv x y us vs e l = by-test (x.levels == lv) (y.levels == lv) (ap (λ (n
     by-test false true f l = cc
     by-test false false f l = l
 
--- of two notes of a level the one with no more of them before it comes first
+-- Of two notes of a level the one with no more of them before it comes first.
 between : (lv : ℕ) (es : List Note) (o : Note) (ahead fs : List Note) (p : Note) (beyond : List Note) → es ++ o ∷ ahead ≡ fs ++ p ∷ beyond → p.levels ≡ lv → length (of_level lv es) ≤ length (of_level lv fs) → Between es o ahead fs p beyond
 between lv [] o ahead fs p beyond e own l = record { mids = fs; earlier = refl; behind = e }
 between lv (x ∷ es) o ahead [] p beyond e own l =
@@ -119,7 +119,7 @@ between lv (x ∷ es) o ahead (y ∷ fs) p beyond e own l =
     let i = between lv es o ahead fs p beyond (tail-same x y (es ++ o ∷ ahead) (fs ++ p ∷ beyond) e) own (few-tail lv x y es fs same l) in
     record { mids = i.mids; earlier = ap (λ u. u ∷ fs) (sym same) ∙ ap (λ us. x ∷ us) i.earlier; behind = i.behind }
 
--- what is nested up to a note of the level is so from another one on
+-- What is nested up to a note of the level is nested from another one on.
 nested-mids : (lv : ℕ) (fs es mids : List Note) (o : Note) (ahead : List Note) (p : Note) (beyond : List Note) (line : Bool) (brackets : ℕ) → Nested lv fs → fs ≡ es ++ mids → o ∷ ahead ≡ mids ++ p ∷ beyond
     → o.levels ≡ lv → o.mark ≡ mark.Piece line brackets → Nested lv mids
 nested-mids lv fs es [] o ahead p beyond line brackets nest e f own says = none lv
@@ -138,7 +138,7 @@ begins-at at ms ns number r h =
     ∙ ap (piece_of at 0 (last_start 0 ms) (length ms)) (entries-behind 0 ms ns)
     ∙ piece-found at 0 (last_start 0 ms) (length ms) ns (rising-behind 0 ms ns r) ∙ h
 
--- What entries say of so many pieces of a run, by the numbers of its entries and the bytes at which the tokens behind the pieces begin.
+-- What entries say of a given number of pieces of a run, by the numbers of its entries and the bytes at which the tokens after the pieces begin.
 pub record FoundPieces (es : List Entry) (number cut : ℕ → ℕ) (value : ℕ → Bool × ℕ) (count : ℕ) : Type 0 where
   pub goes_on : (i j : ℕ) → i ≤ j → j ≤ count → BeginsAt es (number i) (cut j) (number j)
   pub rises : (i j : ℕ) → i < j → j ≤ count → number i < number j
@@ -146,7 +146,7 @@ pub record FoundPieces (es : List Entry) (number cut : ℕ → ℕ) (value : ℕ
   pub not_last : (i : ℕ) → i < count → IsLast es (number i) → ⊥
   pub says : (i : ℕ) → i ≤ count → SaysPiece es (number i) (value i)
 
--- The notes of a run, nested among others: so many pieces, each with a note of the level whose token is behind it, and no piece of the run behind all.
+-- The notes of a run, nested among others: a given number of pieces, each with a note of the level whose token comes after it, and no piece of the run after them all.
 pub record RunAmong (lv : ℕ) (pre ns suf : List Note) (text : List ℕ) (e : ℕ → End (Bool × ℕ)) (count : ℕ) (number : ℕ → ℕ) : Type 0 where
   pub nested : Nested lv ns
   pub rising : IsRising 0 (pre ++ (ns ++ suf))
@@ -189,7 +189,7 @@ module _ (lv : ℕ) (pre ns suf : List Note) (text : List ℕ) (e : ℕ → End 
       let two = b.index in
       between lv a.earlier a.note a.later b.earlier b.note b.later (sym a.is ∙ b.is) b.own (omega (arith, few, one, two))
 
-  -- none of the run's notes before one has its token where that has it
+  -- None of the run's notes before one has its token where that has it.
   none-there : (i j : ℕ) (l : i ≤ count) (m : j ≤ count) (few : i ≤ j) → Every (λ n. (n.start == cut j) ≡ false) (of_level lv (up-to i j l m few).mids)
   none-there i j l m few =
       let b = h.at j m in
@@ -242,7 +242,7 @@ module _ (lv : ℕ) (pre ns suf : List Note) (text : List ℕ) (e : ℕ → End 
       subst (λ us. BeginsAt (entries_by 0 us) (number i) (cut j) (number j)) (sym split)
       (subst (λ d. BeginsAt (entries_by 0 (before ++ behind)) d (cut j) (number j)) long_i (begins-at (cut j) before behind (number j) (subst (IsRising 0) split h.rising) found))
 
-  -- the entries behind one of the run
+  -- the entries after one of the run
   pub drop-at : (i : ℕ) (l : i ≤ count) → drop (suc (number i)) (entries_by 0 all) ≡ entries_by (h.at i l).note.start (behind_of i l)
   drop-at i l =
       let n = h.at i l in
@@ -304,7 +304,7 @@ module _ (lv : ℕ) (pre ns suf : List Note) (text : List ℕ) (e : ℕ → End 
   pub found-pieces : FoundPieces (entries_by 0 all) number cut (λ i. (e i).value) count
   found-pieces = record { goes_on = goes-on; rises = rises; last = is-last; not_last = not-last; says = says-piece }
 
-  -- a block ends behind its run's last piece
+  -- A block ends after its run's last piece.
   pub closing : (c : Note) (later : List Note) → suf ≡ c ∷ later → c.mark ≡ mark.Closes → closing_of 0 (suc (number count)) (drop (suc (number count)) (entries_by 0 all)) ≡ Some (length pre + length ns)
   closing c later is says =
       let l : count ≤ count = omega arith in

@@ -1,4 +1,4 @@
--- What a piece of a run gives: the trivia before it, and behind them a node that isn't empty.
+-- A piece of a run gives the trivia before it first, and after them a node that isn't empty.
 use Rattle.std.proofs.Common.{◌≡◌, ℕ, zero, suc, ◌+◌, ◌-◌, ◌<◌, ◌≤◌, ◌==◌, Bool, true, false, if◌then◌else◌, List, [], ◌∷◌, ◌++◌, length, take, drop, length-append, length-take, append_assoc, encode_utf8_all, None, Some, refl, ap, sym, ◌∙◌, subst, arith}
 use Rattle.std.proofs.lemmas.Str.{length-le-encodes}
 use Rattle.typst_kinds.specs.declared.kind.SyntaxKind.{SyntaxKind}
@@ -49,7 +49,7 @@ use Rattle.typst_edits.proofs.RunTrees.{hinted-none}
 
 -- ---- nodes
 
--- the first of several nodes isn't empty
+-- The first of several nodes isn't empty.
 abbrev pub Full : List Tree → Type 0
 Full [] = ⊥
 Full (t ∷ ts) = 0 < length (text_of t)
@@ -125,7 +125,7 @@ few-shaped (fails message) (t ∷ ts) s h l = few-node true (texts (t ∷ ts)) s
 
 -- ---- outcomes
 
--- it takes something behind the trivia, gives these and a full node behind them, at its end stand fewer empty errors than it gave nodes behind the trivia, and only where that is said it takes errors back
+-- It takes something after the trivia and gives these with a full node after them; at its end stand fewer empty errors than nodes that it gave after the trivia, and it takes errors back only if that is said.
 pub record Fronts {A : Type 0} (t : Trivia) (trims : Bool) (o : Outcome A) : Type 0 where
   pub some : t.gap < o.taken
   pub rest : List Tree
@@ -134,7 +134,7 @@ pub record Fronts {A : Type 0} (t : Trivia) (trims : Bool) (o : Outcome A) : Typ
   pub few : o.state.empties < length rest
   pub none : trims ≡ false → o.back ≡ 0
 
--- whatever comes behind it
+-- whatever comes after it
 pub fronts-joined : {A B : Type 0} (t : Trivia) (trims : Bool) (o : Outcome B) (q : Outcome A) → Fronts t trims o → Tidy o.state q → Fronts t trims (joined o q)
 fronts-joined t trims o q h tidy =
     let few = h.few in
@@ -159,7 +159,7 @@ fronts-joined t trims o q h tidy =
       none = λ f. (let none = h.none f in omega (arith, none, short, long, sum));
     }
 
--- behind a question
+-- after a question
 fronts-asked : {A B : Type 0} (t : Trivia) (trims : Bool) (v : B) (s : Point) (ls : List Ask) (m : Bool) (o : Outcome A) → Fronts t trims o → Fronts t trims (joined (record (plain v s) { asks = ls; met = m }) o)
 fronts-asked t trims v s ls m o h = record {
   some = (let some = h.some in omega (arith, some));
@@ -186,7 +186,7 @@ fronts-wrapped t f n o e h =
 
 -- ---- words
 
--- so does what is read where these trivia are known
+-- So does what is read where these trivia are known.
 abbrev pub Begins : {A : Type 0} → Reading → Place → Trivia → Bool → Meaning A → Type 0
 Begins h z t trims m = (r : Reading) (e : ℕ) (a : Bool) → Fronts t trims (m z (before_trivia r h e a t))
 

@@ -36,7 +36,7 @@ every-grown : {A : Type 0} (n : ℕ) (shape other : Option Shape) (z w : Place) 
 every-grown n None other z w o p c l f = (lawful-same z w o o p (grown n other p) c refl l (λ x e. ap (grown_by n p) (f x e)), tt)
 every-grown n (Some shape) other z w o p c l f = map-grown n shape other z w o p c f _ _ (every-reshaped shape shape n z w o p c l (λ x e. refl))
 
--- where an edit is inside one of several blocks, this holds
+-- If an edit is inside one of several blocks, this holds.
 abbrev Known : {A : Type 0} → Place → Place → Type 0 → Spot A → Type 0
 Known z w Q c = (x : Tree) → Edits z w c x → Q
 
@@ -51,7 +51,7 @@ known-last z w Q c k x e = k x (edits-last z w c x e)
 known-turn : {A B : Type 0} (n : ℕ) (shape : Option Shape) (z w : Place) (Q : Type 0) (cs : List (Spot (B × A))) → Every (Known z w Q) cs → Every (Known z w Q) (flat_map (λ c. grown_spot n shape (last_spot c)) cs)
 known-turn n shape z w Q cs h = every-flat (Known z w Q) (Known z w Q) (λ c. grown_spot n shape (last_spot c)) (λ c k. known-grown n shape z w Q (last_spot c) (known-last z w Q c k)) cs h
 
--- an edit behind what was asked so far
+-- an edit after what was asked so far
 known-after : {A B : Type 0} (z w : Place) (Q : Type 0) (o : Outcome B) (cs : List (Spot A)) → (SameIn o.asks z w → Q) → Every (Known z w Q) (map (after_spot o) cs)
 known-after z w Q o cs f = every-map (λ c. Unit {0}) (Known z w Q) (after_spot o) (λ c u x e. f (same_in-first o.asks _ z w e.before)) cs (every-any cs)
 
@@ -69,7 +69,7 @@ known-growths m sp n (suc k) o cs z w Q f h =
     every-if (Known z w Q) (is_more p.value.0 && nat_lt 0 p.taken) _ _
     (λ t. known-growths m sp n k (grew n o p) ds z w Q (λ e. f (same_in-first o.asks _ z w (grew-asks n o p z w e))) all) (λ t. all)
 
--- an edit inside what grew so far: the turn is the same
+-- An edit inside what grew so far leaves the turn the same.
 goes-then : {A B : Type 0} (z w : Place) (o v : Outcome B) (m : B → Meaning (Option Shape × A)) (cs : List (Spot B)) → ((b : B) → Framed (m b)) → Every (Lawful z w o v) cs
     → (let p = m o.value (moved o.taken z) o.state in let q = m v.value (moved v.taken w) v.state in
     Every (Known z w ((is_more q.value.0 && nat_lt 0 q.taken) ≡ (is_more p.value.0 && nat_lt 0 p.taken))) (map (λ c. then_spot c p) cs))
@@ -77,7 +77,7 @@ goes-then z w o v m cs framed h =
     let p = m o.value (moved o.taken z) o.state in
     every-map (Lawful z w o v) _ (λ c. then_spot c p) (λ c l x e. ap (λ q. is_more q.value.0 && nat_lt 0 q.taken) (rest-same z w o v m c x framed l e)) cs h
 
--- an edit inside the turn: it goes on as it did
+-- After an edit inside the turn it goes on as it did.
 goes-after : {A B : Type 0} (z w : Place) (o v : Outcome B) (m : B → Meaning (Option Shape × A)) (ds : List (Spot (Option Shape × A))) → (SameIn o.asks z w → v ≡ o)
     → Every (Lawful (moved o.taken z) (moved o.taken w) (m o.value (moved o.taken z) o.state) (m o.value (moved o.taken w) o.state)) ds
     → (let p = m o.value (moved o.taken z) o.state in let q = m v.value (moved v.taken w) v.state in

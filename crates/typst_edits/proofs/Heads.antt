@@ -1,4 +1,4 @@
--- An expression that isn't expected gives one error behind the trivia, and only such a one takes back the empty errors before it.
+-- An expression that isn't expected gives one error after the trivia, and only such an expression takes back the empty errors before it.
 use Rattle.std.proofs.Common.{◌≡◌, ℕ, zero, suc, ◌<◌, ◌==◌, Bool, true, false, if◌then◌else◌, ◌&&◌, nat_lt, List, [], ◌∷◌, ◌++◌, length, drop, length-append, append_assoc, Some, None, refl, ap, sym, ◌∙◌, subst, arith}
 use borrow.Author.Tests.{lt-ltb}
 use Rattle.typst_kinds.specs.Kinds.{is_error}
@@ -61,7 +61,7 @@ made-wrong-by message t false e = refl
 made-wrong : (message : List ℕ) (t : Tree) → is_error (made_error message t).head.kind ≡ true
 made-wrong message t = made-wrong-by message t (is_error t.head.kind) refl
 
--- hints leave it an error
+-- Hints leave it an error.
 hinted-wrong : (hints : List (List ℕ)) (ts us : List Tree) → begins_wrong ts ≡ true → begins_wrong (hinted hints ts ++ us) ≡ true
 hinted-wrong [] [] us e = cc
 hinted-wrong (h ∷ hs) [] us e = cc
@@ -73,7 +73,7 @@ some-wrong : (ts : List Tree) → begins_wrong ts ≡ true → 0 < length ts
 some-wrong [] e = cc
 some-wrong (t ∷ ts) e = omega arith
 
--- behind these trivia stands an error
+-- An error follows these trivia.
 pub record WrongFirst (t : Trivia) (ts : List Tree) : Type 0 where
   pub rest : List Tree
   pub is : ts ≡ t.nodes ++ rest
@@ -198,7 +198,7 @@ pub erring-call : (k : CharClasses) (levels : ℕ) (r h : Reading) (e : ℕ) (a 
 unfolding meaning_of
 erring-call k levels r h e a z t x m = erring-expr (level_at k levels) r h e a z t x.0 x.1 m
 
--- what gives the trivia that are known at a point and one error, and leaves no empty error
+-- It gives the trivia that are known at a point and one error, and leaves no empty error.
 pub record MindsAlone {A : Type 0} (p : Point) (o : Outcome A) : Type 0 where
   pub error : Tree
   pub is : is_error error.head.kind ≡ true
@@ -228,7 +228,7 @@ module _ (l : Level) (stops : SyntaxKind → Bool) (taking : Taking l stops)
     abbrev one : Outcome (Bool × (Bool × ℕ))
     one = turn x z at
 
-    -- a turn that minds leaves no empty error
+    -- A turn that minds errors leaves no empty error.
     no-empties : ends stops x.1 (told (hand_of l z at)).kind ≡ false → Erring t one → one.state.empties ≡ 0
     no-empties go err =
         let led = turn-led l stops taking x z r h e a t go in
@@ -334,7 +334,7 @@ module _ (l : Level) (stops : SyntaxKind → Bool) (taking : Taking l stops)
   pub onward-facts : (x : Bool × ℕ) (z : Place) (p : Point) → KnownAt p → Onward x z p
   onward-facts x z p known = subst (Onward x z) (sym (known-is l.classes p known.trivia known.is)) (onward-here x z p.reading p.held p.empties p.is_after_error known.trivia)
 
-  -- a piece that minds gives the trivia and one error, and leaves no empty error
+  -- A piece that minds errors gives the trivia and one error, and leaves no empty error.
   alone-here : (x : Bool × ℕ) (z : Place) (r h : Reading) (e : ℕ) (a : Bool) (t : Trivia) → (let s = before_trivia r h e a t in goes (turn x z s) ≡ true → minded x z s ≡ true → MindsAlone s (turn x z s))
   alone-here x z r h e a t g mind =
       let s = before_trivia r h e a t in
@@ -363,7 +363,7 @@ module _ (r : Sequence) (taking : Taking r.level r.stops)
       let o = onward-facts l r.stops taking wrong f.value (then_place i n r) f.state then_known in
       record { first = p.0; pieces_back = p.1; next = o.0; behind_back = o.1 }
 
-  -- where pieces of it begin with one that minds
+  -- where its pieces begin with one that minds errors
   pub lone-piece : (i : ℕ) → AllGo (first_of i r) → AllGo (then_of i 1 r) → minds_at r (first_place i r) (first_end i r) ≡ true → MindsAlone (first_end i r).state (turn_of r (first_end i r).value (first_place i r) (first_end i r).state)
   lone-piece i g h mind =
       let e = first_end i r in
@@ -379,7 +379,7 @@ unfolding run
 inner-head-law k levels z s i n g h =
     headed (inner_run k levels z s) (block-taking k levels) (erring-call k levels) (record { trivia = _; is = refl }) i n g h
 
--- no errors are minded where the law of heads says so
+-- No errors are minded where the law of heads says so.
 unminded : (b : Bool) → b ≡ false → b ≡ true → {A : Type 0} → A
 unminded true e f = cc
 unminded false e f = cc
@@ -402,7 +402,7 @@ inner-meets-law k levels z s i n f t u g h well known known_now value nesting = 
   errors = λ o m. unminded _ ((inner-head-law k levels z s i n g h).next (well o) o) m;
 }
 
--- the law of the piece that minds, of a text's run and of a content block's
+-- The law of the piece that minds errors, of a text's run and of a content block's.
 pub text-lone : (k : CharClasses) (z : Place) (i : ℕ) → (let r = text_run k z in AllGo (first_of i r) → AllGo (then_of i 1 r) → minds_at r (first_place i r) (first_end i r) ≡ true
     → MindsAlone (first_end i r).state (turn_of r (first_end i r).value (first_place i r) (first_end i r).state))
 unfolding run

@@ -1,4 +1,4 @@
--- Marks stand in order by their tokens: each at the token of the one before it or behind that.
+-- Marks stand in order by their tokens: each at the token of the one before it, or after that.
 use Rattle.std.proofs.Common.{◌≡◌, ℕ, zero, suc, ◌+◌, ◌-◌, ◌<◌, ◌≤◌, ◌==◌, Bool, true, false, ◌&&◌, nat_lt, List, [], ◌∷◌, ◌++◌, take, append_assoc, append-nil, Option, Some, None, refl, ap, sym, ◌∙◌, subst, arith}
 use Rattle.typst_kinds.specs.Kinds.{same}
 use Rattle.typst_kinds.specs.declared.kind.SyntaxKind.{SyntaxKind}
@@ -55,7 +55,7 @@ use Rattle.typst_edits.proofs.Widths.{width-moved, width-none}
 
 -- ---- marks in a list of asks
 
--- from one place up to another, each where the token of the one before begins, or behind that
+-- From one place up to another each stands where the token of the one before begins, or after that.
 abbrev gaps : ℕ → Mark → ℕ
 gaps gap m = gap
 
@@ -67,7 +67,7 @@ Orders lo hi ls = Upward gaps any lo hi ls
 
 -- ---- whatever the language can say, and notes nothing by itself
 
--- from one place up to another that is so far behind what is taken
+-- from one place up to another that is at a given distance after what is taken
 abbrev Reaching : {A : Type 0} → ℕ → ℕ → Outcome A → Type 0
 Reaching lo gap o = Orders lo (o.taken + gap) o.asks
 
@@ -140,7 +140,7 @@ orders-high lo a b [] e h = omega (arith, e, h)
 orders-high lo a b (looked at look ∷ ls) e h = orders-high lo a b ls e h
 orders-high lo a b (marked at gap fewer m s ∷ ls) e h = (h.0, tt, orders-high (at + gap) a b ls e h.2)
 
--- what is behind it begins so far behind it
+-- What follows it begins at a given distance after it.
 order-next : {A B : Type 0} (lo mid gap : ℕ) (o : Outcome B) (p : Outcome A) → Reaching lo mid o → Reaching mid gap p → Reaching lo gap (joined o p)
 order-next lo mid gap o p h k =
     up-append gaps any lo (o.taken + mid) ((o.taken + p.taken) + gap) o.asks _ h
@@ -152,7 +152,7 @@ reaching gap o h = orders-high 0 o.taken (o.taken + gap) o.asks (omega arith) h
 all-taken : {A : Type 0} (o : Outcome A) → Reaching 0 0 o → InOrder o
 all-taken o h = orders-high 0 (o.taken + 0) o.taken o.asks (omega arith) h
 
--- up to the token at hand behind it
+-- up to the token at hand after it
 abbrev ToToken : {A : Type 0} → ℕ → Outcome A → Type 0
 ToToken lo o = Reaching lo (gap_of o.state.known) o
 
@@ -161,7 +161,7 @@ unfolding hand_at
 hand-gap k held None z = omega arith
 hand-gap k held (Some t) z = omega arith
 
--- a piece begins by taking the token at hand, with the trivia before it
+-- A piece begins by taking the token at hand, with the trivia before it.
 abbrev Leads : Level → Type 0
 Leads l = (h : Reading) (z : Place) (t : Trivia) (x : Bool × ℕ) → 0 < len_at l.classes h.mode (moved t.gap z) → Takes h z t t (minds (markup_head x.0 x.1 (hand_at l.classes h (Some t) z).kind)) (l.deeper (MarkupExpr x.0 x.1))
 
@@ -283,7 +283,7 @@ module _ (l : Level) (deep : (call : Call) → AllInOrder (l.deeper call)) (held
           (order-next (gap_of a.state.known) gap gap r (plain (tt {0}) r.state)
           (pieces-order sd sb end_stops e (leads e) (suc (bound z a.state)) (true, 0) z a.state (record { trivia = _; is = refl })) (omega arith)))))
 
-      -- and the trivia behind it
+      -- and the trivia after it
       flushed-order : AllInOrder (run l (markup_run stops >> flush_trivia))
       unfolding run flush_trivia
       flushed-order z s =
@@ -350,7 +350,7 @@ module _ (k : CharClasses) where
 
 -- ---- in bytes
 
--- so many notes more, in order
+-- A given number of further notes come in order.
 record NotedOrder (from : ℕ) (ns : List Note) (h : Log) : Type 0 where
   more : List Note
   is : h.notes ≡ Some (ns ++ more)

@@ -15,7 +15,7 @@ use Rattle.typst_edits.proofs.Bytes.{noted-more}
 use Rattle.typst_edits.proofs.Marks.{AllMarks}
 use Rattle.typst_edits.proofs.Spots.{if-true, if-false}
 
--- those where no level fewer is left keep to this, by their numbers, from one number up to another
+-- Those where as many levels are left have numbers in turn, from one number up to another.
 abbrev pub InTurn : (ℕ → ℕ → ℕ → Mark → State → Type 0) → ℕ → ℕ → List Ask → Type 0
 InTurn P i j [] = i ≡ j
 InTurn P i j (looked at look ∷ asks) = InTurn P i j asks
@@ -42,7 +42,7 @@ turn-by P Q f i j (looked at look ∷ ls) h = turn-by P Q f i j ls h
 turn-by P Q f i j (marked at gap zero m s ∷ ls) h = (f i at gap m s h.0, turn-by P Q f (suc i) j ls h.1)
 turn-by P Q f i j (marked at gap (suc fewer) m s ∷ ls) h = turn-by P Q f i j ls h
 
--- counted from so many characters before
+-- counted from a given number of characters before
 pub turn-shift : (P : ℕ → ℕ → ℕ → Mark → State → Type 0) (d i j : ℕ) (ls : List Ask) → InTurn (λ n at gap m s. P n (d + at) gap m s) i j ls → InTurn P i j (shift d ls)
 turn-shift P d i j [] h = h
 turn-shift P d i j (looked at look ∷ ls) h = turn-shift P d i j ls h
@@ -61,7 +61,7 @@ turn-none P i (marked at gap (suc fewer) m s ∷ ls) h = turn-none P i ls h.1
 
 -- ---- their notes
 
--- a note is that of the mark of a number
+-- A note is that of the mark of a number.
 pub record NoteNth (P : ℕ → ℕ → ℕ → Mark → State → Type 0) (z : Place) (i : ℕ) (n : Note) : Type 0 where
   pub at : ℕ
   pub gap : ℕ
@@ -73,7 +73,7 @@ pub record NoteNth (P : ℕ → ℕ → ℕ → Mark → State → Type 0) (z : 
   pub start : n.start ≡ position (moved gap (moved at z))
   pub state : n.state ≡ told
 
--- so many notes more, of which those of the level have these numbers
+-- a given number of further notes, of which those of the level have these numbers
 pub record NotedNth (P : ℕ → ℕ → ℕ → Mark → State → Type 0) (levels : ℕ) (z : Place) (i j : ℕ) (ns : List Note) (h : Log) : Type 0 where
   pub more : List Note
   pub is : h.notes ≡ Some (ns ++ more)

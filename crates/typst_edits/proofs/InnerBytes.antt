@@ -63,7 +63,7 @@ module _ (k : CharClasses) (levels : ℕ) (z : Place) (s : Point) where
   abbrev pub opened : ℕ
   opened = (bracket k levels z s).taken
 
-  -- by its run and what comes behind it
+  -- by its run and what comes after it
   pub content-asks : (q : Outcome (Bool × ℕ)) (t : Outcome (Unit {0})) (close : Outcome Bool)
       → (content_by k levels z s q t close).asks ≡ asks_before ++ shift opened (run_mark ∷ ((asks_first ++ q.asks) ++ shift q.taken (t.asks ++ shift t.taken close.asks)))
   unfolding run
@@ -93,7 +93,7 @@ module _ (k : CharClasses) (levels : ℕ) (z : Place) (s : Point) where
       let rest = shift opened (run_mark ∷ ((ls ++ q.asks) ++ shift n last)) in
       outer ∙ ap (λ u. first ++ (second ++ (opens ++ shift opened u))) behind_is ∙ ap (λ u. first ++ u) (sym (append_assoc second opens rest)) ∙ sym (append_assoc first (second ++ opens) rest)
 
-  -- what comes behind some pieces, by where they end
+  -- what comes after some pieces, by where they end
   abbrev pub rest_by : End (Bool × ℕ) → Outcome (Bool × ℕ)
   rest_by e = repeated (turn_of the_run) e.value (moved e.taken the_run.place) e.state
 
@@ -106,7 +106,7 @@ module _ (k : CharClasses) (levels : ℕ) (z : Place) (s : Point) where
   abbrev pub asks_by : End (Bool × ℕ) → List Ask
   asks_by e = let q = rest_by e in let t = tail_by e in q.asks ++ shift q.taken (t.asks ++ shift t.taken (close_by e).asks)
 
-  -- by its pieces and what comes behind j of them
+  -- by its pieces and what comes after j of them
   pub block-asks : (j : ℕ) → AllGo (first_of j the_run)
       → (block_at k (suc levels) block.Content z s).asks ≡ asks_before ++ shift opened (run_mark ∷ ((asks_first ++ asks_of (first_of j the_run)) ++ shift (first_end j the_run).taken (asks_by (first_end j the_run))))
   block-asks j g =
@@ -142,7 +142,7 @@ module _ (k : CharClasses) (levels : ℕ) where
       marks-append Never (look_first k levels z s).asks _ (none-hand Never k s.held s.known z)
       (marks-append Never (look_again k levels z s).asks (bracket k levels z s).asks (none-hand Never k s1.held s1.known z) (none-hand Never k s2.held s2.known z))
 
--- as many notes are made in several turns as in the first and in those behind them
+-- As many notes are made in several turns as in the first and in those after it.
 made-count : {A : Type 0} (f : A → Meaning (Bool × A)) (i n : ℕ) (x : A) (z : Place) (s : Point)
     → (let e = end_of x s (made f i x z s) in notes_in (asks_of (made f (i + n) x z s)) ≡ notes_in (asks_of (made f i x z s)) + notes_in (asks_of (made f n e.value (moved e.taken z) e.state)))
 made-count f zero n x z s = let same : zero + n ≡ n = omega arith in let is = ap (λ j. notes_in (asks_of (made f j x z s))) same in omega (arith, is)
@@ -239,7 +239,7 @@ module _ (k : CharClasses) (levels : ℕ) (text : List ℕ) (c : Spot (Unit {0})
   abbrev end : ℕ
   end = c.at + (unit_at c z0).taken
 
-  -- all that is looked at before j pieces ends so many characters on, or before
+  -- All that is looked at before j pieces ends a given number of characters further on, or earlier.
   record Early (n j : ℕ) : Type 0 where
     before : AllEndBy n c.before
     opens : AllEndBy n (shift c.at (asks_before k levels z s))
@@ -248,7 +248,7 @@ module _ (k : CharClasses) (levels : ℕ) (text : List ℕ) (c : Spot (Unit {0})
   abbrev ended_at : ℕ → End (Bool × ℕ)
   ended_at j = let e = first_end j r in record e { taken = at + e.taken }
 
-  -- what is asked behind j pieces in the block
+  -- what is asked after j pieces in the block
   abbrev asks_behind : ℕ → List Ask
   asks_behind j = asks_by k levels z s (first_end j r)
 
@@ -359,7 +359,7 @@ module _ (k : CharClasses) (levels : ℕ) (text : List ℕ) (c : Spot (Unit {0})
         placed_after = at-second (length text) (low three) after (at-second (length text) (low two) (low three ++ after) t.placed);
       }
 
-  -- the same behind n pieces behind i
+  -- the same for the n pieces that follow the first i
   abbrev both : ℕ → ℕ → End (Bool × ℕ)
   both i n = inner_both k levels i n c z0
 
@@ -406,7 +406,7 @@ module _ (k : CharClasses) (levels : ℕ) (text : List ℕ) (c : Spot (Unit {0})
         placed_after = two.placed_after;
       }
 
-  -- how much the block takes
+  -- how many characters the block takes
   unit-taken : (i n : ℕ) → AllGo (first_of i r) → AllGo (then_of i n r)
       → (unit_at c z0).taken ≡ opened k levels z s + (((first_end i r).taken + (then_end i n r).taken) + ((rest_of i n r).taken + ((tail_at k levels i n c z0).taken + (close_at k levels i n c z0).taken)))
   unit-taken i n g h =
@@ -419,7 +419,7 @@ module _ (k : CharClasses) (levels : ℕ) (text : List ℕ) (c : Spot (Unit {0})
       let is = ap (λ (o : Outcome (Unit {0})). o.taken) reads in
       omega (arith, is, split, all, run)
 
--- ---- behind the trivia
+-- ---- after the trivia
 
 -- what is asked there, up to the closing bracket
 abbrev asks_past : CharClasses → ℕ → ℕ → ℕ → Trivia → Spot (Unit {0}) → Place → List Ask

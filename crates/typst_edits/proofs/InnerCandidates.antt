@@ -60,7 +60,7 @@ use Rattle.typst_edits.proofs.BlockPlaces.{early-by as sooner, late-by as furthe
 
 -- ---- from bytes to characters
 
--- what ends behind a stretch in bytes, or with it, does so in characters
+-- What ends after a stretch in bytes, or with it, does so in characters.
 pub as-far : (n : ℕ) (xs ys : List ℕ) → width xs ≤ width (take n (xs ++ ys)) → length xs ≤ n
 unfolding width
 as-far n [] ys h = omega arith
@@ -73,7 +73,7 @@ pub joined-trees : (f : Forest) → joined f ≡ texts (trees f)
 joined-trees none = refl
 joined-trees (more h ks r) = ap (λ xs. h.text ++ (joined ks ++ xs)) (joined-trees r)
 
--- a child of several that begin at a byte lies among them
+-- A child of several that begin at a byte lies among them.
 pub record Lies (at : ℕ) (ts : List Tree) (c : Child) : Type 0 where
   pub from : at ≤ c.start
   pub long : c.end ≡ c.start + length (text_of c.node)
@@ -124,14 +124,14 @@ module _ (k : CharClasses) (levels : ℕ) (text : List ℕ) (c : Spot (Unit {0})
       let y = moved c.at z in
       (opens-by k levels y s (begun-at k levels text c chosen name left z (same-here c.before z) some)).empties
 
-  -- its bracket, its markup with the children of its run, and what stands behind that
+  -- its bracket, its markup with the children of its run, and what stands after that
   node-shape : LeadingInner k levels text c 0 0 first-trivia.trivia
   node-shape =
       let back = (inner-back-law k levels text c 0 0).behind_back in
       let none_there = no-errors in
       leading-inner-law k levels text c 0 0 first-trivia.trivia chosen name left some tt tt first-trivia.is (inr (omega (arith, back, none_there)))
 
-  -- of which the second alone is markup
+  -- Of these only the second is markup.
   pub plain-shape : Plain c.node
   plain-shape =
       let back = (inner-back-law k levels text c 0 0).behind_back in
@@ -140,7 +140,7 @@ module _ (k : CharClasses) (levels : ℕ) (text : List ℕ) (c : Spot (Unit {0})
 
 -- ---- a candidate among its markup's children
 
--- The block is around the stretch, and the candidate is one of its run, whose cuts are these.
+-- The block is around the stretch, and the candidate is one of its run, which has these cuts.
 pub record OfBlock (k : CharClasses) (levels : ℕ) (front old rest : List ℕ) (s : Spot (Unit {0})) (c : Candidate) : Type 0 where
   pub around : Around front old rest s
   pub some : 0 < (unit_at s (start_of (front ++ (old ++ rest)))).taken
@@ -222,7 +222,7 @@ of-block apart k levels front old rest root s chosen name level c same candidate
 
 -- ---- it begins well
 
--- behind one more piece the next token begins at a cut
+-- After one more piece the next token begins at a cut.
 one-cut : (k : CharClasses) (levels : ℕ) (text : List ℕ) (s : Spot (Unit {0})) (at i : ℕ) (b : BlockCuts k levels text s at) → (let r = run_at k levels s (start_of text) in AllGo (first_of i r) → AllGo (then_of i 1 r)
     → is_among (token_byte text (inner_both k levels i 1 s (start_of text))) b.cuts ≡ true)
 one-cut k levels text s at i b g h =
@@ -281,7 +281,7 @@ module _ (k : CharClasses) (levels : ℕ) (front old rest : List ℕ) (s : Spot 
       let sum : (a + (e.taken + 0)) + gap_of e.state.known ≡ (a + e.taken) + gap_of e.state.known = omega arith in
       ap (λ d. token_byte whole_text (inner_both k levels i d s z)) nothing ∙ ap (λ d. width (take d whole_text)) sum
 
-  -- pieces there, or none behind others, keep what is behind them from what is before them
+  -- Pieces there, or none after others, separate what follows them from what is before them.
   settles : (j l : ℕ) → (0 < j → 0 < l) → Settles l (onwards_in k levels j l s z)
   settles zero zero f =
       let back = (inner-back-law k levels whole_text s 0 0).behind_back in
@@ -290,7 +290,7 @@ module _ (k : CharClasses) (levels : ℕ) (front old rest : List ℕ) (s : Spot 
   settles zero (suc l) f = inl (omega arith)
   settles (suc j) l f = inl (f (omega arith))
 
-  -- what pieces behind i give, by the children that lead
+  -- what the pieces after the first i give, by the children that lead
   gives-by : (l : ℕ) (v : Trivia) → LeadingInner k levels whole_text s i l v → GivesAt r from kids i l v begin (token_byte whole_text (inner_both k levels i l s z))
   gives-by l v led =
       let same : led.kids ≡ kids = sym (ap kids_in led.node ∙ trees-of led.kids) in

@@ -59,7 +59,7 @@ pub record Quiet {A : Type 0} (o : Outcome A) : Type 0 where
   back : o.back ≡ 0
   hints : o.hints ≡ []
 
--- it stands behind them
+-- It stands after them.
 quiet-standing : {A : Type 0} (o : Outcome A) (ts : List Tree) → Quiet o → standing o ts ≡ ts ++ o.nodes
 quiet-standing o ts q = ap (λ hs. hinted hs (less o.back ts) ++ o.nodes) q.hints ∙ ap (λ n. less n ts ++ o.nodes) q.back ∙ ap (λ us. us ++ o.nodes) (less-none ts)
 
@@ -82,7 +82,7 @@ quiet-if : {A : Type 0} (b : Bool) (o p : Outcome A) → Quiet o → Quiet p →
 quiet-if true o p q r = q
 quiet-if false o p q r = r
 
--- the trivia behind a run
+-- the trivia after a run
 tail-quiet : (k : CharClasses) (levels n : ℕ) (s : Point) (z : Place) → Quiet (inner_tail k levels n s z)
 unfolding run flush_trivia
 tail-quiet k levels n s z =
@@ -101,7 +101,7 @@ tail-quiet k levels n s z =
 tidy-plain : {A : Type 0} (a : A) (p : Point) → Tidy p (plain a p)
 tidy-plain a p = record { back = omega arith; left = omega arith }
 
--- the first of two hints at nothing, where both do and the second takes nothing back
+-- The first of two hints at nothing if both do and the second takes nothing back.
 front-none : (hs js : List (List ℕ)) → hs ++ js ≡ [] → hs ≡ []
 front-none [] js e = refl
 front-none (h ∷ hs) js e = cc
@@ -112,7 +112,7 @@ first-hints false true hs js f e = cc
 first-hints false false hs js f e = front-none hs js e
 
 module _ (k : CharClasses) (levels : ℕ) (z : Place) (s : Point) where
-  -- how it begins: with one token, its bracket, behind which no empty error stands
+  -- how it begins: with one token, its bracket, which leaves no empty error
   pub record Opens : Type 0 where
     pub node : Tree
     pub nodes : (bracket k levels z s).nodes ≡ node ∷ []
@@ -202,7 +202,7 @@ module _ (k : CharClasses) (levels : ℕ) (z : Place) (s : Point) where
       let quiet_closing = quiet-joined looked done quiet_looked (record { back = refl; hints = refl }) in
       quiet-standing closing [] quiet_closing ∙ standing-still done looked.nodes refl refl refl ∙ quiet-standing inside [] quiet_inside ∙ standing-still value block.nodes refl refl refl ∙ block_nodes
 
-  -- what is read in the run takes nothing back, and hints at nothing before it
+  -- What is read in the run takes nothing back, and hints at nothing before it.
   abbrev whole_run : Outcome (Bool × ℕ)
   whole_run = let r = inner_run k levels z s in repeated (turn_of r) (true, 0) r.place r.point
 
@@ -289,7 +289,7 @@ with-plug h path i j news y =
     (ap (alter (length h.left) (with_children (path_in h.deep ++ path) i j news)) (trees-of (plug h y)) ∙ alter-at (with_children (path_in h.deep ++ path) i j news) h.left (fill h.deep y) h.right
     ∙ ap (λ u. h.left ++ u ∷ h.right) (with-fill h.deep path i j news y))
 
--- the markup of a content block is its second child
+-- The markup of a content block is its second child.
 with-kids : (closed : Bool) (lb : Tree) (kids ends : List Tree) (i j : ℕ) (news : List Tree) → with_children (1 ∷ []) i j news (block_with closed lb kids ends) ≡ block_with closed lb (exchanged i j news kids) ends
 with-kids closed lb kids ends i j news =
     let first = if closed then lb else made_error (codes "unclosed delimiter") lb in
@@ -322,7 +322,7 @@ module _ (k : CharClasses) (levels : ℕ) (c : Spot (Unit {0})) (z : Place) wher
       let two = (sane k levels flush_trivia).backs (moved (((first_end i r).taken + f.taken) + rest.taken) r.place) rest.state in
       (backs-joined f.state rest (tail_at k levels i n c z) one two).back
 
-  -- what stands in the run, by the pieces and all behind them
+  -- what stands in the run, by the pieces and all after them
   pub kids-are : (i n : ℕ) (t : Trivia) (rest : List Tree) → Settles n (onwards_in k levels i n c z) → AllGo (first_of i run_here) → AllGo (then_of i n run_here) → (onwards_in k levels i n c z).hints ≡ [] → (onwards_in k levels i n c z).nodes ≡ t.nodes ++ rest
       → standing (tail_at k levels i n c z) (standing (chain (first_of i run_here) (chain (then_of i n run_here) (rest_of i n run_here))) []) ≡ standing_in k levels i n c z ++ (nodes_in k levels i n t c z ++ rest)
   kids-are i n t rest some g h hints nodes =
@@ -342,7 +342,7 @@ pub record BothOpen (k : CharClasses) (levels : ℕ) (z w : Place) (c : Spot (Un
   pub old_opens : Opens k levels (moved c.at z) (point_of c.start)
   pub new_opens : Opens k levels (moved c.at w) (point_of c.start)
 
--- where a block takes something and all before it shows the same, it begins by its bracket
+-- A block that takes something begins with its bracket if all before it shows the same.
 pub begun-at : (k : CharClasses) (levels : ℕ) (text : List ℕ) (c : Spot (Unit {0})) → Among c (blocks_of_text k text) → c.name ≡ block.Content → max_depth - c.fewer ≡ suc levels → (w : Place) → SameIn c.before (start_of text) w → 0 < (unit_at c w).taken
     → Begun (inner k levels) (moved c.at w) (point_of c.start)
 unfolding blocks_of_text

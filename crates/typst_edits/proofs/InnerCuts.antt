@@ -1,4 +1,4 @@
--- The cuts of a content block's run are where the tokens behind its pieces begin, by the notes of a reading.
+-- The cuts of a content block's run are where the tokens after its pieces begin, by the notes of a reading.
 use Rattle.std.proofs.Common.{◌≡◌, ℕ, zero, suc, ◌+◌, ◌-◌, ◌<◌, ◌≤◌, Bool, true, false, ◌&&◌, ◌||◌, ◌==◌, eq-eqb, ne_eqb, nat_lt, List, [], ◌∷◌, ◌++◌, length, map, take, append_assoc, Some, refl, ap, sym, ◌∙◌, subst, arith}
 use Rattle.std.proofs.lemmas.Bool.{eqb-true, eqb-false, ltb-true, ltb-false}
 use Rattle.typst_tokens.specs.Sight.{width}
@@ -100,14 +100,14 @@ module _ (text : List ℕ) (e : ℕ → End (Bool × ℕ)) (levels : ℕ) (close
 
 -- ---- the cuts
 
--- it is where the token behind so many pieces begins
+-- it is where the token after a given number of pieces begins
 pub record CutOf (text : List ℕ) (e : ℕ → End (Bool × ℕ)) (count b : ℕ) : Type 0 where
   pub index : ℕ
   pub some : 0 < index
   pub few : index ≤ count
   pub is : b ≡ width (take (cut_behind index (e index)) text)
 
--- the cuts of a run of so many pieces
+-- the cuts of a run of a given number of pieces
 pub record CutsAre (text : List ℕ) (e : ℕ → End (Bool × ℕ)) (count : ℕ) (cuts : List ℕ) : Type 0 where
   pub each : (b : ℕ) → is_among b cuts ≡ true → CutOf text e count b
   pub has : (j : ℕ) → 0 < j → j ≤ count → is_among (width (take (cut_behind j (e j)) text)) cuts ≡ true
@@ -146,7 +146,7 @@ module _ (text : List ℕ) (e : ℕ → End (Bool × ℕ)) where
       by-test false f next =
           later-or (width (take (cut_behind j (e j)) text) == n.start) (is_among (width (take (cut_behind j (e j)) text)) (starts_of ns)) (next (unequal i j from (eqb-false j i f)))
 
-  -- the starts but the first are the cuts
+  -- The starts, without the first, are the cuts.
   pub record Behind (count : ℕ) (starts : List ℕ) : Type 0 where
     pub cuts : List ℕ
     pub are : behind_first starts ≡ Some cuts
@@ -165,7 +165,7 @@ module _ (text : List ℕ) (e : ℕ → End (Bool × ℕ)) where
 
 -- ---- of a content block
 
--- no more turns go on than up to the one that ends the loop
+-- No more turns go on than up to the one that ends the loop.
 pub few-go : {A : Type 0} (m : A → Meaning (Bool × A)) → ((x : A) → Within (m x)) → (count j : ℕ) (x : A) (z : Place) (s : Point) (b : Bool) → nat_lt count j ≡ b → AllGo (made m j x z s)
     → (let f = end_of x s (made m count x z s) in goes (m f.value (moved f.taken z) f.state) ≡ false) → j ≤ count
 few-go m within count j x z s true e h over =
@@ -180,7 +180,7 @@ pub record BlockCuts (k : CharClasses) (levels : ℕ) (text : List ℕ) (c : Spo
   pub are : cuts_in at (listed (log k text).notes) ≡ Some cuts
   pub is : CutsAre text (λ i. inner_end k levels i c (start_of text)) count cuts
   pub go : AllGo (first_of count (run_at k levels c (start_of text)))
-  -- and behind the last of its pieces none goes on
+  -- After the last of its pieces none goes on.
   pub over : (let r = run_at k levels c (start_of text) in let e = first_end count r in goes (turn_of r e.value (moved e.taken r.place) e.state) ≡ false)
   pub all : (j : ℕ) → AllGo (first_of j (run_at k levels c (start_of text))) → j ≤ count
 

@@ -1,4 +1,4 @@
--- The law of an edit inside some pieces of a content block's run that leaves other trivia or other errors behind them.
+-- The law of an edit inside some pieces of a content block's run that leaves other trivia or other errors after them.
 use Rattle.std.proofs.Common.{◌≡◌, ℕ, suc, ◌+◌, ◌<◌, ne_eqb, Bool, true, false, if◌then◌else◌, [], ◌∷◌, List, ◌++◌, length, Some, refl, ap, sym, ◌∙◌, subst, arith}
 use Rattle.typst_kinds.specs.declared.kind.SyntaxKind.TheVariants as kind
 use Rattle.typst_kinds.specs.Kinds.{same, is_error}
@@ -39,7 +39,7 @@ use Rattle.typst_edits.proofs.Runs.{moved-three, moved-four}
 use Rattle.typst_edits.proofs.Text.{block-law, content-reads}
 use Rattle.typst_edits.proofs.Turns.{Fronted, KnownFlush, flush-known, Taking, fronted-same}
 
--- with nothing known of the trivia behind it
+-- with nothing known of the trivia after it
 abbrev pub forgets : Outcome Bool → Outcome Bool
 forgets o = record o { state = forgot o.state }
 
@@ -47,7 +47,7 @@ module _ (k : CharClasses) (levels : ℕ) where
   pub block-taking : Taking (inner k levels) ends_block
   block-taking = record { calls_sane = sane-meaning (rules k) k (suc levels); blocks_sane = λ c. sane-plain tt; level_left = ne_eqb (suc levels) 0 (omega arith); end_stops = refl; takes = takes-call k levels }
 
-  -- all behind some pieces of a block's run, up to its closing bracket
+  -- all after some pieces of a block's run, up to its closing bracket
   abbrev pub onward : Bool × ℕ → Place → Point → Outcome (Unit {0})
   onward x = run (inner k levels) (repeat (markup_turn true ends_block) x >>= λ _. flush_trivia)
 
@@ -73,7 +73,7 @@ module _ (k : CharClasses) (levels : ℕ) where
 
   -- ---- the closing bracket
 
-  -- where no trivia are known but newlines, behind a node that is no error
+  -- where no trivia are known but newlines, after a node that is no error
   abbrev at_close : Newlines → Point
   at_close n = before_trivia markup_reading markup_reading 0 false (record { nodes = []; gap = 0; newlines = n })
 
@@ -87,7 +87,7 @@ module _ (k : CharClasses) (levels : ℕ) where
   closing-alike true ls took m n = refl
   closing-alike false ls took m n = refl
 
-  -- the newlines make no difference
+  -- The newlines make no difference.
   shut-alike : (z : Place) (m n : Newlines) → forgets (shut z (at_close n)) ≡ forgets (shut z (at_close m))
   unfolding run close_if hand_at
   shut-alike z m n =
@@ -117,7 +117,7 @@ module _ (k : CharClasses) (levels : ℕ) where
       ∙ ap (λ (r : Reading). record { reading = r; held = s.held; empties = 0; is_after_error = false; known = (at_close f.newlines).known }) a.reading
       ∙ ap (λ (r : Reading). record { reading = markup_reading; held = r; empties = 0; is_after_error = false; known = (at_close f.newlines).known }) a.held
 
-  -- the bracket behind two runs that end alike
+  -- the bracket after two runs that end alike
   pub shut-same : (z w : Place) (s p : Point) → ReadAs markup_reading s → ReadAs markup_reading p → KnownFlush s → KnownFlush p → SameIn (shut z (after_node false [] s)).asks z w
       → forgets (shut w (after_node false [] p)) ≡ forgets (shut z (after_node false [] s))
   shut-same z w s p a b f g shown =
@@ -126,7 +126,7 @@ module _ (k : CharClasses) (levels : ℕ) where
       ap (λ q. forgets (shut w q)) (at-close-is p b g) ∙ shut-alike w f.newlines g.newlines
       ∙ ap (λ (o : Outcome Bool). forgets o) ((sane k levels (close_if (same kind.RightBracket))).framed z w (at_close f.newlines) (subst (λ (o : Outcome Bool). SameIn o.asks z w) there shown) ∙ sym there)
 
--- ---- a block is the same, whatever is known of the trivia behind its bracket
+-- ---- a block is the same, whatever is known of the trivia after its bracket
 
 both-forgot : (b : Bool) (x y p q : Point) → forgot x ≡ forgot p → forgot y ≡ forgot q → forgot (if b then x else y) ≡ forgot (if b then p else q)
 both-forgot true x y p q e f = e
@@ -144,7 +144,7 @@ content-forgets k levels z s r behind close =
     let o = content_with k levels z s r behind (forgets close) in
     ap (λ p. record o { state = p }) (block-forgot close.value _ (look_again k levels z s).state.reading close.state)
 
--- where what was looked at before them ends at the stretch or before it, the bracket and the pieces before are the same in both texts
+-- If what was looked at before them ends at the stretch or before it, the bracket and the pieces before are the same in both texts.
 pub record FirstSame (k : CharClasses) (levels : ℕ) (front old new rest : List ℕ) (c : Spot (Unit {0})) (i : ℕ) : Type 0 where
   pub opened : (let s = point_of c.start in bracket k levels (moved c.at (text_with front new rest)) s ≡ bracket k levels (moved c.at (text_with front old rest)) s)
   pub first : first_of i (run_at k levels c (text_with front new rest)) ≡ first_of i (run_at k levels c (text_with front old rest))
@@ -162,7 +162,7 @@ first-same k levels front old new rest c i h =
     same_in-to _ _ _ _ _ (sym (moved-sum c.at b.taken z0)) (sym (moved-sum c.at b.taken w0)) (same_in-shift (c.at + b.taken) _ z0 w0 (before-same _ front old new rest (h.before_run l))) in
     record { opened = opened; first = ap (λ o. first_of i (seq_by k levels o w)) opened ∙ first-by k levels i b z w shown }
 
--- all behind some pieces that end before these trivia
+-- all after some pieces that end before these trivia
 pub inner-fronted : (k : CharClasses) (levels i n : ℕ) (c : Spot (Unit {0})) (z : Place) (t : Trivia) → (then_end i n (run_at k levels c z)).state.known ≡ Some t → Fronted t t.nodes (onwards_in k levels i n c z) (onwards_past k levels i n t c z)
 unfolding run
 inner-fronted k levels i n c z t known =
@@ -216,7 +216,7 @@ inner-joint-law k levels front old new rest c i n m past t u among h =
     let all_met = block-met k levels z s y v e j t u h.meets read_old read_new shown_on in
     let one = all_met.one in
     let two = all_met.two in
-    -- all behind the pieces, with the trivia before the closing bracket
+    -- all after the pieces, with the trivia before the closing bracket
     let is_old : onwards_in k levels i n c z0 ≡ onward k levels e.value y es =
     ap (λ p. joined rest_old (run (inner k levels) flush_trivia p rest_old.state)) (moved-three fe.taken e.taken rest_old.taken r.place) in
     let is_new : onwards_in k levels i m c w0 ≡ onward k levels j.value v js =

@@ -41,7 +41,7 @@ first-before : (from end : ℕ) (xs : List Note) (n : Note) (ys : List Note) →
 first-before from end [] n ys r = r.0
 first-before from end (m ∷ xs) n ys r = let i = first-before m.before end xs n ys r.3 in omega (arith, r.0, r.1, i)
 
--- a note stands no further on than those behind it
+-- A note stands no further on than those after it.
 in-order : (from end : ℕ) (xs : List Note) (m : Note) (ys : List Note) (n : Note) (zs : List Note) → Rising from end (xs ++ m ∷ (ys ++ n ∷ zs)) → m.before ≤ n.before
 in-order from end [] m ys n zs r = first-before m.before end ys n zs r.3
 in-order from end (x ∷ xs) m ys n zs r = in-order x.before end xs m ys n zs r.3
@@ -61,7 +61,7 @@ abbrev rest_of : List Note → List Note
 rest_of [] = []
 rest_of (m ∷ ms) = ms
 
--- a note that is none of the first ones nor the one behind them stands behind it
+-- A note that is none of the first ones nor the next one stands after that.
 pub behind-first : (firsts : List Note) (o : Note) (rest bs : List Note) (p : Note) (behind : List Note) → firsts ++ o ∷ rest ≡ bs ++ p ∷ behind → ((xs ys : List Note) → firsts ≡ xs ++ p ∷ ys → ⊥) → (o ≡ p → ⊥) → Behind firsts o rest bs p behind
 behind-first [] o rest [] p behind e none other = absurd (other (ap (first_or o) e))
 behind-first [] o rest (b ∷ bs) p behind e none other = let same = ap (first_or o) e in record { mid = bs; earlier = ap (λ x. x ∷ bs) (sym same); is = ap rest_of e }
@@ -75,7 +75,7 @@ record Within (inner mid : List Note) (p : Note) : Type 0 where
   more : List Note
   is : inner ≡ mid ++ p ∷ more
 
--- and one that is none of the last ones nor the one before them stands before it
+-- A note that is none of the last ones nor the one before them stands before that.
 before-last : (inner : List Note) (o : Note) (later mid : List Note) (p : Note) (behind : List Note) → inner ++ o ∷ later ≡ mid ++ p ∷ behind → ((xs : List Note) → later ≡ xs ++ p ∷ behind → ⊥) → (o ≡ p → ⊥) → Within inner mid p
 before-last [] o later [] p behind e none other = absurd (other (ap (first_or o) e))
 before-last [] o later (m ∷ mid) p behind e none other = absurd (none mid (ap rest_of e))
@@ -87,7 +87,7 @@ before-last (x ∷ inner) o later (m ∷ mid) p behind e none other =
 
 -- ---- the law
 
--- where it begins it stands no later than its token
+-- Where it begins it stands no later than its token.
 begins-by : (from end : ℕ) (xs : List Note) (n : Note) (ys : List Note) → Rising from end (xs ++ n ∷ ys) → n.before ≤ n.start
 begins-by from end [] n ys r = r.1
 begins-by from end (x ∷ xs) n ys r = begins-by x.before end xs n ys r.3
@@ -105,7 +105,7 @@ module _ (k : CharClasses) (levels : ℕ) (text : List ℕ) (c : Spot (Unit {0})
   abbrev run_here : Sequence
   run_here = run_at k levels c z0
 
-  -- the bracket takes something
+  -- The bracket takes something.
   bracket-some : 0 < (unit_at c z0).taken → 0 < (bracket k levels y0 s0).taken
   unfolding blocks_of_text run
   bracket-some some =
@@ -119,7 +119,7 @@ module _ (k : CharClasses) (levels : ℕ) (text : List ℕ) (c : Spot (Unit {0})
       let more = begun.some in
       omega (arith, len, more)
 
-  -- all lies within the text
+  -- All lies within the text.
   run-room : 0 < (bracket k levels y0 s0).taken → (j : ℕ) → opened_at k levels c z0 + (first_end j run_here).taken ≤ length text
   unfolding run
   run-room some j =
@@ -147,7 +147,7 @@ inner-number-law k levels text c i chosen name left g n p inside =
     let at_i = (first_end i r).taken in
     let before = p.before in
     let end = n.end in
-    -- the bracket stands before it
+    -- The bracket stands before it.
     let least = take-more c.at (a + at_i) text (omega arith) in
     let some_by : (unit_at c z).taken ≡ 0 → ⊥ = λ none.
     (let there : c.at + (unit_at c z).taken ≡ c.at = omega (arith, none) in let same_byte = ap (λ d. width (take d text)) there in omega (arith, least, inside, before, end, same_byte)) in
@@ -157,7 +157,7 @@ inner-number-law k levels text c i chosen name left g n p inside =
     let further = take-longer c.at (a + at_i) text (omega (arith, bracket_some)) room_i in
     let start = n.start in
     let opens_by = begins-by 0 (width text) n.earlier n.opens all_behind rise in
-    -- it is none of those before the block's run, nor of those behind
+    -- It is none of the notes before the block's run, nor of those after that.
     let b = behind-first n.earlier n.opens all_behind p.earlier p.note p.later same
     (λ xs ys f. (let order = in-order 0 (width text) xs p.note ys n.opens all_behind (subst (λ ns. Rising 0 (width text) ns) (ap (λ es. es ++ n.opens ∷ all_behind) f ∙ append_assoc xs (p.note ∷ ys) (n.opens ∷ all_behind)) rise) in omega (arith, order, further, start, opens_by, before)))
     (λ e. (let there = ap (λ (x : Note). x.before) e in omega (arith, there, further, start, opens_by, before))) in

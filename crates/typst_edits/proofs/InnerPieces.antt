@@ -64,7 +64,7 @@ module _ (k : CharClasses) (levels : ℕ) (front old new rest : List ℕ) (s : S
   opens-alike true m x y a e = a
   opens-alike false m x y a e = cc
 
-  -- how much the block takes
+  -- how many characters the block takes
   pub block-taken : (i n past : ℕ) (t : Trivia) → AllGo (first_of i (run_at k levels s (text_with front old rest))) → AllGo (then_of i n (run_at k levels s (text_with front old rest)))
       → (then_end i n (run_at k levels s (text_with front old rest))).state.known ≡ Some t → end_by own i n t (text_with front old rest) ≡ (length front + length old) + past
       → s.at + (unit_at s (text_with front old rest)).taken ≡ ((length front + length old) + past) + left_past k levels i n t s (text_with front old rest)

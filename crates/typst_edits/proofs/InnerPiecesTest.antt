@@ -61,7 +61,7 @@ use Rattle.typst_edits.proofs.Widths.{width-append}
 
 -- ---- numbers of notes
 
--- the greatest of some numbers says that all are no greater
+-- The greatest of some numbers shows that all are no greater.
 pub all-end : (at : ℕ) (ns : List Note) (n : Note) → (AllEnd at (ns ++ n ∷ []) → highest ns n.reach ≤ at) × (highest ns n.reach ≤ at → AllEnd at (ns ++ n ∷ []))
 all-end at [] n = ((λ h. h.0), (λ h. (h, tt)))
 all-end at (m ∷ ns) n = let i = all-end at ns n in ((λ h. (let a = h.0 in let b = i.0 h.1 in omega (arith, a, b))), (λ h. (omega (arith, h), i.1 (omega (arith, h)))))
@@ -70,7 +70,7 @@ pub all-begin : (at : ℕ) (ns : List Note) (least : ℕ) → (AllBegin at ns le
 all-begin at [] least = ((λ h. h), (λ h. h))
 all-begin at (m ∷ ns) least = let i = all-begin at ns least in ((λ h. (let a = h.0 in let b = i.0 h.1 in omega (arith, a, b))), (λ h. (omega (arith, h), i.1 (omega (arith, h)))))
 
--- where a note is among the first that stand at a byte or before it with all looks, its token does
+-- Where a note is among the first that stand at a byte or before it with all looks, so is its token.
 counts-on : (here reach at rest : ℕ) (b : Bool) → nat_le (here + (reach - here)) at ≡ b → 0 < (if b then suc rest else 0) → here ≤ at
 counts-on here reach at rest true e l = let d : here + (reach - here) ≤ at = grind (arith, nat_tests, e) in omega (arith, d)
 counts-on here reach at rest false e l = absurd (omega (arith, l))
@@ -95,7 +95,7 @@ front-start (m ∷ ns) more n at start r l =
 pub units-are : (h : Log) (ns : List Note) → h.notes ≡ Some ns → units_of h ≡ units_by ns h.least
 units-are h ns e = ap (λ o. units_by (elim o as (λ _. List Note) [ None ↦ [] | Some ms ↦ ms ]) h.least) e
 
--- What the number of a note among all says of looks: they end at a byte that isn't before its token, or begin behind one that isn't behind it.
+-- What the number of a note among all says of looks: they end at a byte that isn't before its token, or begin after one that isn't after it.
 pub record NumbersOf (k : CharClasses) (text : List ℕ) (earlier : List Note) (note : Note) (later : List Note) : Type 0 where
   pub before : (at : ℕ) → length earlier < front_count k text at → highest earlier note.reach ≤ at
   pub before_too : (at : ℕ) → note.start ≤ at → highest earlier note.reach ≤ at → length earlier < front_count k text at
@@ -133,7 +133,7 @@ short zero xs ys l = omega arith
 short (suc n) [] ys l = absurd (omega (arith, l))
 short (suc n) (x ∷ xs) ys l = let i = short n xs ys (omega (arith, l)) in omega (arith, i)
 
--- where the looks before a token end before a stretch, the token begins there
+-- Where the looks before a token end before a stretch, the token begins there.
 token-before : (k : CharClasses) (levels : ℕ) (front old rest : List ℕ) (s : Spot (Unit {0})) (i : ℕ) → 0 < i → EndsBefore k levels front old rest s i → 0 < (first_end i (run_at k levels s (text_with front old rest))).taken
     → (let e = inner_end k levels i s (text_with front old rest) in e.taken + gap_of e.state.known ≤ length front)
 token-before k levels front old rest s i some looks more =
@@ -145,7 +145,7 @@ token-before k levels front old rest s i some looks more =
     let a = block-seen k levels s z i (length front - opened) (end-shift opened (length front - opened) (length front) (o.asks ++ asks_of (first_of i r)) (omega arith) (looks.before_run some)) in
     omega (arith, a, more)
 
--- where the looks at a block's bracket end before a stretch, its run begins there
+-- Where the looks at a block's bracket end before a stretch, its run begins there.
 run-before : (k : CharClasses) (levels : ℕ) (front old rest : List ℕ) (s : Spot (Unit {0})) (i : ℕ) → s.at < length front → EndsBefore k levels front old rest s i → opened_at k levels s (text_with front old rest) ≤ length front
 unfolding run
 run-before k levels front old rest s i starts looks =
@@ -165,7 +165,7 @@ run-before k levels front old rest s i starts looks =
     let three = (block-sees k levels s z (does (takes false itself)) y (entered markup_reading again.state) most gap_two).ends (end-second most again.asks b.asks behind) in
     omega (arith, three, starts)
 
--- so does the token of its first note
+-- So does the token of its first note.
 first-before : (k : CharClasses) (levels : ℕ) (front old rest : List ℕ) (s : Spot (Unit {0})) (i : ℕ) (note : Note) → s.at < length front → EndsBefore k levels front old rest s i → AllGo (first_of i (run_at k levels s (text_with front old rest)))
     → (let e = inner_end k levels i s (text_with front old rest) in
     (0 < i → note.start ≡ width (take (e.taken + gap_of e.state.known) (front ++ (old ++ rest)))) → (i ≡ 0 → note.start ≡ width (take e.taken (front ++ (old ++ rest)))) → note.start ≤ width front)
@@ -207,7 +207,7 @@ inner-entries-law ordered k levels front old rest s i n past t chosen name level
 
 -- ---- the pieces that are read
 
--- a block's run begins as if nothing were known but that it is markup
+-- A block's run begins as if nothing were known except that it is markup.
 module _ (k : CharClasses) (levels : ℕ) (front old new rest : List ℕ) (s : Spot (Unit {0})) (chosen : Among s (blocks_of_text k (front ++ (old ++ rest)))) (name : s.name ≡ block.Content) (level : max_depth - s.fewer ≡ suc levels) where
   abbrev own : Run k (front ++ (old ++ rest))
   own = block_run s levels chosen name level
@@ -288,7 +288,7 @@ inner-once-law k levels front old new rest s chosen name level i n m j past ts u
 
 -- ---- a candidate
 
--- as it stands, it passes the test of looks only where it takes back no errors
+-- As it stands, it passes the test of looks only if it takes back no errors.
 well : OpensApartLaw → (k : CharClasses) (levels : ℕ) (front old rest : List ℕ) (root : Tree) (s : Spot (Unit {0})) (chosen : Among s (blocks_of_text k (front ++ (old ++ rest)))) (name : s.name ≡ block.Content) (level : max_depth - s.fewer ≡ suc levels)
     (c : Candidate) (i n past : ℕ) (t : Trivia) → bare root ≡ bare (tree k (front ++ (old ++ rest))) → Among c (candidates k (front ++ (old ++ rest)) (width front) (width (front ++ old)) root)
     → c.is_block ≡ false → c.path ≡ path_of s.hole ++ 1 ∷ []
@@ -370,7 +370,7 @@ inner-part-law k levels front old new rest s chosen name level (suc j) m some g 
       token = ap position (sym (moved-sum (opened_at k levels s w + e.taken) gap w) ∙ ap (λ n. moved n w) count);
     }
 
--- so it is of the first pieces of a block
+-- The same holds for the first pieces of a block.
 pub first-part : (k : CharClasses) (levels : ℕ) (front old new rest : List ℕ) (s : Spot (Unit {0})) (chosen : Among s (blocks_of_text k (front ++ (old ++ rest)))) (name : s.name ≡ block.Content) (level : max_depth - s.fewer ≡ suc levels)
     (m : ℕ) → Around front old rest s → EndsBefore k levels front old rest s 0 → AllGo (then_of 0 m (run_at k levels s (text_with front new rest)))
     → InnerPart k levels front old new rest s (cut_at (block_run s levels chosen name level) 0 (text_with front old rest)) 0 m

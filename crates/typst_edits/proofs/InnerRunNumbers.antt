@@ -106,7 +106,7 @@ module _ (ordered : InOrderLaw) (k : CharClasses) (levels : ℕ) (text : List �
   goes-up-to : (i : ℕ) → i ≤ n.count → AllGo (first_of i (run_at k levels s z0))
   goes-up-to i l = let r = run_at k levels s z0 in go-fewer (turn_of r) i n.count (true, 0) r.place r.point l n.go
 
-  -- fewer notes are made in so many pieces than in the block
+  -- Fewer notes are made in a given number of pieces than in the block.
   few-notes : (i : ℕ) → AllGo (first_of i (run_at k levels s z0)) → notes_in (asks_of (first_of i (run_at k levels s z0))) < length n.inner
   few-notes i g =
       let y = moved s.at z0 in
@@ -125,7 +125,7 @@ module _ (ordered : InOrderLaw) (k : CharClasses) (levels : ℕ) (text : List �
       let d = count-append firsts os in
       omega (arith, is, long, a, b, c, d)
 
-  -- the note where so many pieces end
+  -- the note where a given number of pieces end
   note-at : (i : ℕ) → i ≤ n.count → NoteAt (suc levels) (length pre) n.inner i (number_in k levels text s i)
   note-at i l =
       let g = goes-up-to i l in

@@ -68,7 +68,7 @@ run_by k h z = inner_run k h.levels (moved h.at z) (point_of h.start)
 abbrev opened_by_home : CharClasses → Home → Place → ℕ
 opened_by_home k h z = h.at + (bracket k h.levels (moved h.at z) (point_of h.start)).taken
 
--- where its piece behind i begins
+-- where its piece after the first i begins
 abbrev cut_by : CharClasses → Home → ℕ → Place → ℕ
 cut_by k h i z = let e = first_end i (run_by k h z) in opened_by_home k h z + (if i == 0 then 0 else e.taken + gap_of e.state.known)
 
@@ -83,14 +83,14 @@ FoundBy k front old rest c h i n past t = let z = text_with front old rest in Fo
 abbrev reading_by : CharClasses → List ℕ → List ℕ → List ℕ → List ℕ → Home → ℕ → Reading
 reading_by k front old new rest h i = let z = text_with front old rest in reading_on of.Block (suc h.levels) (first_end i (run_by k h z)).value (moved (cut_by k h i z) (text_with front new rest))
 
--- so many pieces by themselves pass, and these are their nodes
+-- A given number of pieces pass by themselves, and these are their nodes.
 abbrev Passing : CharClasses → List ℕ → List ℕ → List ℕ → List ℕ → Candidate → Home → ℕ → ℕ → ℕ → List Tree → Type 0
 Passing k front old new rest c h closes i n ts =
     let z = text_with front old rest in
     let p = reading_by k front old new rest h i in
     (m : ℕ) × PassesRead k front old new rest c p (number_by k h i z) (number_by k h (i + n) z) (looks_by n closes (number_by k h (i + n) z)) (first_end (i + n) (run_by k h z)).value m × (ts ≡ nodes_by k p m)
 
--- pieces of one of two blocks that are read the same are pieces of the other
+-- Pieces of one of two blocks that are read the same are pieces of the other.
 pub pieces-too : (k : CharClasses) (levels more : ℕ) (front old rest : List ℕ) (s r : Spot (Unit {0})) (there : Among s (blocks_of_text k (front ++ (old ++ rest)))) (name : s.name ≡ block.Content) (level : max_depth - s.fewer ≡ suc levels)
     (too : Among r (blocks_of_text k (front ++ (old ++ rest)))) (name_too : r.name ≡ block.Content) (level_too : max_depth - r.fewer ≡ suc more) (c : Candidate) (i n past : ℕ) (t : Trivia) → home_of levels s ≡ home_of more r
     → IsPieces k front old rest (block_run s levels there name level) c i n past t → IsPieces k front old rest (block_run r more too name_too level_too) c i n past t
@@ -228,7 +228,7 @@ module _ (ordered : InOrderLaw) (k : CharClasses) (levels : ℕ) (front old new 
           alike = λ m u go known. (let a = alike k front old new rest here again i m u is.go clear is.none looks go known in record { go = a.go; sum = a.sum; value = a.value; nodes = a.nodes });
         }
 
-  -- behind a run without an expression looks have to begin where those behind the block do
+  -- After a run without an expression looks have to begin where those after the block do.
   pub none-behind : (c : Candidate) (i n past : ℕ) (t : Trivia) → IsPieces k front old rest here c i n past t → n ≡ 0 → rear_in k front old rest ≤ v.closes ↔ Behind k front old rest here i n past t
   none-behind c i (suc n) past t is none = absurd (omega (arith, none))
   none-behind c (suc i) zero past t is none = absurd (let no = (is.empty refl).0 in omega (arith, no))
@@ -330,7 +330,7 @@ module _ (apart : OpensApartLaw) (ordered : InOrderLaw) (numbered : InnerNumbers
   abbrev entries_of : Entered k front old new rest (block_run s levels there name level) of.Block (suc levels) (suc numbers_of.opens)
   entries_of = entered ordered k levels front old new rest s there name level around numbers_of big
 
-  -- however the candidate passes, it does so by its own block
+  -- However the candidate passes, it does so by its own block.
   by-block : (more : ℕ) (q : Spot (Unit {0})) (too : Among q (blocks_of_text k (front ++ (old ++ rest)))) (name_too : q.name ≡ block.Content) (level_too : max_depth - q.fewer ≡ suc more) (j d m far : ℕ) (a u : Trivia) (ts : List Tree)
       → path_of q.hole ++ 1 ∷ [] ≡ c.path → FoundBy k front old rest c (home_of more q) j d far a → (0 < j ↔ 0 < c.from) → PassesPieces k front old new rest (block_run q more too name_too level_too) j d m far a u
       → ts ≡ nodes_now (block_run q more too name_too level_too) j m u (text_with front new rest) → Passing k front old new rest c (home_of levels s) numbers_of.closes i n ts
@@ -381,7 +381,7 @@ module _ (apart : OpensApartLaw) (ordered : InOrderLaw) (numbered : InnerNumbers
         let well = inner-candidate-law apart k levels front old new rest root s there name level c i n m past t u same chosen is path p.start p.led p.end h in
         joint-of k levels front old new rest s there name level i n m past t u around h well.1.goes_on
 
-    -- a candidate without a piece begins at the run's last entry
+    -- A candidate without a piece begins at the run's last entry.
     some-piece : (d : ℕ) → n ≡ d → (IsLast (entries_in k (front ++ (old ++ rest))) (entries_of.number i) → ⊥) → 0 < n
     some-piece zero e more = absurd (more (none-last k front old new rest own of.Block (suc levels) (suc numbers_of.opens) entries_of c i n past t p e))
     some-piece (suc d) e more = omega (arith, e)

@@ -77,7 +77,7 @@ kid-plain at (t ∷ ts) zero c h e =
     subst (λ (d : Child). NoMarkup d.node) same h.0
 kid-plain at (t ∷ ts) (suc i) c h e = kid-plain (at + length (text_of t)) ts i c h.1 e
 
--- of a content block's children the second alone is markup
+-- Of a content block's children only the second is markup.
 second-alone : (x : Tree) → Plain x → (at i : ℕ) (c : Child) → child_at (laid at (trees x.kids)) i ≡ Some c → c.node.head.is_inner ≡ true → c.node.head.kind ≡ kind.Markup → i ≡ 1
 second-alone x p at i c e inner markup =
     let first = opening_child p.closed p.bracket in
@@ -149,7 +149,7 @@ candidate-in k text rs re root c same chosen pieces other =
 
 -- ---- the block's run
 
--- where no further piece goes on the run ends
+-- Where no further piece goes on, the run ends.
 inner-over : (k : CharClasses) (levels : ℕ) (text : List ℕ) (s : Spot (Unit {0})) (n : ℕ) → (let r = run_at k levels s (start_of text) in let e = first_end n r in
     AllGo (first_of n r) → goes (turn_of r e.value (moved e.taken r.place) e.state) ≡ false → is_over 0 n r ≡ true)
 unfolding run
@@ -159,7 +159,7 @@ inner-over k levels text s n g stopped =
     let e = first_end n r in
     turn-over r (block-leads k levels (moved s.at z) (point_of s.start)) e.value (moved e.taken r.place) e.state (block-known k levels (moved s.at z) (point_of s.start) n g) stopped
 
--- behind more pieces the next token begins further on
+-- After more pieces the next token begins further on.
 inner-tokens : (k : CharClasses) (levels : ℕ) (text : List ℕ) (s : Spot (Unit {0})) (i j : ℕ) → i < j → AllGo (first_of j (run_at k levels s (start_of text)))
     → token_byte text (inner_end k levels i s (start_of text)) < token_byte text (inner_end k levels j s (start_of text))
 unfolding run
@@ -202,13 +202,13 @@ module _ (k : CharClasses) (levels : ℕ) (front old rest : List ℕ) (s : Spot 
   rises : (i j : ℕ) → i < j → j ≤ own.count → byte i < byte j
   rises i j less few = inner-tokens k levels text s i j less (go-fewer (turn_of q) j own.count (true, 0) q.place q.point few own.go)
 
-  -- where pieces behind others end
+  -- where pieces that follow others end
   both-end : (i n j : ℕ) → i + n ≡ j → token_byte text (inner_both k levels i n s z) ≡ byte j
   both-end i n j sum =
       let a = opened_at k levels s z in
       sym (ap (λ (e : End (Bool × ℕ)). token_byte text (record e { taken = a + e.taken })) (end-split-at q i n)) ∙ ap byte sum
 
-  -- the last piece ends with the last child
+  -- The last piece ends with the last child.
   all-bytes : byte own.count ≡ markup_from k levels text s + bytes_of (kids_in s.node)
   all-bytes =
       let st = standing q own.count 0 own.count (omega arith) own.go known-at in
@@ -281,7 +281,7 @@ name-is : (b : Block) → kind_of b ≡ kind.ContentBlock → b ≡ block.Conten
 name-is block.Code e = absurd (cc)
 name-is block.Content e = refl
 
--- the path but for its last step
+-- the path without its last step
 but-last : (path : List ℕ) (i : ℕ) (whole : List ℕ) → whole ≡ path ++ i ∷ [] → take (length whole - 1) whole ≡ path
 but-last path i whole e =
     let long = length-append path (i ∷ []) in
@@ -303,7 +303,7 @@ module _ (apart : OpensApartLaw) (k : CharClasses) (front old rest : List ℕ) (
   abbrev whole_text : List ℕ
   whole_text = front ++ (old ++ rest)
 
-  -- its node isn't empty, and begins before the stretch
+  -- Its node isn't empty, and begins before the stretch.
   record Covered : Type 0 where
     full : 0 < length (text_of b.node)
     early : length (left_text b.hole) < width front

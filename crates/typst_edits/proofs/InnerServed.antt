@@ -70,7 +70,7 @@ module _ (apart : OpensApartLaw) (ordered : InOrderLaw) (numbered : InnerNumbers
 
   module _ (c : Candidate) (chosen : Among c (candidates k (front ++ (old ++ rest)) (width front) (width (front ++ old)) root)) (whole : c.is_block ≡ false) (path : c.path ≡ path_of s.hole ++ 1 ∷ [])
       (i n past : ℕ) (t : Trivia) (is : IsPieces k front old rest (block_run s levels there name level) c i n past t) where
-    -- the new pieces behind d old ones are joined to what is behind
+    -- The new pieces that follow d old ones are joined to what follows them.
     joined : (d left m : ℕ) (u : Trivia) (first : Candidate) → n ≡ d + left → IsPieces k front old rest own first (i + d) left past t → Before k front old rest own (i + d) → Behind k front old rest own (i + d) left past t
         → AllGo (then_of (i + d) m now) → PassesPieces k front old new rest own i n (d + m) past t u → PassesInnerJoint k levels front old new rest s (i + d) left m past t u
     joined d left m u first sum f looks behind go h =

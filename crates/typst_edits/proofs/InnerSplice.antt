@@ -94,7 +94,7 @@ module _ (k : CharClasses) (levels : ℕ) where
       ∙ ap (λ (o : Outcome AtHand). (look_first k levels z s).asks ++ (o.asks ++ (bracket k levels w s).asks)) second
       ∙ ap (λ (o : Outcome (Unit {0})). (look_first k levels z s).asks ++ ((look_again k levels z s).asks ++ o.asks)) same
 
-  -- the look at the first token behind a bracket
+  -- the look at the first token after a bracket
   abbrev lead_by : Outcome (Unit {0}) → Place → Outcome AtHand
   lead_by b z = run (inner k levels) peek (moved b.taken z) b.state
 
@@ -118,7 +118,7 @@ module _ (k : CharClasses) (levels : ℕ) where
       let a = again-any (seq_by k levels b z) (seq_by k levels b w) b.state o.asks (lead_by b w).asks i c e (λ some. ap (λ (l : Outcome AtHand). l.state) (led some)) (λ some. ap (λ (l : Outcome AtHand). l.asks) (led some)) h hands-same in
       record { note = a.note; is = a.is }
 
-  -- what is asked of a block, by its pieces and what is behind them
+  -- what is asked of a block, by its pieces and what is after them
   inner-asks : (z : Place) (s : Point) (i n : ℕ) (tail : Outcome (Unit {0})) (close : Outcome Bool) → (let r = inner_run k levels z s in
       (content_with k levels z s (chain (first_of i r) (chain (then_of i n r) (rest_of i n r))) tail close).asks
       ≡ asks_before k levels z s ++ shift (bracket k levels z s).taken ((piece_mark 0 (true, 0) (bracket k levels z s).state ∷ ((inner_lead k levels z s).asks ++ asks_of (first_of i r)))
@@ -154,7 +154,7 @@ whole-cut a f b e g before opens early next own behind after first p is =
     ∙ sym (append_assoc opens_low (low early) (q ∷ (low more ++ (low over ++ after)))))
     ∙ sym (append_assoc before (opens_low ++ low early) (q ∷ (low more ++ (low over ++ after))))
 
--- what is asked from the token behind pieces on
+-- what is asked from the token after pieces on
 late-is : (a f n gap end left : ℕ) (seen : Look) (hand behind asks after : List Ask) → hand ≡ looked gap seen ∷ [] → behind ≡ shift gap asks → (a + n) + gap ≡ end
     → lifted a f (shift n hand) ++ (lifted a f (shift n behind) ++ shift (end + left) after) ≡ shift end (lowered f (looked 0 seen ∷ asks) ++ shift left after)
 late-is a f n gap end left seen hand behind asks after hand_is behind_is sum =
@@ -166,7 +166,7 @@ late-is a f n gap end left seen hand behind asks after hand_is behind_is sum =
     ∙ ap (λ d. looked d seen ∷ (lifted a f (shift n behind) ++ shift (end + left) after)) at
     ∙ ap (λ u. looked (end + 0) seen ∷ u) (ap (λ u. u ++ shift (end + left) after) rest ∙ ap (λ u. shift end (lowered f asks) ++ u) (sym (shift-twice end left after)) ∙ sym (map-append (shift_one end) (lowered f asks) (shift left after)))
 
--- what is asked behind known trivia, with what is behind it
+-- what is asked after known trivia, with what is after it
 past-both : (q : Outcome (Bool × ℕ)) (tail : Outcome (Unit {0})) (close asks : List Ask) (gap more : ℕ) → q.asks ++ shift q.taken tail.asks ≡ shift gap asks → q.taken + tail.taken ≡ gap + more
     → q.asks ++ shift q.taken (tail.asks ++ shift tail.taken close) ≡ shift gap (asks ++ shift more close)
 past-both q tail close asks gap more is took =
@@ -222,7 +222,7 @@ inner-splice-law k levels front old new rest c i n m past t u among h none none_
     let asks = on.asks ++ shift on.taken close.asks in
     let seen = token_look l (moved t.gap y) in
     let last = lowered f (looked 0 seen ∷ asks) ++ shift left c.after in
-    -- all behind the pieces, in both texts
+    -- all after the pieces, in both texts
     let fronted = inner-fronted k levels i n c z0 t h.meets.known in
     let more_is : kept.behind.more ≡ on.taken = omega (arith, kept.behind.taken, fronted.taken) in
     let on_is : kept.behind.looks ≡ on.asks = unshifted t.gap kept.behind.looks on.asks (sym kept.behind.asks ∙ fronted.asks) in

@@ -17,7 +17,7 @@ use Rattle.typst_edits.specs.Spot.{Spot, around, Fits, unit_at, block_head, then
 use Rattle.typst_edits.proofs.Outcomes.{head-fill, then-around, after-around}
 use Rattle.typst_edits.proofs.Wrap.{Solid}
 
--- what was looked at before the block and after it shows the same, and what is read of it now may stand there
+-- What was looked at before the block and after it shows the same, and what is now read of it may stand there.
 pub record Edits {A : Type 0} (z w : Place) (c : Spot A) (x : Tree) : Type 0 where
   pub before : SameIn c.before z w
   pub fits : Fits c (unit_at c w) x
@@ -43,11 +43,11 @@ fits-then c q b x f = record { state = f.state; back = f.back; hints = f.hints; 
 pub edits-then : {A B : Type 0} (z w : Place) (c : Spot B) (q : Outcome A) (x : Tree) → Edits z w (then_spot c q) x → Edits z w c x
 edits-then z w c q x e = record { before = e.before; fits = fits-then c q _ x e.fits; covers = e.covers; some = e.some; after = same_in-first c.after _ _ _ e.after }
 
--- the node with the hole is no error
+-- The node with the hole is no error.
 pub no-error : {A : Type 0} (c : Spot A) (x : Tree) → x.head ≡ block_head c.name → Solid c.hole.deep (block_head c.name) → is_error (fill c.hole.deep x).head.kind ≡ false
 no-error c x e s = ap (λ (h : Head). is_error h.kind) (head-fill c.hole.deep x (block_head c.name) e) ∙ s
 
--- what follows is the same in the new text
+-- What follows is the same in the new text.
 pub rest-same : {A B : Type 0} (z w : Place) (o n : Outcome B) (f : B → Meaning A) (c : Spot B) (x : Tree) → ((b : B) → Framed (f b)) → Lawful z w o n c
     → Edits z w (then_spot c (f o.value (moved o.taken z) o.state)) x → f n.value (moved n.taken w) n.state ≡ f o.value (moved o.taken z) o.state
 rest-same z w o n f c x frames l e =
@@ -100,7 +100,7 @@ fits-after o c b d x e f = record {
   head = f.head;
 }
 
--- the block is read at the same place
+-- The block is read at the same place.
 unit-after : {A B : Type 0} (o : Outcome B) (c : Spot A) (z : Place) → unit_at (after_spot o c) z ≡ unit_at c (moved o.taken z)
 unit-after o c z = ap (λ u. c.reads u (point_of c.start)) (moved-sum o.taken c.at z)
 

@@ -1,4 +1,4 @@
--- The law of an edit inside some pieces of a text's run that leaves other trivia or other errors behind them.
+-- The law of an edit inside some pieces of a text's run that leaves other trivia or other errors after them.
 use Rattle.std.proofs.Common.{◌≡◌, ℕ, suc, ◌+◌, ◌<◌, Bool, true, List, ◌++◌, length, drop, Some, refl, ap, sym, ◌∙◌, subst}
 use Rattle.typst_lines.specs.Place.{Place, moved}
 use Rattle.typst_tree.specs.Tree.{Tree}
@@ -27,7 +27,7 @@ use Rattle.typst_edits.proofs.Runs.{moved-three}
 use Rattle.typst_edits.proofs.Root.{whole-is, split-at, first-same}
 use Rattle.typst_edits.proofs.Turns.{takes-expr, Fronted, Taking, fronted-same}
 
--- both outcomes where the same stands behind the trivia
+-- both outcomes, if the same stands after the trivia
 pub exchanged : {A : Type 0} (t u : Trivia) (us : List Tree) (o n c : Outcome A) → Fronted t us o c → Fronted u us n c → Exchanged t u o n
 exchanged t u us o n c f h =
     let both : us ++ h.rest ≡ us ++ f.rest = sym h.nodes_too ∙ f.nodes_too in
@@ -50,7 +50,7 @@ exchanged t u us o n c f h =
     }
 
 module _ (k : CharClasses) where
-  -- all behind some pieces of a text
+  -- all after some pieces of a text
   abbrev pub onward : Bool × ℕ → Place → Point → Outcome (Unit {0})
   onward x = run (level_at k max_depth) (repeat (markup_turn true is_end) x >>= λ _. flush_trivia)
 
@@ -63,7 +63,7 @@ module _ (k : CharClasses) where
   pub text-taking : Taking (level_at k max_depth) is_end
   text-taking = record { calls_sane = sane-meaning (rules k) k max_depth; blocks_sane = sane-block (rules k) k max_depth; level_left = refl; end_stops = refl; takes = takes-call 255 }
 
-  -- behind pieces
+  -- after some pieces
   pub onwards-is : (i n : ℕ) (z : Place) → onwards_from k i n z ≡ onward (end_from k i n z).value (place_from k i n z) (end_from k i n z).state
   unfolding run
   onwards-is i n z =
@@ -73,7 +73,7 @@ module _ (k : CharClasses) where
   pub known-is : (s : Point) (t : Trivia) → s.known ≡ Some t → s ≡ before_trivia s.reading s.held s.empties s.is_after_error t
   known-is s t e = ap (λ u. record s { known = u }) e
 
-  -- and all behind pieces that end before these trivia
+  -- all after pieces that end before these trivia
   pub onwards-fronted : (i n : ℕ) (z : Place) (t : Trivia) → (end_from k i n z).state.known ≡ Some t
       → (let e = end_from k i n z in Fronted t t.nodes (onwards_from k i n z) (onward e.value (moved t.gap (place_from k i n z)) (passed t e.state)))
   onwards-fronted i n z t known =
@@ -84,7 +84,7 @@ module _ (k : CharClasses) where
       subst (λ o. Fronted t t.nodes o c) (sym (onwards-is i n z)) (subst (λ p. Fronted t t.nodes (onward e.value y p) c) (sym (known-is s t known))
       (fronted-same (level_at k max_depth) is_end text-taking s.held y t e.value s.reading s.empties s.is_after_error))
 
--- the pieces of a text are read as markup
+-- The pieces of a text are read as markup.
 pub text-read : (k : CharClasses) (i n : ℕ) (z : Place) → ReadAs markup_reading (end_from k i n z).state
 unfolding run
 text-read k i n z =

@@ -1,4 +1,4 @@
--- The test of an edit inside some pieces of a text's run and the trivia behind them in bytes, by the notes of a reading.
+-- The test of an edit inside some pieces of a text's run and the trivia after them in bytes, by the notes of a reading.
 use Rattle.std.proofs.Common.{◌≡◌, ◌+◌, ◌++◌, length, take, refl, ap, sym, ◌∙◌, subst}
 use Rattle.typst_tokens.specs.Sight.{width}
 use Rattle.typst_language.specs.Ask.{shift}

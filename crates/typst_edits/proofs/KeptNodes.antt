@@ -84,7 +84,7 @@ take-these n [] ys e = ap (λ j. take j ys) (sym e)
 take-these zero (x ∷ xs) ys e = absurd (omega (arith, e))
 take-these (suc n) (x ∷ xs) ys e = ap (λ us. x ∷ us) (take-these n xs ys (omega (arith, e)))
 
--- children that are these, spans aside, begin with them there
+-- Children that are these, spans aside, begin with them there.
 begins-there : (from mid to : ℕ) (left kept right : List Tree) (t root : Tree) → bare root ≡ bare t → kids_of t ≡ left ++ (kept ++ right) → length left ≡ from → from + length kept ≡ mid → mid ≤ to → Begins from to kept root
 begins-there from mid to left kept right t root e is here there l =
     let n = length kept in
@@ -166,7 +166,7 @@ cut-some : (a o x : ℕ) → 0 < a → o + (if a == 0 then 0 else x) ≡ o + x
 cut-some a o x some = ap (λ b. o + (if b then 0 else x)) (ne_eqb a 0 (omega (arith, some)))
 
 module _ (q : Sequence) (a d : ℕ) where
-  -- the run doesn't end behind pieces behind which another goes on
+  -- The run doesn't end after pieces that are followed by another which goes on.
   goes-past : Facts q → AllGo (first_of (suc (a + d)) q) → is_over a d q ≡ false
   goes-past f go =
       let e = then_end a d q in
@@ -178,7 +178,7 @@ module _ (q : Sequence) (a d : ℕ) where
       let e = then_end a d q in
       ap (λ (x : End (Bool × ℕ)). minds_at q (moved x.taken q.place) x) (end-split-at q a d) ∙ ap (λ w. minds_at q w e) (later-place q a d)
 
-  -- all behind them takes no errors back, as there are none or the next piece doesn't mind them
+  -- All after them takes no errors back, since there are none or the next piece doesn't mind them.
   none-taken : Facts q → AllGo (first_of a q) → AllGo (then_of a d q) → TakesNone (a + d) q → (onwards_by a d q).back ≤ (then_end a d q).state.empties
       → (b : Bool) → minds_at q (first_place (a + d) q) (first_end (a + d) q) ≡ b → (onwards_by a d q).back ≡ 0
   none-taken f g h none few false m = f.behind a d g h (sym mild-there ∙ m)
@@ -199,7 +199,7 @@ module _ (q : Sequence) (a d : ℕ) where
   known-d : (t : Trivia) → (first_end (a + d) q).state.known ≡ Some t → (then_end a d q).state.known ≡ Some t
   known-d t known = ap (λ (e : End (Bool × ℕ)). e.state.known) (sym (end-split-at q a d)) ∙ known
 
--- before the first piece stands nothing
+-- Nothing stands before the first piece.
 none-stand : (a : ℕ) (back : ℕ) (ts : ℕ → List Tree) → a ≡ 0 → ts 0 ≡ [] → less back (ts a) ≡ []
 none-stand a back ts e h = ap (λ j. less back (ts j)) e ∙ ap (less back) h ∙ none-less back
 
@@ -261,7 +261,7 @@ module _ (k : CharClasses) (levels : ℕ) (text : List ℕ) (c : Spot (Unit {0})
   abbrev block_run : Sequence
   block_run = run_at k levels c z1
 
-  -- the block takes something, as a piece does
+  -- The block takes something, as a piece does.
   takes : 0 < (unit_at c z1).taken
   takes =
       let z = moved c.at z1 in

@@ -1,4 +1,4 @@
--- What is known of the trivia at hand keeps to what is said of it, wherever this holds of what was asked and of what a flush leaves.
+-- What is known of the trivia at hand keeps a property, if the property holds of what was asked and of what a flush leaves.
 use Rattle.std.proofs.Common.{◌≡◌, ℕ, zero, suc, Bool, true, false, ◌&&◌, if◌then◌else◌, nat_lt, List, [], ◌∷◌, Option, Some, None, refl, sym, subst}
 use Rattle.typst_kinds.specs.declared.mode.SyntaxMode.{SyntaxMode}
 use Rattle.typst_kinds.specs.Kinds.{is_error}
@@ -19,7 +19,7 @@ use Rattle.typst_language.specs.Meaning.{Outcome, Meaning, Level, plain, joined,
 use Rattle.typst_language.proofs.Places.{moved-sum}
 use Rattle.typst_language.proofs.Within.{on_both, grew}
 
--- ---- the state but for what is known
+-- ---- the state without what is known
 
 -- where the token at hand is read alike, and as much is known
 record Like (s t : Point) : Type 0 where
@@ -57,12 +57,12 @@ flushed-read s (t ∷ ts) = refl
 pub flushed-reading : (h : Hand) (s : Point) → (flushed_state h s).reading ≡ s.reading
 flushed-reading h s = flushed-read s h.trivia
 
--- ---- what is said of what is known, by how the token at hand is read and the place
+-- ---- a property of what is known, by how the token at hand is read and the place
 
 abbrev pub Saying : Type 1
 Saying = CharClasses → SyntaxMode → Option Trivia → Place → Type 0
 
--- it holds where nothing is known, of what was asked, and of what a flush leaves
+-- It holds where nothing is known, of what was asked, and of what a flush leaves.
 pub record Stays (P : Saying) : Type 0 where
   pub none : (k : CharClasses) (m : SyntaxMode) (z : Place) → P k m None z
   pub ask : (k : CharClasses) (held : Reading) (known : Option Trivia) (z : Place) → P k held.mode known z → P k held.mode (known_by (hand_at k held known z)) z
@@ -72,7 +72,7 @@ pub record Stays (P : Saying) : Type 0 where
 abbrev pub Holds : Saying → CharClasses → Place → Point → Type 0
 Holds P k z s = P k s.held.mode s.known z
 
--- a part of a parser that was read from such a place ends at one
+-- A part of a parser that was read from such a place ends at such a place.
 abbrev pub Keeps : {A : Type 0} → Saying → CharClasses → Meaning A → Type 0
 Keeps P k m = (z : Place) (s : Point) → Holds P k z s → Holds P k (moved (m z s).taken z) (m z s).state
 

@@ -83,7 +83,7 @@ lawful-sunk z w o n c l = record {
 
 -- ---- a block
 
--- what a block gives ends in its node
+-- What a block gives ends in its node.
 pub record Ends (b : Block) (o : Outcome (Unit {0})) : Type 0 where
   pub nodes : o.nodes ≡ less 1 o.nodes ++ last_node o.nodes ∷ []
   pub head : (last_node o.nodes).head ≡ block_head b

@@ -76,7 +76,7 @@ abbrev first_or : Tree → List Tree → Tree
 first_or t [] = t
 first_or t (u ∷ us) = u
 
--- of two ways to part the same nodes before one that isn't empty only one has so many bytes before it
+-- Of two ways to split the same nodes before one that isn't empty only one has a given number of bytes before it.
 part-is : (xs : List Tree) (x : Tree) (us left : List Tree) (y : Tree) (vs : List Tree) → left ++ y ∷ vs ≡ xs ++ x ∷ us → 0 < length (text_of x) → 0 < length (text_of y) → bytes_of xs ≡ bytes_of left → length xs ≡ length left
 part-is [] x us [] y vs e h i b = refl
 part-is [] x us (l ∷ left) y vs e h i b =
@@ -93,7 +93,7 @@ part-is (l ∷ xs) x us (m ∷ left) y vs e h i b =
     let two = bytes-first m left in
     ap suc (part-is xs x us left y vs (ap (drop 1) e) h i (omega (arith, same, one, two, b)))
 
--- a full node behind others leads where these end
+-- A full node after others leads where these end.
 pub leads-at : (from : ℕ) (ts left right : List Tree) (at : ℕ) → ts ≡ left ++ right → Full right → from + bytes_of left ≡ at → LeadsAt from ts at (length left)
 leads-at from ts left [] at is full begins = absurd full
 leads-at from ts left (y ∷ right) at is full begins = record {
@@ -107,7 +107,7 @@ leads-at from ts left (y ∷ right) at is full begins = record {
   alone = λ before x behind e there some. part-is before x behind left y right (sym is ∙ e) some full (omega (arith, begins, there));
 }
 
--- the bytes of so many characters behind others
+-- the bytes of a given number of characters after others
 bytes-on : (text : List ℕ) (a d : ℕ) → width (take a text) + length (utf8_ahead d (moved a (start_of text))) ≡ width (take (a + d) text)
 bytes-on text a d =
     let z = start_of text in
@@ -131,7 +131,7 @@ module _ {A : Type 0} (m : A → Meaning (Bool × A)) (keeps : (x : A) → Keeps
       let first = keeps x z s h in
       kept-joined z o q first (kept-together n o.value.1 y o.state first.known) (tidy-together m backs n o.value.1 y o.state)
 
--- WHAT A RUN IS READ BY: what is called in it reads as it should, and takes its token first; the run stops at a text's end; and what stands where it begins is known.
+-- WHAT A RUN IS READ BY: what is called in it reads as it should, and takes its token first; the run stops at a text's end; and what stands where the run begins is known.
 pub record Leads (r : Sequence) : Type 0 where
   pub deeper : (c : Call) → Sane (r.level.deeper c)
   pub blocks : (b : Block) → Sane (r.level.blocks b)
@@ -193,7 +193,7 @@ module _ (r : Sequence) (leads : Leads r) where
       let some : 0 < o.taken = omega (arith, past) in
       ap (λ b. b && nat_lt 0 o.taken) (turn-goes r.level r.stops x z s go) ∙ lt-ltb 0 o.taken some
 
-  -- and where none goes on the run ends
+  -- Where none goes on, the run ends.
   pub turn-over : (x : Bool × ℕ) (z : Place) (s : Point) → KnownAt s → goes (turn x z s) ≡ false → ends r.stops x.1 (told (hand_of r.level z s)).kind ≡ true
   turn-over x z s there stopped = by-end (ends r.stops x.1 (told (hand_of r.level z s)).kind) refl
     where
@@ -212,7 +212,7 @@ module _ (r : Sequence) (leads : Leads r) where
       fronts-joined t _ o (together (end_of o.value.1 o.state os).state os) (turn-fronts x z s t is (going-on r.level r.stops x z s (first-of o.value.0 (nat_lt 0 o.taken) g.0)))
       (tidy-together turn (λ v. (sane v).backs) n o.value.1 y o.state)
 
-  -- all behind some pieces, where another follows
+  -- all after some pieces, where another follows
   rest-front : (x : Bool × ℕ) (z : Place) (s : Point) (t : Trivia) (last : Outcome (Unit {0})) → s.known ≡ Some t → Tidy (repeated turn x z s).state last → ends r.stops x.1 (told (hand_of r.level z s)).kind ≡ false
       → Fronts t (minds (markup_head x.0 x.1 (hand_at r.level.classes s.held (Some t) z).kind)) (joined (repeated turn x z s) last)
   unfolding run
@@ -257,7 +257,7 @@ module _ (r : Sequence) (leads : Leads r) where
       let known_there : after.known ≡ Some t = ap (λ p. (asked (hand_of l z p) p).known) same in
       ap (λ (p : Outcome (Bool × ℕ)). (joined p (run l flush_trivia (moved p.taken z) p.state)).nodes) (stopped x z s over) ∙ standing-none flushed ∙ flush-nodes z after t known_there
 
-  -- ---- behind i pieces and n behind them
+  -- ---- the first i pieces and the n that follow
 
   module _ (text : List ℕ) (a : ℕ) (there : r.place ≡ moved a (start_of text)) (i n : ℕ) (g : AllGo (first_of i r)) (h : AllGo (then_of i n r)) where
     abbrev e : End (Bool × ℕ)
@@ -305,14 +305,14 @@ module _ (r : Sequence) (leads : Leads r) where
     tidy-p : Tidy e.state p
     tidy-p = tidy-together turn (λ x. (sane x).backs) n e.value w e.state
 
-    -- what stands before them holds what the i pieces take
+    -- What stands before them holds what the i pieces take.
     before-text : texts before ≡ utf8_ahead e.taken r.place
     before-text =
         let back = tidy-p.back in
         let few : p.back ≤ q.state.empties = subst (λ (s : Point). p.back ≤ s.empties) (sym q-state) back in
         ap (λ ts. texts (less p.back ts)) (given-together e.state (first_of i r) [] ∙ standing-none q) ∙ holds-q.blank p.back few ∙ holds-q.text ∙ ap (λ d. utf8_ahead d r.place) q-taken
 
-    -- and they what they take
+    -- They hold what they take.
     own-text : (back : ℕ) → back ≤ f.state.empties → texts (less back p.nodes) ≡ utf8_ahead f.taken w
     own-text back few = holds-p.blank back (subst (λ (s : Point). back ≤ s.empties) (sym p-state) few) ∙ holds-p.text ∙ ap (λ d. utf8_ahead d w) p-taken
 
@@ -350,7 +350,7 @@ module _ (r : Sequence) (leads : Leads r) where
         let begins : from + bytes_of (before ++ us) ≡ at = omega (arith, long, sum, from_is, at_is) in
         subst (λ d. LeadsAt from kids at d) (length-append before us) (leads-at from kids (before ++ us) right at all full begins)
 
-    -- where they end, with the trivia behind them
+    -- where they end, with the trivia after them
     pub ends-at : (from at back : ℕ) (t : Trivia) → f.state.known ≡ Some t → from ≡ width (take a text) → at ≡ width (take (a + ((e.taken + f.taken) + gap_of f.state.known)) text) → back ≤ f.state.empties
         → from + bytes_of (before ++ (less back p.nodes ++ t.nodes)) ≡ at
     ends-at from at back t known_there from_is at_is few =
@@ -435,14 +435,14 @@ leading-law k text i n t g h known some = text-is k text i n t g h known some
 
 -- ---- a content block's run
 
--- its bracket holds the same where it is an error
+-- Its bracket holds the same if it is an error.
 opening-text : (closed : Bool) (bracket : Tree) → length (text_of (opening_child closed bracket)) ≡ length (text_of bracket)
 opening-text true bracket = refl
 opening-text false bracket =
     let wrong = made_error (codes "unclosed delimiter") bracket in
     ap length (sym (texts-one wrong) ∙ text-shaped (keeps (turns_wrong (codes "unclosed delimiter"))) (bracket ∷ []) ∙ texts-one bracket)
 
--- of a content block's children the second alone is markup
+-- Of a content block's children only the second is markup.
 pub record Plain (x : Tree) : Type 0 where
   pub closed : Bool
   pub bracket : Tree
@@ -459,7 +459,7 @@ record Held (text : List ℕ) (c : Spot (Unit {0})) (from : ℕ) (kids : List Tr
   closing : List Tree
   opening : width (take c.at text) + length (text_of (opening_child closed bracket)) ≡ from
   node : c.node ≡ block_with closed bracket kids closing
-  -- its brackets are no markup
+  -- Its brackets are no markup.
   plain : NoMarkup bracket
   plain_end : Every NoMarkup closing
 
@@ -472,7 +472,7 @@ module _ (k : CharClasses) (levels : ℕ) (text : List ℕ) (c : Spot (Unit {0})
   abbrev block_run : Sequence
   block_run = run_at k levels c z1
 
-  -- the bracket holds what it takes
+  -- The bracket holds what it takes.
   bracket-text : (let y = moved c.at z1 in let o = bracket k levels y (point_of c.start) in texts o.nodes ≡ utf8_ahead o.taken y)
   unfolding run
   bracket-text =
@@ -517,7 +517,7 @@ module _ (k : CharClasses) (levels : ℕ) (text : List ℕ) (c : Spot (Unit {0})
         plain_end = (let m = ((first_end i r).taken + (then_end i n r).taken) + (rest_of i n r).taken in close-plain k levels m (m + last.taken) (rest_of i n r).state r.place r.place);
       }
 
-  -- and what of its children is markup
+  -- which of its children is markup
   pub plain-block : Plain c.node
   plain-block =
       let front = inner-fronted k levels i n c z1 t known in

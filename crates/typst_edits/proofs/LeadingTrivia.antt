@@ -35,7 +35,7 @@ use Rattle.typst_edits.proofs.Turns.{Taking, turn-led}
 
 -- ---- stretches of nodes
 
--- several nodes begin with these
+-- Several nodes begin with these.
 pub record Leads (first ts : List Tree) : Type 0 where
   pub rest : List Tree
   pub is : ts ≡ first ++ rest
@@ -92,7 +92,7 @@ module _ (l : Level) (stops : SyntaxKind → Bool) (taking : Taking l stops) whe
         is = ap (λ ts. less back ts ++ us) all.nodes ∙ ap (λ ts. ts ++ us) (less-behind back t.nodes all.rest (omega (arith, more, few, there))) ∙ append_assoc t.nodes (less back all.rest) us;
       }
 
-  -- the nodes of some pieces, but for the last of them, and the trivia behind them begin with the trivia before them
+  -- The nodes of some pieces without the last, with the trivia after them, begin with the trivia before them.
   pub leads-pieces : (n back : ℕ) (us : List Tree) (x : Bool × ℕ) (z : Place) (s : Point) → KnownAt s → Led_by n back us x z s
   leads-pieces zero back us x z s at g few known = record { rest = []; is = ap (λ ts. ts ++ us) (none-less back) ∙ sym known ∙ sym (append-nil (pending s.known)) }
   leads-pieces (suc n) back us x z s at g few known =

@@ -1,4 +1,4 @@
--- What begins by taking the token at hand: of the trivia before it, and of the errors before these, it gives the trivia and asks nothing else.
+-- What begins by taking the token at hand gives the trivia before it, whatever errors stand before these, and asks nothing else of them.
 use Rattle.std.proofs.Common.{◌≡◌, ℕ, zero, suc, ◌+◌, ◌-◌, ◌<◌, ◌≤◌, Bool, true, false, ◌||◌, if◌then◌else◌, nat_lt, List, [], ◌∷◌, ◌++◌, length, take, drop, map, length-append, length-take, append_assoc, encode_utf8_all, Some, refl, ap, sym, ◌∙◌, subst, arith}
 use Rattle.std.proofs.lemmas.List.{map-append}
 use Rattle.std.proofs.lemmas.Str.{length-le-encodes}
@@ -33,7 +33,7 @@ use Rattle.typst_edits.proofs.Outcomes.{shift-zero, shift-twice, sunk-shift, hin
 abbrev pub behind_trivia : Trivia → Trivia
 behind_trivia t = record t { gap = 0 }
 
--- where the token at hand is read so, it is the same behind the newlines of the one and of the other
+-- If the token at hand is read like this, it is the same after the newlines of the one and of the other.
 pub record SameJudged (h : Reading) (t u : Trivia) : Type 0 where
   pub judge : (k : SyntaxKind) (column : ℕ) → judged h u.newlines k column ≡ judged h t.newlines k column
   pub column : asks_column h u.newlines ≡ asks_column h t.newlines
@@ -75,9 +75,9 @@ none-of true c hs js e f = e
 none-of false true hs js e f = f
 none-of false false hs js e f = ap (λ u. u ++ js) e ∙ f
 
--- ---- one outcome behind the trivia, and one that has them before it
+-- ---- one outcome after the trivia, and one that has them before it
 
--- `back` says that no error is taken back, but where that is said of the token
+-- `back` says that no error is taken back, except where that is said of the token.
 pub record Led {A : Type 0} (t : Trivia) (us : List Tree) (trims : Bool) (o c : Outcome A) : Type 0 where
   pub value : o.value ≡ c.value
   pub taken : o.taken ≡ t.gap + c.taken
@@ -100,7 +100,7 @@ standing-led xs rest o q e h =
     ap (λ ts. hinted q.hints (less q.back ts) ++ q.nodes) e ∙ ap (λ ts. hinted q.hints ts ++ q.nodes) (less-behind q.back xs rest h)
     ∙ ap (λ ts. ts ++ q.nodes) (hinted-append q.hints xs (less q.back rest) some) ∙ append_assoc xs (hinted q.hints (less q.back rest)) q.nodes
 
--- behind it all is the same
+-- After it everything is the same.
 pub led-joined : {A B : Type 0} (t : Trivia) (us : List Tree) (trims : Bool) (o c : Outcome B) (q : Outcome A) → Led t us trims o c → Tidy c.state q → Led t us trims (joined o q) (joined c q)
 led-joined t us trims o c q h tidy =
     let few = h.few in
@@ -143,7 +143,7 @@ led-then t us trims z o c f tidy h =
     ap (λ v. f v (moved o.taken z) o.state) h.value ∙ ap (λ y. f c.value y o.state) there ∙ ap (f c.value (moved c.taken w)) h.state in
     subst (λ q. Led t us trims (joined o q) (joined c (f c.value (moved c.taken w) c.state))) (sym same) (led-joined t us trims o c _ h (tidy c.value (moved c.taken w) c.state))
 
--- behind a question
+-- after a question
 pub led-asked : {A B : Type 0} (t : Trivia) (us : List Tree) (trims : Bool) (v : B) (s r : Point) (ls ks : List Ask) (m : Bool) (o c : Outcome A) → ls ≡ shift t.gap ks → Led t us trims o c
     → Led t us trims (joined (record (plain v s) { asks = ls; met = m }) o) (joined (record (plain v r) { asks = ks; met = m }) c)
 led-asked t us trims v s r ls ks m o c e h =
@@ -169,7 +169,7 @@ led-asked t us trims v s r ls ks m o c e h =
 
 -- ---- nodes
 
--- a node that holds something stands there for sure
+-- A node that holds something certainly stands there.
 abbrev pub Counts_less : Shape → Type 0
 Counts_less shape = (ts : List Tree) (s : Point) → (after_shape shape ts s).empties < length (shaped shape ts)
 
@@ -202,7 +202,7 @@ led-wrapped t us f n m o c shapes e d h =
 
 -- ---- words
 
--- what is read before trivia gives them, and else does as behind them, whatever errors stand before them; where `trims` says so only their number matters
+-- What is read before trivia gives them, and otherwise does as after them, whatever errors stand before them; where `trims` says so only the errors' number matters.
 abbrev pub Takes : {A : Type 0} → Reading → Place → Trivia → Trivia → Bool → Meaning A → Type 0
 Takes h z t u trims m = (r : Reading) (e d : ℕ) (a b : Bool) → (trims ≡ true → e ≡ d) → Led t u.nodes trims (m z (before_trivia r h e a t)) (m (moved t.gap z) (before_trivia r h d b (behind_trivia u)))
 
@@ -233,7 +233,7 @@ two-asks true false g x y same = cc
 two-asks false true g x y same = cc
 
 module _ (l : Level) (h : Reading) (z : Place) (t u : Trivia) (alike : SameJudged h t u) where
-  -- the looks at the token are the same
+  -- The looks at the token are the same.
   pub asks-behind : hand_asks l.classes h (Some t) z ≡ shift t.gap (hand_asks l.classes h (Some (behind_trivia u)) (moved t.gap z))
   unfolding hand_asks
   asks-behind = two-asks (asks_column h t.newlines) (asks_column h u.newlines) t.gap _ (column_look (moved t.gap z)) alike.column
@@ -277,7 +277,7 @@ module _ (l : Level) (h : Reading) (z : Place) (t u : Trivia) (alike : SameJudge
   unfolding run
   takes-next trims p f tidy k r e d a b same = led-then t u.nodes trims z _ _ (λ v. run l (f v)) tidy (k r e d a b same)
 
-  -- of the token at hand its kind alone is told on
+  -- Of the token at hand only its kind is passed on.
   pub takes-peek : {A : Type 0} (trims : Bool) (f : SyntaxKind → Parser A) → Takes h z t u trims (run l (f (hand_at l.classes h (Some t) z).kind)) → Takes h z t u trims (run l (next peek (λ x. f x.kind)))
   unfolding run hand_at
   takes-peek trims f k r e d a b same =

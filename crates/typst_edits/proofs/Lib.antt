@@ -14,12 +14,12 @@
 --   empty_run_law                EmptyRuns: of a whole text; EmptyBlocks: of a content block
 --   candidates_law               BareCandidates, CandidatePlaces
 --   notes_law                    PieceNotes: of a whole text and of a content block; BlockLog: a block's two notes in the log; Marks: in any list of asks
---   numbered_notes_law           NumberedNotes: of a whole text and of a content block; InTurn: the marks of a run in turn; NoteNumbers, InnerNumbers: the number of a note; Cuts: where the tokens behind pieces begin
+--   numbered_notes_law           NumberedNotes: of a whole text and of a content block; InTurn: the marks of a run in turn; NoteNumbers, InnerNumbers: the number of a note; Cuts: where the tokens after pieces begin
 --   rising_law                   Upward: marks in order, in whatever the language can say; Rising: by where they stand; InOrder: by their tokens; OpensApart: those where blocks begin; Nested: how they stand in each other; NestedInner, NestedBlocks: between the two notes of a block
 --   leading_law                  Leading: of a whole text and of a content block; Fronts: what a piece gives first
 --   block_worth_law              BlockWorth
 --   part_law                     BlockPart
---   splice_law                   Splice: of any asks; BlockSplice: of a block; RunSplice: of pieces of a text's run; InnerSplice: of pieces of a block's; PieceAsks: what is asked of them; Sides: what stands behind a note; Seen: what is noted was looked at; Forward: trivia look ahead alone
+--   splice_law                   Splice: of any asks; BlockSplice: of a block; RunSplice: of pieces of a text's run; InnerSplice: of pieces of a block's; PieceAsks: what is asked of them; Sides: what stands after a note; Seen: what is noted was looked at; Forward: trivia look ahead alone
 --   one_reading_law              OneReading; KeptNodes: in the old tree
 --   block_test_law               BlockTest: entries and the block by itself; EntryNumbers: a block's two notes among the entries; CandidateBlocks: the candidate's node in a hole; BlockPlaces: the block there, by bytes; SecondPlaces: one that a reading that was given up covers
 --   pieces_test_law              ReadAlone: pieces read by themselves, of any run; PiecesTest: of a whole text

@@ -18,7 +18,7 @@ use Rattle.typst_edits.specs.Spot.{lowered}
 use Rattle.typst_edits.proofs.Bytes.{noted-more}
 use Rattle.typst_edits.proofs.Every.{Every}
 
--- each of them keeps to this, by its place, how many levels fewer are left there, what it says, and the state
+-- Each of them has a property, by its place, by how many levels fewer are left there, by what it says, and by the state.
 abbrev pub AllMarks : (ℕ → ℕ → Mark → State → Type 0) → List Ask → Type 0
 AllMarks P [] = Unit {0}
 AllMarks P (looked at look ∷ asks) = AllMarks P asks
@@ -34,7 +34,7 @@ marks-by P Q f [] h = tt
 marks-by P Q f (looked at look ∷ ls) h = marks-by P Q f ls h
 marks-by P Q f (marked at gap fewer m s ∷ ls) h = (f at fewer m s h.0, marks-by P Q f ls h.1)
 
--- counted from so many characters before
+-- counted from a given number of characters before
 pub marks-shift : (P : ℕ → ℕ → Mark → State → Type 0) (d : ℕ) (ls : List Ask) → AllMarks (λ at fewer m s. P (d + at) fewer m s) ls → AllMarks P (shift d ls)
 marks-shift P d [] h = tt
 marks-shift P d (looked at look ∷ ls) h = marks-shift P d ls h
@@ -57,7 +57,7 @@ marks-if P false ls ks h i = i
 
 -- ---- looks alone
 
--- whatever is said of marks
+-- A property of marks holds, whatever it is.
 pub none-trivia : (P : ℕ → ℕ → Mark → State → Type 0) (k : CharClasses) (m : SyntaxMode) (n : ℕ) (z : Place) → AllMarks P (asks_by k m n z)
 none-trivia P k m zero z = tt
 none-trivia P k m (suc n) z =
@@ -77,7 +77,7 @@ none-hand P k held (Some t) z = none-column P held t.newlines t.gap z
 
 -- ---- the notes of a log
 
--- a note is that of a mark
+-- A note is that of a mark.
 pub record NoteOf (P : ℕ → ℕ → Mark → State → Type 0) (lv : ℕ) (z : Place) (n : Note) : Type 0 where
   pub at : ℕ
   pub fewer : ℕ
@@ -89,7 +89,7 @@ pub record NoteOf (P : ℕ → ℕ → Mark → State → Type 0) (lv : ℕ) (z 
   pub levels : n.levels ≡ lv - fewer
   pub state : n.state ≡ told
 
--- so many notes more, each that of a mark
+-- a given number of further notes, each that of a mark
 pub record NotedEach (P : ℕ → ℕ → Mark → State → Type 0) (lv : ℕ) (z : Place) (ns : List Note) (h : Log) : Type 0 where
   pub more : List Note
   pub is : h.notes ≡ Some (ns ++ more)

@@ -25,7 +25,7 @@ every-among : {X : Type 0} (xs : List X) → Every (λ x. Among x xs) xs
 every-among [] = tt
 every-among (x ∷ xs) = (this xs, every-by (λ y h. that x xs h) xs (every-among xs))
 
--- what begins the same goes on the same
+-- What begins the same goes on the same.
 behind-same : (xs ys zs : List ℕ) → xs ++ ys ≡ xs ++ zs → ys ≡ zs
 behind-same [] ys zs e = e
 behind-same (x ∷ xs) ys zs e = behind-same xs ys zs (ap (drop_first) e)
@@ -43,7 +43,7 @@ longer-other xs y ys e = let l = ap length e in let m = length-append xs (y ∷ 
 
 -- ---- those of a node
 
--- a path begins with this one
+-- A path begins with this one.
 pub record Below (path : List ℕ) (c : Candidate) : Type 0 where
   pub behind : List ℕ
   pub is : c.path ≡ path ++ behind
@@ -71,7 +71,7 @@ block-alone : (path : List ℕ) (at : ℕ) (ts : List Tree) (i : ℕ) (k : Synta
 block-alone path at ts i k = every-if (Alone path) (is_block k) (of_children true path at ts i (suc i) ∷ []) [] (λ e. (record { at_end = refl; whole = refl; one = refl }, tt)) (λ e. tt)
 
 module _ (ns : List Note) (rs re : ℕ) where
-  -- what holds of those of its child near the bytes, if that covers them, of that child, and of those of its own run, holds of those of a node
+  -- What holds of those of its child near the bytes, if that covers them, of that child, and of those of its own run, holds of those of a node.
   pub node-every : (P : Candidate → Type 0) (path : List ℕ) (run : Option (List ℕ)) (at : ℕ) (h : Head) (ks r : Forest)
       → (let inside = at + length h.text in let cs = laid inside (trees ks) in let i = first_near rs cs in
       ((c : Child) → child_at cs i ≡ Some c → covers rs re cs i c ≡ true → Every P (candidates_at ns rs re (path ++ i ∷ []) (run_in ns at h.kind c.node.head.kind) i inside ks)))
@@ -102,7 +102,7 @@ module _ (ns : List Note) (rs re : ℕ) where
           (every-by g (of_block path inside (trees ks) i c.node.head.kind) (block-alone path inside (trees ks) i c.node.head.kind)))
           (λ e. tt)
 
-  -- each path of them begins with the node's
+  -- Each path of them begins with the node's.
   pub paths-below : (path : List ℕ) (run : Option (List ℕ)) (index at : ℕ) (f : Forest) → Every (Below path) (candidates_at ns rs re path run index at f)
   unfolding candidates_at
   paths-below path run index at none = tt
@@ -127,7 +127,7 @@ module _ (ns : List Note) (rs re : ℕ) where
       some-same f b c e = ap (λ o. elim o as (λ _. List Candidate) [ None ↦ f b | Some d ↦ f d ]) e
   at-index path run (suc index) at (more h ks r) c e = at-index path run index (at + length (h.text ++ joined ks)) r c e
 
-  -- pieces of the node itself are those of its run
+  -- Pieces of the node itself are those of its run.
   pub own-run : (path : List ℕ) (run : Option (List ℕ)) (at : ℕ) (h : Head) (ks r : Forest)
       → Every (λ c. c.is_block ≡ false → c.path ≡ path → Among c (of_run rs re path (at + length h.text) (trees ks) run)) (candidates_at ns rs re path run zero at (more h ks r))
   own-run path run at h ks r =
@@ -140,7 +140,7 @@ module _ (ns : List Note) (rs re : ℕ) where
 
   -- ---- down to a block
 
-  -- it is one of the run of the node's second child, which begins before the bytes and ends behind them
+  -- it is one of the run of the node's second child, which begins before the bytes and ends after them
   pub record InMarkup (at : ℕ) (x : Tree) (c : Candidate) : Type 0 where
     pub child : Child
     pub is : child_at (laid (at + length x.head.text) (trees x.kids)) 1 ≡ Some child
@@ -161,7 +161,7 @@ module _ (ns : List Note) (rs re : ℕ) where
       by-tests true false r b e f g = absurd (cc)
       by-tests false q r b e f g = absurd (cc)
 
-  -- the child behind some others
+  -- the child after some others
   child-behind : (at : ℕ) (left : List Tree) (y : Tree) (right : List Tree)
       → child_at (laid at (left ++ y ∷ right)) (length left) ≡ Some (record { start = at + length (texts left); end = (at + length (texts left)) + length (text_of y); node = y })
   child-behind at [] y right = let e : at ≡ at + 0 = omega arith in ap (λ n. Some (record { start = n; end = n + length (text_of y); node = y })) e
@@ -169,7 +169,7 @@ module _ (ns : List Note) (rs re : ℕ) where
       let e : (at + length (text_of t)) + length (texts left) ≡ at + length (texts (t ∷ left)) = omega (arith, length-texts t left) in
       child-behind (at + length (text_of t)) left y right ∙ ap (λ n. Some (record { start = n; end = n + length (text_of y); node = y })) e
 
-  -- the first step of a path behind another
+  -- the first step of a path after another
   step-is : (path : List ℕ) (i : ℕ) (behind : List ℕ) (j : ℕ) (onwards : List ℕ) (p : List ℕ) → p ≡ (path ++ i ∷ []) ++ behind → p ≡ path ++ j ∷ onwards → i ≡ j
   step-is path i behind j onwards p e f = ap (head_or 0) (behind-same path (i ∷ behind) (j ∷ onwards) (sym (append_assoc path (i ∷ []) behind) ∙ sym e ∙ f))
 
@@ -244,7 +244,7 @@ module _ (ns : List Note) (rs re : ℕ) where
 
 -- ---- candidates of a run
 
--- a candidate is the children of a stretch around the bytes
+-- A candidate is the children of a stretch around the bytes.
 pub record OfStretch (rs re : ℕ) (path : List ℕ) (at : ℕ) (ts : List Tree) (cuts : List ℕ) (c : Candidate) : Type 0 where
   pub more : ℕ
   pub is : (let cs = laid at ts in let s = around cuts cs (first_near rs cs) (end_near re cs) more in c ≡ of_children false path at ts s.from s.to)
@@ -261,6 +261,6 @@ module _ (rs re : ℕ) (path : List ℕ) (at : ℕ) (ts : List Tree) (cuts : Lis
       if-every true ss h = tt
       if-every false ss h = h
 
-  -- each of a run's is
+  -- Each candidate of a run is one.
   pub of-run : (c : Candidate) → Among c (of_run rs re path at ts (Some cuts)) → OfStretch rs re path at ts cuts c
   of-run c chosen = among (OfStretch rs re path at ts cuts) c _ chosen (stretches-of (suc (length ts)) 1)

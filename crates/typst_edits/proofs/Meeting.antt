@@ -1,4 +1,4 @@
--- Where pieces end in two texts, and what has to agree there does, all behind them is the same, but for the trivia before it.
+-- Where pieces end in two texts and what has to agree there does, all after them is the same, except for the trivia before it.
 use Rattle.std.proofs.Common.{◌≡◌, inl, inr, ◌⊎◌, ℕ, zero, suc, Bool, true, false, ◌&&◌, if◌then◌else◌, Some, refl, ap, sym, ◌∙◌, subst}
 use Rattle.typst_kinds.specs.declared.kind.SyntaxKind.{SyntaxKind}
 use Rattle.typst_kinds.specs.declared.kind.SyntaxKind.TheVariants as kind
@@ -27,7 +27,7 @@ use Rattle.typst_edits.proofs.EmptyRuns.{and-false as none-and}
 
 -- ---- how a run is read
 
--- the token at hand and those to come are read so
+-- The token at hand and those to come are read like this.
 pub record ReadAs (g : Reading) (s : Point) : Type 0 where
   pub reading : s.reading ≡ g
   pub held : s.held ≡ g
@@ -46,14 +46,14 @@ read-as g s p a h = record {
       (either-way p.held.at_newline s.held.at_newline s.reading.at_newline g.at_newline h.rule (ap (λ (r : Reading). r.at_newline) a.held) (ap (λ (r : Reading). r.at_newline) a.reading));
 }
 
--- so it is behind any turns
+-- The same holds after any turns.
 pub read-made : {A : Type 0} (g : Reading) (m : A → Meaning (Bool × A)) → ((x : A) → Restful (m x)) → (n : ℕ) (x : A) (z : Place) (s : Point) → ReadAs g s → ReadAs g (end_of x s (made m n x z s)).state
 read-made g m rests zero x z s a = a
 read-made g m rests (suc n) x z s a =
     let o = m x z s in
     read-made g m rests n o.value.1 (moved o.taken z) o.state (read-as g s o.state a (rests x z s))
 
--- markup goes on behind newlines
+-- Markup goes on after newlines.
 goes-on : (t u : Trivia) → SameJudged markup_reading t u
 goes-on t u =
     let same : (u.newlines.any && false) ≡ (t.newlines.any && false) = none-and u.newlines.any ∙ sym (none-and t.newlines.any) in
@@ -62,14 +62,14 @@ goes-on t u =
 pub judged-alike : (h : Reading) (t u : Trivia) → h ≡ markup_reading → SameJudged h t u
 judged-alike h t u e = subst (λ g. SameJudged g t u) (sym e) (goes-on t u)
 
--- at a text's end every nesting ends
+-- At a text's end every nesting ends.
 pub ends-alike : (a b : ℕ) (k : SyntaxKind) → ends is_end a k ≡ ends is_end b k
 ends-alike a b kind.End = refl
 ends-alike a b _ = refl
 
--- ---- what is behind both
+-- ---- what follows both
 
--- both are the same but for the trivia before them
+-- Both are the same except for the trivia before them.
 pub record Met (r : Sequence) (y v : Place) (e f : End (Bool × ℕ)) (t u : Trivia) : Type 0 where
   pub one : Fronted t t.nodes (onwards r e.value y e.state) (onwards r e.value (moved t.gap y) (passed t e.state))
   pub two : Fronted u t.nodes (onwards r f.value v f.state) (onwards r e.value (moved t.gap y) (passed t e.state))
@@ -77,7 +77,7 @@ pub record Met (r : Sequence) (y v : Place) (e f : End (Bool × ℕ)) (t u : Tri
   pub kind : (hand_at r.level.classes f.state.held f.state.known v).kind ≡ (hand_at r.level.classes e.state.held e.state.known y).kind
 
 module _ (r : Sequence) (taking : Taking r.level r.stops) where
-  -- where expressions end nothing depends on what is carried
+  -- Where expressions end nothing depends on what is carried.
   carried : (y : Place) (e f : End (Bool × ℕ)) (t u : Trivia) → Meets r y e f t u → (b : Bool) → is_over_at r y e ≡ b → onwards r f.value (moved t.gap y) (passed t e.state) ≡ onwards r e.value (moved t.gap y) (passed t e.state)
   unfolding hand_at
   carried y e f t u g false o = ap (λ x. onwards r x (moved t.gap y) (passed t e.state)) (g.value o)
@@ -87,7 +87,7 @@ module _ (r : Sequence) (taking : Taking r.level r.stops) where
       let over = sym here ∙ o in
       stopped-alike r.level r.stops taking e.value f.value (moved t.gap y) (passed t e.state) over (g.over o token ∙ over)
 
-  -- the errors before them matter where an expression follows that minds them
+  -- The errors before them matter if an expression follows that minds them.
   errors : (y : Place) (e f : End (Bool × ℕ)) (t u : Trivia) → Meets r y e f t u → (new : SyntaxKind) → new ≡ (hand_at r.level.classes e.state.held e.state.known y).kind → (b : Bool) → is_over_at r y e ≡ b
       → ends r.stops f.value.1 new ≡ false → minds (markup_head f.value.0 f.value.1 new) ≡ true → f.state.empties ≡ e.state.empties
   errors y e f t u g new same true o go mind =
@@ -116,7 +116,7 @@ module _ (r : Sequence) (taking : Taking r.level r.stops) where
       let now : (hand_at l.classes fs.held (Some u) v).kind ≡ (hand_at l.classes es.held (Some t) y).kind =
       sym (kind-behind l fs.held v u t alike) ∙ ap (λ h. (hand_at l.classes h (Some (behind_trivia t)) here).kind) held ∙ token in
       let now_known : (hand_at l.classes fs.held (Some u) v).kind ≡ (hand_at l.classes es.held es.known y).kind = now ∙ ap (λ k. (hand_at l.classes es.held k y).kind) (sym g.known) in
-      -- all behind
+      -- all that follows
       let one : Fronted t t.nodes (onwards r e.value y es) c =
       subst (λ s. Fronted t t.nodes (onwards r e.value y s) c) (sym known_is)
       (fronted-same l r.stops taking es.held y t e.value es.reading es.empties es.is_after_error) in

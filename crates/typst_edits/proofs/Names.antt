@@ -67,7 +67,7 @@ name-sunk meant levels c n =
       closed = ap sunk n.closed;
     }
 
--- nothing has to be known where a reading begins, nor of what it reads
+-- Nothing has to be known where a reading begins, nor of what it reads.
 abbrev Anywhere : Place → Point → Type 0
 Anywhere z s = Unit {0}
 
@@ -98,7 +98,7 @@ module _ (r : Rules) (k : CharClasses) where
   abbrev pub block_at : ℕ → Block → Meaning (Unit {0})
   block_at levels b = blocks_of r k levels (meaning_of r k levels) b
 
-  -- each block of a parser's reading is the one of its name
+  -- Each block of a parser's reading is the one of its name.
   pub named-level : {A : Type 0} (levels : ℕ) (p : Parser A) (z : Place) (s : Point) → Every (Named block_at levels) (level_spots r k levels p z s)
   named-level levels p z s =
       each-level Anywhere Anything (Names block_at) (name-walks block_at) r k

@@ -1,4 +1,4 @@
--- Marks stand in each other: pieces of a run say its level, and blocks, with the marks in them, a deeper one.
+-- Marks are nested: pieces of a run say its level, and blocks, with the marks in them, a deeper one.
 use Rattle.std.proofs.Common.{◌≡◌, ℕ, zero, suc, ◌+◌, ◌-◌, ◌≤◌, ◌<◌, Bool, true, false, ◌&&◌, nat_lt, List, [], ◌∷◌, ◌++◌, drop, append_assoc, append-nil, Option, Some, None, refl, ap, sym, ◌∙◌, subst, arith}
 use Rattle.std.proofs.lemmas.List.{map-append}
 use Rattle.typst_kinds.specs.declared.kind.SyntaxKind.{SyntaxKind}
@@ -40,7 +40,7 @@ use Rattle.typst_edits.proofs.Rising.{pieces}
 
 -- ---- marks in a list of asks
 
--- pieces one level above so many fewer, and blocks at so many fewer or deeper, short of a limit, each with what stands in it
+-- Pieces stand at one level above a given number fewer, and blocks at that number fewer or deeper, up to a limit, each with what stands in it.
 pub data Nests : ℕ → ℕ → List Ask → Type 0 where
   bare : (end lo : ℕ) → Nests end lo []
   seen : (end lo at : ℕ) (look : _) (asks : List Ask) → Nests end lo asks → Nests end lo (looked at look ∷ asks)
@@ -93,7 +93,7 @@ nests-none end lo (marked at gap fewer m s ∷ ls) h = elim h.0 [ ]
 
 -- ---- whatever the language can say
 
--- it notes these marks alone, and reads blocks by itself only where that is allowed
+-- It notes only these marks, and reads blocks by themselves only where that is allowed.
 abbrev Notes : {A : Type 0} → (Mark → Bool) → Bool → Parser A → Type 0
 Notes notes blocks (gives a) = Unit {0}
 Notes notes blocks (does o) = op_notes notes o ≡ true
@@ -265,7 +265,7 @@ whole-nests k levels =
 
 -- ---- their notes
 
--- so many notes more, which are nested
+-- a given number of further notes, which are nested
 pub record NotedNested (lv own : ℕ) (z : Place) (ns : List Note) (h : Log) : Type 0 where
   pub more : List Note
   pub is : h.notes ≡ Some (ns ++ more)

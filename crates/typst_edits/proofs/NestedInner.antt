@@ -1,4 +1,4 @@
--- The notes between the two of a content block are nested: no other note ends it.
+-- The notes between the two of a content block are nested, so no other note ends it.
 use Rattle.std.proofs.Common.{◌≡◌, ℕ, suc, ◌<◌, ◌==◌, eq-eqb, Bool, true, nat_lt, List, [], ◌∷◌, ◌++◌, length, drop, length-append, refl, ap, sym, ◌∙◌, subst, arith}
 use Rattle.typst_language.specs.declared.calls.Note.{Note}
 use Rattle.typst_candidates.specs.Nested.{Nested}
@@ -16,7 +16,7 @@ use Rattle.typst_edits.proofs.NumberedNotes.{NestedNumbers, nested-numbers}
 use Rattle.typst_edits.proofs.OpensApart.{opens-apart-law}
 use Rattle.typst_edits.proofs.Spots.{if-true}
 
--- a list cut at two of its notes: at the same, or at one of those before or behind the other
+-- A list cut at two of its notes: the same, or one of those before or after the other.
 data Cuts (es : List Note) (o : Note) (ahead fs : List Note) (p : Note) (beyond : List Note) : Type 0 where
   same : es ≡ fs → ahead ≡ beyond → Cuts es o ahead fs p beyond
   sooner : (between : List Note) → fs ≡ es ++ o ∷ between → ahead ≡ between ++ p ∷ beyond → Cuts es o ahead fs p beyond

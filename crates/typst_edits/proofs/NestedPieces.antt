@@ -18,11 +18,11 @@ use Rattle.typst_edits.proofs.Spots.{if-true, if-false}
 
 -- ---- by the notes
 
--- what comes behind a note, in so many blocks of a run, unless the run's own block ends there
+-- what comes after a note, in a given number of blocks of a run, unless the run's own block ends there
 abbrev further : Tag → ℕ → (ℕ → Option ℕ) → Option ℕ
 further t inside f = elim (inside_behind t inside) as (λ _. Option ℕ) [ None ↦ None | Some m ↦ f m ]
 
--- the number of the first of some notes of which something holds and at which a piece of a run begins, in so many blocks of the run
+-- The number of the first of some notes that has a property and at which a piece of a run begins, in a given number of blocks of the run.
 abbrev pub first_own : (Note → Bool) → ℕ → ℕ → List Note → Option ℕ
 first_own p inside number [] = None
 first_own p inside number (n ∷ ns) =
@@ -37,7 +37,7 @@ same-if : (b : Bool) (x y z : Option ℕ) → y ≡ z → (if b then x else y) �
 same-if true x y z e = refl
 same-if false x y z e = e
 
--- the entries say so
+-- The entries say the same.
 pub piece-found : (at inside start number : ℕ) (ns : List Note) → IsRising start ns → piece_of at inside start number (entries_by start ns) ≡ first_own (λ n. n.start == at) inside number ns
 piece-found at inside start number [] r = refl
 piece-found at inside start number (n ∷ ns) r =
@@ -66,7 +66,7 @@ level-own lv n ns e = if-true (n.levels == lv) _ _ (eq-eqb n.levels lv e)
 level-other : (lv : ℕ) (n : Note) (ns : List Note) → n.levels < lv → of_level lv (n ∷ ns) ≡ of_level lv ns
 level-other lv n ns l = if-false (n.levels == lv) _ _ (ne_eqb n.levels lv (λ e. omega (arith, e, l)))
 
--- notes in fewer levels say none of it
+-- Notes in fewer levels say none of it.
 level-none : (lv deep : ℕ) (ns : List Note) → Nested deep ns → deep < lv → of_level lv ns ≡ []
 level-none lv deep ns (none _) l = refl
 level-none lv deep ns (piece _ n ms line brackets m e more) l = level-other lv n ms (omega (arith, e, l)) ∙ level-none lv deep ms more l
@@ -75,7 +75,7 @@ level-none lv deep ns (block _ o c inner later b m n same less nest rest) l =
     ∙ ap (λ us. us ++ of_level lv (c ∷ later)) (level-none lv o.levels inner nest (omega (arith, less, l)))
     ∙ level-other lv c later (omega (arith, same, less, l)) ∙ level-none lv deep later rest l
 
--- and so does a block
+-- Nor does a block.
 level-block : (lv : ℕ) (o c : Note) (inner later : List Note) → c.levels ≡ o.levels → o.levels < lv → Nested o.levels inner → of_level lv (o ∷ (inner ++ c ∷ later)) ≡ of_level lv later
 level-block lv o c inner later same less nest =
     level-other lv o (inner ++ c ∷ later) less ∙ level-append lv inner (c ∷ later) ∙ ap (λ us. us ++ of_level lv (c ∷ later)) (level-none lv o.levels inner nest less) ∙ level-other lv c later (omega (arith, same, less))
@@ -94,7 +94,7 @@ long-block : (number : ℕ) (o c : Note) (inner later : List Note) → suc (suc 
 long-block number o c inner later = let long = length-append inner (c ∷ later) in omega (arith, long)
 
 module _ (p : Note → Bool) where
-  -- in a block of the run no piece of the run begins
+  -- In a block of the run no piece of the run begins.
   past-inner : (lv inside number : ℕ) (ns ms : List Note) → Nested lv ns → first_own p (suc inside) number (ns ++ ms) ≡ first_own p (suc inside) (number + length ns) ms
   past-inner lv inside number ns ms (none _) = ap (λ j. first_own p (suc inside) j ms) (omega arith)
   past-inner lv inside number ns ms (piece _ n us line brackets m e more) =
@@ -110,7 +110,7 @@ module _ (p : Note → Bool) where
       ∙ past-inner lv inside (suc (suc number + length inner)) later ms rest
       ∙ ap (λ j. first_own p (suc inside) j ms) (long-block number o c inner later)
 
-  -- and none begins where it holds of no note of the level
+  -- None begins where it holds of no note of the level.
   pub past-nested : (lv number : ℕ) (ns ms : List Note) → Nested lv ns → Every (λ n. p n ≡ false) (of_level lv ns) → first_own p 0 number (ns ++ ms) ≡ first_own p 0 (number + length ns) ms
   past-nested lv number ns ms (none _) h = ap (λ j. first_own p 0 j ms) (omega arith)
   past-nested lv number ns ms (piece _ n us line brackets m e more) h =
@@ -133,7 +133,7 @@ module _ (p : Note → Bool) where
   pub own-none : (number : ℕ) (c : Note) (ns : List Note) → c.mark ≡ mark.Closes → first_own p 0 number (c ∷ ns) ≡ None
   own-none number c ns m = own-by p 0 number c ns mark.Closes m
 
--- where one of them is of the level a piece of the run begins
+-- Where one of them is of the level, a piece of the run begins.
 pub some-own : (lv number : ℕ) (ns ms : List Note) → Nested lv ns → 0 < length (of_level lv ns) → first_own (λ n. true) 0 number (ns ++ ms) ≡ None → ⊥
 some-own lv number ns ms (none _) some e = absurd (omega (arith, some))
 some-own lv number ns ms (piece _ n us line brackets m f more) some e = let no = sym (own-here (λ n. true) number n (us ++ ms) line brackets m refl) ∙ e in cc
@@ -152,7 +152,7 @@ pub record Apart (lv : ℕ) (es ls : List Note) : Type 0 where
   pub before : Nested lv es
   pub behind : Nested lv ls
 
--- none of them says as much as a level above
+-- None of them says as much as a level above.
 none-such : (lv deep : ℕ) (inner xs ys : List Note) (n : Note) → Nested deep inner → deep < lv → n.levels ≡ lv → inner ≡ xs ++ n ∷ ys → ⊥
 none-such lv deep inner xs ys n nest less own e =
     let few = longer lv xs ys inner n own e in

@@ -1,4 +1,4 @@
--- The expression where pieces begin that are read again is the same in both texts, so what they take back is too.
+-- The expression at which pieces that are read again begin is the same in both texts, so what they take back is the same too.
 use Rattle.std.proofs.Common.{◌≡◌, ℕ, zero, suc, ◌+◌, ◌<◌, ◌≤◌, Bool, true, ◌++◌, refl, ap, sym, ◌∙◌, subst, arith, List, length}
 use Rattle.typst_kinds.specs.declared.kind.SyntaxKind.{SyntaxKind}
 use Rattle.typst_lines.specs.Place.{Place, moved}
@@ -53,7 +53,7 @@ module _ (l : Level) (stops : SyntaxKind → Bool) where
       let seen = same_in-shift e.taken looks z w (same_in-first (shift e.taken looks) _ z w late) in
       ap (λ (h : Hand). h.kind) (hand-frame l.classes e.state.held e.state.known (moved e.taken z) (moved e.taken w) seen).hand
 
--- so the expression that follows minds as before
+-- So the expression that follows minds errors as before.
 pub minds-same : (l : Level) (d e : End (Bool × ℕ)) (y v : Place) → d ≡ e → (hand_of l v e.state).kind ≡ (hand_of l y e.state).kind
     → minds (markup_head d.value.0 d.value.1 (hand_of l v d.state).kind) ≡ minds (markup_head e.value.0 e.value.1 (hand_of l y e.state).kind)
 minds-same l d e y v same kind =
@@ -73,7 +73,7 @@ pub lead-empties : (k : CharClasses) (z : Place) → (lead k z).state.empties �
 unfolding run
 lead-empties k z = refl
 
--- behind some pieces of two runs stands the same, and the expression there minds as before
+-- After some pieces of two runs the same follows, and the expression there minds errors as before.
 pub record Minds (i : ℕ) (q p : Sequence) : Type 0 where
   pub ends : first_end i p ≡ first_end i q
   pub minds : minds_at p (first_place i p) (first_end i p) ≡ minds_at q (first_place i q) (first_end i q)
@@ -164,7 +164,7 @@ inner-none-back-law k levels front old new rest c (suc i) n m past t u chosen h 
       back_now = (inner-head-law k levels (moved c.at w) s (suc i) m new_first h.pieces.new_go).pieces_back ((block-minds k levels front old new rest c (suc i) some h.pieces.first_go h.pieces.looks).minds ∙ mild);
     }
 
--- ---- behind the pieces
+-- ---- after the pieces
 
 pub none-behind-law : NoneBehindLaw
 none-behind-law k front old new rest i n m past t u h well =

@@ -31,7 +31,7 @@ pub level-append : (lv : ℕ) (ms ns : List Note) → of_level lv (ms ++ ns) ≡
 level-append lv [] ns = refl
 level-append lv (m ∷ ms) ns = level-by (m.levels == lv) m (of_level lv (ms ++ ns)) (of_level lv ms) (of_level lv ns) (level-append lv ms ns)
 
--- the one behind so many has that number
+-- The note after a given number of notes has that number.
 pub numbered-at : (P : ℕ → Note → Type 0) (i : ℕ) (ms : List Note) (n : Note) (ns : List Note) → Numbered P i (ms ++ n ∷ ns) → P (i + length ms) n
 numbered-at P i [] n ns h = subst (λ j. P j n) (omega arith) h.0
 numbered-at P i (m ∷ ms) n ns h = subst (λ j. P j n) (omega arith) (numbered-at P (suc i) ms n ns h.1)
@@ -39,19 +39,19 @@ numbered-at P i (m ∷ ms) n ns h = subst (λ j. P j n) (omega arith) (numbered-
 -- ---- turns
 
 module _ {A : Type 0} (m : A → Meaning (Bool × A)) where
-  -- fewer of them go on, too
+  -- If so many go on, fewer of them do too.
   pub go-fewer : (i n : ℕ) (x : A) (z : Place) (s : Point) → i ≤ n → AllGo (made m n x z s) → AllGo (made m i x z s)
   go-fewer zero n x z s l g = tt
   go-fewer (suc i) zero x z s l g = absurd (omega (arith, l))
   go-fewer (suc i) (suc n) x z s l g = let o = m x z s in (g.0, go-fewer i n o.value.1 (moved o.taken z) o.state (omega (arith, l)) g.1)
 
-  -- and take no more
+  -- Fewer of them take no more.
   pub least-taken : (i n : ℕ) (x : A) (z : Place) (s : Point) → i ≤ n → (end_of x s (made m i x z s)).taken ≤ (end_of x s (made m n x z s)).taken
   least-taken zero n x z s l = omega arith
   least-taken (suc i) zero x z s l = absurd (omega (arith, l))
   least-taken (suc i) (suc n) x z s l = let o = m x z s in let more = least-taken i n o.value.1 (moved o.taken z) o.state (omega (arith, l)) in omega (arith, more)
 
-  -- the one behind the first so many goes on where more do
+  -- The turn after the first ones goes on if more do.
   pub go-next : (n : ℕ) (x : A) (z : Place) (s : Point) → AllGo (made m (suc n) x z s) → (let e = end_of x s (made m n x z s) in goes (m e.value (moved e.taken z) e.state) ≡ true)
   go-next zero x z s g = g.0
   go-next (suc n) x z s g =
@@ -59,14 +59,14 @@ module _ {A : Type 0} (m : A → Meaning (Bool × A)) where
       let e = end_of o.value.1 o.state (made m n o.value.1 (moved o.taken z) o.state) in
       ap (λ w. goes (m e.value w e.state)) (moved-sum o.taken e.taken z) ∙ go-next n o.value.1 (moved o.taken z) o.state g.1
 
-  -- more of them take more
+  -- More of them take more.
   pub more-taken : (i n : ℕ) (x : A) (z : Place) (s : Point) → i < n → AllGo (made m n x z s) → (end_of x s (made m i x z s)).taken < (end_of x s (made m n x z s)).taken
   more-taken i zero x z s l g = absurd (omega (arith, l))
   more-taken zero (suc n) x z s l g = let o = m x z s in let some : 0 < o.taken = ltb-true 0 o.taken (and-second o.value.0 (nat_lt 0 o.taken) g.0) in omega (arith, some)
   more-taken (suc i) (suc n) x z s l g = let o = m x z s in let more = more-taken i n o.value.1 (moved o.taken z) o.state (omega (arith, l)) g.1 in omega (arith, more)
 
 module _ {A : Type 0} (m : A → Meaning (Bool × A)) (within : (x : A) → Within (m x)) where
-  -- they take no more than there is, with the trivia behind them
+  -- They take no more than there is, with the trivia after them.
   pub turns-within : (n : ℕ) (x : A) (z : Place) (s : Point) → (let e = end_of x s (made m n x z s) in e.taken + gap_of e.state.known ≤ bound z s)
   turns-within zero x z s = omega arith
   turns-within (suc n) x z s = let o = m x z s in let most = within x z s in let more = turns-within n o.value.1 (moved o.taken z) o.state in omega (arith, most, more)

@@ -58,7 +58,7 @@ use Rattle.typst_edits.proofs.EmptyRuns.{none-flush as flush-marks}
 use Rattle.typst_edits.proofs.Turns.{Taking, turn-led}
 use Rattle.typst_edits.proofs.InnerJoint.{block-taking}
 
--- the mark of a number stands where so many turns end
+-- The mark of a number stands where that number of turns end.
 pub record EndsNth (m : Bool × ℕ → Meaning (Bool × (Bool × ℕ))) (x : Bool × ℕ) (z : Place) (s : Point) (i at gap : ℕ) (what : Mark) (state : State) : Type 0 where
   pub at_is : at ≡ (end_of x s (made m i x z s)).taken
   pub gap_is : gap ≡ gap_of (end_of x s (made m i x z s)).state.known
@@ -76,7 +76,7 @@ module _ (l : Level) (stops : SyntaxKind → Bool) (taking : Taking l stops) whe
   abbrev turn : Bool × ℕ → Meaning (Bool × (Bool × ℕ))
   turn x = run l (markup_turn true stops x)
 
-  -- a turn that isn't stopped takes something
+  -- A turn that isn't stopped takes something.
   goes-on : (x : Bool × ℕ) (z : Place) (s : Point) → KnownAt s → ends stops x.1 (told (hand_of l z s)).kind ≡ false → goes (turn x z s) ≡ true
   goes-on x z s known go =
       let t = known.trivia in
@@ -88,7 +88,7 @@ module _ (l : Level) (stops : SyntaxKind → Bool) (taking : Taking l stops) whe
       let took = ap (λ (o : Outcome (Bool × (Bool × ℕ))). o.taken) same in
       ap (λ b. b && nat_lt 0 (turn x z s).taken) (turn-goes l stops x z s go) ∙ lt-ltb 0 (turn x z s).taken (omega (arith, some, taken, took))
 
-  -- a turn that isn't stopped notes its end alone
+  -- A turn that isn't stopped notes only its end.
   one-mark : (x : Bool × ℕ) (z : Place) (s : Point) → ends stops x.1 (told (hand_of l z s)).kind ≡ false → InTurn (EndsNth turn x z s) 1 2 (turn x z s).asks
   one-mark x z s go =
       let o = turn x z s in
@@ -143,14 +143,14 @@ module _ (l : Level) (stops : SyntaxKind → Bool) (taking : Taking l stops) whe
   unfolding repeated
   run-in x z s known = turn-in (suc (bound z s)) x z s known (omega arith)
 
--- with where the token behind them begins, from the start of the run on
+-- with where the token after them begins, from the start of the run on
 pub record CutsNth (m : Bool × ℕ → Meaning (Bool × (Bool × ℕ))) (x : Bool × ℕ) (z : Place) (s : Point) (from i at gap : ℕ) (what : Mark) (state : State) : Type 0 where
   pub at_is : at ≡ from + (end_of x s (made m i x z s)).taken
   pub cut : at + gap ≡ from + cut_behind i (end_of x s (made m i x z s))
   pub says : (let e = end_of x s (made m i x z s) in what ≡ mark.Piece e.value.0 e.value.1)
   pub told : state ≡ state_of (end_of x s (made m i x z s)).state
 
--- the marks of a run, behind its own, in a list of all that is asked from its start on
+-- the marks of a run, after its own, in a list of all that is asked from its start on
 pub cuts-in : (m : Bool × ℕ → Meaning (Bool × (Bool × ℕ))) (x : Bool × ℕ) (z : Place) (s : Point) (d count : ℕ) (asks : List Ask) → InTurn (EndsNth m x z s) 1 (suc count) asks
     → InTurn (λ i at gap what state. CutsNth m x z s d i (d + at) gap what state) 1 (suc count) asks
 cuts-in m x z s d count asks h = turn-by (EndsNth m x z s) (λ i at gap what state. CutsNth m x z s d i (d + at) gap what state)
@@ -274,7 +274,7 @@ module _ (k : CharClasses) (levels : ℕ) (z : Place) (s : Point) where
       let in_run : InTurn Q 0 c all = (mark_is, turn-append Q 1 c c (ls ++ o.asks) (shift o.taken behind) (turn-append Q 1 1 c ls o.asks first own) (turn-none Q c (shift o.taken behind) last)) in
       subst (λ u. InTurn P 0 c u) (sym is) (turn-append P 0 0 c (asks_before k levels z s) (shift opened all) (turn-none P 0 (asks_before k levels z s) before) (turn-shift P opened 0 c all in_run))
 
--- counted from so many characters before
+-- counted from a given number of characters before
 nth-moved : (m : Bool × ℕ → Meaning (Bool × (Bool × ℕ))) (x : Bool × ℕ) (y : Place) (s : Point) (a d i : ℕ) (z : Place) (note : Note)
     → NoteNth (λ j at gap what state. CutsNth m x y s d j at gap what state) (moved a z) i note → NoteNth (λ j at gap what state. CutsNth m x y s (a + d) j at gap what state) z i note
 nth-moved m x y s a d i z note n =

@@ -64,7 +64,7 @@ module _ (m : Bool × ℕ → Meaning (Bool × (Bool × ℕ))) where
       let a : suc i + n ≡ suc (i + n) = omega arith in
       ap (λ j. made m j x z s) a ∙ ap (λ us. o ∷ us) (made-split i n o.value.1 y o.state ∙ ap (λ w. os ++ made m n e.value w e.state) (sym (moved-sum o.taken e.taken z)))
 
-  -- they end, with their trivia, by where their looks do
+  -- Pieces, with their trivia, end where their looks do, or before.
   made-seen : ((x : Bool × ℕ) → Sees (m x)) → (n : ℕ) (x : Bool × ℕ) (z : Place) (s : Point) (most : ℕ) → gap_of s.known ≤ most → AllEndBy most (asks_of (made m n x z s))
       → (let e = end_of x s (made m n x z s) in e.taken + gap_of e.state.known ≤ most)
   made-seen sees zero x z s most g h = omega (arith, g)
@@ -106,7 +106,7 @@ module _ {A : Type 0} where
   chain-append [] ps q = refl
   chain-append (o ∷ os) ps q = ap (joined o) (chain-append os ps q)
 
-  -- behind them stands what takes back nothing and gives no hint
+  -- They are followed by what takes back nothing and gives no hint.
   record Followed (os : List (Outcome (Bool × A))) (s : Point) (p : Outcome (Unit {0})) : Type 0 where
     nodes : (chain os p).nodes ≡ (together s os).nodes ++ p.nodes
     hints : (chain os p).hints ≡ (together s os).hints
@@ -182,9 +182,9 @@ pub record Facts (q : Sequence) : Type 0 where
   pub further : (i : ℕ) → AllGo (first_of (suc i) q) → (first_end i q).taken + gap_of (first_end i q).state.known < (first_end (suc i) q).taken
   pub few : (x : Bool × ℕ) (w : Place) → goes (turn_of q x w (fresh q.level w)) ≡ true → (turn_of q x w (fresh q.level w)).state.empties < length (turn_of q x w (fresh q.level w)).nodes
   pub tidy : (n : ℕ) (x : Bool × ℕ) (w : Place) (p : Point) → (let os = made (turn_of q) n x w p in (together (end_of x p os).state os).back ≤ p.empties)
-  -- and where another goes on the run doesn't end
+  -- Where another goes on, the run doesn't end.
   pub not_over : (i : ℕ) → AllGo (first_of (suc i) q) → ends q.stops (first_end i q).value.1 (hand_of q.level (first_place i q) (first_end i q).state).kind ≡ false
-  -- all behind them takes back no errors, where the next doesn't mind them
+  -- All after them takes no errors back, if the next doesn't mind them.
   pub behind : (i n : ℕ) → AllGo (first_of i q) → AllGo (then_of i n q) → minds_at q (then_place i n q) (then_end i n q) ≡ false → (onwards_by i n q).back ≡ 0
 
 fresh-known : (l : Level) (w : Place) → KnownAt (fresh l w)
@@ -251,7 +251,7 @@ module _ (q : Sequence) (taking : Taking q.level q.stops)
 
 -- ---- what two runs share before the stretch
 
--- where pieces end depends on them alone, if there are some
+-- Where pieces end depends only on them, if there are some.
 end-by-pieces : (i : ℕ) (q p : Sequence) → 0 < i → first_of i q ≡ first_of i p → first_end i q ≡ first_end i p
 end-by-pieces zero q p some e = absurd (omega (arith, some))
 end-by-pieces (suc i) q p some e = ap (end_of (true, 0) p.point) e
@@ -278,7 +278,7 @@ drop-within zero xs ys l = refl
 drop-within (suc n) [] ys l = absurd (omega (arith, l))
 drop-within (suc n) (x ∷ xs) ys l = drop-within n xs ys (omega (arith, l))
 
--- how many nodes of trivia stand before the pieces behind a, which belong to the piece before
+-- How many nodes of trivia, which belong to the piece before, stand before the pieces after the first a.
 abbrev pub leading : ℕ → End (Bool × ℕ) → ℕ
 leading a e = if a == 0 then 0 else length (pending e.state.known)
 
@@ -369,7 +369,7 @@ module _ (k : CharClasses) (front old new rest : List ℕ) (r : Run k (front ++ 
     agrees = subst (λ v. Agrees r (is_over a n was) (d + m) (then_end a n was).value v) (sym (value-now m)) e.agrees;
   }
 
-  -- fewer end before the stretch
+  -- Fewer end before the stretch.
   too-few : (n m past : ℕ) (t u : Trivia) → PassesPieces k front old new rest r a n m past t u → m < d → ⊥
   too-few n m past t u h l =
       let some : 0 < a + d = omega (arith, l) in
@@ -435,7 +435,7 @@ module _ (k : CharClasses) (z : Place) where
   unfolding run
   text-facts = facts (text_run k z) (text-taking k) (erring-call k 255) (record { trivia = _; is = refl })
 
-  -- pieces end, with their trivia, by where their looks and the look at the first token do
+  -- Pieces, with their trivia, end where their looks and the look at the first token do, or before.
   pub text-seen : (i most : ℕ) → AllEndBy most ((lead k z).asks ++ asks_of (pieces k i z)) → (end_at k i z).taken + gap_of (end_at k i z).state.known ≤ most
   text-seen i most h =
       let o = lead k z in
@@ -547,7 +547,7 @@ one-reading-law k front old new rest (inner c levels chosen name left) a d go be
 
 -- ---- read again
 
--- a first piece that is read the same but for the trivia before it gives the same with those behind it
+-- A first piece that is read the same, except for the trivia before it, gives the same with those after it.
 same-nodes : (t : Trivia) (o c : Outcome (Bool × (Bool × ℕ))) (p : Outcome (Unit {0})) → SamePiece t o c → p.back < length c.nodes → (joined o p).nodes ≡ t.nodes ++ (joined c p).nodes
 same-nodes t o c p same few = standing-led t.nodes c.nodes o p same.nodes few
 

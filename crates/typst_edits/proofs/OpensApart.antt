@@ -10,7 +10,7 @@ use Rattle.typst_edits.specs.OpensApart.{OpensApartLaw}
 use Rattle.typst_edits.specs.PieceNotes.{listed}
 use Rattle.typst_edits.proofs.Rising.{taken_behind, Spread, notes-spread}
 
--- a note among several, and those behind it
+-- a note among several, and those after it
 record Stands (from : ℕ) (n : Note) (ns : List Note) : Type 0 where
   low : from ≤ n.before
   start : is_opening n.mark ≡ true → n.start ≡ n.before
@@ -35,6 +35,6 @@ opens-apart-law k text earlier between later n o a b is opens opens_too =
     let more = ap taken_behind opens in
     omega (arith, start, start_too, apart, more)
 
--- a block begins directly where its note stands
+-- A block begins directly where its note stands.
 pub opens-directly : (k : CharClasses) (text : List ℕ) (earlier : List Note) (n : Note) (later : List Note) (b : Block) → listed (log k text).notes ≡ earlier ++ n ∷ later → n.mark ≡ mark.Opens b → n.start ≡ n.before
 opens-directly k text earlier n later b is opens = (stands-among 0 earlier n later (subst (λ ns. Spread 0 ns) is (notes-spread k text))).start (ap is_opening opens)

@@ -82,7 +82,7 @@ last-plug hs [] y (r ∷ right) h = refl
 last-plug hs (l ∷ []) y right h = ap (λ u. l ∷ u) (last-plug hs [] y right h)
 last-plug hs (l ∷ m ∷ left) y right h = ap (λ u. l ∷ u) (last-plug hs (m ∷ left) y right h)
 
--- a hint passes by a node that is no error
+-- A hint passes by a node that is no error.
 pub hinted-plug : (hs : List (List ℕ)) (left : List Tree) (y : Tree) (right : List Tree) → is_error y.head.kind ≡ false → hinted hs (left ++ y ∷ right) ≡ left ++ y ∷ hinted hs right
 hinted-plug [] left y right h = refl
 hinted-plug (x ∷ hs) left y right h = last-plug (x ∷ hs) left y right h

@@ -24,7 +24,7 @@ use Rattle.typst_language.proofs.Looks.{same_in-shift, same_in-second}
 -- ---- asks of a larger whole
 
 module _ (a f : ℕ) where
-  -- asks of a run, counted in the whole from where it begins and where so many levels more are left
+  -- asks of a run, counted in the whole from where it begins, where a given number of levels more are left
   abbrev pub lifted : List Ask → List Ask
   lifted ls = shift a (lowered f ls)
 
@@ -58,7 +58,7 @@ lifted-shift a f d (marked at gap fewer m s ∷ ls) =
     let e : a + (d + at) ≡ (a + d) + at = omega arith in
     ap (λ n. marked n gap (f + fewer) m s ∷ lifted a f (shift d ls)) e ∙ ap (λ u. marked ((a + d) + at) gap (f + fewer) m s ∷ u) (lifted-shift a f d ls)
 
--- looks that begin behind a stretch, in a larger whole
+-- looks that begin after a stretch, in a larger whole
 pub begins-lowered : (past : ℕ) (rest : List ℕ) (f : ℕ) (ls : List Ask) → AllBeginIn past rest ls → AllBeginIn past rest (lowered f ls)
 begins-lowered past rest f [] h = tt
 begins-lowered past rest f (looked at look ∷ ls) h = (h.0, h.1, begins-lowered past rest f ls h.2)
@@ -78,7 +78,7 @@ begins-further past d rest (marked at gap fewer m s ∷ ls) h = begins-further p
 
 -- by the point before the look at its first token, and that look
 module _ (r : Sequence) (first : Point) (ls : List Ask) where
-  -- the looks at the token behind n pieces behind i
+  -- the looks at the token after the n pieces that follow the first i
   abbrev pub looks_end : ℕ → ℕ → List Ask
   looks_end i n = shift ((first_end i r).taken + (then_end i n r).taken) (hand_asks_of r.level (then_place i n r) (then_end i n r).state)
 
@@ -92,7 +92,7 @@ module _ (r : Sequence) (first : Point) (ls : List Ask) where
       let looks = hand_asks_of r.level (moved e.taken r.place) e.state in
       count-none (shift e.taken looks) (bare-shift e.taken looks (none-hand Never r.level.classes e.state.held e.state.known (moved e.taken r.place)))
 
-  -- what is asked up to the note where i pieces end, and the looks behind it
+  -- what is asked up to the note where i pieces end, and the looks after it
   pub record Cut (i : ℕ) : Type 0 where
     pub early : List Ask
     pub is : piece_mark 0 (true, 0) first ∷ (ls ++ asks_of (first_of i r)) ≡ early ++ noting (note_at r first i) ∷ looks_next r ls i
@@ -152,7 +152,7 @@ module _ (r : Sequence) (first : Point) (ls : List Ask) where
             ∙ ap (λ u. (next ++ (early ++ late)) ++ q ∷ u) (shift-twice e.taken f.taken hand);
       }
 
-  -- without a piece, and without one before it, the look at the first token has to be what it is where trivia are known
+  -- Without a piece, and without one before it, the look at the first token has to be as where trivia are known.
   pub record Plain : Type 0 where
     pub looks : ls ≡ hand_asks_of r.level r.place r.point
     pub gap : gap_of first.known ≡ gap_of r.point.known
@@ -161,7 +161,7 @@ module _ (r : Sequence) (first : Point) (ls : List Ask) where
   opened zero plain = (plain refl).looks ∙ sym (shift-zero (hand_asks_of r.level r.place r.point))
   opened (suc i) plain = let e = first_end (suc i) r in let none : e.taken ≡ e.taken + 0 = omega arith in ap (λ d. shift d (hand_asks_of r.level (moved e.taken r.place) e.state)) none
 
-  -- ---- in a whole that goes on behind them
+  -- ---- in a whole that goes on after them
 
   module _ (lv a f : ℕ) (z : Place) (more : List Ask) (end : ℕ) (last : List Ask) where
     abbrev pub own_in : ℕ → ℕ → List Ask

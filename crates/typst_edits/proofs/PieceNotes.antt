@@ -28,7 +28,7 @@ module _ (P : ℕ → Note → Type 0) (note : Note) where
   number-later true i y ns f h = let a = f (suc i) h.1 in let less = a.less in record { number = a.number; less = omega (arith, less); holds = a.holds }
   number-later false i y ns f h = f i h
 
-  -- one that says a level is one of that level's
+  -- A note that says a level is one of that level's.
   number-of : (lv i : ℕ) (ns : List Note) → Among note ns → note.levels ≡ lv → Numbered P i (of_level lv ns) → HasNumber P i (of_level lv ns) note
   number-of lv i ns (this xs) own h = number-here (note.levels == lv) i (of_level lv xs) (eq-eqb note.levels lv own) h
   number-of lv i ns (that y xs a) own h = number-later (y.levels == lv) i y (of_level lv xs) (λ j g. number-of lv j xs a own g) h

@@ -29,7 +29,7 @@ use Rattle.typst_edits.proofs.Reached.{Reached}
 use Rattle.typst_edits.proofs.Resumed.{text-reached, resume-law}
 use Rattle.typst_edits.proofs.InnerSplice.{asks-direct, column-none}
 
--- asks that are counted from so many characters on
+-- asks that are counted from a given number of characters further on
 pub logged-shifted : (lv d : ℕ) (z : Place) (asks : List Ask) (h : Log) → logged lv z h (shift d asks) ≡ logged lv (moved d z) h asks
 logged-shifted lv d z [] h = refl
 logged-shifted lv d z (looked at seen ∷ asks) h =
@@ -37,7 +37,7 @@ logged-shifted lv d z (looked at seen ∷ asks) h =
 logged-shifted lv d z (marked at gap fewer m s ∷ asks) h =
     ap (λ p. logged lv z (with_note gap (lv - fewer) m s p h) (shift d asks)) (moved-sum d at z) ∙ logged-shifted lv d z asks (with_note gap (lv - fewer) m s (moved at (moved d z)) h)
 
--- pieces that are the same but for the trivia before the first
+-- pieces that are the same except for the trivia before the first
 pub same-asks : (t : Trivia) (os cs : List (Outcome (Bool × (Bool × ℕ)))) → SamePieces t os cs → asks_of os ≡ shift t.gap (asks_of cs)
 same-asks t [] [] h = refl
 same-asks t [] (c ∷ cs) h = absurd h

@@ -42,7 +42,7 @@ use Rattle.typst_edits.proofs.Sides.{count-append, count-shift}
 
 -- ---- the number of an entry among all
 
--- two decompositions of notes at notes of a level, with as many of that level before them, are the same
+-- Two ways to split notes at a note of a level, with as many of that level before it, are the same.
 same-number : (lv : ℕ) (ns ms us vs : List Note) (n m : Note) → ns ++ n ∷ us ≡ ms ++ m ∷ vs → (n.levels == lv) ≡ true → (m.levels == lv) ≡ true → length (of_level lv ns) ≡ length (of_level lv ms) → (length ns ≡ length ms) × (n ≡ m)
 same-number lv [] [] us vs n m e a b c = (refl, head-same n m us vs e)
 same-number lv [] (x ∷ ms) us vs n m e a b c =
@@ -76,7 +76,7 @@ unfolding run
 cut-noted k zero z = refl
 cut-noted k (suc i) z = refl
 
--- as many notes stand before the one where some pieces of a text's run end as there are in them
+-- As many notes stand before the one where some pieces of a text's run end as there are in them.
 pub counted : (k : CharClasses) (text : List ℕ) (i : ℕ) → (let z = start_of text in AllGo (pieces k i z) → (p : PieceNote (log k text) max_depth text (end_at k i z)) → (length p.earlier ≡ notes_in (asks_of (pieces k i z))) × (p.note.start ≡ width (take (cut_behind i (end_at k i z)) text)))
 counted k text i g p =
     let z = start_of text in
@@ -103,7 +103,7 @@ count-pieces (o ∷ os) ps =
 
 -- ---- the entries at its ends
 
--- the token behind pieces whose looks end before a stretch begins there, and so does the run
+-- The token after pieces whose looks end before a stretch begins there, and so does the run.
 cut-within : (k : CharClasses) (front old rest : List ℕ) (i : ℕ) → Before k front old rest (root_run k (front ++ (old ++ rest))) i → cut_behind i (end_at k i (text_with front old rest)) ≤ length front
 cut-within k front old rest zero looks = omega arith
 cut-within k front old rest (suc i) looks = text-seen k (text_with front old rest) (suc i) (length front) (looks (omega arith))
@@ -140,7 +140,7 @@ run-entries-law ordered k front old rest i n past t g h known sum big =
       after_too = λ more looks. last.after_too (width (front ++ old)) (behind-end front old rest past (ends_at more)) (d.after_too more big looks);
     }
 
--- no two numbers of pieces end before tokens at one byte
+-- Different numbers of pieces don't end before tokens at one byte.
 pub cut-once-law : CutOnceLaw
 cut-once-law k text i j g h e = neither i j (λ l. (let c = cuts-law k text i j l h in omega (arith, c, e))) (λ l. (let c = cuts-law k text j i l g in omega (arith, c, e)))
 
@@ -162,7 +162,7 @@ module _ (k : CharClasses) (front old new rest : List ℕ) where
   abbrev q : Sequence
   q = text_run k w
 
-  -- more pieces of the new text end where trivia are known
+  -- More pieces of the new text end where trivia are known.
   pub then-known : (i m : ℕ) → AllGo (first_of i q) → AllGo (then_of i m q) → KnownAt (then_end i m q).state
   then-known i m g h =
       let both : end_at k (i + m) w ≡ record (then_end i m q) { taken = (first_end i q).taken + (then_end i m q).taken } = made-add (piece_at k) (looks_in q) (each-ends q) i m (true, 0) w (lead k w).state in

@@ -45,7 +45,7 @@ left_text h = texts h.left ++ deep_text h.deep
 abbrev Alike : List ℕ → List Hole → Type 0
 Alike text gs = Every (λ g. left_text g ≡ text) gs
 
--- the node with the hole changes
+-- The node with the hole changes.
 alike-between : (head : Head) (left : List Tree) (d : Deep) (right : List Tree) → Every (λ (e : Deep). deep_text e ≡ head.text ++ (texts left ++ deep_text d)) (between_parens head left d right)
 alike-between head [] d right = tt
 alike-between head (t ∷ left) d [] = tt
@@ -61,7 +61,7 @@ alike-deep unparened h bare = every-if (λ (e : Deep). deep_text e ≡ []) (is_d
 alike-deep unparened h (under head left d right) =
     every-if (λ (e : Deep). deep_text e ≡ deep_text (under head left d right)) (is_delimited head.kind && in_parens (left ++ stub d h ∷ right)) (between_parens head left d right) _ (λ e. alike-between head left d right) (λ e. (refl, tt))
 
--- the first node changes
+-- The first node changes.
 alike-changed : (change : Change) (h : Head) (left : List Tree) (d : Deep) (right : List Tree) → Alike (texts left ++ deep_text d) (change_hole change h left d right)
 alike-changed change h (t ∷ left) d right = (ap (λ x. x ++ deep_text d) (text-shaped (keeps change) (t ∷ left)), tt)
 alike-changed change h [] d right = every-map (λ (e : Deep). deep_text e ≡ deep_text d) (λ (g : Hole). left_text g ≡ deep_text d) (first_hole right) (λ e i. i) (changed_deep change h d) (alike-deep change h d)
@@ -93,7 +93,7 @@ alike-in (lacks count message kind) h kept left d right = alike-node (inner_head
 alike-in (warns kind message hint) h kept left d right = alike-node (warned_head kind message hint) kept _ (record { left = left; deep = d; right = right }) refl refl
 alike-in (fails message) h kept left d right = tt
 
--- what is before the hole holds the same
+-- What is before the hole holds the same.
 alike-wrapped : (shape : Shape) (h : Head) (k : ℕ) (hole : Hole) → Alike (left_text hole) (wrap_hole shape h k hole)
 alike-wrapped shape h k hole =
     let e : texts (take k hole.left) ++ (texts (drop k hole.left) ++ deep_text hole.deep) ≡ left_text hole =
@@ -105,9 +105,9 @@ alike-wrapped shape h k hole =
 -- ---- a block in a larger whole
 
 pub record Placed {A : Type 0} (z : Place) (s : Point) (c : Spot A) : Type 0 where
-  -- it takes back no more errors than stand there
+  -- It takes back no more errors than stand there.
   pub back : c.back ≤ s.empties
-  -- before its node stand the characters before it, and what it gave before its node
+  -- Before its node stand the characters before it, and what it gave before its node.
   pub left : left_text c.hole ≡ utf8_ahead c.at z ++ texts c.front
 
 texts-hinted : (hints : List (List ℕ)) (ts : List Tree) → texts (hinted hints ts) ≡ texts ts
@@ -136,7 +136,7 @@ StandsAt z s = Stands z s.known
 abbrev pub Places : {A : Type 0} → Spots A → Type 0
 Places sp = (z : Place) (s : Point) → StandsAt z s → Every (Placed z s) (sp z s)
 
--- what is read holds what it takes, and takes back no more than stands there
+-- What is read holds what it takes, and takes back no more than stands there.
 abbrev HoldsAll : (A : Type 0) → Place → Point → Outcome A → Type 0
 HoldsAll A z s o = Holds z o × Tidy s o
 

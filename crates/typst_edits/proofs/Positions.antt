@@ -28,7 +28,7 @@ abbrev pub has_text : List ℕ → Bool
 has_text [] = false
 has_text (c ∷ cs) = true
 
--- an error, or a node with a text: no block stands in it
+-- An error, or a node with a text, has no block in it.
 abbrev pub is_hollow : Head → Bool
 is_hollow h = is_error h.kind || has_text h.text
 
@@ -36,12 +36,12 @@ abbrev pub Unless : Bool → Type 0 → Type 0
 Unless true P = ⊥
 Unless false P = P
 
--- something holds at the position of each inner node of a block's kind: its index among the nodes, counted from here, and the path from there
+-- A property holds at the position of each inner node of a block's kind: its index among the nodes, counted from here, and the path from there.
 abbrev pub Each : (ℕ → List ℕ → Type 0) → ℕ → Forest → Type 0
 Each P n none = Unit {0}
 Each P n (more h ks r) = (is_block_head h ≡ true → P n []) × (Each (λ i q. Unless (is_hollow h) (P n (i ∷ q))) 0 ks × Each P (suc n) r)
 
--- no such node stands there
+-- No such node stands there.
 abbrev pub Nowhere : ℕ → List ℕ → Type 0
 Nowhere i q = ⊥
 
@@ -83,12 +83,12 @@ pub each-append : (P : ℕ → List ℕ → Type 0) (n m : ℕ) (ts us : List Tr
 each-append P n m [] us e h k = let f : m ≡ n = omega (arith, e) in subst (λ i. Each P i (forest us)) f k
 each-append P n m (t ∷ ts) us e h k = (h.0, (h.1.0, each-append P (suc n) m ts us (omega (arith, e)) h.1.1 k))
 
--- from the node behind others on
+-- from the node after others on
 pub each-skip : (P : ℕ → List ℕ → Type 0) (n m : ℕ) (ts us : List Tree) → m ≡ n + length ts → Each P n (forest (ts ++ us)) → Each P m (forest us)
 each-skip P n m [] us e h = let f : n ≡ m = omega (arith, e) in subst (λ i. Each P i (forest us)) f h
 each-skip P n m (t ∷ ts) us e h = each-skip P (suc n) m ts us (omega (arith, e)) h.1.1
 
--- no index is less than the first
+-- No index is less than the first.
 pub each-from : (P : ℕ → List ℕ → Type 0) (b n : ℕ) (f : Forest) → b ≤ n → Each P n f → Each (λ i q. (b ≤ i) × P i q) n f
 each-from P b n none l h = tt
 each-from P b n (more a ks r) l h =
@@ -147,7 +147,7 @@ or-first : (a b : Bool) → a ≡ true → (a || b) ≡ true
 or-first true b e = refl
 or-first false b e = absurd (cc)
 
--- in an error no block stands
+-- No block stands in an error.
 each-error : (P Q : ℕ → List ℕ → Type 0) (n : ℕ) (t : Tree) (r : Forest) → is_error t.head.kind ≡ true → Each P n (more t.head t.kids r) → Each Q (suc n) r → Each Q n (more t.head t.kids r)
 each-error P Q n t r e h k = (
   λ u. absurd (error-no-block t.head.kind t.head.is_inner e u),
@@ -178,7 +178,7 @@ each-wanted P Q n thing t r h k =
     (advised-leaf Q n (keyword_hint (text_of t) ∷ []) (expected_message thing (name_of t.head.kind)) (text_of t) r k)
     (advised-leaf Q n [] (expected_message thing (name_of t.head.kind)) (text_of t) r k))
 
--- whether something stands in it is the same of a node of another kind that is no error
+-- Whether something stands in it is the same for a node of another kind that is no error.
 unless-kind : (a b c : Bool) (P Q : Type 0) → a ≡ false → b ≡ false → (P → Q) → Unless (a || c) P → Unless (b || c) Q
 unless-kind a b c P Q e f g h = with_tests a b e f h
   where
@@ -187,7 +187,7 @@ unless-kind a b c P Q e f g h = with_tests a b e f h
     with_tests false true e f h = absurd (cc)
     with_tests false false e f h = unless-by c P Q g h
 
--- a node of another kind is no block's, and what stands in it stays
+-- A node of another kind is no block's, and what stands in it stays.
 each-topped : (P Q : ℕ → List ℕ → Type 0) (n : ℕ) (k : SyntaxKind) (t : Tree) (r : Forest) → is_ordinary k ≡ true → is_error t.head.kind ≡ false → ((i : ℕ) (q : List ℕ) → P n (i ∷ q) → Q n (i ∷ q))
     → Each P n (more t.head t.kids r) → Each Q (suc n) r → Each Q n (more (record t.head { kind = k }) t.kids r)
 each-topped P Q n k t r a e g h j = (
@@ -230,7 +230,7 @@ abbrev pub Deeper : List ℕ → Type 0
 Deeper [] = ⊥
 Deeper (i ∷ q) = Unit {0}
 
--- what stands there still does where the first of several nodes is changed: it is behind the first, or the change leaves it
+-- What stands there still does if the first of several nodes is changed: it comes after the first, or the change leaves it.
 abbrev pub Stays : Change → ℕ → ℕ → List ℕ → Type 0
 Stays stays n i q = Unit {0}
 Stays (turns_wrong message) n i q = n < i
@@ -256,7 +256,7 @@ each-changed P (renamed k) n (t ∷ ts) a h =
 each-changed P unparened n [] a h = tt
 each-changed P unparened n (t ∷ ts) a h = each-by _ _ n (forest (without_parens t ∷ ts)) (λ i q p. (tt, p)) (each-without P n t (forest ts) h)
 
--- where what stood somewhere among several nodes, counted from m, stands in what they become, which is counted from n
+-- What stood somewhere among several nodes, counted from m, stands in what they become, which is counted from n.
 abbrev pub Step : Shape → (ℕ → List ℕ → Type 0) → (ℕ → List ℕ → Type 0) → ℕ → ℕ → Type 0
 Step (keeps change) P Q m n = (i j : ℕ) (q : List ℕ) → i + n ≡ j + m → Stays change m i q → P i q → Q j q
 Step (holds change k) P Q m n = (i j : ℕ) (q : List ℕ) → i ≡ j + m → Stays change m i q → P i q → Q n (j ∷ q)

@@ -1,4 +1,4 @@
--- What is known of the trivia at hand clings: trivia, or errors in their place.
+-- What is known of the trivia at hand clings: it is trivia, or errors where they would stand.
 use Rattle.std.proofs.Common.{◌≡◌, ℕ, zero, suc, Bool, true, false, if◌then◌else◌, nat_lt, List, [], length, encode_utf8_all, Option, Some, None, refl}
 use Rattle.typst_kinds.specs.Kinds.{is_trivia, is_error}
 use Rattle.typst_kinds.specs.declared.kind.SyntaxKind.{SyntaxKind}
@@ -67,7 +67,7 @@ Known_quiet k m known z = Every Quiet (pending known)
 stays : Stays Known_quiet
 stays = record { none = λ k m z. tt; ask = λ k held known z h. hand-quiet k held known z h; flush = λ k held known z h. tt }
 
--- so it is where pieces end
+-- The same holds where pieces end.
 made-quiet : {A : Type 0} (m : A → Meaning (Bool × A)) → ((x : A) (z : Place) (s : Point) → Every Quiet (pending s.known) → Every Quiet (pending (m x z s).state.known)) → (n : ℕ) (x : A) (z : Place) (s : Point) → Every Quiet (pending s.known)
     → Every Quiet (pending (end_of x s (made m n x z s)).state.known)
 made-quiet m keeps zero x z s h = h

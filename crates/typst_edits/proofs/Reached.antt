@@ -1,4 +1,4 @@
--- Behind the trivia at hand stands a token that is no trivia.
+-- The trivia at hand are followed by a token that is no trivia.
 use Rattle.std.proofs.Common.{◌≡◌, ℕ, zero, suc, ◌<◌, ◌≤◌, Bool, true, false, ◌&&◌, if◌then◌else◌, nat_lt, length, Option, Some, None, refl, ap, sym, ◌∙◌, arith}
 use borrow.Author.Tests.{ltb-true}
 use Rattle.typst_kinds.specs.declared.mode.SyntaxMode.{SyntaxMode}
@@ -23,13 +23,13 @@ use Rattle.typst_language.proofs.Within.{and-second}
 use Rattle.typst_edits.proofs.Known.{Stays, Holds, Keeps, holds-joined, holds-grown, holds-run, holds-meaning}
 pub use Rattle.typst_edits.proofs.Known.{flushed-held, flushed-reading}
 
--- ---- behind trivia there are none
+-- ---- trivia are followed by no more of them
 
 bare-trivia : (k : CharClasses) (m : SyntaxMode) (z : Place) (b : Bool) → at_trivia k m z ≡ b → length z.ahead ≡ 0 → b ≡ false
 bare-trivia k m z false h e = refl
 bare-trivia k m z true h e = let some : 0 < len_at k m z = ltb-true 0 (len_at k m z) (and-second (is_trivia (token_at k m z).kind) (nat_lt 0 (len_at k m z)) h) in absurd (omega arith)
 
--- what is found behind a token that is trivia, or at one that is not
+-- what is found after a token that is trivia, or at one that is not
 abbrev Ends_in : CharClasses → SyntaxMode → Place → Ahead → Type 0
 Ends_in k m z a = at_trivia k m (moved a.gap z) ≡ false
 
@@ -46,7 +46,7 @@ ahead-ends k m (suc n) z h =
     (λ t. (let some : 0 < l = ltb-true 0 l (and-second (is_trivia (token_at k m z).kind) (nat_lt 0 l) t) in
     ahead-ends k m n (moved l z) (omega (arith, ahead-left l z))))
 
--- no trivia are found at a token that is none
+-- No trivia are found at a token that is none.
 direct-step : (k : CharClasses) (m : SyntaxMode) (z : Place) (b : Bool) (a : Ahead) → b ≡ false → (if b then a else direct (token_at k m z) (len_at k m z)) ≡ direct (token_at k m z) (len_at k m z)
 direct-step k m z true a h = cc
 direct-step k m z false a h = refl
@@ -68,7 +68,7 @@ Stops k m (Some t) z = at_trivia k m (moved t.gap z) ≡ false
 abbrev pub Reached : CharClasses → Place → Point → Type 0
 Reached k z s = Holds Stops k z s
 
--- behind the trivia at hand
+-- after the trivia at hand
 pub hand-stops : (k : CharClasses) (held : Reading) (known : Option Trivia) (z : Place) → Stops k held.mode known z → at_trivia k held.mode (moved (hand_at k held known z).gap z) ≡ false
 unfolding hand_at ahead
 hand-stops k held None z h = ahead-ends k held.mode (length z.ahead) z (omega arith)
@@ -81,7 +81,7 @@ known-there k held t z w h same =
     let e = token-same (token k held.mode) (moved t.gap z) (moved t.gap w) same.0 in
     ap (λ x. is_trivia x.kind && nat_lt 0 (len_at k held.mode (moved t.gap w))) e.read ∙ ap (λ n. is_trivia (token_at k held.mode (moved t.gap z)).kind && nat_lt 0 n) e.len ∙ h
 
--- and where the token at hand shows the same in another text, there too
+-- Where the token at hand shows the same in another text, the same holds there.
 pub hand-stops-there : (k : CharClasses) (held : Reading) (known : Option Trivia) (z w : Place) → Stops k held.mode known z → SameIn (hand_asks k held known z) z w
     → at_trivia k held.mode (moved (hand_at k held known z).gap w) ≡ false
 hand-stops-there k held None z w h same =
@@ -98,7 +98,7 @@ stays = record {
   flush = λ k held known z h. hand-stops k held known z h;
 }
 
--- a part of a parser that was read from such a place ends at one
+-- A part of a parser that was read from such a place ends at such a place.
 abbrev pub Reaches : {A : Type 0} → CharClasses → Meaning A → Type 0
 Reaches k m = Keeps Stops k m
 

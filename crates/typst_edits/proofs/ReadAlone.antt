@@ -64,14 +64,14 @@ module _ (k : CharClasses) (front old new rest : List ℕ) (r : Run k (front ++ 
   abbrev pub ended_at : ℕ → Bool × ℕ → Place → End (Bool × ℕ)
   ended_at m x y = end_of x (fresh q.level y) (made_at m x y)
 
-  -- where the pieces behind i begin, and what is carried there
+  -- where the pieces after the first i begin, and what is carried there
   abbrev at_cut : ℕ → Place
   at_cut i = moved (cut_at r i z) w
 
   abbrev carried : ℕ → Bool × ℕ
   carried i = (first_end i p).value
 
-  -- WHAT A RUN GIVES: it begins at the same place in both texts where the looks before it end before the stretch, and so its first pieces are the same; and its pieces, read from their first token on, are those that stand there.
+  -- WHAT A RUN GIVES: it begins at the same place in both texts if the looks before it end before the stretch, so its first pieces are the same; and its pieces, read from their first token on, are those that stand there.
   pub record Rereads : Type 0 where
     pub place : q.place ≡ moved (opened_by r w) w
     pub opened : (i : ℕ) → Before k front old rest r i → opened_by r w ≡ opened_by r z
@@ -79,7 +79,7 @@ module _ (k : CharClasses) (front old new rest : List ℕ) (r : Run k (front ++ 
     pub none : (i : ℕ) → 0 < i → AllGo (first_of i p) → Before k front old rest r i → TakesNone i p → TakesNone i q
     pub known : (i : ℕ) → AllGo (first_of i q) → KnownAt (first_end i q).state
     pub then_known : (i m : ℕ) → AllGo (first_of i q) → AllGo (then_of i m q) → KnownAt (then_end i m q).state
-    -- where a token begins no trivia are known
+    -- Where a token begins no trivia are known.
     pub bare : (i : ℕ) (t : Trivia) → (first_end i q).state.known ≡ Some t → (fresh q.level (moved t.gap (first_place i q))).known ≡ Some no_trivia
     pub goes_too : (i m : ℕ) (t : Trivia) → AllGo (first_of i q) → AllGo (read_again i m t q) → (first_end i q).state.known ≡ Some t → TakesNone i q → AllGo (then_of i m q)
     -- where the run begins, and no errors stand before it
@@ -88,7 +88,7 @@ module _ (k : CharClasses) (front old new rest : List ℕ) (r : Run k (front ++ 
     pub start_goes : p.point.empties ≡ 0 → Before k front old rest r 0 → (m : ℕ) → AllGo (made_at m (true, 0) q.place) → AllGo (then_of 0 m q)
 
   module _ (s : Rereads) where
-    -- what begins behind i pieces, in the new text
+    -- what begins after i pieces, in the new text
     pub record Begun (i : ℕ) : Type 0 where
       pub trivia : Trivia
       pub opened : opened_by r w ≡ opened_by r z
@@ -215,7 +215,7 @@ module _ (k : CharClasses) (front old new rest : List ℕ) (r : Run k (front ++ 
     -- ---- the reading of a candidate's pieces
 
     module _ (i n past : ℕ) (t : Trivia) (ts : List Tree) (g : AllGo (first_of i p)) (clear : p.point.empties ≡ 0) (none : 0 < i → TakesNone i p) (looks : Before k front old rest r i) where
-      -- m pieces that are read by themselves end and agree, and these are their nodes
+      -- If m pieces are read by themselves, end and agree, these are their nodes.
       pub record ReadsTo (m : ℕ) : Type 0 where
         pub go : AllGo (made_at m (carried i) (at_cut i))
         pub ends : (let e = ended_at m (carried i) (at_cut i) in cut_at r i z + (e.taken + gap_of e.state.known) ≡ (length front + length new) + past)

@@ -1,4 +1,4 @@
--- Children replaced: an equal front is set aside as it stands, and spans aside they are those exchanged.
+-- Children replaced: an equal front stays as it stands, and spans aside they are those exchanged.
 use Rattle.std.proofs.Common.{◌≡◌, ℕ, zero, suc, true, ◌+◌, ◌-◌, List, [], ◌∷◌, ◌++◌, length, take, drop, reverse, map, Option, Some, None, refl, ap, sym, ◌∙◌, arith, length-append}
 use Rattle.std.specs.Prelude.{option_map, option_and_then, slice_get, slice_set, slice_range}
 use Rattle.std.proofs.Math.Seq.{drop-append-add, take-nil}
@@ -41,7 +41,7 @@ stretch-behind : (xs : List Tree) (from to d : ℕ) → drop d (slice_range xs f
 stretch-behind xs from to d =
     drop-of-take d (to - from) (to - (from + d)) (drop from xs) (omega arith) ∙ ap (take (to - (from + d))) (drop-drop d from xs)
 
--- what is set aside at the end, and what is between, where d more are set aside at the front
+-- what stays at the end, and what is between, where d more stay at the front
 back-behind : (old kept new rest : List Tree) (a all : ℕ) → drop (length kept) old ≡ rest → all ≡ length kept + a → back all old (kept ++ new) ≡ back a rest new
 back-behind old kept new rest a all e is =
     let left : drop all old ≡ drop a rest = rw is (sym (drop-drop a (length kept) old) ∙ ap (drop a) e) in

@@ -32,7 +32,7 @@ use Rattle.typst_edits.proofs.Meeting.{ReadAs, judged-alike}
 use Rattle.typst_edits.proofs.Reached.{Reached, Reaches, reached-run, reached-meaning}
 use Rattle.typst_edits.proofs.Turns.{takes-turn, end-by, Taking, turn-led}
 
--- behind turns the trivia at hand are all of them
+-- After turns the trivia at hand are all of them.
 pub reached-made : {A : Type 0} (k : CharClasses) (m : A → Meaning (Bool × A)) → ((x : A) → Reaches k (m x)) → (n : ℕ) (x : A) (z : Place) (s : Point) → Reached k z s
     → (let e = end_of x s (made m n x z s) in Reached k (moved e.taken z) e.state)
 reached-made k m f zero x z s r = r
@@ -140,7 +140,7 @@ module _ (l : Level) (stops : SyntaxKind → Bool) (taking : Taking l stops) whe
   abbrev place_behind : Bool × ℕ → Point → List (Outcome (Bool × (Bool × ℕ))) → ℕ
   place_behind x s os = let e = end_of x s os in e.taken + gap_of e.state.known
 
-  -- a piece takes more than the trivia before it
+  -- A piece takes more than the trivia before it.
   pub takes-more : (x : Bool × ℕ) (z : Place) (s : Point) → KnownAt s → (turn x z s).value.0 ≡ true → gap_of s.known < (turn x z s).taken
   takes-more x z s known g =
       let t = known.trivia in
@@ -163,7 +163,7 @@ module _ (l : Level) (stops : SyntaxKind → Bool) (taking : Taking l stops) whe
       let rest : place_behind o.value.1 o.state (made turn m o.value.1 (moved o.taken z) o.state) ≡ place_behind o.value.1 o.state (made turn n o.value.1 (moved o.taken z) o.state) = omega (arith, e) in
       ap suc (counted m n o.value.1 (moved o.taken z) o.state (turn-known l stops x z s (first-of _ _ g.0)) g.1 h.1 rest)
 
-  -- more of them end further on
+  -- More of them end further on.
   pub further : (m n : ℕ) (x : Bool × ℕ) (z : Place) (s : Point) → KnownAt s → m < n → AllGo (made turn n x z s) → place_behind x s (made turn m x z s) < place_behind x s (made turn n x z s)
   further m zero x z s known some g = absurd (omega (arith, some))
   further zero (suc n) x z s known some g =
@@ -210,7 +210,7 @@ module _ (l : Level) (stops : SyntaxKind → Bool) (taking : Taking l stops) whe
       let rest = h.1 ∙ sym i.1 in
       (λ j. record { value = value j; taken = taken j; state = state j; back = back j; hints = hints j; nodes = nodes j; asks = asks j; met = met j } ∷ rest j)
 
-  -- with the same trivia at hand pieces are read as if nothing else were known
+  -- With the same trivia at hand pieces are read as if nothing else were known.
   pub as-fresh : (m : ℕ) (x : Bool × ℕ) (z : Place) (t : Trivia) (s f : Point) → s.known ≡ Some t → f.known ≡ Some t → ReadAs markup_reading s → ReadAs markup_reading f → Reached l.classes z s → Reached l.classes z f
       → (minds (markup_head x.0 x.1 (hand_of l z s).kind) ≡ true → s.empties ≡ 0) → f.empties ≡ 0 → AllGo (made turn m x z s) → made turn m x z s ≡ made turn m x z f
   as-fresh m x z t s f known known_too read read_too reach reach_too none none_too g =
@@ -242,14 +242,14 @@ resume-law k z i m t g h known none =
     let e = first_end i (text_run k z) in
     resumed (level_at k max_depth) is_end (text-taking k) m e.value (moved e.taken z) t e.state known (text-read k i 0 z) (text-reached k z i) h none
 
--- pieces that go on where they are read again do so where they stood
+-- Pieces that go on where they are read again do so where they stood.
 pub text-goes-too : (k : CharClasses) (z : Place) (i m : ℕ) (t : Trivia) → (let r = text_run k z in AllGo (first_of i r) → AllGo (read_again i m t r) → (first_end i r).state.known ≡ Some t
     → (minds_at r (first_place i r) (first_end i r) ≡ true → (first_end i r).state.empties ≡ 0) → AllGo (then_of i m r))
 text-goes-too k z i m t g h known none =
     let e = first_end i (text_run k z) in
     goes-too (level_at k max_depth) is_end (text-taking k) m e.value (moved e.taken z) t e.state known (text-read k i 0 z) (text-reached k z i) h none
 
--- where a token begins nothing is known of trivia
+-- Where a token begins nothing is known of trivia.
 pub text-fresh : (k : CharClasses) (z : Place) (i : ℕ) (t : Trivia) → (let e = first_end i (text_run k z) in e.state.known ≡ Some t → (fresh (level_at k max_depth) (moved t.gap (moved e.taken z))).known ≡ Some no_trivia)
 text-fresh k z i t known =
     let e = first_end i (text_run k z) in
@@ -280,13 +280,13 @@ module _ (k : CharClasses) (levels : ℕ) (z : Place) (s : Point) (i : ℕ) wher
   block-known g =
       known-made (inner k levels) ends_block i (true, 0) block_run.place block_run.point (record { trivia = _; is = refl }) g
 
-  -- so at the end of more of them
+  -- The same holds at the end of more of them.
   pub block-then-known : (m : ℕ) → AllGo (first_of i block_run) → AllGo (then_of i m block_run) → KnownAt (then_end i m block_run).state
   unfolding run
   block-then-known m g h =
       known-made (inner k levels) ends_block m block_end.value (moved block_end.taken block_run.place) block_end.state (block-known g) h
 
-  -- where a token begins nothing is known of trivia
+  -- Where a token begins nothing is known of trivia.
   pub block-fresh : (t : Trivia) → block_end.state.known ≡ Some t → (fresh (inner k levels) (moved t.gap (moved block_end.taken block_run.place))).known ≡ Some no_trivia
   block-fresh t known =
       fresh-known (inner k levels) ends_block (block-taking k levels) (moved block_end.taken block_run.place) t block_end.state known (block-read k levels i 0 z s) block-reached
@@ -303,7 +303,7 @@ inner-count-law k levels z s i m n g h j same =
     let e = first_end i r in
     counted (inner k levels) ends_block (block-taking k levels) m n e.value (moved e.taken r.place) e.state (block-known k levels z s i g) h j same
 
--- pieces that go on where they are read again do so where they stood
+-- Pieces that go on where they are read again do so where they stood.
 pub inner-goes-too : (k : CharClasses) (levels : ℕ) (z : Place) (s : Point) (i m : ℕ) (t : Trivia) → (let r = inner_run k levels z s in AllGo (first_of i r) → AllGo (read_again i m t r) → (first_end i r).state.known ≡ Some t
     → (minds_at r (first_place i r) (first_end i r) ≡ true → (first_end i r).state.empties ≡ 0) → AllGo (then_of i m r))
 inner-goes-too k levels z s i m t g h known none =
@@ -337,7 +337,7 @@ module _ (k : CharClasses) (levels : ℕ) (z : Place) (s : Point) where
   unfolding run
   fresh-none = refl
 
-  -- the same trivia are known where a block's run begins as where nothing was known before
+  -- The same trivia are known where a block's run begins as if nothing had been known before.
   pub start-known : (inner_run k levels z s).point.known ≡ fresh_start.known
   unfolding run
   start-known =
@@ -346,7 +346,7 @@ module _ (k : CharClasses) (levels : ℕ) (z : Place) (s : Point) where
       let held : p.held ≡ markup_reading = read.held in
       ap (λ h. (run (inner k levels) peek first_place_of (record { reading = p.reading; held = h; empties = p.empties; is_after_error = p.is_after_error; known = None })).state.known) held
 
-  -- and the same is looked at there
+  -- The same is looked at there.
   pub start-asks : (inner_lead k levels z s).asks ≡ (run (inner k levels) peek first_place_of (start_point markup_reading)).asks
   unfolding run
   start-asks =
@@ -355,12 +355,12 @@ module _ (k : CharClasses) (levels : ℕ) (z : Place) (s : Point) where
       let held : p.held ≡ markup_reading = read.held in
       ap (λ h. (run (inner k levels) peek first_place_of (record { reading = p.reading; held = h; empties = p.empties; is_after_error = p.is_after_error; known = None })).asks) held
 
-  -- no trivia are known behind its bracket
+  -- No trivia are known after its bracket.
   pub bracket-gap : gap_of (bracket k levels z s).state.known ≡ 0
   unfolding run
   bracket-gap = refl
 
-  -- and where errors stand before it only if none is taken back, its pieces are those that are read from there with nothing else known
+  -- Its pieces are those that are read from there with nothing else known, if no error before it is taken back.
   pub start-same : (m : ℕ) → (let r = inner_run k levels z s in (minds_at r (first_place 0 r) (first_end 0 r) ≡ true → r.point.empties ≡ 0) → AllGo (then_of 0 m r)
       → made (turn_of r) m (true, 0) r.place r.point ≡ made (turn_of r) m (true, 0) r.place fresh_start)
   start-same m none g =
@@ -375,7 +375,7 @@ module _ (k : CharClasses) (levels : ℕ) (z : Place) (s : Point) where
       let t = at.trivia in
       goes-both (inner k levels) ends_block (block-taking k levels) m (true, 0) first_place_of t p fresh_start known at.is start-read fresh-read (block-reached k levels z s 0) fresh-reached none fresh-none g
 
--- more pieces that are read by themselves end further on
+-- More pieces that are read by themselves end further on.
 pub alone-further : (k : CharClasses) (levels : ℕ) (m n : ℕ) (x : Bool × ℕ) (y : Place) → m < n → AllGo (read_alone k levels x n y)
     → (let e = end_alone k levels x m y in let f = end_alone k levels x n y in e.taken + gap_of e.state.known < f.taken + gap_of f.state.known)
 unfolding run

@@ -1,4 +1,4 @@
--- Marks don't go back, lie within what is taken, and behind one where a block begins the next lies further.
+-- Marks don't go back and lie within what is taken, and after one where a block begins the next lies further on.
 use Rattle.std.proofs.Common.{◌≡◌, ℕ, zero, suc, ◌+◌, ◌-◌, ◌≤◌, Bool, true, false, nat_lt, List, [], ◌∷◌, ◌++◌, length, take, append_assoc, append-nil, Option, Some, None, refl, ap, sym, ◌∙◌, subst, arith}
 use Rattle.typst_lines.specs.Place.{Place, moved}
 use Rattle.typst_lines.specs.Classes.{CharClasses}
@@ -52,12 +52,12 @@ use Rattle.typst_edits.proofs.Splice.{take-width as take-all}
 
 -- ---- marks in a list of asks
 
--- how much is taken at least behind a mark before the next one
+-- how much is taken at least between a mark and the next one
 abbrev pub taken_behind : Mark → ℕ
 taken_behind (mark.Opens b) = 1
 taken_behind _ = 0
 
--- the marks stand in order, from one place up to another, and a block begins directly at its token
+-- The marks stand in order, from one place up to another, and a block begins directly at its token.
 abbrev step : ℕ → Mark → ℕ
 step gap m = taken_behind m
 
@@ -69,17 +69,17 @@ Rise lo hi ls = Upward step direct lo hi ls
 
 -- ---- whatever the language can say
 
--- what is noted stands in order, within what is taken
+-- What is noted stands in order, within what is taken.
 abbrev Rises : {A : Type 0} → Meaning A → Type 0
 Rises m = AllUp step direct m
 
--- the first of it stands so far on
+-- The first of it stands at a given distance.
 abbrev RiseFrom : {A : Type 0} → ℕ → Outcome A → Type 0
 RiseFrom lo o = UpFrom step direct lo o
 
 -- ---- where a token is at hand
 
--- behind the trivia at hand stands a character
+-- A character follows the trivia at hand.
 abbrev There : Level → Place → Point → Type 0
 There l z s = 0 < length (moved (hand_of l z s).gap z).ahead
 
@@ -110,7 +110,7 @@ module _ (l : Level) (d : (call : Call) → Sane (l.deeper call)) (e : (b : Bloc
       let gap : (hand_of l z s).gap ≡ t.gap = ap (λ k. (hand_at l.classes s.held k z).gap) same in
       omega (arith, some, fits, left, known, gap)
 
-  -- where a parser saw that a token is at hand there is one
+  -- Where a parser saw that a token is at hand there is one.
   sees-there : {A : Type 0} (p : Parser A) (z : Place) (s : Point) → (let o = run l p z s in sees p o.value ≡ true → There l (moved o.taken z) o.state)
   unfolding run
   sees-there (does hand) z s h =
@@ -178,7 +178,7 @@ module _ (l : Level) (d : (call : Call) → Sane (l.deeper call)) (e : (b : Bloc
     rises : {A : Type 0} (p : Parser A) → Guarded pieces false p → Rises (run l p)
     rises p q z s = rise-run false p q z s (λ e. absurd (cc))
 
-    -- what a block reads begins with its token
+    -- What a block reads begins with its token.
     module _ (f : Bool → Shape) (r : Reading) (p : Parser (Unit {0})) (q : Parser Bool) (takes_hand : (z : Place) (s : Point) → (let o = run l p z s in Unmarked o.asks × ((hand_of l z s).gap + (hand_of l z s).len ≤ o.taken))) (rest : Guarded pieces false q) where
       first-stands : (z : Place) (s : Point) → 0 < (hand_of l z s).gap + (hand_of l z s).len → RiseFrom 1 (run l (next p (λ _. q)) z s)
       unfolding run
@@ -217,7 +217,7 @@ module _ (l : Level) (d : (call : Call) → Sane (l.deeper call)) (e : (b : Bloc
         let n = run l peek (moved o.taken z) o.state in
         (unmarked-joined o (joined n (plain (tt {0}) n.state)) (unmarked-hand z s) (unmarked-joined n (plain (tt {0}) n.state) (unmarked-hand (moved o.taken z) o.state) tt), omega arith)
 
-    -- each kind of block does
+    -- Each kind of block does.
     pub begins-by-token : (b : Block) (z : Place) (s : Point) → 0 < (hand_of l z s).gap + (hand_of l z s).len → RiseFrom 1 (run l (peek >> block_production b) z s)
     unfolding content_block code_block eat eat_making
     begins-by-token block.Content z s some = block-stands _ markup_reading _ _ takes-hand ((guarded-inside-content pieces false (λ _ _. refl)).1 tt) z s some
@@ -230,7 +230,7 @@ token-some k m z h = by_end (is_end (token_at k m z).kind) refl
     by_end true e = let none = ap (λ (xs : List ℕ). length xs) (token-ends k m z e) in absurd (omega (arith, none, h))
     by_end false e = token-takes k m z e
 
--- where something stands ahead, the trivia there or the token take something
+-- If something stands ahead, the trivia there or the token take something.
 ahead-some : (k : CharClasses) (m : SyntaxMode) (n : ℕ) (z : Place) → 0 < length z.ahead → 0 < (ahead_by k m n z).gap + (ahead_by k m n z).len
 ahead-some k m zero z h = let some = token-some k m z h in omega (arith, some)
 ahead-some k m (suc n) z h =
@@ -267,7 +267,7 @@ take-more (suc a) zero xs e = absurd (omega (arith, e))
 take-more (suc a) (suc b) [] e = omega arith
 take-more (suc a) (suc b) (x ∷ xs) e = let i = take-more a b xs (omega (arith, e)) in omega (arith, i)
 
--- each character takes a byte at least
+-- Each character takes at least a byte.
 take-behind : (a b : ℕ) (xs : List ℕ) → a ≤ b → b ≤ length xs → width (take a xs) + (b - a) ≤ width (take b xs)
 unfolding width
 take-behind zero zero xs e h = omega arith
@@ -277,7 +277,7 @@ take-behind (suc a) zero xs e h = absurd (omega (arith, e))
 take-behind (suc a) (suc b) [] e h = absurd (omega (arith, h))
 take-behind (suc a) (suc b) (x ∷ xs) e h = let i = take-behind a b xs (omega (arith, e)) (omega (arith, h)) in omega (arith, i)
 
--- where a block begins at a note its token begins there, and the note behind it stands at a later byte
+-- If a block begins at a note, its token begins there, and the next note stands at a later byte.
 abbrev pub Spread : ℕ → List Note → Type 0
 Spread from [] = Unit {0}
 Spread from (n ∷ ns) = (from ≤ n.before) × (is_opening n.mark ≡ true → n.start ≡ n.before) × Spread (n.before + taken_behind n.mark) ns
@@ -286,7 +286,7 @@ spread-low : (a b : ℕ) (ns : List Note) → a ≤ b → Spread b ns → Spread
 spread-low a b [] e h = tt
 spread-low a b (n ∷ ns) e h = (let low = h.0 in omega (arith, e, low), h.1, h.2)
 
--- so many notes more, in order
+-- A given number of further notes come in order.
 record NotedRising (text : List ℕ) (from : ℕ) (ns : List Note) (h : Log) : Type 0 where
   more : List Note
   is : h.notes ≡ Some (ns ++ more)
@@ -337,7 +337,7 @@ rising-law k text =
     let none : width (take 0 text) ≡ 0 = width-none in
     subst (λ ns. Rising 0 (width text) ns) (sym (ap listed n.is)) (subst (λ d. Rising d (width text) n.more) none n.rising)
 
--- behind a note where a block begins the others stand at later bytes
+-- After a note where a block begins the others stand at later bytes.
 pub notes-spread : (k : CharClasses) (text : List ℕ) → Spread 0 (listed (log k text).notes)
 notes-spread k text =
     let n = text-rises k text in

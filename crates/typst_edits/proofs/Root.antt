@@ -20,7 +20,7 @@ use Rattle.typst_edits.specs.Runs.{made, AllGo, End, asks_of, chain, piece_at, s
 use Rattle.typst_edits.proofs.Edit.{before-same, after-same, same_in-to}
 use Rattle.typst_edits.proofs.Runs.{repeated-chain, made-same, chain-state, chain-taken}
 
--- a text's reading is that of its pieces and the trivia behind them
+-- A text's reading is that of its pieces and the trivia after them.
 pub whole-is : (k : CharClasses) (text : List ℕ) → (let z = start_of text in let r = repeated (piece_at k) (true, 0) z (lead k z).state in parsed k max_depth text ≡ whole_of (lead k z) r (tail k r.taken r.state z))
 unfolding run whole markup_run
 whole-is k text =
@@ -42,7 +42,7 @@ module _ (k : CharClasses) where
       let e = end_at k i z in
       repeated-chain (piece_at k) within i (true, 0) z (lead k z).state g ∙ ap (chain (pieces k i z)) (repeated-chain (piece_at k) within n e.value (moved e.taken z) e.state h)
 
-  -- how much it takes
+  -- how many characters it takes
   pub split-taken : (i n : ℕ) (z : Place) → (chain (pieces k i z) (chain (pieces_from k i n z) (rest_from k i n z))).taken ≡ ((end_at k i z).taken + (end_from k i n z).taken) + (rest_from k i n z).taken
   split-taken i n z =
       let e = end_at k i z in
@@ -50,7 +50,7 @@ module _ (k : CharClasses) where
       let b = chain-taken e.value e.state (pieces_from k i n z) (rest_from k i n z) in
       omega (arith, a, b)
 
-  -- the pieces before are the same
+  -- The pieces before are the same.
   pub record First (i : ℕ) (z w : Place) : Type 0 where
     pub pieces_same : pieces k i w ≡ pieces k i z
     pub lead_same : 0 < i → lead k w ≡ lead k z

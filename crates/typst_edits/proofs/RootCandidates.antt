@@ -129,7 +129,7 @@ module _ (k : CharClasses) (text : List ℕ) (i : ℕ) (g : AllGo (pieces k i (s
         last = led.last;
       }
 
-  -- one piece more ends at a cut
+  -- One piece more ends at a cut.
   gives-one : (n : ℕ) (cuts : TopCuts k text) → AllGo (pieces_from k i n z0) → 0 < n → GivesOne run0 cuts.cuts 0 kids i start0
   gives-one n cuts h some =
       let e = end_at k i z0 in
@@ -150,7 +150,7 @@ module _ (k : CharClasses) (text : List ℕ) (i : ℕ) (g : AllGo (pieces k i (s
         cut = ap (λ (u : End (Bool × ℕ)). is_among (token_byte text u) cuts.cuts) (sym sum ∙ ap (λ j. end_at k j z0) next) ∙ cut;
       }
 
-  -- none end where they begin
+  -- None end where they begin.
   none-end : (n : ℕ) → n ≡ 0 → token_byte text (both k i n z0) ≡ start0
   none-end n e =
       let u = end_at k i z0 in

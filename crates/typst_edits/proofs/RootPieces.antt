@@ -52,7 +52,7 @@ drop-none b l ts e = ap (λ (c : Bool). drop (if c then 0 else l) ts) e
 
 -- ---- what the test gives
 
--- where an expression follows, the same is carried there
+-- Where an expression follows, the same is carried there.
 carries : (k : CharClasses) (text : List ℕ) (b : Bool) (m : ℕ) (x y : Bool × ℕ) → Agrees (root_run k text) b m x y → b ≡ false → y ≡ x
 carries k text false m x y a e = a.1
 carries k text true m x y a e = cc
@@ -76,7 +76,7 @@ joint-of k front old new rest i n m past t u h well =
           (λ over. carries k (front ++ (old ++ rest)) (is_over i n (text_run k z)) m (end_from k i n z).value (end_from k i m w).value h.agrees over);
     }
 
--- where its children end: where those of the pieces do
+-- Its children end where those of the pieces do.
 pub end-place : (from : ℕ) (kids before own behind : List Tree) (to end byte : ℕ) (b : Bool) → kids ≡ before ++ (own ++ behind) → end ≡ byte → (b ≡ false → StandsAt from kids to end) → (b ≡ false → LeadsAt from kids byte (length before + length own))
     → (b ≡ true → to ≡ length kids) → (b ≡ true → behind ≡ []) → to ≡ length before + length own
 end-place from kids before own behind to end byte false is e stands leads all none = same-place from kids to byte _ (subst (λ x. StandsAt from kids to x) e (stands refl)) (leads refl)
@@ -86,7 +86,7 @@ end-place from kids before own behind to end byte true is e stands leads all non
     let two = length-append own [] in
     omega (arith, long, one, two)
 
--- what is behind pieces and takes back nothing leaves their nodes
+-- What follows pieces and takes back nothing leaves their nodes.
 pub nodes-left : (o p : Outcome (Unit {0})) (ts : List Tree) → o.back ≡ 0 → less o.back p.nodes ++ ts ≡ p.nodes ++ ts
 nodes-left o p ts e = ap (λ b. less b p.nodes ++ ts) e ∙ ap (λ us. us ++ ts) (less-none p.nodes)
 
@@ -114,7 +114,7 @@ module _ (k : CharClasses) (front old new rest : List ℕ) (c : Candidate) (n m 
       let byte : c.end ≡ token_byte text f = end ∙ sym (ap width (take-past front old rest past (f.taken + gap_of f.state.known) sum)) in
       end-place 0 (trees (tree k text).kids) (standing_before k i n z) (nodes_with k i n t z) led.behind c.to c.end (token_byte text f) (is_over i n (text_run k z)) led.children byte well.next led.next well.last led.last
 
--- a candidate's children are exchanged where they stand
+-- A candidate's children are exchanged where they stand.
 pub put-there : (c : Candidate) (path : List ℕ) (from to : ℕ) (ts us : List Tree) (was : Tree) {now : Tree} → now ≡ with_children path from to ts was → ts ≡ us → c.from ≡ from → c.to ≡ to → c.path ≡ path → now ≡ put_at c.path c.from c.to us was
 put-there c path from to ts us was kept news first last there =
     kept ∙ ap (λ ns. with_children path from to ns was) news ∙ ap (λ j. with_children path j to us was) (sym first) ∙ ap (λ j. with_children path c.from j us was) (sym last)

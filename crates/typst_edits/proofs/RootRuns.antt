@@ -28,7 +28,7 @@ use Rattle.typst_edits.proofs.RootCandidates.{TopCuts, cuts-of-text, pieces-part
 use Rattle.typst_edits.proofs.SpotPlaces.{width-encodes}
 use Rattle.typst_edits.proofs.Widths.{width-append, width-none}
 
--- where no further piece goes on the run ends
+-- Where no further piece goes on, the run ends.
 run-over : (k : CharClasses) (text : List ℕ) (n : ℕ) → AllGo (pieces k n (start_of text)) → (let e = end_at k n (start_of text) in goes (piece_at k e.value (moved e.taken (start_of text)) e.state) ≡ false)
     → is_over 0 n (text_run k (start_of text)) ≡ true
 unfolding run
@@ -62,11 +62,11 @@ module _ (k : CharClasses) (text : List ℕ) (cuts : TopCuts k text) where
       let there = ap (λ d. width (take d text)) (cut-token j (end_at k j z) (omega (arith, less))) in
       omega (arith, more, there)
 
-  -- where pieces behind others end
+  -- where pieces that follow others end
   both-end : (i n j : ℕ) → i + n ≡ j → token_byte text (both k i n z) ≡ byte j
   both-end i n j sum = sym (ap (λ (e : End (Bool × ℕ)). token_byte text e) (end-split-at (text_run k z) i n)) ∙ ap byte sum
 
-  -- the last piece ends with the last child
+  -- The last piece ends with the last child.
   all-bytes : byte cuts.count ≡ 0 + bytes_of kids
   all-bytes =
       let s = standing (text_run k z) cuts.count 0 cuts.count (omega arith) cuts.go (λ m g. top-known k m z g) in
@@ -75,7 +75,7 @@ module _ (k : CharClasses) (text : List ℕ) (cuts : TopCuts k text) where
 
 -- ---- the ends of the children
 
--- together they are the text's bytes
+-- Together they are the text's bytes.
 pub kids-bytes : (k : CharClasses) (text : List ℕ) → bytes_of (trees (tree k text).kids) ≡ width text
 kids-bytes k text =
     let t = tree k text in

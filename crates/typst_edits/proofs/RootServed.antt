@@ -53,7 +53,7 @@ module _ (in_order : InOrderLaw) (k : CharClasses) (front old new rest : List �
 
   module _ (root : Tree) (c : Candidate) (same : bare root ≡ bare (tree k (front ++ (old ++ rest)))) (chosen : Among c (candidates k (front ++ (old ++ rest)) (width front) (width (front ++ old)) root)) (whole : c.is_block ≡ false) (at_root : c.path ≡ [])
       (i n past : ℕ) (t : Trivia) (p : IsPieces k front old rest (root_run k (front ++ (old ++ rest))) c i n past t) (big_new : width (front ++ (new ++ rest)) < 2 ^ 64 - 1) where
-    -- the new pieces behind d old ones are joined to what is behind
+    -- The new pieces that follow d old ones are joined to what follows them.
     joined : (d left m : ℕ) (u : Trivia) (first : Candidate) → n ≡ d + left → IsPieces k front old rest own first (i + d) left past t → Before k front old rest own (i + d) → Behind k front old rest own (i + d) left past t
         → AllGo (then_of (i + d) m v) → PassesPieces k front old new rest own i n (d + m) past t u → PassesJoint k front old new rest (i + d) left m past t u
     joined d left m u first sum f looks behind go h =
@@ -106,7 +106,7 @@ module _ (in_order : InOrderLaw) (k : CharClasses) (front old new rest : List �
           units = units-of-part;
         }
 
--- at the root a reading serves
+-- At the root a reading serves.
 pub root-served : InOrderLaw → RunNumbersLaw → RootPiecesOfLaw → (k : CharClasses) (front old new rest : List ℕ) (root : Tree) (first c : Candidate) → bare root ≡ bare (tree k (front ++ (old ++ rest)))
     → Among first (candidates k (front ++ (old ++ rest)) (width front) (width (front ++ old)) root) → Among c (candidates k (front ++ (old ++ rest)) (width front) (width (front ++ old)) root)
     → first.is_block ≡ false → c.is_block ≡ false → first.path ≡ [] → c.path ≡ [] → c.start ≤ first.start

@@ -12,7 +12,7 @@ use Rattle.typst_edits.specs.Splice.{notes_in, token_start, entries_from}
 use Rattle.typst_edits.proofs.RootPieces.{joint-of, root-pieces-law}
 use Rattle.typst_edits.proofs.RunSplice.{run-splice-law}
 
--- where no piece is read in their place, the run ends behind the old pieces
+-- If no piece is read in their place, the run ends after the old pieces.
 over-by : (k : CharClasses) (text : List ℕ) (b : Bool) (i m : ℕ) (x y : Bool × ℕ) → Agrees (root_run k text) b m x y → i + m ≡ 0 → b ≡ true
 over-by k text true i m x y a e = refl
 over-by k text false i m x y a e = absurd (omega (arith, a.0, e))

@@ -31,7 +31,7 @@ module _ (k : CharClasses) (text : List ℕ) where
   abbrev first_mark : Ask
   first_mark = piece_mark 0 (true, 0) start
 
-  -- what is asked behind j pieces
+  -- what is asked after j pieces
   abbrev asks_behind : ℕ → List Ask
   asks_behind j = let e = end_at k j z0 in let r = behind_pieces k j z0 in r.asks ++ shift r.taken (tail k (e.taken + r.taken) r.state z0).asks
 
@@ -102,7 +102,7 @@ module _ (k : CharClasses) (text : List ℕ) where
         placed = at-second (length text) c.late behind t.placed;
       }
 
-  -- the same behind n pieces behind i
+  -- the same for the n pieces that follow the first i
   abbrev pub both : ℕ → ℕ → End (Bool × ℕ)
   both i n = let f = end_from k i n z0 in record f { taken = (end_at k i z0).taken + f.taken }
 

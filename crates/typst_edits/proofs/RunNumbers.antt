@@ -50,7 +50,7 @@ module _ (r : Sequence) (leads : Leads r) where
   turn-within : (x : Bool × ℕ) → Within (turn x)
   turn-within x = (sane-run r.level leads.deeper leads.blocks (markup_turn true r.stops x)).within
 
-  -- the token behind so many pieces ends it
+  -- The token after a given number of pieces ends it.
   abbrev ended : ℕ → Bool
   ended m = let e = first_end m r in ends r.stops e.value.1 (hand_of r.level (moved e.taken r.place) e.state).kind
 
@@ -94,7 +94,7 @@ module _ (ordered : InOrderLaw) (k : CharClasses) (text : List ℕ) where
   goes-up-to : (i : ℕ) → i ≤ n.count → AllGo (pieces k i (start_of text))
   goes-up-to i l = go-fewer (piece_at k) i n.count (true, 0) (start_of text) (lead k (start_of text)).state l n.go
 
-  -- the note where so many pieces end
+  -- the note where a given number of pieces end
   note-at : (i : ℕ) → i ≤ n.count → NoteAt max_depth 0 ns i (number_of k text i)
   note-at i l =
       let all = n.all in

@@ -37,11 +37,11 @@ module _ (k : CharClasses) (r : Reading) where
   within : (x : Bool × ℕ) → Within (turn x)
   within x = (sane-run level (sane-meaning (rules k) k r.levels) (sane-in k r.levels r.which) (markup_turn true (stops_of r.which) x)).within
 
-  -- fewer pieces go on, too
+  -- If so many pieces go on, fewer of them do too.
   pub fewer-go : (m j : ℕ) → m ≤ j → AllGo (read_by k r j) → AllGo (read_by k r m)
   fewer-go m j l g = go-fewer turn m j r.carried r.place (first_look level r.place).state l g
 
-  -- how far they go, with the trivia behind them
+  -- how far they go, with the trivia after them
   pub ends-in : (m : ℕ) → (let e = end_on level (stops_of r.which) r.carried m r.place in e.taken + gap_of e.state.known ≤ length r.place.ahead)
   ends-in m =
       let room = (sane-run level (sane-meaning (rules k) k r.levels) (sane-in k r.levels r.which) peek).within r.place (start_point markup_reading) in

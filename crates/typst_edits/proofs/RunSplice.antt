@@ -70,7 +70,7 @@ back-shift d [] = refl
 back-shift d (looked at seen ∷ asks) = let e : (d + at) - d ≡ at = omega arith in ap (λ n. looked n seen ∷ map (back_one d) (shift d asks)) e ∙ ap (λ u. looked at seen ∷ u) (back-shift d asks)
 back-shift d (marked at gap fewer m s ∷ asks) = let e : (d + at) - d ≡ at = omega arith in ap (λ n. marked n gap fewer m s ∷ map (back_one d) (shift d asks)) e ∙ ap (λ u. marked at gap fewer m s ∷ u) (back-shift d asks)
 
--- lists that are the same behind so many characters
+-- Lists that are the same after a given number of characters.
 pub unshifted : (d : ℕ) (xs ys : List Ask) → shift d xs ≡ shift d ys → xs ≡ ys
 unshifted d xs ys e = sym (back-shift d xs) ∙ ap (map (back_one d)) e ∙ back-shift d ys
 
@@ -97,7 +97,7 @@ bare-second (marked at gap fewer m s ∷ ls) ks h = absurd h.0
 module _ (k : CharClasses) where
   -- ---- what is asked of a text
 
-  -- up to some pieces, of them, and behind them
+  -- up to some pieces, of them, and after them
   reading-asks : (text : List ℕ) (i n : ℕ) → (let z = start_of text in AllGo (pieces k i z) → AllGo (pieces_from k i n z)
       → (parsed k max_depth text).asks ≡ run_mark ∷ (((lead k z).asks ++ asks_of (pieces k i z)) ++ shift (end_at k i z).taken (asks_of (pieces_from k i n z) ++ shift (end_from k i n z).taken (onwards_from k i n z).asks)))
   reading-asks text i n g h =
@@ -114,11 +114,11 @@ module _ (k : CharClasses) where
       whole-is k text ∙ ap (λ o. whole_of (lead k z) o (tail k o.taken o.state z)) (split-at k i n z g h) ∙ ap (whole_of (lead k z) r) tail_is in
       ap (λ (o : Outcome (Unit {0})). o.asks) is ∙ whole-asks k z r u ∙ ap (λ ls. run_mark ∷ ls) (chained-asks (lead k z).asks (true, 0) e.value (lead k z).state e.state os ps q u)
 
-  -- all that is asked behind the note where i pieces end
+  -- all that is asked after the note where i pieces end
   abbrev pub all_asks : ℕ → ℕ → Place → List Ask
   all_asks i n z = next_looks k i z ++ shift (end_at k i z).taken (asks_of (pieces_from k i n z) ++ shift (end_from k i n z).taken (onwards_from k i n z).asks)
 
-  -- the note where pieces end, and the looks behind it, are those of any run
+  -- The note where pieces end, and the looks after it, are those of any run.
   note-is : (i : ℕ) (z : Place) → note_at (text_run k z) start i ≡ end_note k i z
   note-is zero z = refl
   note-is (suc i) z = refl
@@ -127,7 +127,7 @@ module _ (k : CharClasses) where
   looks-are zero z = refl
   looks-are (suc i) z = refl
 
-  -- what is asked up to that note, and the looks behind it
+  -- what is asked up to that note, and the looks after it
   pub record Cut (i : ℕ) (z : Place) : Type 0 where
     pub first : List Ask
     pub is : run_mark ∷ ((lead k z).asks ++ asks_of (pieces k i z)) ≡ first ++ noting (end_note k i z) ∷ next_looks k i z
@@ -162,15 +162,15 @@ module _ (k : CharClasses) where
       let more = shift (end_at k i z).taken (asks_of (pieces_from k i n z) ++ shift (end_from k i n z).taken (onwards_from k i n z).asks) in
       reading-asks text i n g h ∙ ap (λ u. u ++ more) is ∙ append_assoc first (noting p ∷ next_looks k i z) more
 
-  -- ---- the token behind pieces
+  -- ---- the token after pieces
 
-  -- pieces of a text that end before known trivia at a place, with what is asked behind these
+  -- pieces of a text that end before known trivia at a place, with what is asked after these
   record Tail (i n : ℕ) (z : Place) (t : Trivia) (end : ℕ) (last : List Ask) : Type 0 where
     known : (end_from k i n z).state.known ≡ Some t
     ends : ((end_at k i z).taken + (end_from k i n z).taken) + t.gap ≡ end
     asks : hand_asks_of (level_at k max_depth) (place_from k i n z) (end_from k i n z).state ++ (onwards_from k i n z).asks ≡ shift t.gap last
 
-  -- behind pieces, of which there is one at least
+  -- after pieces, of which there is one at least
   side : (i n : ℕ) (z : Place) (t : Trivia) (end : ℕ) (last : List Ask) → AllGo (pieces_from k i n z) → Tail i n z t end last → 0 < i + n
       → Side max_depth z (end_note k i z) (own_asks k i n z) (all_asks i n z) (entries_at max_depth z end last) (back_at max_depth z end last)
   side i n z t end last g a some =
@@ -193,7 +193,7 @@ module _ (k : CharClasses) where
       subst (λ (x : Noting × List Ask × List Ask). Side max_depth z x.0 x.1 x.2 (entries_at max_depth z end last) (back_at max_depth z end last)) (λ v. (note v, own v, all v))
       (side-in r start ls max_depth 0 0 z (shift both on) end last i n g late (omega (arith, a.ends, gap)) (λ none. absurd (omega (arith, none, some))))
 
-  -- at the text's start no note stands behind the first where no piece is read and the run ends
+  -- At the text's start no note follows the first if no piece is read and the run ends.
   side-start : (text : List ℕ) (t : Trivia) (end : ℕ) (last : List Ask) → (let z = start_of text in Tail 0 0 z t end last → AllMarks Never last → AllFrom 0 z (lead k z).asks → AllFrom 0 z (shift end last)
       → Side max_depth z (end_note k 0 z) (own_asks k 0 0 z) (all_asks 0 0 z) [] 0)
   unfolding position width
@@ -211,7 +211,7 @@ module _ (k : CharClasses) where
       (subst (λ u. AllMarks Never (ls ++ u)) (sym still) (marks-append Never ls on (lead-bare z) behind))
       (subst (λ u. AllFrom 0 z (ls ++ u)) (sym still) (from-both 0 z ls on begun behind_too)) refl
 
-  -- and behind the last pieces of a text none stands either
+  -- None follows the last pieces of a text either.
   side-last : (text : List ℕ) (i n : ℕ) (t : Trivia) (end : ℕ) (last : List Ask) → (let z = start_of text in AllGo (pieces_from k i n z) → Tail i n z t end last → AllMarks Never last → (i + n ≡ 0 → AllFrom 0 z (lead k z).asks)
       → AllFrom 0 z (shift end last) → Last max_depth z end last → Side max_depth z (end_note k i z) (own_asks k i n z) (all_asks i n z) [] 0)
   side-last text zero zero t end last g a none begun begun_last l = side-start text t end last a none (begun refl) begun_last
@@ -235,13 +235,13 @@ pub onwards-begin : (r : Sequence) (x : Bool × ℕ) (z : Place) (s : Point) →
 unfolding run
 onwards-begin r x z s = begins-append (looks_in r z s) (repeated (turn_of r) x z s).asks _ (pieces-begin r x z s)
 
--- at the text's start without a piece the look at the first token is the one at the token behind
+-- At the text's start, without a piece, the look at the first token is the one at the next token.
 lead-begun : (k : CharClasses) (i n : ℕ) (z : Place) (t : Trivia) → (end_from k i n z).state.known ≡ Some t → (token_look (level_at k max_depth) (moved t.gap (place_from k i n z))).back ≡ 0 → i + n ≡ 0 → AllFrom 0 z (lead k z).asks
 lead-begun k zero zero z t known h e = ahead-from z (lead k z).asks (lead-ahead k z t known h)
 lead-begun k (suc i) n z t known h e = absurd (omega (arith, e))
 lead-begun k zero (suc n) z t known h e = absurd (omega (arith, e))
 
--- where a text's run ends, its text does
+-- Where a text's run ends, its text does.
 ends-there : (k : CharClasses) (y : Place) (s : Point) (t : Trivia) (x : ℕ) → s.held ≡ markup_reading → s.known ≡ Some t → ends is_end x (hand_of (level_at k max_depth) y s).kind ≡ true → (moved t.gap y).ahead ≡ []
 ends-there k y s t x held known over =
     let l = level_at k max_depth in
@@ -281,7 +281,7 @@ run-splice-law k front old new rest i n m past t u h over over_new big big_new =
     let held = (text-read k i n z).held in
     let knows_passed : Knows 0 (passed t s) = record { held = held; trivia = _; known = refl; gap = refl } in
     let new_first : AllGo (pieces k i w) = subst (λ os. AllGo os) (sym kept.first) h.first_go in
-    -- the token behind the old pieces, and behind the new ones
+    -- the token after the old pieces, and after the new ones
     let hand_old : hand_asks_of l y s ≡ looked t.gap seen ∷ [] = hand-asks l y t.gap s (record { held = held; trivia = t; known = h.meets.known; gap = refl }) in
     let hand_new = hand-asks l v u.gap q (record { held = (text-read k i m w).held; trivia = u; known = h.meets.known_now; gap = refl }) in
     let on_old : (onwards_from k i n z).asks ≡ shift t.gap asks = (onwards-fronted k i n z t h.meets.known).asks in
@@ -305,7 +305,7 @@ run-splice-law k front old new rest i n m past t u h over over_new big big_new =
     } in
     let first_begins = subst (AllBeginIn past rest) first_old h.after in
     let begins : AllBeginIn past rest last = (first_begins.0, first_begins.1, h.after) in
-    -- both sides, where a piece is there and where the run ends
+    -- both sides, if a piece is there and if the run ends
     let apart : 0 < i + n → 0 < i + m → Both k i n m z w = λ some some_new.
     (let same = same-at max_depth front old new rest past last big big_new begins in
     record {

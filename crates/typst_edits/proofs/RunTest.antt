@@ -60,7 +60,7 @@ use Rattle.typst_edits.proofs.Joint.{text-taking}
 
 -- ---- entries and counts
 
--- pieces end within the text, with their trivia
+-- Pieces end within the text, with their trivia.
 ends-within : (k : CharClasses) (text : List ℕ) (i : ℕ) → (let e = end_at k i (start_of text) in e.taken + gap_of e.state.known ≤ length text)
 unfolding run
 ends-within k text i =
@@ -69,7 +69,7 @@ ends-within k text i =
     let most = turns-within (piece_at k) (within k) i (true, 0) z (lead k z).state in
     omega (arith, first, most)
 
--- more pieces that are read by themselves end further on
+-- More pieces that are read by themselves end further on.
 pub text-further : (k : CharClasses) (m n : ℕ) (x : Bool × ℕ) (y : Place) → m < n → AllGo (read_alone k x n y) → (let e = end_alone k x m y in let f = end_alone k x n y in e.taken + gap_of e.state.known < f.taken + gap_of f.state.known)
 unfolding run
 text-further k m n x y some g =
@@ -170,7 +170,7 @@ module _ (in_order : InOrderLaw) (k : CharClasses) (front old new rest : List �
       (λ h. subst (λ j. rear_in k front old rest ≤ j) to-is (notes.after_too (omega (arith, some)) h)),
     )
 
-    -- a run without an expression has nothing to look at behind it
+    -- A run without an expression has nothing to look at after it.
     pub none-behind : n ≡ 0 → rear_in k front old rest ≤ length es ↔ Behind k front old rest top_run i n past t
     none-behind e =
         let alone = p.empty e in
@@ -228,7 +228,7 @@ module _ (in_order : InOrderLaw) (k : CharClasses) (front old new rest : List �
     abbrev now_at : Place
     now_at = text_with front new rest
 
-    -- however it passes, its pieces are these
+    -- However it passes, its pieces are these.
     pub own-pieces : (ts : List Tree) → Gives k front old new rest c ts → ((m : ℕ) × (u : Trivia) × PassesPieces k front old new rest top_run i n m past t u × (ts ≡ nodes_now top_run i m u now_at))
     own-pieces ts (of_block q far whole too at passes made) = absurd (let no = sym no_block ∙ whole in cc)
     own-pieces ts (of_pieces (inner q levels a name left) j d m far b u plain at start led end h made) = absurd (some-path (path_of q.hole) 1 (at ∙ at_root))

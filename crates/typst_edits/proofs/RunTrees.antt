@@ -66,7 +66,7 @@ module _ (k : CharClasses) (y : Place) (c : Outcome (Bool × ℕ)) (t : Outcome 
       shift-zero (run_mark ∷ shift 0 (ls ++ shift 0 (c.asks ++ []))) ∙ ap (λ u. run_mark ∷ u) (shift-zero (ls ++ shift 0 (c.asks ++ [])) ∙ ap (λ u. ls ++ u) (shift-zero (c.asks ++ []) ∙ append-nil c.asks)) in
       ap (λ u. u ++ shift (0 + (0 + (0 + (c.taken + 0)))) t.asks) inner ∙ ap (λ n. (run_mark ∷ (ls ++ c.asks)) ++ shift n t.asks) sum
 
--- what is asked in pieces, those behind them, all behind these, and the trivia at the end
+-- what is asked in pieces, those after them, all after these, and the trivia at the end
 pub chained-asks : (ls : List Ask) (x v : Bool × ℕ) (s r : Point) (os ps : List (Outcome (Bool × (Bool × ℕ)))) (q : Outcome (Bool × ℕ)) (t : Outcome (Unit {0})) → (let c = chain os (chain ps q) in
     (ls ++ c.asks) ++ shift c.taken t.asks ≡ (ls ++ asks_of os) ++ shift (end_of x s os).taken (asks_of ps ++ shift (end_of v r ps).taken (q.asks ++ shift q.taken t.asks)))
 chained-asks ls x v s r os ps q t =
@@ -86,7 +86,7 @@ chained-asks ls x v s r os ps q t =
     ap (λ u. (ls ++ u) ++ shift c.taken t.asks) asks ∙ ap (λ n. (ls ++ (first ++ shift a second)) ++ shift n t.asks) taken
     ∙ ap (λ u. u ++ last) (sym (append_assoc ls first (shift a second))) ∙ append_assoc (ls ++ first) (shift a second) last ∙ ap (λ u. (ls ++ first) ++ u) (sym outer)
 
--- a text's tree, by its pieces and all behind them
+-- a text's tree, by its pieces and all after them
 pub tree-is : (k : CharClasses) (text : List ℕ) (i n : ℕ) → (let z = start_of text in AllGo (pieces k i z) → AllGo (pieces_from k i n z) → tree k text ≡ tree_by (pieces k i z) (pieces_from k i n z) (onwards_from k i n z))
 unfolding tree
 tree-is k text i n g h =

@@ -29,7 +29,7 @@ module _ {A : Type 0} (m : A → Meaning (Bool × A)) where
       if-true (goes o) _ _ g.0
       ∙ ap (joined o) (enough ∙ repeated-chain w n o.value.1 y o.state g.1 ∙ ap (λ v. chain (made m n o.value.1 y o.state) (repeated m e.value v e.state)) (sym (moved-sum o.taken e.taken z)))
 
-  -- where they show the same, they are the same
+  -- Where they show the same, they are the same.
   pub made-same : ((x : A) → Framed (m x)) → (n : ℕ) (x : A) (z w : Place) (s : Point) → SameIn (asks_of (made m n x z s)) z w → made m n x w s ≡ made m n x z s
   made-same f zero x z w s h = refl
   made-same f (suc n) x z w s h =

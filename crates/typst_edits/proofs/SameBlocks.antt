@@ -20,7 +20,7 @@ use Rattle.typst_edits.proofs.Bytes.{decision-law}
 use Rattle.typst_edits.proofs.EntryNumbers.{some-number}
 use Rattle.typst_edits.proofs.SpotPlaces.{spot-place}
 
--- what stands behind as many
+-- what stands after as many nodes
 same-there : {X : Type 0} (xs ys us vs : List X) (a b : X) → length xs ≡ length us → xs ++ a ∷ ys ≡ us ++ b ∷ vs → a ≡ b
 same-there [] ys [] vs a b l e = ap (first_or a) e
 same-there [] ys (u ∷ us) vs a b l e = absurd (omega (arith, l))
@@ -46,7 +46,7 @@ pub record Home : Type 0 where
 abbrev pub home_of : ℕ → Spot (Unit {0}) → Home
 home_of levels s = record { levels = levels; at = s.at; start = s.start; number = notes_in s.before }
 
--- two blocks that begin at one byte are read the same
+-- Two blocks that begin at one byte are read the same.
 pub same-home : (k : CharClasses) (text : List ℕ) (s r : Spot (Unit {0})) (levels more : ℕ) → Among s (blocks_of_text k text) → Among r (blocks_of_text k text) → max_depth - s.fewer ≡ suc levels → max_depth - r.fewer ≡ suc more
     → s.at ≤ length text → r.at ≤ length text → InnerNumbers k levels text s → InnerNumbers k more text r → width (take s.at text) ≡ width (take r.at text) → home_of levels s ≡ home_of more r
 same-home k text s r levels more there too level level_too room room_too v w byte =

@@ -27,7 +27,7 @@ use Rattle.typst_edits.proofs.Wrap.{Wraps, wraps-hole}
 
 -- ---- holes
 
--- no node around the hole is an error or has a text
+-- No node around the hole is an error or has a text.
 abbrev pub Open : Deep → Type 0
 Open bare = Unit {0}
 Open (under head left d right) = (is_hollow head ≡ false) × Open d
@@ -50,7 +50,7 @@ ends-none c [] t h = h
 ends-none c (u ∷ []) t h = h
 ends-none c (u ∷ v ∷ left) t h = ends-none c (v ∷ left) t h
 
--- just one hole, at this position
+-- There is just one hole, at this position.
 pub record Only (hs : List Hole) (n : ℕ) (q : List ℕ) : Type 0 where
   pub one : Hole
   pub is : hs ≡ one ∷ []
@@ -258,7 +258,7 @@ reshape-sits shape n o i j q r c s h =
 
 -- ---- each position in what several nodes become
 
--- one of the blocks of the one kind or of the other stands there
+-- A block of the one kind or of the other stands there.
 abbrev pub Stood : {A : Type 0} → Outcome A → List (Spot A) → List (Spot A) → ℕ → List ℕ → Type 0
 Stood o cs ds i q = Any (Sits o i q) cs ⊎ Any (Sits o i q) ds
 
@@ -271,7 +271,7 @@ pub stood-flat : {A B : Type 0} (P : Spot A → Type 0) (Q : Spot B → Type 0) 
 stood-flat P Q f g cs ds (inl h) = inl (any-flat P Q f g cs h)
 stood-flat P Q f g cs ds (inr h) = inr (any-flat P Q f g ds h)
 
--- where the spots that sit at one position have just one hole in what the nodes become, at another position
+-- The spots that sit at one position have just one hole in what the nodes become, at another position.
 abbrev pub Goes : {A : Type 0} → Shape → ℕ → Outcome A → ℕ → ℕ → List ℕ → List ℕ → Type 0
 Goes {A} shape n o i j q r = (c : Spot A) → Sits o i q c → Only (wrap_hole shape (block_head c.name) (n + c.back) c.hole) j r
 
@@ -290,7 +290,7 @@ module _ {A : Type 0} (n : ℕ) (o : Outcome A) where
         passes = s.passes;
       }
 
-  -- what stands behind the first nodes
+  -- what comes after the first nodes
   record Behind (i : ℕ) (c : Spot A) : Type 0 where
     is : nat_le (n + c.back) (length c.hole.left) ≡ true
     kept : length (take (n + c.back) c.hole.left) ≡ length (take (n + o.back) o.nodes)

@@ -1,4 +1,4 @@
--- Where a block begins that a reading that was given up covers, no run of a content block is noted.
+-- Where a block within a reading that was given up begins, no run of a content block is noted.
 use Rattle.std.proofs.Common.{◌≡◌, ℕ, ◌<◌, ◌==◌, Bool, true, false, ◌&&◌, if◌then◌else◌, List, [], ◌∷◌, ◌++◌, length, length-append, take, Some, refl, ap, sym, ◌∙◌, subst, arith}
 use Rattle.std.proofs.lemmas.Bool.{eqb-true}
 use Rattle.typst_lines.specs.Classes.{CharClasses}
@@ -26,7 +26,7 @@ use Rattle.typst_edits.proofs.UnnotedLevels.{unnoted-law}
 
 -- ---- the note of a run
 
--- a content block begins at a byte at one of several notes
+-- A content block begins at a byte at one of several notes.
 record Begins (at : ℕ) (ns : List Note) : Type 0 where
   earlier : List Note
   note : Note

@@ -1,4 +1,4 @@
--- Where a block stands that a reading that was given up covers: what the nodes before its own hold are the characters before it.
+-- Where a block within a reading that was given up stands: the nodes before its own hold the characters before it.
 use Rattle.std.proofs.Common.{◌≡◌, ℕ, zero, suc, ◌<◌, false, List, [], ◌∷◌, ◌++◌, length, append-nil, take, length-append, None, refl, ap, sym, ◌∙◌, subst, arith}
 use Rattle.typst_lines.specs.Place.{Place, moved}
 use Rattle.typst_tree.specs.Tree.{Tree, text_of}
@@ -30,7 +30,7 @@ use Rattle.typst_edits.proofs.Reached.{Reached, reached-run, reached-meaning, ha
 use Rattle.typst_edits.proofs.SpotPlaces.{width-encodes}
 use Rattle.typst_edits.proofs.SpotWalk.{Walks, in-any-shape, each-second-level}
 
--- ---- a block that isn't empty gives its node alone
+-- ---- a block that isn't empty gives only its node
 
 abbrev Lone : {A : Type 0} → Spot A → Type 0
 Lone c = 0 < length (text_of c.node) → c.front ≡ []

@@ -1,4 +1,4 @@
--- Whatever is taken was looked at, and the token of each note before the note: they end where the looks end.
+-- Whatever is taken was looked at, and the token of each note before the note: they end where the looks end, or before.
 use Rattle.std.proofs.Common.{◌≡◌, ℕ, zero, suc, ◌+◌, ◌-◌, ◌≤◌, Bool, true, false, ◌&&◌, if◌then◌else◌, nat_lt, List, [], ◌∷◌, ◌++◌, length, Option, Some, None, refl, arith}
 use Rattle.typst_kinds.specs.declared.mode.SyntaxMode.{SyntaxMode}
 use Rattle.typst_kinds.specs.Kinds.{is_error}
@@ -55,7 +55,7 @@ end-only n [] h = tt
 end-only n (looked at look ∷ ls) h = (h.0, end-only n ls h.1)
 end-only n (marked at gap fewer mark s ∷ ls) h = end-only n ls h
 
--- the token of each note begins so many characters on, or before, where all looks before the note end there, or before
+-- The token of each note begins a given number of characters further on, or earlier, if all looks before the note end there, or earlier.
 abbrev pub AllSeen : ℕ → List Ask → Type 0
 AllSeen n [] = Unit {0}
 AllSeen n (looked at look ∷ asks) = at + look.front ≤ n → AllSeen n asks
@@ -109,7 +109,7 @@ ahead-seen k m (suc i) n z h =
     seen-if (at_trivia k m z) n (shift l (asks_by k m i (moved l z))) _ _
     (λ e. let i = ahead-seen k m i (n - l) (moved l z) (end-shift l (n - l) n (asks_by k m i (moved l z)) (omega arith) e) in omega (arith, i, own)) (omega (arith, own)) h.1
 
--- what is known of the trivia, and the token, end by where the looks at them end
+-- What is known of the trivia, and the token, end where the looks at them end, or before.
 hand-seen : (k : CharClasses) (held : Reading) (known : Option Trivia) (z : Place) (n : ℕ) → gap_of known ≤ n → AllEndBy n (hand_asks k held known z) → (hand_at k held known z).gap + (hand_at k held known z).len ≤ n
 unfolding hand_at hand_asks ahead ahead_asks
 hand-seen k held None z n g h = ahead-seen k held.mode (length z.ahead) n z (end-first n (asks_by k held.mode (length z.ahead) z) _ h)
@@ -117,7 +117,7 @@ hand-seen k held (Some t) z n g h = omega (arith, h.0, len-covers (token k held.
 
 -- ---- whatever the language can say
 
--- the tokens of notes, and what is taken with what is known behind it, end so many characters on, or before
+-- The tokens of notes, and what is taken with what is known after it, end a given number of characters further on, or earlier.
 pub record Seen {A : Type 0} (n : ℕ) (o : Outcome A) : Type 0 where
   pub noted : AllSeen n o.asks
   pub ends : AllEndBy n o.asks → o.taken + gap_of o.state.known ≤ n
@@ -223,7 +223,7 @@ module _ (l : Level) where
   sees-trivia : (z : Place) (s : Point) (n : ℕ) → gap_of s.known ≤ n → AllEndBy n (hand_asks_of l z s) → (hand_of l z s).gap ≤ n
   sees-trivia z s n g e = omega (arith, sees-hand z s n g e)
 
-  -- and another look behind
+  -- and another look after it
   more-notes : (z : Place) (s : Point) (n at : ℕ) (look : _) → AllSeen n (hand_asks_of l z s ++ looked at look ∷ [])
   more-notes z s n at look = seen-looks n at look (hand_asks_of l z s) (notes-none z s n)
 

@@ -1,4 +1,4 @@
--- The units of a text by what is asked behind one note: those of some asks of its own, and those of what is behind them.
+-- The units of a text by what is asked after one note: those of some asks of its own, and those of what follows these.
 use Rattle.std.proofs.Common.{◌≡◌, ℕ, suc, ◌+◌, ◌-◌, ◌<◌, ◌≤◌, ◌^◌, max, min, List, [], ◌∷◌, ◌++◌, length, take, length-append, append_assoc, Option, Some, None, refl, ap, sym, ◌∙◌, subst, arith}
 use Rattle.typst_candidates.specs.Entries.{Units, back_of, entries_by, last_start, units_by, units_of, spliced}
 use Rattle.typst_candidates.specs.declared.entry.Entry.{Entry}
@@ -21,7 +21,7 @@ use Rattle.typst_edits.proofs.Splice.{note_by, notes_from, least_from, logged-no
 abbrev pub none_yet : ℕ
 none_yet = 2 ^ 64 - 1
 
--- the notes behind a note
+-- the notes after a note
 abbrev pub fresh_notes : ℕ → Place → List Ask → List Note
 fresh_notes lv z asks = notes_from lv z 0 none_yet asks
 
@@ -32,7 +32,7 @@ notes-none lv z [] reach least h = refl
 notes-none lv z (looked at look ∷ asks) reach least h = notes-none lv z asks (max reach (far look.front (moved at z))) (min least (near look.back (moved at z))) h
 notes-none lv z (marked at gap fewer m s ∷ asks) reach least h = absurd h.0
 
--- looks behind notes
+-- looks after notes
 pub notes-bare : (lv : ℕ) (z : Place) (asks looks : List Ask) (reach least : ℕ) → AllMarks Never looks → notes_from lv z reach least (asks ++ looks) ≡ notes_from lv z reach least asks
 notes-bare lv z [] looks reach least h = notes-none lv z looks reach least h
 notes-bare lv z (looked at look ∷ asks) looks reach least h = notes-bare lv z asks looks (max reach (far look.front (moved at z))) (min least (near look.back (moved at z))) h
@@ -58,7 +58,7 @@ count-none [] h = refl
 count-none (looked at look ∷ ls) h = count-none ls h
 count-none (marked at gap fewer m s ∷ ls) h = absurd h.0
 
--- looks that begin behind a byte
+-- looks that begin after a byte
 pub least-over : (lv b : ℕ) (z : Place) (asks : List Ask) (least : ℕ) → b < least → b < none_yet → AllFrom b z asks → b < least_from lv z least asks
 least-over lv b z [] least h i f = h
 least-over lv b z (looked at look ∷ asks) least h i f = least-over lv b z asks (min least (near look.back (moved at z))) (omega (arith, h, f.0)) i f.1
@@ -69,9 +69,9 @@ from-zero b z [] h = tt
 from-zero b z (looked at look ∷ asks) h = (omega (arith, h.0), from-zero b z asks h.1)
 from-zero b z (marked at gap fewer m s ∷ asks) h = from-zero b z asks h
 
--- ---- behind a note
+-- ---- after a note
 
--- what is asked behind a note gives the entries of some asks of its own and others behind them, and the looks behind the last note begin so far back
+-- What is asked after a note gives the entries of some asks of its own and then of others, and the looks since the last note begin a given number of bytes back.
 pub record Side (lv : ℕ) (z : Place) (p : Noting) (own all : List Ask) (behind : List Entry) (back : ℕ) : Type 0 where
   pub entries : entries_by (token_start z p) (fresh_notes lv z all) ≡ entries_by (token_start z p) (fresh_notes lv z own) ++ behind
   pub ends : back_of (last_start (token_start z p) (fresh_notes lv z all)) (least_from lv z none_yet all) ≡ back
@@ -99,7 +99,7 @@ units-side lv z first p all =
     ∙ ap (λ es. record { entries = es; back = back_of (last_start 0 (ns ++ ms)) (least_from lv z none_yet all) }) entries
     ∙ ap (λ n. record { entries = entries_by 0 ns ++ entries_by tp ms; back = back_of n (least_from lv z none_yet all) }) ending
 
--- where two texts have the same first notes, and the same behind their own asks, the units of the one are those of the other with the own ones exchanged
+-- Where two texts have the same first notes, and the same after their own asks, the units of the one are those of the other with the own ones exchanged.
 pub splice-sides : (lv : ℕ) (front xs ys : List ℕ) (first : List Ask) (p : Noting) (own all own_new all_new : List Ask) (behind : List Entry) (back : ℕ)
     → (let z : Place = record { before = []; ahead = front ++ xs } in
     let w : Place = record { before = []; ahead = front ++ ys } in
@@ -130,16 +130,16 @@ splice-sides lv front xs ys first p own all own_new all_new behind back ends not
     ∙ ap (λ part. spliced from to part (record { entries = es ++ (fs ++ behind); back = back })) (sym part_is)
     ∙ ap (spliced from to (entries_from (token_start w p) (logged lv w no_log own_new).notes)) (sym was)
 
--- ---- behind a token
+-- ---- after a token
 
--- what is asked from so many characters on, behind a note whose token begins there
+-- what is asked from a given number of characters further on, after a note whose token begins there
 abbrev pub entries_at : ℕ → Place → ℕ → List Ask → List Entry
 entries_at lv z at asks = entries_by (position (moved at z)) (fresh_notes lv z (shift at asks))
 
 abbrev pub back_at : ℕ → Place → ℕ → List Ask → ℕ
 back_at lv z at asks = back_of (last_start (position (moved at z)) (fresh_notes lv z (shift at asks))) (least_from lv z none_yet (shift at asks))
 
--- own asks that end with a note, whose token begins there, and looks behind it
+-- own asks that end with a note, whose token begins there, and looks after it
 pub side-closed : (lv : ℕ) (z : Place) (p q : Noting) (own all second looks : List Ask) (at : ℕ) (last : List Ask) → own ≡ second ++ noting q ∷ looks → AllMarks Never looks → all ≡ second ++ noting q ∷ shift at last
     → token_start z q ≡ position (moved at z) → Side lv z p own all (entries_at lv z at last) (back_at lv z at last)
 side-closed lv z p q own all second looks at last own_is none all_is begins =
@@ -157,7 +157,7 @@ side-closed lv z p q own all second looks at last own_is none all_is begins =
           ∙ ap (back_of (last_start (position (moved at z)) ms)) least;
     }
 
--- no note of its own, where the note's token begins there
+-- No note of its own is made, where the note's token begins there.
 pub side-open : (lv : ℕ) (z : Place) (p : Noting) (own all : List Ask) (at : ℕ) (last : List Ask) → AllMarks Never own → all ≡ shift at last → token_start z p ≡ position (moved at z)
     → Side lv z p own all (entries_at lv z at last) (back_at lv z at last)
 side-open lv z p own all at last none all_is begins =
@@ -169,7 +169,7 @@ side-open lv z p own all at last none all_is begins =
       ends = ap (λ u. back_of (last_start tp (fresh_notes lv z u)) (least_from lv z none_yet u)) all_is ∙ ap (λ n. back_of (last_start n ms) (least_from lv z none_yet (shift at last))) begins;
     }
 
--- no note at all behind a note at the text's start
+-- No note at all follows a note at the text's start.
 pub side-none : (lv : ℕ) (z : Place) (p : Noting) (own all : List Ask) → AllMarks Never own → AllMarks Never all → AllFrom 0 z all → token_start z p ≡ 0 → Side lv z p own all [] 0
 side-none lv z p own all bare none begun begins =
     let tp = token_start z p in
@@ -182,7 +182,7 @@ side-none lv z p own all bare none begun begins =
       ends = ap (λ u. back_of (last_start tp u) (least_from lv z none_yet all)) all_notes ∙ ap (λ n. back_of n (least_from lv z none_yet all)) begins ∙ back;
     }
 
--- the same behind two stretches
+-- the same after two stretches
 pub record SameAt (lv : ℕ) (z w : Place) (end stop : ℕ) (last : List Ask) : Type 0 where
   pub entries : entries_at lv w stop last ≡ entries_at lv z end last
   pub back : back_at lv w stop last ≡ back_at lv z end last
@@ -211,9 +211,9 @@ same-at lv front old new rest past last big big_new begins =
       back = ap (λ n. back_of (last_start n ms) (least_from lv w none_yet (shift stop last))) r_is ∙ sym behind.back ∙ ap (λ n. back_of (last_start n ns) (least_from lv z none_yet (shift end last))) (sym q_is);
     }
 
--- ---- behind the last token
+-- ---- after the last token
 
--- looks there, none of which goes back
+-- Looks there, none of which goes back.
 pub record Last (lv : ℕ) (z : Place) (at : ℕ) (last : List Ask) : Type 0 where
   pub entries : entries_at lv z at last ≡ []
   pub back : back_at lv z at last ≡ 0

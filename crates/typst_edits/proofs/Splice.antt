@@ -1,4 +1,4 @@
--- The units of two texts that are asked the same before a stretch and behind it.
+-- The units of two texts that are asked the same before a stretch and after it.
 use Rattle.std.proofs.Common.{◌≡◌, ℕ, zero, suc, ◌+◌, ◌-◌, ◌<◌, ◌≤◌, ◌^◌, max, min, List, [], ◌∷◌, ◌++◌, length, take, drop, length-append, append_assoc, append-nil, Option, Some, None, refl, ap, sym, ◌∙◌, subst, arith}
 use Rattle.std.proofs.Math.Seq.{take-append_seam, drop-append_seam}
 use Rattle.typst_candidates.specs.Entries.{Units, tag_of, count_of, back_of, entry_of, entries_by, last_start, units_by, units_of, spliced}
@@ -48,7 +48,7 @@ logged-least lv z [] reach least ns = refl
 logged-least lv z (looked at look ∷ asks) reach least ns = logged-least lv z asks (max reach (far look.front (moved at z))) (min least (near look.back (moved at z))) ns
 logged-least lv z (marked at gap fewer m s ∷ asks) reach least ns = logged-least lv z asks 0 (2 ^ 64 - 1) (ns ++ note_by lv z reach least at gap fewer m s ∷ [])
 
--- a note parts them
+-- A note separates them.
 pub notes-split : (lv : ℕ) (z : Place) (asks more : List Ask) (p : Noting) (reach least : ℕ) → notes_from lv z reach least (asks ++ noting p ∷ more) ≡ notes_from lv z reach least (asks ++ noting p ∷ []) ++ notes_from lv z 0 (2 ^ 64 - 1) more
 notes-split lv z [] more p reach least = refl
 notes-split lv z (looked at look ∷ asks) more p reach least = notes-split lv z asks more p (max reach (far look.front (moved at z))) (min least (near look.back (moved at z)))
@@ -69,7 +69,7 @@ last-is lv z [] p reach least start = refl
 last-is lv z (looked at look ∷ asks) p reach least start = last-is lv z asks p (max reach (far look.front (moved at z))) (min least (near look.back (moved at z))) start
 last-is lv z (marked at gap fewer m s ∷ asks) p reach least start = last-is lv z asks p 0 (2 ^ 64 - 1) (position (moved gap (moved at z)))
 
--- ---- entries one behind the other
+-- ---- entries one after the other
 
 pub entries-append : (start : ℕ) (ns ms : List Note) → entries_by start (ns ++ ms) ≡ entries_by start ns ++ entries_by (last_start start ns) ms
 entries-append start [] ms = refl
@@ -137,7 +137,7 @@ front-same lv front xs ys (marked at gap fewer m s ∷ asks) p reach least h g e
     ap (λ n. n ∷ notes_from lv z 0 (2 ^ 64 - 1) (asks ++ noting p ∷ [])) (note-same lv q front xs ys reach least g.0)
     ∙ ap (λ ns. note_by lv w reach least at gap fewer m s ∷ ns) (front-same lv front xs ys asks p 0 (2 ^ 64 - 1) h g.1 e)
 
--- ---- behind the stretch
+-- ---- after the stretch
 
 ahead-is : (d : ℕ) (b a : List ℕ) → (moved_from d b a).ahead ≡ drop d a
 ahead-is zero b a = refl
@@ -185,7 +185,7 @@ near-behind n d early rest h k =
     let three = width-onto (take d rest) [] in
     omega (arith, one, two, three, width-none, moved-width d early rest)
 
--- ends and beginnings of looks that stand as far behind the one byte as behind the other
+-- Looks end and begin as far after the one byte as after the other.
 abbrev pub SameReach : ℕ → ℕ → ℕ → ℕ → Type 0
 SameReach e f a b = (x : ℕ) → a - (e + x) ≡ b - (f + x)
 
@@ -210,13 +210,13 @@ entry_with t count step gap forth back = record { tag = t; step = step; gap = ga
 entry-same : (t : Tag) (count a b c d e f g h : ℕ) → a ≡ e → b ≡ f → c ≡ g → d ≡ h → entry_with t count a b c d ≡ entry_with t count e f g h
 entry-same t count a b c d e f g h i j k l = ap (λ n. entry_with t count n b c d) i ∙ ap (λ n. entry_with t count e n c d) j ∙ ap (λ n. entry_with t count e f n d) k ∙ ap (λ n. entry_with t count e f g n) l
 
--- the place so many characters on, behind the stretch
+-- the place a given number of characters further on, after the stretch
 behind-place : (front mid rest : List ℕ) (end past at : ℕ) → end ≡ (length front + length mid) + past → moved (end + at) (text_with front mid rest) ≡ moved (past + at) (record { before = onto mid (onto front []); ahead = rest })
 behind-place front mid rest end past at e =
     let there : end + at ≡ (length front + length mid) + (past + at) = omega (arith, e) in
     ap (λ n. moved n (text_with front mid rest)) there ∙ past-is (past + at) front mid rest
 
--- so much behind the one stretch and the other
+-- as far after the one stretch as after the other
 module _ (lv : ℕ) (front old new rest : List ℕ) (past end stop : ℕ) (e : end ≡ (length front + length old) + past) (f : stop ≡ (length front + length new) + past) where
   abbrev z : Place
   z = text_with front old rest
@@ -264,7 +264,7 @@ module _ (lv : ℕ) (front old new rest : List ℕ) (past end stop : ℕ) (e : e
   near-new : (at n : ℕ) → n ≤ past + at → past + at ≤ length rest → near n (moved (stop + at) w) ≡ c + (suc (wide (past + at)) - stretch n (onto (take (past + at) rest) []))
   near-new at n h k = ap (near n) (behind-place front new rest stop past at f) ∙ near-behind n (past + at) (onto new (onto front [])) rest h k
 
-  -- the entries are the same, and how far back is looked behind the last note
+  -- The entries are the same, and so is how far back was looked since the last note.
   pub record Rear (x r l t u : ℕ) (asks : List Ask) : Type 0 where
     pub entries : entries_by (b + x) (notes_from lv z r l (shift end asks)) ≡ entries_by (c + x) (notes_from lv w t u (shift stop asks))
     pub back : back_of (last_start (b + x) (notes_from lv z r l (shift end asks))) (least_from lv z l (shift end asks)) ≡ back_of (last_start (c + x) (notes_from lv w t u (shift stop asks))) (least_from lv w u (shift stop asks))
@@ -304,7 +304,7 @@ module _ (lv : ℕ) (front old new rest : List ℕ) (past end stop : ℕ) (e : e
 
 -- ---- the law
 
--- the units of what is asked up to a note, up to another one, and behind it
+-- the units of what is asked up to a note, up to another one, and after it
 module _ (lv : ℕ) (z : Place) (first second last : List Ask) (p q : Noting) where
   abbrev none_yet : ℕ
   none_yet = 2 ^ 64 - 1

@@ -33,7 +33,7 @@ unfolding width char_width
 width-encodes [] = refl
 width-encodes (c ∷ xs) = omega (arith, length-append (encode_utf8 c) (encode_utf8_all xs), length-encode c, width-encodes xs)
 
--- where it stands: its node is in its hole, and one that isn't empty begins and ends where the block does
+-- A block's node is in its hole, and one that isn't empty begins and ends where the block does.
 pub record SpotPlace (k : CharClasses) (text : List ℕ) (s : Spot (Unit {0})) : Type 0 where
   pub nodes : (parsed k max_depth text).nodes ≡ plug s.hole s.node
   pub room : s.at + (unit_at s (start_of text)).taken ≤ max s.at (length text)
@@ -45,7 +45,7 @@ pub record SpotPlace (k : CharClasses) (text : List ℕ) (s : Spot (Unit {0})) :
   pub front : 0 < length (text_of s.node) → s.front ≡ []
   pub head : s.node.head ≡ block_head s.name
 
--- what takes nothing has an empty last node
+-- What takes nothing has an empty last node.
 some-taken : (n : ℕ) (z : Place) (ts : List Tree) (t : Tree) → texts (ts ++ t ∷ []) ≡ utf8_ahead n z → 0 < length (text_of t) → 0 < n
 some-taken zero z ts t e h =
     let a = ap length (texts-append ts (t ∷ [])) in

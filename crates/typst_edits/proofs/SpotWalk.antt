@@ -1,4 +1,4 @@
--- What holds of each block of a reading, word by word: it holds in the whole where it holds in each part.
+-- A property of each block of a reading, word by word: it holds in the whole if it holds in each part.
 use Rattle.std.proofs.Common.{◌≡◌, ℕ, zero, suc, ◌+◌, ◌-◌, Bool, true, false, ◌&&◌, nat_lt, Option, Some, None, List, [], ◌++◌, map, subst, arith}
 use Rattle.std.specs.List.{flat_map}
 use Rattle.typst_lines.specs.Place.{Place, moved}
@@ -21,13 +21,13 @@ use Rattle.typst_edits.specs.Occurrences.{Spots, joined_spots, goes, last_spot, 
 use Rattle.typst_edits.specs.Standing.{seconds, call_seconds, block_seconds, level_seconds}
 use Rattle.typst_edits.proofs.Every.{Every, every-any, every-append, every-map, every-flat, every-if}
 
--- what says nothing of the nodes around a block holds in any shape
+-- What says nothing of the nodes around a block holds in any shape.
 pub in-any-shape : {A : Type 0} (Q : Spot A → Type 0) (shape : Shape) (n : ℕ) (c : Spot A) → ((s : Point) (g : Hole) → Q (rehole s c g)) → Every Q (reshaped_spot shape n c)
 in-any-shape Q shape n c h = every-map (λ g. Unit {0}) Q (rehole _ c) (λ g u. h _ g) _ (every-any (wrap_hole shape (block_head c.name) (n + c.back) c.hole))
 
--- by what is known where a reading begins, what of all that it reads, and what holds of each block in it where so many levels are left
+-- It depends on what is known where a reading begins, on what is known of all that it reads, and on what holds of each block in it where a given number of levels are left.
 module _ (At : Place → Point → Type 0) (Gone : (A : Type 0) → Place → Point → Outcome A → Type 0) (P : (A : Type 0) → ℕ → Place → Point → Spot A → Type 0) where
-  -- WHAT A WALK NEEDS: these are kept where parts become a whole.
+  -- WHAT A WALK NEEDS: these stay when parts become a whole.
   pub record Walks : Type 1 where
     pub at_none : (z : Place) (s : Point) → At z (forgot s)
     pub at_entered : (z : Place) (s : Point) (r : Reading) → At z s → At z (entered r s)
@@ -41,7 +41,7 @@ module _ (At : Place → Point → Type 0) (Gone : (A : Type 0) → Place → Po
     pub deeper : (A : Type 0) (n : ℕ) (z : Place) (s : Point) (c : Spot A) → P A (n - 1) z s c → P A n z s (sunk_spot c)
     pub in_block : (n : ℕ) (z : Place) (s : Point) (b : Block) (c : Spot (Unit {0})) → P (Unit {0}) n z (forgot s) c → P (Unit {0}) n z s (closed_spot b s c)
 
-  -- so it holds of each block of a reading
+  -- So it holds of each block of a reading.
   abbrev pub Holds : {A : Type 0} → ℕ → Spots A → Type 0
   Holds {A} n sp = (z : Place) (s : Point) → At z s → Every (P A n z s) (sp z s)
 
@@ -92,7 +92,7 @@ module _ (At : Place → Point → Type 0) (Gone : (A : Type 0) → Place → Po
 
   -- ---- whatever the language can say
 
-  -- what a level gives to a walk: what is known of all that it reads, and each block itself, behind the trivia at hand
+  -- What a level gives to a walk: what is known of all that it reads, and each block itself, after the trivia at hand.
   pub record Steps (l : Level) : Type 1 where
     pub reads : (A : Type 0) (p : Parser A) (z : Place) (s : Point) → At z s → Gone A z s (run l p z s)
     pub here : (b : Block) → l.has b ≡ true → (z : Place) (s : Point) → At z s → (let o = done l flushes z s in P (Unit {0}) l.levels z s (after_spot o (here_spot b (l.blocks b) (moved o.taken z) o.state)))

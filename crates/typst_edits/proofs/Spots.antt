@@ -23,7 +23,7 @@ use Rattle.typst_edits.proofs.Outcomes.{same-outcome, seen-plug}
 use Rattle.typst_edits.proofs.Wrap.{Wraps, wraps-hole}
 use Rattle.typst_edits.proofs.Inside.{Edits, Lawful, edits-then, lawful-then, lawful-after}
 
--- for each block of a reading, what an edit inside it gives
+-- What an edit inside each block of a reading gives.
 abbrev pub Inside : {A : Type 0} → Meaning A → Spots A → Type 0
 Inside m sp = (z w : Place) (s : Point) → Every (Lawful z w (m z s) (m w s)) (sp z s)
 
@@ -79,7 +79,7 @@ lawful-last z w o n c l = record {
 some-is : (n : ℕ) → 0 < n → nat_lt 0 n ≡ true
 some-is n h = grind (arith, nat_tests)
 
--- a part with a block in it takes something, before and after
+-- A part with a block in it takes something, before and after.
 pub took-same : {A : Type 0} (z w : Place) (o n : Outcome A) (c : Spot A) (x : Tree) → Lawful z w o n c → Edits z w c x → nat_lt 0 n.taken ≡ nat_lt 0 o.taken
 took-same z w o n c x l e =
     let t = ap (λ u. u.taken) (l.swaps x e) in
@@ -92,7 +92,7 @@ value-same z w o n c x l e = ap (λ u. u.value) (l.swaps x e) ∙ sym (ap (λ u.
 goes-same : {A : Type 0} (z w : Place) (o n : Outcome (Bool × A)) (c : Spot (Bool × A)) (x : Tree) → Lawful z w o n c → Edits z w c x → goes n ≡ goes o
 goes-same z w o n c x l e = ap (λ v. v.0 && nat_lt 0 n.taken) (value-same z w o n c x l e) ∙ ap (λ b. o.value.0 && b) (took-same z w o n c x l e)
 
--- a turn, and what comes behind it where it goes on
+-- A turn, and what comes after it if it goes on.
 turn-inside : {A : Type 0} (z w : Place) (o n : Outcome (Bool × A)) (f : Bool × A → Meaning A) (cs : List (Spot (Bool × A))) (ds : List (Spot A)) → ((b : Bool × A) → Framed (f b)) → ((b : Bool × A) → Backs (f b)) → (SameIn o.asks z w → n ≡ o)
     → Every (Lawful z w o n) cs → Every (Lawful (moved o.taken z) (moved o.taken w) (f o.value (moved o.taken z) o.state) (f o.value (moved o.taken w) o.state)) ds
     → Every (Lawful z w (if goes o then followed o f z else as_last o) (if goes n then followed n f w else as_last n)) (if goes o then joined_spots o cs (f o.value (moved o.taken z) o.state) ds else map last_spot cs)
@@ -151,7 +151,7 @@ edits-rehole z w s c g x e = record {
   after = e.after;
 }
 
--- the state behind it
+-- the state after it
 abbrev wrap_state : {A : Type 0} → Shape → ℕ → Spot A → Point
 wrap_state shape k c = after_shape shape (drop k (plug c.hole c.node)) c.state
 
@@ -169,7 +169,7 @@ lawful-reshaped shape n z w o p c g h l = record {
   swaps = λ x e. ap (reshaped shape n) (l.swaps x (edits-rehole z w _ c g x e)) ∙ around-rehole shape n c g (unit_at c w) x e.fits.head l.fits.head h;
 }
 
--- by a shape that may be another in the new text, unless the edit is inside
+-- By a shape that may be another in the new text, unless the edit is inside.
 pub every-reshaped : {A : Type 0} (shape other : Shape) (n : ℕ) (z w : Place) (o p : Outcome A) (c : Spot A) → Lawful z w o p c → ((x : Tree) → Edits z w c x → other ≡ shape)
     → Every (Lawful z w (reshaped shape n o) (reshaped other n p)) (reshaped_spot shape n c)
 every-reshaped shape other n z w o p c l f =

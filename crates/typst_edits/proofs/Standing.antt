@@ -1,4 +1,4 @@
--- Each node of a block's kind stands where a spot of the reading is, or where a second reading is.
+-- Each node of a block's kind stands where a spot of the reading is, or where one of a second reading is.
 use Rattle.std.proofs.Common.{◌≡◌, ◌⊎◌, inl, inr, ℕ, zero, suc, ◌+◌, ◌-◌, ◌<◌, Bool, true, false, ◌&&◌, if◌then◌else◌, nat_lt, List, [], ◌∷◌, ◌++◌, length, map, take, drop, Option, Some, None, refl, ap, sym, ◌∙◌, subst, arith}
 use Rattle.std.specs.List.{flat_map}
 use Rattle.typst_tree.specs.Tree.{Tree, forest}
@@ -28,7 +28,7 @@ use Rattle.typst_edits.proofs.Law.{Ends}
 use Rattle.typst_edits.proofs.Positions.{Nowhere, Clean, Each, each-by, each-clean, each-move, each-append, each-hinted, each-less}
 use Rattle.typst_edits.proofs.Seats.{Sits, Stood, then-sits, after-sits, last-sits, reshape-sits, each-reshaped, Goes, stood-flat}
 
--- each node of a block's kind that an outcome gives is that of one of these spots, of the one kind or of the other, and none is known to come
+-- Each node of a block's kind that an outcome gives is that of one of these spots, of the one kind or of the other, and none is known to come.
 pub record Stand {A : Type 0} (o : Outcome A) (cs ds : List (Spot A)) : Type 0 where
   pub nodes : Each (Stood o cs ds) 0 (forest o.nodes)
   pub known : Clean (pending o.state.known)
@@ -85,7 +85,7 @@ stand-last o cs ds h = record {
 pub clean-shaped : (shape : Shape) (ts : List Tree) (s : Point) → Clean (pending s.known) → Clean (pending (after_shape shape ts s).known)
 clean-shaped shape ts s h = subst (λ (x : Option Trivia). Clean (pending x)) (sym (after-shape-known shape ts s)) h
 
--- by a shape that each spot may say too, as its answer is that of the whole
+-- By a shape that each spot may say too, since its answer is that of the whole.
 stand-nest : {A : Type 0} (f : A → Shape) (n : ℕ) (o : Outcome A) (cs ds : List (Spot A)) → shape_by is_ordinary (f o.value) ≡ true → Stand o cs ds
     → Stand (reshaped (f o.value) n o) (flat_map (λ c. reshaped_spot (f c.value) n c) cs) (flat_map (λ c. reshaped_spot (f c.value) n c) ds)
 stand-nest f n o cs ds a h = record {
@@ -225,7 +225,7 @@ any-by P Q f (c ∷ cs) (inr h) = inr (any-by P Q f cs h)
 given-sits : {A : Type 0} (o p : Outcome A) (i : ℕ) (q : List ℕ) (c : Spot A) → Sits p i q c → Sits (given_up o p) i q c
 given-sits o p i q c t = record { first = t.first; path = t.path; value = t.value; back = t.back; hints = t.hints; nodes = t.nodes; head = t.head; passes = t.passes }
 
--- a reading in place of one that was given up: all its blocks are of the other kind
+-- In a reading that replaces one which was given up all blocks are of the other kind.
 stand-given : {A : Type 0} (o p : Outcome A) (cs ds : List (Spot A)) → Stand p cs ds → Stand (given_up o p) [] (cs ++ ds)
 stand-given o p cs ds h = record { nodes = each-by (Stood p cs ds) (Stood (given_up o p) [] (cs ++ ds)) 0 (forest p.nodes) step h.nodes; known = h.known }
   where

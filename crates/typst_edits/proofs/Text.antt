@@ -43,7 +43,7 @@ pub names-law : NamesLaw
 unfolding blocks_of_text
 names-law k text c i = among (Named (block_at k) max_depth) c _ i (named-level (rules k) k max_depth whole (start_of text) (start_point markup_reading))
 
--- a content block is read as one, with so many levels left
+-- a content block is read as one, with a given number of levels left
 pub content-reads : (k : CharClasses) (text : List ℕ) (c : Spot (Unit {0})) → Among c (blocks_of_text k text) → (levels : ℕ) → c.name ≡ block.Content → max_depth - c.fewer ≡ suc levels → (z : Place)
     → unit_at c z ≡ ended (block_at k (suc levels) block.Content (moved c.at z) (point_of c.start))
 content-reads k text c chosen levels name left z =

@@ -83,7 +83,7 @@ no-token k t taken = elim t.fault as (λ o. NoMarkup (elim o as (λ _. Tree) [ N
   | Some f ↦ no-advised (hints f taken) (error_of (message f taken) (encode_utf8_all taken)) (no-error (message f taken) (encode_utf8_all taken))
 ]
 
--- nor as an error in its place
+-- Nor are they as an error in its place.
 pub no-wrong : (message : List ℕ) (t : Tree) → NoMarkup t → NoMarkup (made_error message t)
 no-wrong message t h = on_both NoMarkup (is_error t.head.kind) t (error_of message _) h (λ e f. absurd (cc))
 
@@ -96,7 +96,7 @@ bracket-plain k levels z s node e =
     let is : taken ≡ node = sym (last-is h.trivia taken) ∙ ap last_node e in
     subst NoMarkup is (no-token k h.token (text_ahead h.len (moved h.gap z)))
 
--- the one behind flushed trivia, if there is one
+-- The one after flushed trivia, if there is one.
 pub close-plain : (k : CharClasses) (levels m n : ℕ) (s : Point) (z w : Place) → Every NoMarkup (inner_close k levels n (inner_tail k levels m s w).state z).nodes
 unfolding run close_if flush_trivia hand_at less
 close-plain k levels m n s z w =

@@ -1,4 +1,4 @@
--- Every expression of markup begins by taking the token at hand, so all behind some pieces is the same, but for the trivia before it.
+-- Each expression of markup begins by taking the token at hand, so everything after some pieces is the same, except for the trivia before it.
 use Rattle.std.proofs.Common.{◌≡◌, ℕ, ◌+◌, ◌<◌, Bool, true, false, ◌&&◌, ◌==◌, nat_lt, List, [], ◌++◌, length, Option, Some, refl, ap, sym, ◌∙◌, subst, arith}
 use Rattle.std.proofs.lemmas.List.{map-append}
 use borrow.Author.Tests.{lt-ltb}
@@ -52,7 +52,7 @@ dollars-counts : (closed : Bool) → Counts_less (encloses kind.Equation closed)
 dollars-counts true ts s = omega arith
 dollars-counts false ts s = omega arith
 
--- a turn behind its expression, and all of it by the kind of the token at hand
+-- a turn after its expression, and all of it by the kind of the token at hand
 abbrev pub turn_tail : ℕ → Parser (Bool × (Bool × ℕ))
 turn_tail nesting = do
   after ← peek
@@ -66,7 +66,7 @@ module _ (l : Level) (sd : (c : Call) → Sane (l.deeper c)) (sb : (b : Block) �
   backs : {A : Type 0} (p : Parser A) → Backs (run l p)
   backs p = (sane-run l sd sb p).backs
 
-  -- whatever comes behind it
+  -- whatever comes after it
   goes-on : {A B : Type 0} (trims : Bool) (p : Parser B) (f : B → Parser A) → Takes h z t u trims (run l p) → Takes h z t u trims (run l (next p f))
   goes-on trims p f k = takes-next l h z t u alike trims p f (λ b. backs (f b)) k
 
@@ -171,7 +171,7 @@ pub record Taking (l : Level) (stops : SyntaxKind → Bool) : Type 0 where
   pub end_stops : stops kind.End ≡ true
   pub takes : (h : Reading) (z : Place) (t u : Trivia) → SameJudged h t u → (x : Bool × ℕ) → 0 < len_at l.classes h.mode (moved t.gap z) → Takes h z t u (minds (markup_head x.0 x.1 (hand_at l.classes h (Some t) z).kind)) (l.deeper (MarkupExpr x.0 x.1))
 
--- ---- all behind some pieces
+-- ---- all after some pieces
 
 -- one outcome that gives the trivia, and one that has others there
 pub record Fronted {A : Type 0} (t : Trivia) (us : List Tree) (o c : Outcome A) : Type 0 where
@@ -200,7 +200,7 @@ fronted-led t us trims o c h = record {
   met = h.met;
 }
 
--- behind a question
+-- after a question
 fronted-asked : {A B : Type 0} (t : Trivia) (us : List Tree) (v : B) (s r : Point) (ls ks : List Ask) (o c : Outcome A) → ls ≡ shift t.gap ks → Fronted t us o c
     → Fronted t us (joined (record (plain v s) { asks = ls }) o) (joined (record (plain v r) { asks = ks }) c)
 fronted-asked t us v s r ls ks o c e h =
@@ -271,18 +271,18 @@ module _ {A : Type 0} (m : A → Meaning (Bool × A)) (within : (x : A) → With
   led-repeated : (t : Trivia) (us : List Tree) (trims : Bool) (x : A) (z : Place) (s r : Point) → ((y : A) → Backs (repeated m y)) → Led t us trims (m x z s) (m x (moved t.gap z) r) → Led t us trims (repeated m x z s) (repeated m x (moved t.gap z) r)
   led-repeated t us trims x z s r tidy h = led-goes t us trims x z s r tidy h (goes (m x (moved t.gap z) r)) refl
 
--- no trivia are known, but the newlines of those that became nodes
+-- No trivia are known except the newlines of those that became nodes.
 pub record KnownFlush (s : Point) : Type 0 where
   pub newlines : Newlines
   pub is : s.known ≡ Some (record { nodes = []; gap = 0; newlines = newlines })
 
--- the end is a stop
+-- The end is a stop.
 pub end-by : (stops : SyntaxKind → Bool) → stops kind.End ≡ true → (n : ℕ) (k : SyntaxKind) → ends stops n k ≡ false → is_end k ≡ false
 end-by stops e n kind.End f = let g : true ≡ false = sym e ∙ f in cc
 end-by stops e n _ f = refl
 
 module _ (l : Level) (stops : SyntaxKind → Bool) (taking : Taking l stops) where
-  -- all behind some pieces
+  -- all after some pieces
   abbrev pub behind : Bool × ℕ → Meaning (Unit {0})
   behind x = run l (repeat (markup_turn true stops) x >>= λ _. flush_trivia)
 
@@ -297,14 +297,14 @@ module _ (l : Level) (stops : SyntaxKind → Bool) (taking : Taking l stops) whe
       let turn : m x q p ≡ joined first end = ap (joined first) (if-true (ends stops x.1 v.kind) _ _ f) in
       last-turn m (λ n. (sane-run l taking.calls_sane taking.blocks_sane (markup_turn true stops n)).within) x q p (ap goes turn) ∙ ap as_last turn
 
-  -- there nothing depends on what is carried
+  -- There nothing depends on what is carried.
   pub stopped-alike : (x y : Bool × ℕ) (q : Place) (p : Point) → ends stops x.1 (hand_of l q p).kind ≡ true → ends stops y.1 (hand_of l q p).kind ≡ true → behind y q p ≡ behind x q p
   unfolding run
   stopped-alike x y q p f g =
       let with_flush = λ (v : Outcome (Bool × ℕ)). joined v (run l flush_trivia (moved v.taken q) v.state) in
       ap with_flush (stopped y q p g) ∙ sym (ap with_flush (stopped x q p f))
 
-  -- the token at hand is looked at first
+  -- The token at hand is looked at first.
   first-seen : (x : Bool × ℕ) (q w : Place) (p : Point) (b : Bool) → goes (run l (markup_turn true stops x) q p) ≡ b → SameIn (repeated (λ v. run l (markup_turn true stops v)) x q p).asks q w → SameIn (hand_asks_of l q p) q w
   unfolding run markup_turn
   first-seen x q w p true g same =
@@ -320,12 +320,12 @@ module _ (l : Level) (stops : SyntaxKind → Bool) (taking : Taking l stops) whe
   unfolding run
   hand-seen x q w p same = first-seen x q w p (goes (run l (markup_turn true stops x) q p)) refl (same_in-first _ _ q w same)
 
-  -- and nothing is taken back
+  -- Nothing is taken back.
   pub stopped-back : (x : Bool × ℕ) (q : Place) (p : Point) → ends stops x.1 (hand_of l q p).kind ≡ true → (behind x q p).back ≡ 0
   unfolding run flush_trivia
   stopped-back x q p f = ap (λ (v : Outcome (Bool × ℕ)). (joined v (run l flush_trivia (moved v.taken q) v.state)).back) (stopped x q p f) ∙ omega arith
 
-  -- behind all a flush is known
+  -- After everything a flush is known.
   pub flush-known : (x : Bool × ℕ) (q : Place) (p : Point) → KnownFlush (behind x q p).state
   unfolding run flush_trivia hand_at
   flush-known x q p = record { newlines = _; is = refl }
@@ -383,7 +383,7 @@ module _ (l : Level) (stops : SyntaxKind → Bool) (taking : Taking l stops) whe
         subst (λ o. Fronted t u.nodes o (behind x w y)) (sym old) (subst (λ c. Fronted t u.nodes (joined (record (plain x s) { asks = ls ++ [] }) (run l flush_trivia z s)) c) (sym new)
         (fronted-asked t u.nodes x s y (ls ++ []) (ks ++ []) _ _ (ap (λ js. js ++ []) (asks-behind l h z t u alike) ∙ sym (map-append (shift_one t.gap) ks [])) flushed))
 
-    -- the token at hand takes a character, where it is no end
+    -- The token at hand takes a character, unless it is the end.
     some-token : ends stops x.1 now.kind ≡ false → 0 < len_at l.classes h.mode w
     unfolding hand_at
     some-token f = hand-takes l.classes h (Some t) z (end-by stops taking.end_stops x.1 now.kind f)
@@ -411,7 +411,7 @@ module _ (l : Level) (stops : SyntaxKind → Bool) (taking : Taking l stops) whe
 
   -- ---- a turn
 
-  -- one that goes on gives the trivia before it, and takes the token behind them
+  -- One that goes on gives the trivia before it, and takes the token after them.
   pub turn-led : (x : Bool × ℕ) (z : Place) (r h : Reading) (e : ℕ) (a : Bool) (t : Trivia) → (let s = before_trivia r h e a t in ends stops x.1 (told (hand_of l z s)).kind ≡ false
       → Led t t.nodes (minds (markup_head x.0 x.1 (hand_at l.classes h (Some t) z).kind)) (run l (markup_turn true stops x) z s) (run l (markup_turn true stops x) (moved t.gap z) (before_trivia r h e a (behind_trivia t))))
   unfolding hand_at

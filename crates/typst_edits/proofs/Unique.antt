@@ -1,4 +1,4 @@
--- Nodes that take the same place in the same tree and give the same tree are the same; so an edit has one answer.
+-- Nodes that take the same place in the same tree and give the same tree are the same, so an edit has one answer.
 use Rattle.std.proofs.Common.{◌≡◌, ℕ, zero, suc, List, [], ◌∷◌, ◌++◌, drop, take, Some, ap, sym, ◌∙◌, subst, arith}
 use Rattle.std.proofs.lemmas.List.{append_cancel_left, append_cancel_right}
 use Rattle.std.specs.Prelude.{slice_get}

@@ -24,18 +24,18 @@ use Rattle.typst_edits.specs.Standing.{seconds, place_of}
 use Rattle.typst_edits.proofs.Complete.{opened-append, opened-by, opens-shift, opens-sink, opened-looks, opened-hand}
 use Rattle.typst_edits.proofs.Every.{Every, every-append, every-by, every-map, every-flat, every-any}
 
--- it is before what is taken, or nothing stands there any more
+-- It is before what is taken, or nothing is left there.
 abbrev pub Early : Place → ℕ → ℕ → Type 0
 Early z n i = (i < n) ⊎ (length z.ahead ≤ i)
 
--- what begins here isn't what is noted, but where nothing stands any more
+-- What begins here isn't what is noted, unless nothing is left.
 abbrev pub Differs : Place → ℕ → Ask → Type 0
 Differs z i ask = place_of ask ≡ i → length z.ahead ≤ i
 
 abbrev pub EveryAt : {A : Type 0} → (ℕ → Type 0) → List (Spot A) → Type 0
 EveryAt P cs = Every (λ c. P c.at) cs
 
--- the blocks that are noted begin elsewhere than those of the other kind
+-- The blocks that are noted begin elsewhere than those of the other kind.
 pub record Splits {A : Type 0} (z : Place) (taken : ℕ) (asks : List Ask) (cs ds : List (Spot A)) : Type 0 where
   pub firsts : EveryAt (Early z taken) cs
   pub others : EveryAt (Early z taken) ds
@@ -97,7 +97,7 @@ module _ (z : Place) (n m : ℕ) where
   early-ask : (ask : Ask) → Early (moved n z) m (place_of ask) → Early z (n + m) (place_of (shift_one n ask))
   early-ask ask h = early-second (place_of ask) (place_of (shift_one n ask)) (place-shift n ask) h
 
-  -- what begins in the first isn't noted in the second, and the other way round
+  -- What begins in the first isn't noted in the second, and the other way round.
   differs-behind : (i : ℕ) (ask : Ask) → Early z n i → Differs z i (shift_one n ask)
   differs-behind i ask (inl l) e = absurd (omega (arith, l, e, place-shift n ask))
   differs-behind i ask (inr l) e = l
@@ -230,7 +230,7 @@ split-sunk z n asks cs ds h = record {
     is : opened (sunk asks) ≡ map sink_one (opened asks)
     is = opened-by sink_one opens-sink asks
 
--- a block takes something, and what is in it begins behind its first token, but where nothing stands any more
+-- A block takes something, and what is in it begins after its first token, unless nothing is left.
 pub record Begins {A : Type 0} (z : Place) (o : Outcome A) (cs ds : List (Spot A)) : Type 0 where
   pub split : Split z o cs ds
   pub takes : Early z o.taken 0

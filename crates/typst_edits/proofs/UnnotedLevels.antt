@@ -40,9 +40,9 @@ use Rattle.typst_edits.proofs.Unnoted.{Early, Differs, EveryAt, AllSplit, Begins
 use Rattle.typst_edits.proofs.Rising.{hand-some as some-hand}
 use Rattle.typst_edits.proofs.Edit.{among}
 
--- ---- a token takes something, where something is left
+-- ---- a token takes something, if something is left
 
--- ---- what begins behind the first token
+-- ---- what begins after the first token
 
 module _ (l : Level) (deep : (c : Call) → Spots (Answer c)) (in_block : Block → Spots (Unit {0})) (deep_seconds : (c : Call) → Spots (Answer c)) (seconds_inside : Block → Spots (Unit {0})) where
   abbrev Later : {A : Type 0} → Parser A → Type 0
@@ -101,7 +101,7 @@ module _ (l : Level) (deep : (c : Call) → Spots (Answer c)) (in_block : Block 
       moves-code : Moves l inside_code
       moves-code = moves-scoped l _ _ (moves-next l eat _ (moves-eat l))
 
--- ---- no production notes a block's begin but where it reads the block
+-- ---- no production notes a block's begin except where it reads the block
 
 any-change : (change : Change) → change_by anything change ≡ true
 any-change stays = refl

@@ -21,7 +21,7 @@ pub unmarked-joined : {A B : Type 0} (o : Outcome B) (p : Outcome A) → Unmarke
 unmarked-joined o p h k = marks-append (λ at fewer m s. ⊥) o.asks (shift o.taken p.asks) h (unmarked-shift o.taken p.asks k)
 
 module _ (step : ℕ → Mark → ℕ) (P : ℕ → Mark → Type 0) where
-  -- the marks stand in order, from one place up to another, each so far behind the one before, and something holds of each
+  -- The marks stand in order, from one place up to another, each at a given distance after the one before, and a property holds of each.
   abbrev pub Upward : ℕ → ℕ → List Ask → Type 0
   Upward lo hi [] = lo ≤ hi
   Upward lo hi (looked at look ∷ asks) = Upward lo hi asks
@@ -42,7 +42,7 @@ module _ (step : ℕ → Mark → ℕ) (P : ℕ → Mark → Type 0) where
   up-append lo mid hi (looked at look ∷ ls) ks h i = up-append lo mid hi ls ks h i
   up-append lo mid hi (marked at gap fewer m s ∷ ls) ks h i = (h.0, h.1, up-append (at + step gap m) mid hi ls ks h.2 i)
 
-  -- counted from so many characters before
+  -- counted from a given number of characters before
   pub up-shift : (d lo hi : ℕ) (ls : List Ask) → Upward lo hi ls → Upward (d + lo) (d + hi) (shift d ls)
   up-shift d lo hi [] h = omega (arith, h)
   up-shift d lo hi (looked at look ∷ ls) h = up-shift d lo hi ls h
@@ -75,18 +75,18 @@ module _ (step : ℕ → Mark → ℕ) (P : ℕ → Mark → Type 0) where
 
   -- ---- whatever the language can say
 
-  -- what is noted stands in order, within what is taken
+  -- What is noted stands in order, within what is taken.
   abbrev pub AllUp : {A : Type 0} → Meaning A → Type 0
   AllUp m = (z : Place) (s : Point) → Upward 0 (m z s).taken (m z s).asks
 
-  -- the first of it stands so far on
+  -- The first of it stands at a given distance.
   abbrev pub UpFrom : {A : Type 0} → ℕ → Outcome A → Type 0
   UpFrom lo o = Upward lo o.taken o.asks
 
   pub up-joined : {A B : Type 0} (lo : ℕ) (o : Outcome B) (p : Outcome A) → UpFrom lo o → UpFrom 0 p → UpFrom lo (joined o p)
   up-joined lo o p h k = up-append lo o.taken (o.taken + p.taken) o.asks _ h (up-low o.taken (o.taken + 0) (o.taken + p.taken) (shift o.taken p.asks) (omega arith) (up-shift o.taken 0 p.taken p.asks k))
 
-  -- behind what notes nothing
+  -- after what notes nothing
   pub up-after : {A B : Type 0} (lo : ℕ) (o : Outcome B) (p : Outcome A) → Unmarked o.asks → UpFrom lo p → UpFrom (o.taken + lo) (joined o p)
   up-after lo o p none k = up-behind (o.taken + lo) (o.taken + p.taken) o.asks (shift o.taken p.asks) none (up-shift o.taken lo p.taken p.asks k)
 

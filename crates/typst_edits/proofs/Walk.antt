@@ -137,7 +137,7 @@ unfolding width
 width-some [] h = absurd (omega arith)
 width-some (c ∷ xs) h = omega (arith, width-positive c)
 
--- what ends before a stretch does so in bytes
+-- What ends before a stretch does so in bytes.
 pub width-before : (n : ℕ) (front more : List ℕ) → n < length front → width (take n (front ++ more)) < width front
 unfolding width
 width-before n [] more h = absurd (omega arith)

@@ -14,7 +14,7 @@ pub width-none : width [] ≡ 0
 unfolding width
 width-none = refl
 
--- a stretch that ends by a place in bytes ends by it in characters
+-- A stretch that ends before a place in bytes, or at it, does so in characters.
 stretch-by : (n : ℕ) (front more : List ℕ) → stretch n (front ++ more) ≤ width front → n ≤ length front
 unfolding stretch width
 stretch-by zero front more h = omega arith
@@ -38,12 +38,12 @@ ends-by (suc at) n b [] [] l h = absurd (omega (arith, l))
 ends-by (suc at) n b [] (c ∷ more) l h = absurd (omega (arith, h, passed-most at (c ∷ b) more, width-positive c))
 ends-by (suc at) n b (c ∷ front) more l h = let i = ends-by at n (c ∷ b) front more (omega (arith, l)) (omega (arith, h)) in omega (arith, i)
 
--- a look that ends by a place in bytes ends by it in characters
+-- A look that ends before a place in bytes, or at it, does so in characters.
 pub far-by : (at n : ℕ) (front more : List ℕ) → at ≤ length (front ++ more) → far n (moved at (record { before = []; ahead = front ++ more })) ≤ width front → at + n ≤ length front
 unfolding far position width
 far-by at n front more l h = ends-by at n [] front more l (omega (arith, h))
 
--- and the other way round
+-- The same the other way round.
 pub stretch-to : (n : ℕ) (front more : List ℕ) → n ≤ length front → stretch n (front ++ more) ≤ width front
 unfolding stretch width
 stretch-to zero front more h = omega arith
@@ -60,7 +60,7 @@ pub far-to : (at n : ℕ) (front more : List ℕ) → at + n ≤ length front �
 unfolding far position width
 far-to at n front more h = let i = ends-to at n [] front more h in omega (arith, i)
 
--- ---- behind
+-- ---- after a place
 
 -- what was passed since
 record Since (n : ℕ) (b a : List ℕ) : Type 0 where
@@ -92,12 +92,12 @@ begins-late n m early rest l h =
     let s = since m early rest l in
     omega (arith, s.long, begins-by n s.late early (subst (λ xs. stretch n xs + width early ≤ width xs) s.is h))
 
--- a look from a place behind begins behind it in characters, where it does in bytes
+-- A look from a later place begins after a place in characters if it does in bytes.
 pub near-by : (n m : ℕ) (early rest : List ℕ) → m ≤ length rest → width early < near n (moved m (record { before = early; ahead = rest })) → n ≤ m
 unfolding near position
 near-by n m early rest l h = begins-late n m early rest l (omega (arith, h))
 
--- and the other way round
+-- The same the other way round.
 begins-early : (n m : ℕ) (early rest : List ℕ) → n ≤ m → m ≤ length rest → stretch n (moved_from m early rest).before + width early ≤ width (moved_from m early rest).before
 begins-early n m early rest h l =
     let s = since m early rest l in

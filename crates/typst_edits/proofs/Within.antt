@@ -1,4 +1,4 @@
--- Every look is at a place of the text, or at its end.
+-- Each look is at a place of the text, or at its end.
 use Rattle.std.proofs.Common.{ℕ, zero, suc, ◌+◌, ◌≤◌, max, Bool, true, false, ◌&&◌, if◌then◌else◌, nat_lt, List, [], ◌∷◌, ◌++◌, length, Option, Some, None, arith}
 use Rattle.typst_kinds.specs.declared.mode.SyntaxMode.{SyntaxMode}
 use Rattle.typst_lines.specs.Place.{Place, moved}
@@ -24,7 +24,7 @@ use Rattle.typst_language.proofs.Knot.{Sane, sane-run, sane-meaning, sane-block,
 use Rattle.typst_language.proofs.Places.{ahead-left}
 use Rattle.typst_language.proofs.Within.{on_both, grew, enough-grew}
 
--- every look is at most so many characters on
+-- Each look is at most a given number of characters further on.
 abbrev pub AllAt : ℕ → List Ask → Type 0
 AllAt n [] = Unit {0}
 AllAt n (looked at look ∷ asks) = (at ≤ n) × AllAt n asks
@@ -91,7 +91,7 @@ hand-within k held known z h =
 
 -- ---- whatever the language can say
 
--- no look is further on than what there is
+-- No look is further on than the text's end.
 abbrev pub Inbound : {A : Type 0} → Meaning A → Type 0
 Inbound m = (z : Place) (s : Point) → AllAt (bound z s) (m z s).asks
 
@@ -196,6 +196,6 @@ module _ (r : Rules) (k : CharClasses) where
   in-meaning zero call z s = tt
   in-meaning (suc levels) call z s = in-run (level_of r k levels) (sane-meaning r k levels) (sane-block r k levels) (in-meaning levels) (in-block levels (in-meaning levels)) (r.production call) z s
 
-  -- no look of a parser is further on than what there is
+  -- No look of a parser is further on than the text's end.
   pub in-level : {A : Type 0} (levels : ℕ) (p : Parser A) → Inbound (run (level_of r k levels) p)
   in-level levels p = in-run (level_of r k levels) (sane-meaning r k levels) (sane-block r k levels) (in-meaning levels) (in-block levels (in-meaning levels)) p

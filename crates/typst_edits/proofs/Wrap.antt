@@ -20,11 +20,11 @@ use Rattle.typst_edits.specs.Hole.{Deep, fill, top, Hole, plug, stub, between_pa
 use Rattle.typst_edits.proofs.Every.{Every, every-map, every-if}
 use Rattle.typst_edits.proofs.Outcomes.{head-fill}
 
--- all but the first k nodes become something else
+-- All except the first k nodes become something else.
 abbrev pub wrap_nodes : Shape → ℕ → List Tree → List Tree
 wrap_nodes shape k ts = take k ts ++ shaped shape (drop k ts)
 
--- no error stands there
+-- No error stands there.
 abbrev pub Solid : Deep → Head → Type 0
 Solid d h = is_error (top d h).kind ≡ false
 
@@ -56,7 +56,7 @@ changes-more change h t left d right solid = record {
   few = λ x s n e l. subst (λ (u : Point). u.empties ≤ length right) (sym (after-more change t left (fill d x) right s)) l;
 }
 
--- a node that is no error, and becomes none
+-- A node that is no error and doesn't become one.
 after-solid : (change : Change) (t u : Tree) (right : List Tree) (s : Point) → changed change t ≡ u → is_error t.head.kind ≡ false → is_error u.head.kind ≡ false
     → after_change change (t ∷ right) s ≡ (elim right as (λ _. Point) [ [] ↦ record s { empties = 0; is_after_error = false } | v ∷ vs ↦ s ])
 after-solid change t u [] s e f g = ap (λ (b : Bool). if b then s else after_node (is_error (changed change t).head.kind) (text_of t) s) f ∙ ap (λ (v : Tree). after_node (is_error v.head.kind) (text_of t) s) e ∙ ap (λ (b : Bool). after_node b (text_of t) s) g
@@ -73,7 +73,7 @@ first-is (is_not thing) t ts = refl
 first-is (renamed kind) t ts = refl
 first-is unparened t ts = refl
 
--- the changed node is the other, with the same in its hole
+-- The changed node is the other, with the same in its hole.
 record Turns (change : Change) (h : Head) (d e : Deep) : Type 0 where
   node : (x : Tree) → x.head ≡ h → changed change (fill d x) ≡ fill e x
   solid : Solid e h
@@ -97,7 +97,7 @@ changes-first change h d e right solid t = record {
 not-delimited : (t : Tree) → is_delimited t.head.kind ≡ false → without_parens t ≡ t
 not-delimited t h = rw h refl
 
--- of the nodes the heads alone say whether they are between parens
+-- Only the heads of the nodes say whether they are between parens.
 sign-head : (c : ℕ) (t u : Tree) → t.head ≡ u.head → is_sign c t ≡ is_sign c u
 sign-head c t u e = ap (λ (a : Head). is_sign c (record { head = a; kids = forest [] })) e
 
@@ -173,14 +173,14 @@ every-changes change h [] d right solid =
 
 -- ---- what becomes of a hole
 
--- the hole of what they become is where the node is
+-- The hole of what they become is where the node is.
 pub record Wraps (shape : Shape) (k : ℕ) (hole : Hole) (h : Head) (g : Hole) : Type 0 where
   pub nodes : (x : Tree) → x.head ≡ h → wrap_nodes shape k (plug hole x) ≡ plug g x
   pub state : (x y : Tree) (s : Point) → x.head ≡ h → y.head ≡ h → after_shape shape (drop k (plug hole x)) s ≡ after_shape shape (drop k (plug hole y)) s
   pub few : (x : Tree) (s : Point) → x.head ≡ h → s.empties ≤ length hole.right → (after_shape shape (drop k (plug hole x)) s).empties ≤ length g.right
   pub solid : Solid g.deep h
 
--- the same where the first nodes are apart
+-- The same if the first nodes are kept apart.
 record WrapsIn (shape : Shape) (kept left : List Tree) (d : Deep) (right : List Tree) (h : Head) (g : Hole) : Type 0 where
   nodes : (x : Tree) → x.head ≡ h → kept ++ shaped shape (left ++ fill d x ∷ right) ≡ plug g x
   state : (x y : Tree) (s : Point) → x.head ≡ h → y.head ≡ h → after_shape shape (left ++ fill d x ∷ right) s ≡ after_shape shape (left ++ fill d y ∷ right) s
@@ -226,7 +226,7 @@ wraps-behind change kept left d right h (p ∷ ps) e = (
 le-not : (m n : ℕ) → nat_le m n ≡ false → n < m
 le-not m n h = grind (arith, nat_tests)
 
--- behind the node with the hole
+-- after the node with the hole
 take-past : (left : List Tree) (j : ℕ) (y : Tree) (right : List Tree) → take (length left + suc j) (left ++ y ∷ right) ≡ left ++ y ∷ take j right
 take-past left j y right = take-append-add left (y ∷ right) (suc j)
 
@@ -275,7 +275,7 @@ wraps-apart shape k hole h g l e =
       solid = e.solid;
     }
 
--- the hole is before what becomes something else
+-- The hole is before what becomes something else.
 wraps-past : (shape : Shape) (hole : Hole) (h : Head) (j : ℕ) → Solid hole.deep h → Wraps shape (length hole.left + suc j) hole h (wrap_past shape j hole)
 wraps-past shape hole h j solid =
     let left = hole.left in
