@@ -510,8 +510,8 @@ uint32_t typst_kind_of(const uint8_t *name, size_t length);
 size_t typst_tag_name(uint32_t tag, uint8_t *room, size_t room_length);
 
 /* Reads a text as TYPST_MARKUP, TYPST_CODE or TYPST_MATH without keeping it. Puts the records of its nodes,
-   which have no numbers, into an array, as many as fit, and tells how many there are. Codes: OK, NO_MEMORY,
-   NOT_UTF8, BAD_ARGUMENT (there is no such mode), TOO_LARGE. */
+   which have no numbers, into an array, as many as fit, and tells how many there are. It tells no remarks.
+   Codes: OK, NO_MEMORY, NOT_UTF8, BAD_ARGUMENT (there is no such mode), TOO_LARGE. */
 uint32_t typst_parse(uint32_t mode, const uint8_t *text, size_t length, typst_node *room,
     size_t room_length, size_t *count);
 

@@ -26,7 +26,7 @@ class Position:
 
 
 def parse(text: str | bytes, mode: Mode = Mode.MARKUP) -> Tree:
-    """The tree of a text that isn't kept. Its nodes have no spans.
+    """The tree of a text that isn't kept. Its nodes have no spans, and the remarks on them aren't told.
 
     >>> [node.name for node in parse("1 + x", Mode.CODE).root.children()]
     ['Binary']
