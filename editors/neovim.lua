@@ -1,6 +1,6 @@
 -- Starts the server for Typst: `nvim -u editors/neovim.lua FILE`, or by `dofile` in an init.lua.
 
--- The keys that newer versions of Neovim have for the same, and `gd`. Behind each stands what the server has to answer for it.
+-- The keys that newer versions of Neovim have for the same, and `gd`. With each, the method that the server must support.
 local keys = {
   { "gd", vim.lsp.buf.definition, "textDocument/definition" },
   { "grr", vim.lsp.buf.references, "textDocument/references" },
@@ -13,8 +13,9 @@ local keys = {
   { "<C-W>d", vim.diagnostic.open_float },
 }
 
--- Shows errors while text is typed, and sets the keys.
+-- Shows errors while text is typed, has `<C-X><C-O>` complete, and sets the keys.
 local function on_attach(client, buffer)
+  vim.bo[buffer].omnifunc = "v:lua.vim.lsp.omnifunc"
   vim.diagnostic.config({ update_in_insert = true }, vim.lsp.diagnostic.get_namespace(client.id))
   for _, key in ipairs(keys) do
     if not key[3] or client.supports_method(key[3]) then

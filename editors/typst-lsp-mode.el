@@ -14,3 +14,5 @@
                 ("delimiter" . font-lock-builtin-face) ("escape" . font-lock-builtin-face) ("error" . error)))
   (add-to-list 'lsp-semantic-token-faces pair))
 (add-hook 'typst-mode-hook #'lsp)
+;; Else Emacs indents a new line before the server's next item of a list comes, which lsp-mode then drops.
+(add-hook 'typst-mode-hook (lambda () (electric-indent-local-mode -1)))

@@ -1,12 +1,12 @@
 /* Reads a document of Typst from standard input, and prints what the library says of it.
  *
- *     example                        of a small document: its tree, an edit, and the tree behind it
+ *     example                        of a small document: its tree, an edit, and the tree after it
  *     example tree                   the tree, with bytes and what is said of nodes
  *     example tags                   the bytes and the tag of each node that has one
  *     example html                   the text as HTML
- *     example edit START END TEXT    the bytes that an edit reads anew, and the tree behind it
+ *     example edit START END TEXT    the bytes that an edit reads again, and the tree after it
  *
- * It ends with status 1 where a call is refused, and tells its code.
+ * It ends with status 1 if a call is refused, and prints its code.
  */
 #include "typst_syntax.h"
 
@@ -171,7 +171,7 @@ static void print_html(const uint8_t *text, size_t length)
     free(room);
 }
 
-/* Edits a source and prints which bytes were read anew, and the tree. */
+/* Edits a source and prints which bytes were read again, and the tree. */
 static void print_edit(typst_source *source, size_t start, size_t end, const char *with)
 {
     typst_stretch changed;

@@ -1,6 +1,6 @@
 /* The parser layer of Typst, as programs in C call it. Made by bindings/tables: change bindings/abi.toml.
  *
- * Texts are UTF-8, a pointer and a length, with no NUL at the end; positions are bytes. What a call tells
+ * Texts are UTF-8, a pointer and a length, with no NUL at the end; positions are bytes. What a call reports
  * goes into arrays of the caller's: as many elements as fit, in order, and the count of all. No pointer may be
  * NULL, also where its length is 0, and arrays of one call don't overlap. A call that is refused answers
  * another code than TYPST_OK, and no source has changed; an array may hold a part of what was asked for.
@@ -41,7 +41,7 @@ enum {
 enum {
     /* A whole file. */
     TYPST_MARKUP = 0,
-    /* Code, as behind a hash. */
+    /* Code, as after a hash. */
     TYPST_CODE = 1,
     /* The inside of a formula. */
     TYPST_MATH = 2
@@ -403,7 +403,7 @@ enum {
     TYPST_TAG_ERROR = 22
 };
 
-/* A node of a tree. Records stand in preorder: behind a node stand the records of all that is below it, so its
+/* A node of a tree. Records stand in preorder: after a node stand the records of all that is below it, so its
    first child is the next record, and the next sibling stands `nodes` records on, if the parent's subtree goes
    so far. */
 typedef struct typst_node {
@@ -411,7 +411,7 @@ typedef struct typst_node {
     uint64_t span;
     /* Its first byte. */
     uint32_t start;
-    /* The byte behind it. */
+    /* The byte after it. */
     uint32_t end;
     /* Its place among all nodes of the tree, from 0 on. */
     uint32_t number;
@@ -435,7 +435,7 @@ typedef struct typst_remark {
     uint32_t node;
     /* The first byte that it is about. */
     uint32_t start;
-    /* The byte behind these. */
+    /* The byte after these. */
     uint32_t end;
     /* Where its text begins among the messages. */
     uint32_t message;
@@ -445,7 +445,7 @@ typedef struct typst_remark {
     uint32_t severity;
 } typst_remark;
 
-/* How much room all of a source takes. */
+/* How much room all of a source or of a parsed text takes. */
 typedef struct typst_sizes {
     /* The bytes of its text. */
     size_t text;
@@ -469,7 +469,7 @@ typedef struct typst_said {
 typedef struct typst_stretch {
     /* Its first byte. */
     size_t start;
-    /* The byte behind it. */
+    /* The byte after it. */
     size_t end;
 } typst_stretch;
 
@@ -510,13 +510,19 @@ uint32_t typst_kind_of(const uint8_t *name, size_t length);
 size_t typst_tag_name(uint32_t tag, uint8_t *room, size_t room_length);
 
 /* Reads a text as TYPST_MARKUP, TYPST_CODE or TYPST_MATH without keeping it. Puts the records of its nodes,
-   which have no numbers, into an array, as many as fit, and tells how many there are. It tells no remarks.
-   Codes: OK, NO_MEMORY, NOT_UTF8, BAD_ARGUMENT (there is no such mode), TOO_LARGE. */
+   which have no numbers, into an array, as many as fit, and reports how many there are; typst_parse_all also
+   gives the remarks on them. Codes: OK, NO_MEMORY, NOT_UTF8, BAD_ARGUMENT (there is no such mode), TOO_LARGE. */
 uint32_t typst_parse(uint32_t mode, const uint8_t *text, size_t length, typst_node *room,
     size_t room_length, size_t *count);
 
-/* Puts a text as HTML into an array, with a span for each tag, as many bytes as fit, and tells how many there
-   are. Codes: OK, NO_MEMORY, NOT_UTF8, TOO_LARGE. */
+/* Reads a text as typst_parse does, and also puts the remarks on its nodes and their messages into arrays, as
+   many as fit. Tells how much room all of these take. Codes: those of typst_parse. */
+uint32_t typst_parse_all(uint32_t mode, const uint8_t *text, size_t length, typst_node *room,
+    size_t room_length, typst_remark *remarks, size_t remarks_length, uint8_t *messages,
+    size_t messages_length, typst_sizes *sizes);
+
+/* Puts a text as HTML into an array, with a span for each tag, as many bytes as fit, and reports how many
+   there are. Codes: OK, NO_MEMORY, NOT_UTF8, TOO_LARGE. */
 uint32_t typst_highlight_html(const uint8_t *text, size_t length, uint8_t *room, size_t room_length,
     size_t *count);
 
@@ -530,49 +536,49 @@ void typst_source_free(typst_source *source);
 /* Makes a copy of a source, which has to be freed, too. Codes: OK, NO_MEMORY. */
 uint32_t typst_source_clone(typst_source *source, typst_source **copied);
 
-/* Puts a text in the place of the bytes from `start` to `end`, and tells which bytes of the new text were read
-   anew. Nodes outside these keep their numbers, but where room was made for new ones. Codes: OK, NO_MEMORY,
-   NOT_UTF8, BAD_RANGE (`start` is behind `end`, or one of them is within a character or behind the text),
+/* Puts a text in the place of the bytes from `start` to `end`, and reports which bytes of the new text were
+   read again. Nodes outside these keep their numbers, unless room was made for new ones. Codes: OK, NO_MEMORY,
+   NOT_UTF8, BAD_RANGE (`start` is past `end`, or one of them is within a character or past the text),
    SPAN_NUMBERS, TOO_LARGE. */
 uint32_t typst_source_edit(typst_source *source, size_t start, size_t end, const uint8_t *with,
     size_t length, typst_stretch *changed);
 
-/* Makes another text the source's by an edit of what differs, and tells which bytes were read anew; 0 to 0
+/* Makes another text the source's by an edit of what differs, and reports which bytes were read again; 0 to 0
    where the texts are equal. Codes: OK, NO_MEMORY, NOT_UTF8, SPAN_NUMBERS, TOO_LARGE. */
 uint32_t typst_source_replace(typst_source *source, const uint8_t *text, size_t length,
     typst_stretch *changed);
 
-/* Tells how much room all of a source takes. Codes: OK, NO_MEMORY, TOO_LARGE. */
+/* Reports how much room all of a source takes. Codes: OK, NO_MEMORY, TOO_LARGE. */
 uint32_t typst_source_sizes(typst_source *source, typst_sizes *room);
 
 /* Puts the text into an array, as many bytes as fit, and answers how many there are. */
 size_t typst_source_text(typst_source *source, uint8_t *room, size_t room_length);
 
-/* Puts the records of all nodes into an array, as many as fit, and tells how many there are. Codes: OK,
+/* Puts the records of all nodes into an array, as many as fit, and reports how many there are. Codes: OK,
    NO_MEMORY, TOO_LARGE. */
 uint32_t typst_source_nodes(typst_source *source, typst_node *room, size_t room_length, size_t *count);
 
-/* The same of the nodes that meet a stretch of bytes: each that has a byte of it or touches one of its ends,
-   with all nodes above. Their numbers and counts are those that they have in the whole tree. Codes: OK,
-   NO_MEMORY, TOO_LARGE. */
+/* Does as typst_source_nodes for the nodes that meet a stretch of bytes: each that has a byte of it or touches
+   one of its ends, with all nodes above. Their numbers and counts are those that they have in the whole tree.
+   Codes: OK, NO_MEMORY, TOO_LARGE. */
 uint32_t typst_source_nodes_in(typst_source *source, size_t start, size_t end, typst_node *room,
     size_t room_length, size_t *count);
 
-/* Puts the remarks into an array and their messages into another one, as many as fit, and tells how much there
-   is of both. Codes: OK, NO_MEMORY, TOO_LARGE. */
+/* Puts the remarks into an array and their messages into another one, as many as fit, and reports how much
+   there is of both. Codes: OK, NO_MEMORY, TOO_LARGE. */
 uint32_t typst_source_remarks(typst_source *source, typst_remark *room, size_t room_length,
     uint8_t *messages, size_t messages_length, typst_said *count);
 
-/* Tells whether a node has a span, by 1 or 0, and the bytes of the first one that has; where there is none,
+/* Reports whether a node has a span, by 1 or 0, and the bytes of the first one that has; where there is none,
    `range` stays as it is. Code: OK. */
 uint32_t typst_source_range(typst_source *source, uint64_t span, uint8_t *found, typst_stretch *range);
 
-/* Tells the line and the columns of a byte. Codes: OK, BAD_RANGE (the byte is within a character or behind the
+/* Reports the line and the columns of a byte. Codes: OK, BAD_RANGE (the byte is within a character or past the
    text). */
 uint32_t typst_source_position(typst_source *source, size_t byte, typst_position *position);
 
-/* Tells the byte of a line and a column, which counts TYPST_CHARACTERS, TYPST_UTF16 or TYPST_BYTES. Codes: OK,
-   BAD_RANGE (there is no such place), BAD_ARGUMENT (there is no such unit). */
+/* Reports the byte of a line and a column, which counts TYPST_CHARACTERS, TYPST_UTF16 or TYPST_BYTES. Codes:
+   OK, BAD_RANGE (there is no such place), BAD_ARGUMENT (there is no such unit). */
 uint32_t typst_source_byte(typst_source *source, size_t line, size_t column, uint32_t unit, size_t *byte);
 
 /* Calls a macro with the number and the name of each kind. */

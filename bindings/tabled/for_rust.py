@@ -53,7 +53,7 @@ def words_of(type: str, name: str, comment: str, values: list[tuple[str, str]]) 
 
 
 def member(name: str, comment: str, kinds: list[str]) -> str:
-    """A method that tells whether a kind is one of a set."""
+    """A method that answers whether a kind is one of a set."""
     body = "\n                | ".join(f"SyntaxKind::{it}" for it in kinds)
     head = f"    /// {comment}\n    pub fn {name}(self) -> bool {{\n"
     return f"{head}        matches!(\n            self,\n            {body}\n        )\n    }}\n"

@@ -8,7 +8,7 @@ from .table import Function, Record, Table
 HEAD = """\
 /* The parser layer of Typst, as programs in C call it. Made by bindings/tables: change bindings/abi.toml.
  *
- * Texts are UTF-8, a pointer and a length, with no NUL at the end; positions are bytes. What a call tells
+ * Texts are UTF-8, a pointer and a length, with no NUL at the end; positions are bytes. What a call reports
  * goes into arrays of the caller's: as many elements as fit, in order, and the count of all. No pointer may be
  * NULL, also where its length is 0, and arrays of one call don't overlap. A call that is refused answers
  * another code than TYPST_OK, and no source has changed; an array may hold a part of what was asked for.
@@ -102,7 +102,7 @@ def record(it: Record) -> str:
 
 def function(it: Function) -> str:
     takes = [f"{type}{'' if type.endswith('*') else ' '}{name}" for type, name in it.takes]
-    # Lines break behind commas alone.
+    # Lines break only after commas.
     parts = [part.replace(" ", "~") for part in ", ".join(takes or ["void"]).split(", ")]
     lines = textwrap.wrap(f"{it.gives}~{it.name}(" + ", ".join(parts) + ");", 108, subsequent_indent="    ")
     return comment(it.comment) + "\n".join(lines).replace("~", " ") + "\n"

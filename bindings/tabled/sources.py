@@ -23,7 +23,7 @@ def text_of(path: str) -> str:
 
 
 def sources_of(crate: str) -> str:
-    """All sources of a crate, one behind the other."""
+    """All sources of a crate, one after the other."""
     return "\n".join(it.read_text(encoding="utf-8") for it in sorted((ROOT / "crates" / crate / "src").glob("*.rt")))
 
 

@@ -29,7 +29,7 @@ class Function:
 
 @dataclass
 class Table:
-    """All that the header says. `faults` tells where the table and the sources differ."""
+    """All that the header says. `faults` says where the table and the sources differ."""
 
     version: int
     constants: list[dict]
@@ -42,7 +42,7 @@ class Table:
 
 
 def read() -> Table:
-    """The table of abi.toml, held against the sources."""
+    """The table of abi.toml, compared with the sources."""
     said = tomllib.loads((sources.ROOT / "bindings" / "abi.toml").read_text(encoding="utf-8"))
     table = Table(said["version"], [], sources.kinds(), sources.tags(), sources.codes())
     if table.version != sources.version():

@@ -27,7 +27,7 @@ def told(words, text: bytes, env=None) -> dict[str, float]:
 
 
 def repeated(program: Path, word: str, rounds: int, text: bytes, is_oracle: bool) -> float:
-    """The nanoseconds of a round of a program that repeats a call: the oracle's on its output, the others behind it."""
+    """The nanoseconds of a round of a program that repeats a call: the oracle's on its output, the others after it."""
     words = [program, "bench", word, rounds] if is_oracle else [program, word, rounds]
     done = subprocess.run([str(it) for it in words], input=text, capture_output=True, check=True)
     return float((done.stdout if is_oracle else done.stderr).split()[0])

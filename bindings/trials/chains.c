@@ -15,7 +15,7 @@ static uint8_t *chain(const char *head, const char *link, const char *tail, size
     return text;
 }
 
-/* Whether a chain is read, told, edited at its end and in its middle, and told again as one made anew is. */
+/* Whether a chain is read, reported, edited at its end and in its middle, and reported again as a newly made one is. */
 static int is_done(const uint8_t *text, size_t length, size_t links, const char *with)
 {
     typst_source *source = made(text, length), *copied;

@@ -1,4 +1,4 @@
-/* Random edits: a source that was edited tells the same as one that is made of the text anew. */
+/* Random edits: a source that was edited reports the same as one that is newly made of the text. */
 #include "trials.h"
 
 /* From this length on a text is cut. */
@@ -42,24 +42,45 @@ static int is_part(typst_source *source, const whole *all, size_t start, size_t 
     return is_right && met == told;
 }
 
-/* Whether the records without a source are those of the source, without numbers. */
+/* Whether records are those of a source's nodes, without numbers. */
+static int is_unnumbered(const typst_node *room, const whole *all)
+{
+    size_t i;
+
+    for (i = 0; i < all->sizes.nodes; i++) {
+        typst_node node = all->nodes[i];
+        node.span = 0;
+        if (memcmp(&room[i], &node, sizeof node) != 0)
+            return 0;
+    }
+    return 1;
+}
+
+/* Whether the calls without a source tell the same of a text as the source. */
 static int is_parsed(const text *text, const whole *all)
 {
     typst_node *room = room_for(all->sizes.nodes, sizeof *room);
-    size_t i, told = 0;
+    typst_remark *remarks = room_for(all->sizes.remarks, sizeof *remarks);
+    uint8_t *messages = room_for(all->sizes.messages, 1);
+    typst_sizes sizes = {0, 0, 0, 0};
+    size_t told = 0;
     int is_right = typst_parse(TYPST_MARKUP, text->bytes, text->length, room, all->sizes.nodes, &told) == TYPST_OK
-        && told == all->sizes.nodes;
+        && told == all->sizes.nodes && is_unnumbered(room, all);
 
-    for (i = 0; i < told && is_right; i++) {
-        typst_node node = all->nodes[i];
-        node.span = 0;
-        is_right = memcmp(&room[i], &node, sizeof node) == 0;
-    }
+    memset(room, 0, all->sizes.nodes * sizeof *room);
+    is_right = is_right
+        && typst_parse_all(TYPST_MARKUP, text->bytes, text->length, room, all->sizes.nodes, remarks, all->sizes.remarks,
+               messages, all->sizes.messages, &sizes) == TYPST_OK
+        && memcmp(&sizes, &all->sizes, sizeof sizes) == 0 && is_unnumbered(room, all)
+        && memcmp(remarks, all->remarks, sizes.remarks * sizeof *remarks) == 0
+        && memcmp(messages, all->messages, sizes.messages) == 0;
     free(room);
+    free(remarks);
+    free(messages);
     return is_right;
 }
 
-/* Whether a source tells of a text what one tells that is made of it anew. */
+/* Whether a source reports of a text what one reports that is newly made of it. */
 static int agrees(typst_source *source, const text *text, uint64_t *state)
 {
     typst_source *fresh = made(text->bytes, text->length);

@@ -12,7 +12,7 @@ static unsigned long number(const char *word)
     return word == NULL ? 0 : strtoul(word, NULL, 10);
 }
 
-/* Makes the trial of a word, and tells how many words it took. */
+/* Makes the trial of a word, and answers how many words it took. */
 static int try_one(tally *tally, char **words)
 {
     tally->name = words[0];

@@ -19,7 +19,7 @@ from pathlib import Path
 sys.path.insert(0, str(Path(__file__).resolve().parents[1] / "python"))
 sys.dont_write_bytecode = True
 import typst_syntax  # noqa: E402
-from typst_syntax import Mode, Source, Unit, highlight_html, parse  # noqa: E402
+from typst_syntax import Mode, Source, Unit, highlight_html, parse, parse_all  # noqa: E402
 from typst_syntax.printing import tag_lines, tree_lines  # noqa: E402
 
 PIECES = ["a", " ", "\n", "\n\n", "*", "_", "= ", "- ", "/ ", "#", "#let x = 1\n", "#f(1, y: 2)", "[", "]", "{", "}", "(", ")",
@@ -54,7 +54,7 @@ class Tally:
 
 
 def without_spans(tree) -> bytes:
-    """The records of a tree but for their spans, which are the first eight bytes of each."""
+    """The records of a tree without their spans, which are the first eight bytes of each."""
     buffer = bytearray(tree.buffer)
     for at in range(8):
         buffer[at::32] = bytes(len(tree))
@@ -62,10 +62,11 @@ def without_spans(tree) -> bytes:
 
 
 def agrees(source: Source, text: str) -> bool:
-    """Whether a source tells of a text what one tells that is made of it anew."""
+    """Whether a source reports of a text what one reports that is newly made of it."""
     fresh = Source(text)
-    same = without_spans(source.tree) == without_spans(fresh.tree)
-    return same and source.remarks() == fresh.remarks() and source.text == text
+    tree, remarks = parse_all(text)
+    same = without_spans(source.tree) == without_spans(fresh.tree) == bytes(tree.buffer)
+    return same and source.remarks() == fresh.remarks() == remarks and source.text == text
 
 
 def edits(tally: Tally, seed: int, many: int) -> None:
@@ -85,7 +86,7 @@ def edits(tally: Tally, seed: int, many: int) -> None:
 
 
 def steps(tally: Tally) -> None:
-    """The steps of nodes, held against the children of nodes."""
+    """The steps of nodes, compared with the children of nodes."""
     source = Source("= A *b* _c_\n#let x = (1, [d])\n- e\n  - f $x^2$\n" * 3)
     tree = source.tree
     whole = [node for node in tree]
@@ -120,8 +121,8 @@ def errors(tally: Tally) -> None:
     source, large = Source("aé *b*"), bytes((1 << 32) - 1)
     asked = {
         typst_syntax.BadRange: [lambda: source.position(2), lambda: source.byte(1, 0), lambda: source.edit(2, 3, ""), lambda: source.edit(3, 1, ""), lambda: source.edit(0, 99, "")],
-        typst_syntax.NotUtf8: [lambda: Source(b"\xff"), lambda: source.edit(0, 0, b"\xff"), lambda: parse(b"a\xc3")],
-        typst_syntax.BadArgument: [lambda: Source("", file=0), lambda: parse("", 3)],
+        typst_syntax.NotUtf8: [lambda: Source(b"\xff"), lambda: source.edit(0, 0, b"\xff"), lambda: parse(b"a\xc3"), lambda: parse_all(b"\xff")],
+        typst_syntax.BadArgument: [lambda: Source("", file=0), lambda: parse("", 3), lambda: parse_all("", 3)],
         typst_syntax.TooLarge: [lambda: Source(large), lambda: source.replace(large), lambda: source.edit(0, 0, large)],
         ValueError: [lambda: closed().text, lambda: closed().edit(0, 0, "")],
         IndexError: [lambda: source.edit(-1, 0, ""), lambda: source.edit(1 << 64, 1 << 64, ""), lambda: source.nodes_in(-1, 0), lambda: source.tree[99]],

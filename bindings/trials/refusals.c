@@ -7,7 +7,7 @@ static const char document[] = "= Title <t>\nA *strong* word, `raw`, @t and http
 #define LENGTH (sizeof document - 1)
 #define TEXT ((const uint8_t *)document)
 
-/* What a call is given and where it puts what it tells. */
+/* What a call is given and where it puts what it reports. */
 typedef struct place {
     typst_source *source, *given;
     typst_node nodes[1024];
@@ -30,6 +30,10 @@ static uint32_t call_remarks(place *p) { return typst_source_remarks(p->source, 
 static uint32_t call_parse(place *p) { return typst_parse(TYPST_MARKUP, TEXT, LENGTH, p->nodes, 1024, &p->told); }
 static uint32_t call_code(place *p) { return typst_parse(TYPST_CODE, TEXT + 150, LENGTH - 150, p->nodes, 1024, &p->told); }
 static uint32_t call_math(place *p) { return typst_parse(TYPST_MATH, TEXT, LENGTH, p->nodes, 1024, &p->told); }
+static uint32_t call_all(place *p)
+{
+    return typst_parse_all(TYPST_CODE, TEXT + 150, LENGTH - 150, p->nodes, 1024, p->remarks, 64, p->bytes, 4096, &p->sizes);
+}
 
 static uint32_t call_html(place *p) { return typst_highlight_html(TEXT, LENGTH, p->bytes, 4096, &p->told); }
 
@@ -38,9 +42,9 @@ static const struct {
     uint32_t (*make)(place *);
 } calls[] = {{"new", call_new}, {"clone", call_clone}, {"edit", call_edit}, {"replace", call_replace}, {"sizes", call_sizes},
     {"nodes", call_nodes}, {"nodes_in", call_nodes_in}, {"remarks", call_remarks}, {"parse", call_parse},
-    {"parse code", call_code}, {"parse math", call_math}, {"html", call_html}};
+    {"parse code", call_code}, {"parse math", call_math}, {"parse all", call_all}, {"html", call_html}};
 
-/* Makes a call with some requests refused: whether that went as it should. `made_all` tells whether none was. */
+/* Makes a call with some requests refused: whether that went as it should. `made_all` says whether none was. */
 static int is_refused_well(size_t which, unsigned long first, unsigned long last, int *made_all)
 {
     static place p;
@@ -104,6 +108,7 @@ void try_codes(tally *tally)
     whole before = read_whole(source);
     typst_stretch stretch = {7, 7};
     typst_position position = {7, 7, 7, 7};
+    typst_sizes sizes = {7, 7, 7, 7};
     size_t told = 7;
 
 #define KEPT(call, wanted) count(tally, is_kept(source, &before, (call), (wanted)), #call)
@@ -113,6 +118,8 @@ void try_codes(tally *tally)
     KEPT(typst_source_new(1, text, 2, &none), TYPST_NOT_UTF8);
     KEPT(typst_parse(3, text, 3, before.nodes, 0, &told), TYPST_BAD_ARGUMENT);
     KEPT(typst_parse(TYPST_CODE, bad, 3, before.nodes, 0, &told), TYPST_NOT_UTF8);
+    KEPT(typst_parse_all(3, text, 3, before.nodes, 0, before.remarks, 0, before.messages, 0, &sizes), TYPST_BAD_ARGUMENT);
+    KEPT(typst_parse_all(TYPST_MATH, bad, 3, before.nodes, 0, before.remarks, 0, before.messages, 0, &sizes), TYPST_NOT_UTF8);
     KEPT(typst_source_edit(source, 2, 3, text, 1, &stretch), TYPST_BAD_RANGE);
     KEPT(typst_source_edit(source, 1, 2, text, 1, &stretch), TYPST_BAD_RANGE);
     KEPT(typst_source_edit(source, 3, 1, text, 1, &stretch), TYPST_BAD_RANGE);
@@ -127,7 +134,7 @@ void try_codes(tally *tally)
     KEPT(typst_source_byte(source, 0, 2, TYPST_BYTES, &told), TYPST_BAD_RANGE);
     KEPT(typst_source_byte(source, 0, 0, 3, &told), TYPST_BAD_ARGUMENT);
 #undef KEPT
-    count(tally, none == NULL && stretch.start == 7 && stretch.end == 7 && told == 7 && position.utf16 == 7,
+    count(tally, none == NULL && stretch.start == 7 && stretch.end == 7 && told == 7 && sizes.text == 7 && position.utf16 == 7,
         "a refused call told something");
     free_whole(&before);
     typst_source_free(source);

@@ -15,10 +15,10 @@ typedef struct tally {
     unsigned long right, all;
 } tally;
 
-/* Counts a result, and tells of the first ones that are wrong. */
+/* Counts a result, and reports the first ones that are wrong. */
 void count(tally *tally, int is_right, const char *what);
 
-/* All that a source tells of itself. */
+/* All that a source reports of itself. */
 typedef struct whole {
     typst_sizes sizes;
     typst_node *nodes;
@@ -61,7 +61,7 @@ void try_large(tally *tally);
 /* From here on requests for memory with the numbers from `first` to `last` are refused, counted from 1. */
 void refuse(unsigned long first, unsigned long last);
 
-/* Ends that, and tells how many requests there were. */
+/* Ends that, and answers how many requests there were. */
 unsigned long allow(void);
 
 /* How many blocks of memory are in use. */

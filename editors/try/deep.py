@@ -4,7 +4,7 @@
 FOLDER holds the programs, as FOLDER/NAME/out/NAME. Of each chain, a text of so many links of one
 kind, typst_syn prints lines and HTML; typst_check checks it in each format and makes a page;
 typst_probe gives a source of it a keystroke at the front, in the middle and at the end, takes each
-back, and compares what the source holds with what is made anew; a server opens it, gets the same
+back, and compares what the source holds with what is newly made; a server opens it, gets the same
 keystrokes, is asked all that it answers, and closes it: all with a machine stack of KIB kibibytes.
 Each has to end as it does for a chain of 600 links, and what typst_probe counts has to grow from
 there on as from 600 links to 601. A line says what ended otherwise, and the last one how many runs
@@ -77,7 +77,7 @@ def text_of(chain: str, links: int) -> str:
 
 
 def places(chain: str, links: int):
-    """The bytes at which is edited: before the first link, between two in the middle and behind the last."""
+    """The bytes at which edits are made: before the first link, between two in the middle and after the last."""
     front, link, _ = CHAINS[chain]
     return {"front": len(front), "middle": len(front) + links // 2 * len(link), "end": len(front) + links * len(link)}
 

@@ -1,15 +1,13 @@
 ;;; emacs.el --- Edits a document at random in Emacs, and asks the server about it -*- lexical-binding: t -*-
 
-;; TRY_CLIENT is `lsp-mode' or `eglot', TRY_FILE the document, TRY_SERVER the server's path, TRY_EDITS how many edits
-;; are made, TRY_PACE how many of them before each checkpoint, TRY_SEED what they follow from.  The texts of the buffer
-;; at checkpoints are written to TRY_LOG.
+;; TRY_CLIENT is `lsp-mode' or `eglot', TRY_FILE the document, TRY_EDITS how many edits are made, TRY_PACE how many of
+;; them before each checkpoint, TRY_SEED what they follow from.  The texts of the buffer at checkpoints are written to
+;; TRY_LOG.
 
-(require 'package)
-(package-initialize)
-(require 'seq)
-(setq read-process-output-max 1000000)
+(load (expand-file-name "clients.el" (file-name-directory load-file-name)) nil t)
+;; A question for tokens marks a checkpoint.
+(setq lsp-semantic-tokens-enable nil)
 
-(defvar try-client (getenv "TRY_CLIENT"))
 (defvar try-pace (string-to-number (getenv "TRY_PACE")))
 (defvar try-pieces
   '("= Hi" "*a*" "_b_" "💛" "ä" "#let x = 1" "#{" "}" "[" "]" "$x^2$" "`r`" "```" "<l>" "@l" "\n- item" "/ t: d" "// c" "/* c"
@@ -17,58 +15,12 @@
 (defvar try-questions '("semanticTokens/full" "documentSymbol" "foldingRange"))
 (defvar try-fence (make-string 40 ?`))
 
-(define-derived-mode try-typst-mode text-mode "Typst")
-(add-to-list 'auto-mode-alist '("\\.typ\\'" . try-typst-mode))
-
-;; lsp-mode
-
-(defun try-start-lsp-mode ()
-  (require 'lsp-mode)
-  (setq lsp-auto-guess-root t
-        lsp-enable-file-watchers nil
-        lsp-restart 'ignore
-        lsp-response-timeout 900)
-  (add-to-list 'lsp-language-id-configuration '(try-typst-mode . "typst"))
-  (lsp-register-client
-   (make-lsp-client :new-connection (lsp-stdio-connection (list (getenv "TRY_SERVER")))
-                    :activation-fn (lsp-activate-on "typst")
-                    :server-id 'typst_lsp))
-  (lsp-workspace-folders-add default-directory)
-  (lsp)
-  (while (not (seq-some (lambda (it) (eq (lsp--workspace-status it) 'initialized)) (lsp-workspaces)))
-    (accept-process-output nil 0.1)))
-
-(defun try-stop-lsp-mode ()
-  (lsp-workspace-shutdown (car (lsp-workspaces)))
-  (accept-process-output nil 1))
-
-;; eglot
-
-(defun try-start-eglot ()
-  (require 'eglot)
-  (setq eglot-sync-connect 60
-        eglot-events-buffer-size 0)
-  (add-to-list 'eglot-server-programs (list 'try-typst-mode (getenv "TRY_SERVER")))
-  (apply #'eglot (eglot--guess-contact)))
-
-(defun try-stop-eglot ()
-  (eglot-shutdown (eglot-current-server)))
-
-;; Both
-
 (defun try-hide-errors ()
   "Leaves errors and warnings unread, which are thousands in a large document.
-Emacs would look for the line of each from the start of the buffer, for minutes behind each change."
+Emacs would look for the line of each from the start of the buffer, for minutes after each change."
   (if (equal try-client "lsp-mode")
       (advice-add 'lsp--on-diagnostics :override #'ignore)
     (cl-defmethod eglot-handle-notification (_server (_method (eql textDocument/publishDiagnostics)) &rest _))))
-
-(defun try-ask (method)
-  (if (equal try-client "lsp-mode")
-      (lsp-request (concat "textDocument/" method) (list :textDocument (lsp--text-document-identifier)))
-    (eglot--signal-textDocument/didChange)
-    (jsonrpc-request (eglot-current-server) (intern (concat ":textDocument/" method))
-                     (list :textDocument (eglot--TextDocumentIdentifier)) :timeout 900)))
 
 (defun try-is-miscounted (place)
   "Whether the client gives PLACE another column than the protocol does.
@@ -132,16 +84,14 @@ This version of lsp-mode takes a character outside the BMP for one column."
 
 (defun try-run ()
   (random (getenv "TRY_SEED"))
-  (let ((coding-system-for-read 'utf-8-unix))
-    (find-file (getenv "TRY_FILE")))
+  (try-open (getenv "TRY_FILE"))
   (buffer-enable-undo)
-  (funcall (intern (concat "try-start-" try-client)))
   (when (> (buffer-size) 100000) (try-hide-errors))
   (dotimes (number (string-to-number (getenv "TRY_EDITS")))
     (if (zerop (random 2)) (try-replace) (try-command))
     (when (< (random try-pace) 3) (try-ask "foldingRange"))
     (when (zerop (% (1+ number) try-pace)) (try-checkpoint (/ (1+ number) try-pace))))
-  (funcall (intern (concat "try-stop-" try-client))))
+  (try-stop))
 
 (try-run)
 

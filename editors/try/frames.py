@@ -24,6 +24,18 @@ def raw_bodies(data: bytes):
         yield data[end + 4:at]
 
 
+def read_body(stream) -> bytes:
+    """The next body of a stream of frames."""
+    length = 0
+    while (line := stream.readline()) != b"\r\n":
+        if not line:
+            raise EOFError("the frames end")
+        name, _, value = line.partition(b":")
+        if name.lower() == b"content-length":
+            length = int(value)
+    return stream.read(length)
+
+
 def bodies(data: bytes):
     return map(json.loads, raw_bodies(data))
 

@@ -1,6 +1,6 @@
 -- Edits a document at random in Neovim, and asks the server about it now and then.
 --
--- TRY_FILE is the document, TRY_SERVER the server's path, TRY_EDITS how many edits are made, TRY_PACE how many of them
+-- The server is `typst_lsp` of the PATH, TRY_FILE the document, TRY_EDITS how many edits are made, TRY_PACE how many of them
 -- before each checkpoint, TRY_SEED what they follow from. The texts of the buffer at checkpoints are written to TRY_LOG.
 
 local env = vim.env
@@ -16,7 +16,7 @@ local buffer = vim.api.nvim_get_current_buf()
 local document = { uri = vim.uri_from_bufnr(buffer) }
 
 local function start_server()
-  local client = vim.lsp.start_client({ name = "typst_lsp", cmd = { env.TRY_SERVER }, root_dir = vim.fn.getcwd() })
+  local client = vim.lsp.start_client({ name = "typst_lsp", cmd = { "typst_lsp" }, root_dir = vim.fn.getcwd() })
   vim.lsp.buf_attach_client(buffer, client)
   assert(vim.wait(60000, function()
     local known = vim.lsp.get_client_by_id(client)

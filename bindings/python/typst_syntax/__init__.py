@@ -16,7 +16,7 @@ TYPST_SYNTAX_LIBRARY, or `libtypst_syntax.so.1` where the system looks for libra
 """
 
 from .errors import BadArgument, BadRange, NotUtf8, OutOfMemory, SpanNumbers, TooLarge, TypstError
-from .source import Position, Source, highlight_html, parse
+from .source import Position, Source, highlight_html, parse, parse_all
 from .tables import Kind, Mode, Severity, Tag, Unit
 from .tree import Hint, Node, Remark, Tree
 
@@ -41,4 +41,5 @@ __all__ = [
     "Unit",
     "highlight_html",
     "parse",
+    "parse_all",
 ]

@@ -9,7 +9,7 @@ __all__ = ["library", "room_in"]
 
 
 def load() -> CDLL:
-    """Loads the library and tells ctypes of its functions."""
+    """Loads the library and declares its functions to ctypes."""
     name = os.environ.get("TYPST_SYNTAX_LIBRARY", "libtypst_syntax.so.1")
     loaded = CDLL(name)
     if loaded.typst_abi_version() != VERSION:

@@ -9,10 +9,10 @@ from threading import RLock
 
 from .errors import check
 from .library import library, room_in
-from .tables import Mode, PositionRecord, RemarkRecord, SaidRecord, Severity, StretchRecord, Unit
+from .tables import Mode, PositionRecord, RemarkRecord, SaidRecord, Severity, SizesRecord, StretchRecord, Unit
 from .tree import WIDTH, Hint, Node, Remark, Tree
 
-__all__ = ["Position", "Source", "highlight_html", "parse"]
+__all__ = ["Position", "Source", "highlight_html", "parse", "parse_all"]
 
 
 @dataclass(frozen=True)
@@ -26,13 +26,34 @@ class Position:
 
 
 def parse(text: str | bytes, mode: Mode = Mode.MARKUP) -> Tree:
-    """The tree of a text that isn't kept. Its nodes have no spans, and the remarks on them aren't told.
+    """The tree of a text that isn't kept. Its nodes have no spans. `parse_all` also gives the remarks on them.
 
     >>> [node.name for node in parse("1 + x", Mode.CODE).root.children()]
     ['Binary']
     """
     data = bytes_of(text)
     return Tree(data, filled(len(data), lambda *room: library.typst_parse(mode, data, len(data), *room)))
+
+
+def parse_all(text: str | bytes, mode: Mode = Mode.MARKUP) -> tuple[Tree, list[Remark]]:
+    """The tree of a text that isn't kept, as of `parse`, and the errors and warnings on its nodes.
+
+    >>> tree, remarks = parse_all("f(1", Mode.CODE)
+    >>> [(it.start, it.end, it.message) for it in remarks]
+    [(1, 2, 'unclosed delimiter')]
+    """
+    data, sizes = bytes_of(text), SizesRecord()
+    room = len(data) // 2 + 64, 16, 1024
+    while True:
+        nodes, remarks, messages = bytearray(room[0] * WIDTH), (RemarkRecord * room[1])(), bytearray(room[2])
+        rooms = room_in(nodes), room[0], remarks, room[1], room_in(messages), room[2]
+        check(library.typst_parse_all(mode, data, len(data), *rooms, byref(sizes)))
+        del rooms
+        wanted = sizes.nodes, sizes.remarks, sizes.messages
+        if all(many <= most for many, most in zip(wanted, room)):
+            del nodes[sizes.nodes * WIDTH :]
+            return Tree(data, nodes), list(gathered(remarks[: sizes.remarks], messages))
+        room = wanted
 
 
 def highlight_html(text: str | bytes) -> str:
@@ -130,12 +151,12 @@ class Source:
         return self.data.decode()
 
     def edit(self, start: int, end: int, text: str | bytes) -> range:
-        """Puts a text in the place of the bytes from `start` to `end`, and tells which bytes were read anew."""
+        """Puts a text in the place of the bytes from `start` to `end`, and reports which bytes were read again."""
         data = bytes_of(text)
         return self._changed(library.typst_source_edit, size(start), size(end), data, len(data))
 
     def replace(self, text: str | bytes) -> range:
-        """Makes another text the source's by an edit of what differs, and tells which bytes were read anew."""
+        """Makes another text the source's by an edit of what differs, and reports which bytes were read again."""
         data = bytes_of(text)
         return self._changed(library.typst_source_replace, data, len(data))
 
@@ -251,7 +272,7 @@ def filled(bytes: int, call) -> bytearray:
 
 
 def gathered(records, messages: bytearray) -> Iterator[Remark]:
-    """The remarks of records, each with the hints that stand behind it."""
+    """The remarks of records, each with the hints that stand after it."""
     texts = (bytes(messages[it.message : it.message + it.message_len]).decode() for it in records)
     row: list[tuple[RemarkRecord, str, list[Hint]]] = []
     for it, text in zip(records, texts):

@@ -448,7 +448,7 @@ class RemarkRecord(Structure):
 
 
 class SizesRecord(Structure):
-    """How much room all of a source takes."""
+    """How much room all of a source or of a parsed text takes."""
 
     _fields_ = [
         ("text", c_size_t),
@@ -495,6 +495,7 @@ FUNCTIONS = {
     "typst_kind_of": (c_uint32, [c_void_p, c_size_t]),
     "typst_tag_name": (c_size_t, [c_uint32, c_void_p, c_size_t]),
     "typst_parse": (c_uint32, [c_uint32, c_void_p, c_size_t, c_void_p, c_size_t, c_void_p]),
+    "typst_parse_all": (c_uint32, [c_uint32, c_void_p, c_size_t, c_void_p, c_size_t, c_void_p, c_size_t, c_void_p, c_size_t, c_void_p]),
     "typst_highlight_html": (c_uint32, [c_void_p, c_size_t, c_void_p, c_size_t, c_void_p]),
     "typst_source_new": (c_uint32, [c_uint16, c_void_p, c_size_t, c_void_p]),
     "typst_source_free": (None, [c_void_p]),

@@ -153,7 +153,7 @@ class Node:
 
     @property
     def end(self) -> int:
-        """The byte behind it."""
+        """The byte after it."""
         return self._record.end
 
     @property

@@ -3,7 +3,7 @@
 //!     print tree                    the tree, with bytes and what is said of nodes
 //!     print tags                    the bytes and the tag of each node that has one
 //!     print html                    the text as HTML
-//!     print edit START END TEXT     the bytes that an edit reads anew, and the tree behind it
+//!     print edit START END TEXT     the bytes that an edit reads again, and the tree after it
 
 use std::error::Error;
 use std::io::{self, BufWriter, Read, Write};

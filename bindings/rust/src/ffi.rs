@@ -31,7 +31,7 @@ pub const TOO_LARGE: u32 = 6;
 /// A whole file.
 pub const MARKUP: u32 = 0;
 
-/// Code, as behind a hash.
+/// Code, as after a hash.
 pub const CODE: u32 = 1;
 
 /// The inside of a formula.
@@ -70,7 +70,7 @@ pub struct Opaque {
     _nothing: [u8; 0],
 }
 
-/// A node of a tree. Records stand in preorder: behind a node stand the records of all that is below it,
+/// A node of a tree. Records stand in preorder: after a node stand the records of all that is below it,
 /// so its first child is the next record, and the next sibling stands `nodes` records on, if the parent's
 /// subtree goes so far.
 #[repr(C)]
@@ -100,7 +100,7 @@ pub struct Remark {
     pub severity: u32,
 }
 
-/// How much room all of a source takes.
+/// How much room all of a source or of a parsed text takes.
 #[repr(C)]
 #[derive(Debug, Clone, Copy, Default, PartialEq, Eq)]
 pub struct Sizes {
@@ -143,6 +143,7 @@ unsafe extern "C" {
     pub fn typst_kind_of(name: *const u8, length: usize) -> u32;
     pub fn typst_tag_name(tag: u32, room: *mut u8, room_length: usize) -> usize;
     pub fn typst_parse(mode: u32, text: *const u8, length: usize, room: *mut Node, room_length: usize, count: *mut usize) -> u32;
+    pub fn typst_parse_all(mode: u32, text: *const u8, length: usize, room: *mut Node, room_length: usize, remarks: *mut Remark, remarks_length: usize, messages: *mut u8, messages_length: usize, sizes: *mut Sizes) -> u32;
     pub fn typst_highlight_html(text: *const u8, length: usize, room: *mut u8, room_length: usize, count: *mut usize) -> u32;
     pub fn typst_source_new(file: u16, text: *const u8, length: usize, source: *mut *mut Opaque) -> u32;
     pub fn typst_source_free(source: *mut Opaque);

@@ -1,20 +1,21 @@
 //! The calls of the library. All `unsafe` code stands here.
 
-use crate::ffi::{self, Node, Opaque, Position, Remark, Said, Stretch};
+use crate::ffi::{self, Node, Opaque, Position, Remark, Said, Sizes, Stretch};
 use crate::refusal::Refusal;
+use crate::tree::Tree;
 use std::ops::Range;
 use std::ptr::{self, NonNull};
 
 /// A source of the library, freed in the end.
 pub(crate) struct Handle(NonNull<Opaque>);
 
-// SAFETY: a source owns all that its pointer leads to, the library keeps nothing elsewhere, and `malloc` and `free`
-// may be called by any thread. It isn't `Sync`: one call at a time.
+// SAFETY: the library proves that a source may move between threads, and `malloc` and `free` may be called by any
+// thread. It isn't `Sync`: one call at a time.
 unsafe impl Send for Handle {}
 
 impl Drop for Handle {
     fn drop(&mut self) {
-        // SAFETY: the pointer came from the library, and nothing has it behind this call.
+        // SAFETY: the pointer came from the library, and nothing has it after this call.
         unsafe { ffi::typst_source_free(self.0.as_ptr()) }
     }
 }
@@ -84,7 +85,7 @@ impl Handle {
     /// The bytes of the node with a span.
     pub fn range(&self, span: u64) -> Option<Range<usize>> {
         let (mut found, mut stretch) = (0, Stretch::default());
-        // SAFETY: the pointer is a source's, and the others are room for what is told.
+        // SAFETY: the pointer is a source's, and the others are room for what is reported.
         unsafe { ffi::typst_source_range(self.0.as_ptr(), span, &mut found, &mut stretch) };
         (found != 0).then_some(stretch.start..stretch.end)
     }
@@ -136,12 +137,60 @@ impl Handle {
     }
 }
 
-/// The records of a text's nodes, which is read as a mode says.
-pub(crate) fn parsed(mode: u32, text: &str) -> Result<Vec<Node>, Refusal> {
-    // SAFETY: pointers and lengths are of one text and of one array.
-    filled(text.len(), |room, length, count| unsafe {
-        ffi::typst_parse(mode, text.as_ptr(), text.len(), room, length, count)
+/// The tree of a text that is read as a mode says, with what is said of its nodes.
+pub(crate) fn parsed(mode: u32, text: &str) -> Result<Tree, Refusal> {
+    let mut nodes = Vec::with_capacity(text.len() / 2 + 64);
+    let mut remarks = Vec::with_capacity(16);
+    let mut messages = Vec::with_capacity(1024);
+    while !parse_into(mode, text, &mut nodes, &mut remarks, &mut messages)? {}
+    Ok(Tree {
+        text: text.into(),
+        nodes,
+        remarks,
+        messages: String::from_utf8(messages).expect("messages are UTF-8"),
     })
+}
+
+/// Fills three empty lists, or, if one of them is too short, makes room in all and answers `false`.
+fn parse_into(
+    mode: u32,
+    text: &str,
+    nodes: &mut Vec<Node>,
+    remarks: &mut Vec<Remark>,
+    messages: &mut Vec<u8>,
+) -> Result<bool, Refusal> {
+    let mut sizes = Sizes::default();
+    // SAFETY: pointers and lengths are of one text and of three arrays, and the last argument is room for sizes.
+    Refusal::check(unsafe {
+        ffi::typst_parse_all(
+            mode,
+            text.as_ptr(),
+            text.len(),
+            nodes.as_mut_ptr(),
+            nodes.capacity(),
+            remarks.as_mut_ptr(),
+            remarks.capacity(),
+            messages.as_mut_ptr(),
+            messages.capacity(),
+            &mut sizes,
+        )
+    })?;
+    let fits = sizes.nodes <= nodes.capacity()
+        && sizes.remarks <= remarks.capacity()
+        && sizes.messages <= messages.capacity();
+    if fits {
+        // SAFETY: the library has filled so many elements of each.
+        unsafe {
+            nodes.set_len(sizes.nodes);
+            remarks.set_len(sizes.remarks);
+            messages.set_len(sizes.messages);
+        }
+    } else {
+        nodes.reserve(sizes.nodes);
+        remarks.reserve(sizes.remarks);
+        messages.reserve(sizes.messages);
+    }
+    Ok(fits)
 }
 
 /// A text as HTML.
@@ -168,7 +217,7 @@ pub(crate) fn html(text: &str) -> Result<String, Refusal> {
     }
 }
 
-/// The stretch that a call tells.
+/// The stretch that a call reports.
 fn changed(call: impl FnOnce(*mut Stretch) -> u32) -> Result<Range<usize>, Refusal> {
     let mut stretch = Stretch::default();
     Refusal::check(call(&mut stretch))?;

@@ -156,7 +156,7 @@ impl<'a> LinkedNode<'a> {
         before.rev().find(|it| !it.kind().is_trivia())
     }
 
-    /// The nearest sibling behind it that is no trivia.
+    /// The nearest sibling after it that is no trivia.
     pub fn next_sibling(&self) -> Option<LinkedNode<'a>> {
         let parent = self.parent()?;
         let mut behind = LinkedChildren {
@@ -172,7 +172,7 @@ impl<'a> LinkedNode<'a> {
         Some(self.prev_sibling()?.kind())
     }
 
-    /// What the nearest sibling behind it is that is no trivia.
+    /// What the nearest sibling after it is that is no trivia.
     pub fn next_sibling_kind(&self) -> Option<SyntaxKind> {
         Some(self.next_sibling()?.kind())
     }
@@ -198,7 +198,7 @@ impl<'a> LinkedNode<'a> {
         self.first_of((self.root.number..self.number).rev())
     }
 
-    /// The nearest leaf behind it that is neither trivia nor an error.
+    /// The nearest leaf after it that is neither trivia nor an error.
     pub fn next_leaf(&self) -> Option<LinkedNode<'a>> {
         self.first_of(self.numbers().end..LinkedNode::new(self.root).numbers().end)
     }
@@ -242,7 +242,7 @@ impl<'a> LinkedNode<'a> {
         is_there.then_some(node)
     }
 
-    /// Whether a byte is behind its first, and not behind its end.
+    /// Whether a byte is after its first, and not past its end.
     fn ends_from(&self, byte: usize) -> bool {
         let range = self.range();
         range.start < byte && byte <= range.end

@@ -23,12 +23,10 @@ use std::sync::Arc;
 /// assert_eq!(kinds, [SyntaxKind::Text, SyntaxKind::Space, SyntaxKind::Strong]);
 /// ```
 pub fn parse(text: &str) -> SyntaxNode {
-    let mut tree = SyntaxNode::kept(text.into(), None).unwrap_or_else(|it| panic!("{it}"));
-    tree.nodes.iter_mut().for_each(|node| node.span = 0);
-    SyntaxNode::root_of(tree)
+    SyntaxNode::read_as(ffi::MARKUP, text)
 }
 
-/// Reads a text as code, as it stands behind a hash. Its nodes have no spans, and no messages.
+/// Reads a text as code, as it stands after a hash. Its nodes have no spans.
 ///
 /// ```
 /// use typst_syntax::{SyntaxKind, parse_code};
@@ -39,7 +37,7 @@ pub fn parse_code(text: &str) -> SyntaxNode {
     SyntaxNode::read_as(ffi::CODE, text)
 }
 
-/// Reads a text as the inside of a formula. Its nodes have no spans, and no messages.
+/// Reads a text as the inside of a formula. Its nodes have no spans.
 ///
 /// ```
 /// use typst_syntax::{SyntaxKind, parse_math};
@@ -58,19 +56,10 @@ pub struct SyntaxNode {
 }
 
 impl SyntaxNode {
-    /// The tree of a text, by a source that is kept or by one for this alone.
-    pub(crate) fn kept(text: Arc<str>, source: Option<&Handle>) -> Result<Tree, Refusal> {
-        let own;
-        let handle = match source {
-            Some(handle) => handle,
-            None => {
-                check_version();
-                own = Handle::new(1, &text)?;
-                &own
-            }
-        };
-        let nodes = handle.nodes(text.len())?;
-        let (remarks, messages) = handle.remarks()?;
+    /// The tree of a source's text.
+    pub(crate) fn kept(text: Arc<str>, source: &Handle) -> Result<Tree, Refusal> {
+        let nodes = source.nodes(text.len())?;
+        let (remarks, messages) = source.remarks()?;
         Ok(Tree {
             text,
             nodes,
@@ -81,14 +70,8 @@ impl SyntaxNode {
 
     fn read_as(mode: u32, text: &str) -> SyntaxNode {
         check_version();
-        let nodes = parsed(mode, text).unwrap_or_else(|it| panic!("{it}"));
-        let (remarks, messages) = (Vec::new(), String::new());
-        SyntaxNode::root_of(Tree {
-            text: text.into(),
-            nodes,
-            remarks,
-            messages,
-        })
+        let tree = parsed(mode, text).unwrap_or_else(|it| panic!("{it}"));
+        SyntaxNode::root_of(tree)
     }
 
     pub(crate) fn root_of(tree: Tree) -> SyntaxNode {

@@ -68,7 +68,7 @@ impl Source {
     /// The tree of the present text. It is read when it is asked for, once after each edit.
     pub fn root(&self) -> &SyntaxNode {
         self.root.get_or_init(|| {
-            let tree = SyntaxNode::kept(self.shared_text().clone(), Some(&self.handle));
+            let tree = SyntaxNode::kept(self.shared_text().clone(), &self.handle);
             SyntaxNode::root_of(tree.unwrap_or_else(|it| panic!("{it}")))
         })
     }
@@ -92,7 +92,7 @@ impl Source {
         self.text.get_or_init(|| self.handle.text().into())
     }
 
-    /// Puts a text in the place of a range of bytes, and answers which bytes of the new text were read anew.
+    /// Puts a text in the place of a range of bytes, and answers which bytes of the new text were read again.
     #[track_caller]
     pub fn edit(&mut self, replace: Range<usize>, with: &str) -> Range<usize> {
         self.try_edit(replace, with)
@@ -106,7 +106,7 @@ impl Source {
         Ok(changed)
     }
 
-    /// Makes another text the source's by an edit of what differs, and answers which bytes were read anew.
+    /// Makes another text the source's by an edit of what differs, and answers which bytes were read again.
     ///
     /// ```
     /// let mut source = typst_syntax::Source::detached("a\n\n*b*\n\nc");

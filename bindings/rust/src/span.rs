@@ -115,7 +115,7 @@ impl SubRange {
         self.start
     }
 
-    /// The byte behind it.
+    /// The byte after it.
     pub fn end(self) -> usize {
         self.end
     }

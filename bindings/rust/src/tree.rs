@@ -6,7 +6,7 @@ use crate::span::Span;
 use std::ops::Range;
 use std::sync::Arc;
 
-/// All that the library told of a text. Nodes go by their numbers, which are their places in `nodes`.
+/// All that the library said of a text. Nodes go by their numbers, which are their places in `nodes`.
 pub(crate) struct Tree {
     pub text: Arc<str>,
     pub nodes: Vec<Node>,
@@ -19,7 +19,7 @@ impl Tree {
         &self.nodes[number as usize]
     }
 
-    /// The number behind those of a node and all below it.
+    /// The number after those of a node and all below it.
     pub fn behind(&self, number: u32) -> u32 {
         number + self.node(number).nodes
     }

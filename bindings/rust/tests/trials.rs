@@ -4,7 +4,8 @@
 
 use std::collections::HashMap;
 use typst_syntax::{
-    LinkedNode, Refusal, Side, Source, SyntaxKind, SyntaxNode, parse, parse_code, parse_math,
+    Diagnostic, LinkedNode, Refusal, Side, Source, Span, SyntaxKind, SyntaxNode, parse, parse_code,
+    parse_math,
 };
 
 const PIECES: [&str; 34] = [
@@ -73,7 +74,7 @@ impl Draw {
     }
 }
 
-/// Makes random edits, and holds the source against one made anew behind each.
+/// Makes random edits, and compares the source with a newly made one after each.
 fn edit_at_random(seed: u64, many: usize) -> usize {
     let (mut draw, mut text, mut source) = (
         Draw(seed + 88172645463325252),
@@ -99,9 +100,18 @@ fn edit_at_random(seed: u64, many: usize) -> usize {
         let fresh = Source::detached(text.as_str());
         assert_eq!(source.text(), text);
         assert!(source.root().spanless_eq(fresh.root()), "{text:?}");
-        assert!(source.root().spanless_eq(&parse(&text)), "{text:?}");
+        let parsed = parse(&text);
+        assert!(source.root().spanless_eq(&parsed), "{text:?}");
+        assert_eq!(said_below(source.root()), said_below(&parsed), "{text:?}");
     }
     many
+}
+
+/// What is said of a node and all below it, except for spans.
+fn said_below(root: &SyntaxNode) -> Vec<Diagnostic> {
+    let mut said = root.diagnostics_below();
+    said.iter_mut().for_each(|it| it.span = Span::detached());
+    said
 }
 
 #[test]
@@ -167,7 +177,7 @@ fn steps() {
     println!("rust steps: {0} of {0} agree", nodes.len());
 }
 
-/// Holds the steps of a node against its children.
+/// Compares the steps of a node with its children.
 fn check_node(source: &Source, node: &LinkedNode) {
     let children: Vec<_> = node.children().collect();
     let mut back: Vec<_> = node.children().rev().collect();
@@ -277,12 +287,20 @@ fn parts_of_trees() {
         (args.kind(), LinkedNode::new(&args).range(), args.len()),
         (SyntaxKind::Args, 0..6, 6)
     );
+    for (root, start) in [(parse_code("f(1"), 1), (parse_math("sin(x"), 3)] {
+        let said = root.diagnostics_below();
+        assert_eq!(said.len(), 1, "{root:?}");
+        assert_eq!(
+            (said[0].range.clone(), said[0].message.as_str()),
+            (start..start + 1, "unclosed delimiter")
+        );
+    }
     let mut kinds: HashMap<SyntaxKind, usize> = HashMap::new();
     all_of(LinkedNode::new(&args))
         .iter()
         .for_each(|it| *kinds.entry(it.kind()).or_default() += 1);
     assert_eq!(kinds[&SyntaxKind::ContentBlock], 1);
-    println!("rust parts: 4 of 4 agree");
+    println!("rust parts: 6 of 6 agree");
 }
 
 #[test]

@@ -7,7 +7,7 @@ use Rattle.std.specs.Global.{Global}
 use Rattle.std_heap.specs.contracts.GlobalAllocator.TheImpl.{ghosts}
 use Rattle.typst_c.specs.contracts.kept.Kept.{the_row}
 
--- the block behind the pointer, the value in it, and the right to free it
+-- the block that the pointer points to, the value in it, and the right to free it
 abbrev pub handle_owns : Global → Ptr → the_row.Denot → Fml
 handle_owns alloc = box_owns (ghosts.dealloc_token alloc) the_row
 

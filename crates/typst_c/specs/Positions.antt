@@ -27,7 +27,7 @@ measure_code measure.Chars = 0
 measure_code measure.Utf16 = 1
 measure_code measure.Bytes = 2
 
--- a byte stands so many UTF-16 units behind a line's start, and not behind the line
+-- a byte stands so many UTF-16 units after a line's start, and not past the line's end
 pub record IsAtUnits (text : List ℕ) (line column byte : ℕ) : Type 0 where
   pub range : Range ℕ
   pub is : line_range text line ≡ Some range
@@ -35,7 +35,7 @@ pub record IsAtUnits (text : List ℕ) (line column byte : ℕ) : Type 0 where
   pub to : byte ≤ range.end
   pub boundary : IsCharBoundary text byte
 
--- the same in bytes
+-- a byte stands so many bytes after a line's start, and not past the line's end
 pub record IsAtBytes (text : List ℕ) (line column byte : ℕ) : Type 0 where
   pub range : Range ℕ
   pub is : line_range text line ≡ Some range
@@ -49,6 +49,6 @@ IsMeasured measure.Chars text line column byte = byte_at text line column ≡ So
 IsMeasured measure.Utf16 text line column byte = IsAtUnits text line column byte
 IsMeasured measure.Bytes text line column byte = IsAtBytes text line column byte
 
--- the same, where the columns are counted in what a code says
+-- a byte stands at a column of a line, counted in what a code says
 abbrev pub IsByteAt : ℕ → List ℕ → ℕ → ℕ → ℕ → Type 0
 IsByteAt code text line column byte = (m : Measure) × ((measure_code m ≡ code) × IsMeasured m text line column byte)

@@ -1,5 +1,5 @@
 -- Which refusal comes when.
-use Rattle.std.specs.Prelude.{◌≡◌, ℕ, ◌-◌, ◌^◌, ◌≤◌, List, length, Some, None}
+use Rattle.std.specs.Prelude.{◌≡◌, ℕ, ◌-◌, ◌^◌, ◌≤◌, ◌<◌, List, length, Some, None}
 use Rattle.std.specs.Str.{IsUtf8, IsCharBoundary, chars}
 use Rattle.std.specs.declared.ops.Range.{Range}
 use Rattle.typst_parser.specs.Grammar.{tree}
@@ -8,6 +8,7 @@ use Rattle.typst_parser.specs.UnicodeTables.{unicode_classes}
 use Rattle.typst_parser.specs.Headline.{edited, file_of, numbered_in}
 use Rattle.typst_parser.specs.Held.{Held}
 use Rattle.typst_c.specs.Positions.{IsByteAt, measure_code}
+use Rattle.typst_c.specs.Trees.{tree_as}
 use Rattle.typst_c.specs.declared.positions.Measure.{Measure}
 use Rattle.typst_c.specs.declared.refusal.Refusal.{Refusal}
 use Rattle.typst_c.specs.declared.refusal.Refusal.TheVariants as refusal
@@ -36,6 +37,15 @@ RefusesBytes text refusal.BadRange = ⊥
 RefusesBytes text refusal.BadArgument = ⊥
 RefusesBytes text refusal.SpanNumbers = ⊥
 RefusesBytes text refusal.TooLarge = IsLarge text
+
+-- why a text isn't parsed: if the nodes of its tree can be counted, it is too large only by its bytes
+abbrev pub RefusesParse : ℕ → List ℕ → Refusal → Type 0
+RefusesParse mode text refusal.NoMemory = Unit {0}
+RefusesParse mode text refusal.NotUtf8 = IsUtf8 text → ⊥
+RefusesParse mode text refusal.BadRange = ⊥
+RefusesParse mode text refusal.BadArgument = 2 < mode
+RefusesParse mode text refusal.SpanNumbers = ⊥
+RefusesParse mode text refusal.TooLarge = (root : Tree) → tree_as mode text ≡ Some root → nodes root < 2 ^ 64 - 1 → IsLarge text
 
 -- why no source of a text is made
 abbrev pub RefusesText : ℕ → List ℕ → Refusal → Type 0

@@ -32,7 +32,7 @@ fn counted(root: &SyntaxNode) -> Result<(), Refusal>
     Ok(())
 }
 
-/// Puts the records of all nodes into an array, and tells how many there are.
+/// Puts the records of all nodes into an array, and answers how many there are.
 pub fn put_nodes(alloc: Global, root: &SyntaxNode, room: &mut [Node]) -> Result<usize, Refusal>
     ensures count { IfOk result (λ count. count ≡ nodes root.now) }
     ensures room { OnOk result (room.new ≡ filled (records root.now) room.old) }
@@ -43,7 +43,7 @@ pub fn put_nodes(alloc: Global, root: &SyntaxNode, room: &mut [Node]) -> Result<
     Ok(count)
 }
 
-/// The same of the nodes that meet a stretch.
+/// Puts the records of the nodes that meet a stretch into an array, and answers how many there are.
 pub fn put_nodes_in(
     alloc: Global,
     root: &SyntaxNode,
@@ -59,7 +59,7 @@ pub fn put_nodes_in(
     Ok(count)
 }
 
-/// Puts the remarks and their messages into arrays, and tells how many there are.
+/// Puts the remarks and their messages into arrays, and answers how many there are.
 pub fn put_remarks(
     alloc: Global,
     root: &SyntaxNode,
@@ -76,6 +76,34 @@ pub fn put_remarks(
     counted(root)?;
     let said = fill_remarks(alloc, root, room, text).map_err(no_memory)?;
     Ok(said)
+}
+
+/// Puts the records of all nodes, the remarks and their messages into arrays, as many as fit, and answers how much
+/// room a tree takes.
+pub fn put_all(
+    alloc: Global,
+    root: &SyntaxNode,
+    room: &mut [Node],
+    remark_room: &mut [Remark],
+    text: &mut [u8],
+) -> Result<Sizes, Refusal>
+    ensures text { IfOk result (λ sizes. sizes.text ≡ saturated (length (text_of root.now))) }
+    ensures nodes { IfOk result (λ sizes. sizes.nodes ≡ nodes root.now) }
+    ensures count { IfOk result (λ sizes. sizes.remarks ≡ saturated (length (all_said root.now))) }
+    ensures bytes { IfOk result (λ sizes. sizes.messages ≡ saturated (length (messages root.now))) }
+    ensures room { OnOk result (room.new ≡ filled (records root.now) room.old) }
+    ensures remarks { OnOk result (remark_room.new ≡ filled (remarks root.now) remark_room.old) }
+    ensures messages { OnOk result (text.new ≡ filled (messages root.now) text.old) }
+    ensures refused { IfErr result (λ refusal. RefusesRecords root.now refusal) }
+{
+    let count = put_nodes(alloc, root, room)?;
+    let said = put_remarks(alloc, root, remark_room, text)?;
+    Ok(Sizes {
+        text: root.len(),
+        nodes: count,
+        remarks: said.remarks,
+        messages: said.messages,
+    })
 }
 
 /// How much room a tree takes.

@@ -19,14 +19,14 @@ ghost use Rattle.typst_flat.specs.Records.{filled, records, records_in};
 ghost use Rattle.typst_flat.specs.Said as flat;
 ghost use Rattle.typst_c.specs.Names.{IsPut};
 ghost use Rattle.typst_c.specs.Positions.{IsByteAt, position_of};
-ghost use Rattle.typst_c.specs.Refusals.{RefusesByte, RefusesEdit, RefusesPage, RefusesPosition, RefusesRecords, RefusesReplace, RefusesText};
+ghost use Rattle.typst_c.specs.Refusals.{RefusesByte, RefusesEdit, RefusesPage, RefusesParse, RefusesPosition, RefusesRecords, RefusesReplace, RefusesText};
 ghost use Rattle.typst_c.specs.Refusals as spec;
 ghost use Rattle.typst_c.specs.Trees.{IsTold, range_with, tree_as};
 ghost use Rattle.typst_c.specs.declared.refusal.Refusal.{Refusal};
 
-use crate::answers::{Sizes, put_nodes, put_nodes_in, put_remarks, sizes_of};
+use crate::answers::{Sizes, put_all, put_nodes, put_nodes_in, put_remarks, sizes_of};
 use crate::handle::Handle;
-use crate::kept::Kept;
+use crate::kept::{Kept, movable};
 use crate::names::{number_of_kind, put_kind, put_tag};
 use crate::opened::Opened;
 use crate::positions::{Position, byte_at, position_of};
@@ -82,7 +82,7 @@ pub extern "C" fn typst_tag_name(code: u32, room: &mut [u8]) -> usize
 }
 
 /// Parses a text as markup (0), code (1) or a formula (2), puts the records of its nodes into an array, as many
-/// as fit, and tells how many there are.
+/// as fit, and reports how many there are.
 #[unsafe(no_mangle)]
 pub extern "C" fn typst_parse(
     alloc: Global,
@@ -93,6 +93,7 @@ pub extern "C" fn typst_parse(
 ) -> u32
     ensures count { result ≡ 0 → (root : Tree) → tree_as mode text.now ≡ Some root → count.new ≡ nodes root }
     ensures room { result ≡ 0 → (root : Tree) → tree_as mode text.now ≡ Some root → room.new ≡ filled (records root) room.old }
+    ensures refused { (refusal : Refusal) → result ≡ spec.code_of refusal → RefusesParse mode text.now refusal }
 {
     match parse_as(alloc, mode, text) {
         Ok(root) => counted(put_nodes(alloc, &root, room), count),
@@ -100,7 +101,34 @@ pub extern "C" fn typst_parse(
     }
 }
 
-/// Puts a text of markup as HTML into an array, as many bytes as fit, and tells how many there are.
+/// Parses a text as `typst_parse` does, puts the records of its nodes, the remarks and their messages into arrays,
+/// as many as fit, and reports how much room all of it takes.
+#[unsafe(no_mangle)]
+pub extern "C" fn typst_parse_all(
+    alloc: Global,
+    mode: u32,
+    text: &[u8],
+    room: &mut [Node],
+    remarks: &mut [Remark],
+    messages: &mut [u8],
+    sizes: &mut Sizes,
+) -> u32
+    ensures text { result ≡ 0 → (root : Tree) → tree_as mode text.now ≡ Some root → sizes.new.text ≡ saturated (length (text_of root)) }
+    ensures nodes { result ≡ 0 → (root : Tree) → tree_as mode text.now ≡ Some root → sizes.new.nodes ≡ nodes root }
+    ensures count { result ≡ 0 → (root : Tree) → tree_as mode text.now ≡ Some root → sizes.new.remarks ≡ saturated (length (flat.all_said root)) }
+    ensures bytes { result ≡ 0 → (root : Tree) → tree_as mode text.now ≡ Some root → sizes.new.messages ≡ saturated (length (flat.messages root)) }
+    ensures room { result ≡ 0 → (root : Tree) → tree_as mode text.now ≡ Some root → room.new ≡ filled (records root) room.old }
+    ensures remarks { result ≡ 0 → (root : Tree) → tree_as mode text.now ≡ Some root → remarks.new ≡ filled (flat.remarks root) remarks.old }
+    ensures messages { result ≡ 0 → (root : Tree) → tree_as mode text.now ≡ Some root → messages.new ≡ filled (flat.messages root) messages.old }
+    ensures refused { (refusal : Refusal) → result ≡ spec.code_of refusal → RefusesParse mode text.now refusal }
+{
+    match parse_as(alloc, mode, text) {
+        Ok(root) => sized(put_all(alloc, &root, room, remarks, messages), sizes),
+        Err(refusal) => code_of(refusal),
+    }
+}
+
+/// Puts a text of markup as HTML into an array, as many bytes as fit, and reports how many there are.
 #[unsafe(no_mangle)]
 pub extern "C" fn typst_highlight_html(
     alloc: Global,
@@ -156,7 +184,7 @@ pub extern "C" fn typst_source_clone(alloc: Global, source: Handle, copied: &mut
     }
 }
 
-/// Puts a text in the place of a range of bytes, and tells which bytes were read anew.
+/// Puts a text in the place of a range of bytes, and reports which bytes were read again.
 #[unsafe(no_mangle)]
 pub extern "C" fn typst_source_edit(
     source: Handle,
@@ -173,7 +201,7 @@ pub extern "C" fn typst_source_edit(
     read_anew(answer, changed)
 }
 
-/// Makes another text the text of a source, and tells which bytes were read anew.
+/// Makes another text the text of a source, and reports which bytes were read again.
 #[unsafe(no_mangle)]
 pub extern "C" fn typst_source_replace(source: Handle, text: &[u8], changed: &mut Stretch) -> u32
     ensures { (refusal : Refusal) → result ≡ spec.code_of refusal → RefusesReplace source.home.source text.now refusal }
@@ -184,7 +212,7 @@ pub extern "C" fn typst_source_replace(source: Handle, text: &[u8], changed: &mu
     read_anew(answer, changed)
 }
 
-/// Tells how much room the records of a source take.
+/// Reports how much room the records of a source take.
 #[unsafe(no_mangle)]
 pub extern "C" fn typst_source_sizes(alloc: Global, source: Handle, room: &mut Sizes) -> u32
     ensures text { result ≡ 0 → room.new.text ≡ saturated (length (text_of source.home.source.root)) }
@@ -211,7 +239,7 @@ pub extern "C" fn typst_source_text(source: Handle, room: &mut [u8]) -> usize
     count
 }
 
-/// Puts the records of all nodes into an array, as many as fit, and tells how many there are.
+/// Puts the records of all nodes into an array, as many as fit, and reports how many there are.
 #[unsafe(no_mangle)]
 pub extern "C" fn typst_source_nodes(
     alloc: Global,
@@ -229,7 +257,8 @@ pub extern "C" fn typst_source_nodes(
     counted(answer, count)
 }
 
-/// The same of the nodes that meet a stretch of bytes.
+/// Puts the records of the nodes that meet a stretch of bytes into an array, as many as fit, and reports how many
+/// there are.
 #[unsafe(no_mangle)]
 pub extern "C" fn typst_source_nodes_in(
     alloc: Global,
@@ -249,7 +278,7 @@ pub extern "C" fn typst_source_nodes_in(
     counted(answer, count)
 }
 
-/// Puts the remarks into an array and their messages into another one, as many as fit, and tells how many
+/// Puts the remarks into an array and their messages into another one, as many as fit, and reports how many
 /// there are.
 #[unsafe(no_mangle)]
 pub extern "C" fn typst_source_remarks(
@@ -271,7 +300,7 @@ pub extern "C" fn typst_source_remarks(
     told(answer, count)
 }
 
-/// Tells the bytes of the first node with a span, which is given as a record gives it, and whether there is one.
+/// Reports the bytes of the first node with a span, which is given as a record gives it, and whether there is one.
 #[unsafe(no_mangle)]
 pub extern "C" fn typst_source_range(
     source: Handle,
@@ -289,7 +318,7 @@ pub extern "C" fn typst_source_range(
     OK
 }
 
-/// Tells the line and the columns of a byte.
+/// Reports the line and the columns of a byte.
 #[unsafe(no_mangle)]
 pub extern "C" fn typst_source_position(source: Handle, byte: usize, position: &mut Position) -> u32
     ensures position { result ≡ 0 → position.new ≡ position_of source.home.source.text byte }
@@ -302,7 +331,7 @@ pub extern "C" fn typst_source_position(source: Handle, byte: usize, position: &
     placed(answer, position)
 }
 
-/// Tells the byte at a column of a line, which is counted in characters (0), UTF-16 units (1) or bytes (2).
+/// Reports the byte at a column of a line, which is counted in characters (0), UTF-16 units (1) or bytes (2).
 #[unsafe(no_mangle)]
 pub extern "C" fn typst_source_byte(
     source: Handle,
@@ -320,11 +349,11 @@ pub extern "C" fn typst_source_byte(
     counted(answer, byte)
 }
 
-/// Gives a source to C, which only want of memory refuses.
+/// Gives a source to C, which only want of memory refuses. C may pass it on to another thread.
 fn give(alloc: Global, kept: Kept, source: &mut *mut u8) -> u32
     ensures { (refusal : Refusal) → result ≡ spec.code_of refusal → refusal ≡ spec.no_memory }
 {
-    match Box::new(alloc, kept) {
+    match Box::new(alloc, movable(kept)) {
         Ok(boxed) => {
             *source = Handle::give(Opened::open(boxed));
             OK
@@ -333,7 +362,7 @@ fn give(alloc: Global, kept: Kept, source: &mut *mut u8) -> u32
     }
 }
 
-/// Writes a count where C wants it, and tells the code.
+/// Writes a count where C wants it, and answers the code.
 fn counted(answer: Result<usize, Refusal>, count: &mut usize) -> u32
     ensures { MatchResult answer (λ many. (result ≡ 0) × (count.new ≡ many)) (λ refusal. (result ≡ spec.code_of refusal) × (count.new ≡ count.old)) }
 {
@@ -346,7 +375,7 @@ fn counted(answer: Result<usize, Refusal>, count: &mut usize) -> u32
     }
 }
 
-/// The same of counts of remarks.
+/// Writes counts of remarks where C wants them, and answers the code.
 fn told(answer: Result<Said, Refusal>, room: &mut Said) -> u32
     ensures { MatchResult answer (λ many. (result ≡ 0) × (room.new ≡ many)) (λ refusal. (result ≡ spec.code_of refusal) × (room.new ≡ room.old)) }
 {
@@ -359,7 +388,7 @@ fn told(answer: Result<Said, Refusal>, room: &mut Said) -> u32
     }
 }
 
-/// The same of sizes.
+/// Writes sizes where C wants them, and answers the code.
 fn sized(answer: Result<Sizes, Refusal>, room: &mut Sizes) -> u32
     ensures { MatchResult answer (λ many. (result ≡ 0) × (room.new ≡ many)) (λ refusal. (result ≡ spec.code_of refusal) × (room.new ≡ room.old)) }
 {
@@ -372,7 +401,7 @@ fn sized(answer: Result<Sizes, Refusal>, room: &mut Sizes) -> u32
     }
 }
 
-/// The same of a range.
+/// Writes a range where C wants it, and answers the code.
 fn read_anew(answer: Result<Range<usize>, Refusal>, room: &mut Stretch) -> u32
     ensures { MatchResult answer (λ range. (result ≡ 0) × ((room.new.start ≡ range.start) × (room.new.end ≡ range.end))) (λ refusal. (result ≡ spec.code_of refusal) × (room.new ≡ room.old)) }
 {
@@ -388,7 +417,7 @@ fn read_anew(answer: Result<Range<usize>, Refusal>, room: &mut Stretch) -> u32
     }
 }
 
-/// The same of a position.
+/// Writes a position where C wants it, and answers the code.
 fn placed(answer: Result<Position, Refusal>, room: &mut Position) -> u32
     ensures { MatchResult answer (λ position. (result ≡ 0) × (room.new ≡ position)) (λ refusal. (result ≡ spec.code_of refusal) × (room.new ≡ room.old)) }
 {
@@ -401,7 +430,7 @@ fn placed(answer: Result<Position, Refusal>, room: &mut Position) -> u32
     }
 }
 
-/// Writes a range where C wants it, if there is one, and tells whether there is.
+/// Writes a range where C wants it, if there is one, and answers whether there is.
 fn tell(answer: Option<Range<usize>>, room: &mut Stretch) -> u8
     ensures { IsTold answer result room.old room.new }
 {

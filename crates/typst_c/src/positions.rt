@@ -105,7 +105,7 @@ fn measured(lines: &Lines<String>, line: usize, column: usize, measure: Measure)
     }
 }
 
-/// The byte so many UTF-16 units behind a line's start.
+/// The byte so many UTF-16 units after a line's start.
 fn at_units(lines: &Lines<String>, line: usize, column: usize) -> Option<usize>
     ensures byte { IfSome result (λ byte. IsAtUnits lines.now line column byte) }
     ensures none { IfNone result ((byte : ℕ) → IsAtUnits lines.now line column byte → ⊥) }
@@ -121,7 +121,7 @@ fn at_units(lines: &Lines<String>, line: usize, column: usize) -> Option<usize>
     Some(byte)
 }
 
-/// The byte so many bytes behind a line's start.
+/// The byte so many bytes after a line's start.
 fn at_bytes(lines: &Lines<String>, line: usize, column: usize) -> Option<usize>
     ensures byte { IfSome result (λ byte. IsAtBytes lines.now line column byte) }
     ensures none { IfNone result ((byte : ℕ) → IsAtBytes lines.now line column byte → ⊥) }

@@ -7,7 +7,7 @@ ghost use Rattle.std.specs.Str.{chars};
 ghost use Rattle.typst_parser.specs.Grammar.{tree};
 ghost use Rattle.typst_parser.specs.Answers.{Answers, AnswersText};
 ghost use Rattle.typst_c.specs.Refusals as spec;
-ghost use Rattle.typst_c.specs.Refusals.{IsRange, RefusesBytes, RefusesEdit, RefusesPage, RefusesReplace, RefusesText};
+ghost use Rattle.typst_c.specs.Refusals.{IsRange, RefusesBytes, RefusesEdit, RefusesPage, RefusesParse, RefusesReplace, RefusesText};
 ghost use Rattle.typst_c.specs.Trees.{range_with, tree_as};
 ghost use Rattle.typst_parser.specs.Html.{html_of};
 
@@ -67,7 +67,7 @@ fn is_range(text: &str, start: usize, end: usize) -> bool
     start <= end && text.is_char_boundary(start) && text.is_char_boundary(end)
 }
 
-/// Puts a text in the place of a range of bytes of a source, and answers which bytes were read anew.
+/// Puts a text in the place of a range of bytes of a source, and answers which bytes were read again.
 pub fn edit(
     source: &mut Source<UnicodeClasses>,
     replace: Range<usize>,
@@ -99,7 +99,7 @@ pub fn edit(
     }
 }
 
-/// Makes another text the text of a source, and answers which bytes were read anew.
+/// Makes another text the text of a source, and answers which bytes were read again.
 pub fn replace(source: &mut Source<UnicodeClasses>, new: &[u8]) -> Result<Range<usize>, Refusal>
     ensures text { OnOk result (source.new.text ≡ new.now) }
     ensures headline { OnOk result (source.new.has_records ≡ true → Headline unicode_classes source.new) }
@@ -122,7 +122,7 @@ pub fn replace(source: &mut Source<UnicodeClasses>, new: &[u8]) -> Result<Range<
     }
 }
 
-/// The same source again.
+/// A copy of the source.
 pub fn copy(kept: &Kept) -> Result<Kept, Refusal>
     ensures copied { IfOk result (λ copy. copy.source ≡ kept.now.source) }
     ensures refused { IfErr result (λ refusal. refusal ≡ spec.no_memory) }
@@ -135,7 +135,8 @@ pub fn copy(kept: &Kept) -> Result<Kept, Refusal>
 
 /// The tree of a text that is read as markup (0), code (1) or a formula (2).
 pub fn parse_as(alloc: Global, mode: u32, text: &[u8]) -> Result<SyntaxNode, Refusal>
-    ensures { IfOk result (λ root. tree_as mode text.now ≡ Some root) }
+    ensures tree { IfOk result (λ root. tree_as mode text.now ≡ Some root) }
+    ensures refused { IfErr result (λ refusal. RefusesParse mode text.now refusal) }
 {
     let text = read(text)?;
     let made = match mode {

@@ -4,7 +4,7 @@ use crate::edit::Edit;
 use std::alloc::{AllocError, Global};
 use typst_parser::{Classes, FileId, Lines, Source, SyntaxNode, parse};
 
-/// The tree and the lines of a text, made anew.
+/// The tree and the lines of a text, newly made.
 #[derive(Drop)]
 pub struct Wanted {
     tree: SyntaxNode,

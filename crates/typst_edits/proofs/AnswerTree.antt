@@ -27,6 +27,7 @@ use Rattle.typst_edits.proofs.InnerPieces.{inner-pieces-law}
 use Rattle.typst_edits.proofs.Replaced.{put-law}
 use Rattle.typst_edits.proofs.RootCandidates.{root-candidate-law}
 use Rattle.typst_edits.proofs.RootPieces.{root-pieces-law}
+pub use Rattle.std.proofs.lemmas.Option.{same_Some as some-is}
 
 -- ---- a candidate's tree
 
@@ -54,9 +55,6 @@ each-bare : (sp : SpanValue) (f : Forest) → bare_forest (with_each (spanned sp
 each-bare sp none = refl
 each-bare sp (more h ks r) = λ i. more (bare_head h) (each-bare sp ks i) (each-bare sp r i)
 
-pub some-is : (t u : Tree) → ◌≡◌ {A = Option Tree} (Some t) (Some u) → t ≡ u
-some-is t u e = ap (λ (o : Option Tree). elim o as (λ _. Tree) [ None ↦ t | Some v ↦ v ]) e
-
 numbered-bare : (file : Option ℕ) (t now : Tree) → numbered_in file t ≡ Some now → bare now ≡ bare t
 numbered-bare None t now e = ap bare (sym (some-is (synthesized None t) now e)) ∙ (λ i. record { head = bare_head t.head; kids = each-bare None t.kids i })
 numbered-bare (Some file) t now e = by-room (nat_le (nodes t) (2 ^ 47 - 2)) e
@@ -82,7 +80,6 @@ pub answer-tree-law : OpensApartLaw → AnswerTreeLaw
 answer-tree-law apart k front old new rest root now range same (part earlier c later ts split refused gives is start end) =
     let text = front ++ (old ++ rest) in
     let chosen = chosen-of _ earlier c later split in
-    let fits = gives-tree-law apart k front old new rest root c ts same chosen gives in
     candidate-tree-law (listed (log k text).notes) (width front) (width (front ++ old)) c ts root (tree k text) now (inner-as k text root same) (in-order front old) chosen same is
-    ∙ ap bare (sym (fits ∙ put-law c.path c.from c.to ts (tree k text)))
+    ∙ ap bare (sym (gives-tree-law apart k front old new rest root c ts same chosen gives ∙ put-law c.path c.from c.to ts (tree k text)))
 answer-tree-law apart k front old new rest root now range same (whole refused is bytes) = numbered-bare (file_of root) (tree k (front ++ (new ++ rest))) now is

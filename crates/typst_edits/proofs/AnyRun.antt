@@ -1,5 +1,5 @@
 -- What the entries say of a candidate that is pieces of a run, and a reading that begins with one candidate and serves another one: for any run.
-use Rattle.std.proofs.Common.{◌≡◌, ◌⊎◌, inl, inr, ◌↔◌, ℕ, zero, suc, ◌+◌, ◌-◌, ◌<◌, ◌≤◌, ◌==◌, ne_eqb, if◌then◌else◌, min, Bool, true, false, List, ◌++◌, length, take, length-append, Option, None, Some, refl, ap, sym, ◌∙◌, subst, arith}
+use Rattle.std.proofs.Common.{◌≡◌, ◌⊎◌, inl, inr, ◌↔◌, ℕ, zero, suc, ◌+◌, ◌-◌, ◌<◌, ◌≤◌, ◌==◌, ne_eqb, if◌then◌else◌, min, Bool, true, false, List, ◌++◌, length, take, length-append, Option, None, Some, refl, ap, sym, ◌∙◌, subst, arith, lt_of_not-le}
 use Rattle.std.proofs.lemmas.Bool.{eqb-true, eqb-false}
 use Rattle.std.proofs.lemmas.List.{take-append-le}
 use Rattle.std.specs.List.{slice_get}
@@ -41,16 +41,16 @@ use Rattle.typst_edits.specs.Splice.{entries_from}
 use Rattle.typst_edits.proofs.BlockPlaces.{take-same}
 use Rattle.typst_edits.proofs.BlockTest.{byte-of, byte-at}
 use Rattle.typst_edits.proofs.Boundary.{KnownAt}
-use Rattle.typst_edits.proofs.CandidateEnds.{child-at, stands, from-there, from-full, from-early, to-late}
+use Rattle.typst_edits.proofs.CandidateEnds.{child-at, stands, from-there, from-full, from-early, to-late, some-by}
 use Rattle.typst_edits.proofs.EntryNumbers.{some-number}
 use Rattle.typst_edits.proofs.KeptNodes.{put-behind-law}
 use Rattle.typst_edits.proofs.MarkupCandidates.{OfStretch}
-use Rattle.typst_edits.proofs.NoteNumbers.{neither, take-longer}
+use Rattle.typst_edits.proofs.NoteNumbers.{less-than, neither, take-longer}
 use Rattle.typst_edits.proofs.OneReading.{first-split, end-split-at, later-place, go-first, go-second, go-both, one-reading-law}
 use Rattle.typst_edits.proofs.RootPieces.{take-past}
-use Rattle.typst_edits.proofs.RunNumbers.{less-than}
 use Rattle.typst_edits.proofs.RunOver.{ends-in}
 use Rattle.typst_edits.proofs.Widths.{width-append}
+use Rattle.typst_edits.proofs.Every.{some_or, not-less}
 
 -- ---- among the children
 
@@ -67,8 +67,7 @@ pub seated : (front old : List ℕ) (path : List ℕ) (at : ℕ) (ts : List Tree
 seated front old path at ts cuts c o all =
     let rs = width front in
     let re = width (front ++ old) in
-    let wider = width-append front old in
-    let order : rs ≤ re = omega (arith, wider) in
+    let order : rs ≤ re = omega (arith, width-append front old) in
     subst (λ d. Seated front old at ts d) (sym o.is) (record {
       there = from-there cuts at ts rs re o.more order;
       full = from-full cuts at ts rs re o.more order;
@@ -81,29 +80,14 @@ seated front old path at ts cuts c o all =
 module _ (front old : List ℕ) (at : ℕ) (ts : List Tree) (c d : Candidate) (s : Seated front old at ts c) (o : Seated front old at ts d) where
   -- A candidate ends after the child where another one begins.
   pub seats-in-order : d.from ≤ c.to
-  seats-in-order = at-most d.from c.to (λ l.
+  seats-in-order = not-less d.from c.to (λ l.
       (let back = begins_order at ts c.to d.from (omega (arith, l)) in
-      let early = o.early (omega (arith, l)) in
-      let late = s.late in
-      let begin = o.begin in
-      let end = s.end in
-      let wider = width-append front old in
-      omega (arith, back, early, late, begin, end, wider)))
-    where
-      at-most : (m n : ℕ) → (n < m → ⊥) → m ≤ n
-      at-most zero n f = omega arith
-      at-most (suc m) zero f = absurd (f (omega arith))
-      at-most (suc m) (suc n) f = let i = at-most m n (λ l. f (omega (arith, l))) in omega (arith, i)
+      omega (arith, back, o.early (omega (arith, l)), s.late, o.begin, s.end, width-append front old)))
 
   not-before : c.start ≡ d.start → 0 < c.from → c.from < d.from → ⊥
   not-before same some l =
       let x = child-at at ts c.from (s.there some) in
-      let past = x.past d.from l in
-      let full = s.full some in
-      let one = x.begin in
-      let begin = s.begin in
-      let other = o.begin in
-      omega (arith, past, full, one, begin, other, same)
+      omega (arith, x.past d.from l, s.full some, x.begin, s.begin, o.begin, same)
 
 pub seat-stands : (front old : List ℕ) (at : ℕ) (ts : List Tree) (c : Candidate) → Seated front old at ts c → 0 < c.from → StandsAt at ts c.from c.start
 seat-stands front old at ts c s some = subst (λ b. StandsAt at ts c.from b) (sym s.begin) (stands at ts c.from (child-at at ts c.from (s.there some)) (s.full some))
@@ -115,10 +99,6 @@ one-seat front old at ts c d s o same both =
 
 -- ---- what entries say
 
-abbrev entry_or : Entry → Option Entry → Entry
-entry_or e None = e
-entry_or e (Some f) = f
-
 abbrev line_in : Bool → Tag → Bool
 line_in b (tag.Piece line) = line
 line_in b _ = b
@@ -126,7 +106,7 @@ line_in b _ = b
 -- An entry says one thing.
 says-once : (es : List Entry) (a b : ℕ) (x y : Bool × ℕ) → SaysPiece es a x → SaysPiece es b y → a ≡ b → x ≡ y
 says-once es a b x y s o e =
-    let same : s.entry ≡ o.entry = ap (entry_or s.entry) (sym s.is ∙ ap (slice_get es) e ∙ o.is) in
+    let same : s.entry ≡ o.entry = ap (some_or s.entry) (sym s.is ∙ ap (slice_get es) e ∙ o.is) in
     let line : x.0 ≡ y.0 = ap (line_in x.0) (sym s.tag ∙ ap (λ (n : Entry). n.tag) same ∙ o.tag) in
     let count : x.1 ≡ y.1 = sym s.count ∙ ap (λ (n : Entry). n.count) same ∙ o.count in
     (λ j. (line j, count j))
@@ -134,13 +114,9 @@ says-once es a b x y s o e =
 -- Where as many bytes were passed is the same place.
 one-place : (a b : ℕ) (text : List ℕ) → b ≤ length text → position (moved a (start_of text)) ≡ width (take b text) → moved a (start_of text) ≡ moved b (start_of text)
 one-place a b text l e =
-    let most = min-most a (length text) in
     let there = moved-min a (start_of text) in
-    let same = take-same (min a (length text)) b text most l (sym (byte-at (min a (length text)) text) ∙ ap position there ∙ e) in
+    let same = take-same (min a (length text)) b text (omega arith) l (sym (byte-at (min a (length text)) text) ∙ ap position there ∙ e) in
     sym there ∙ ap (λ n. moved n (start_of text)) same
-  where
-    min-most : (m n : ℕ) → min m n ≤ n
-    min-most m n = omega arith
 
 pub entries-listed : (at : ℕ) (ns : Option (List Note)) → entries_from at ns ≡ entries_by at (listed ns)
 entries-listed at None = refl
@@ -160,10 +136,6 @@ pub record Span : Type 0 where
 
 abbrev span : ℕ → ℕ → ℕ → Trivia → Span
 span i n past t = record { i = i; n = n; past = past; trivia = t }
-
-abbrev trivia_or : Trivia → Option Trivia → Trivia
-trivia_or t None = t
-trivia_or t (Some u) = u
 
 -- Pieces that are read like this, after a given number of characters, begin and end where a candidate does.
 pub record Found (front old rest : List ℕ) (c : Candidate) (q : Sequence) (opened i n past : ℕ) (t : Trivia) : Type 0 where
@@ -204,8 +176,7 @@ same-end q i n j m sum =
 pub meets-too : (r : Sequence) (y x : Place) (e o f g : End (Bool × ℕ)) (t u : Trivia) → y ≡ x → e.value ≡ o.value → e.state ≡ o.state → f.value ≡ g.value → f.state ≡ g.state → MeetsBehind r y e f t u → MeetsBehind r x o g t u
 meets-too r y x e o f g t u place value state value_now state_now h =
     let there = subst (λ p. MeetsBehind r p e f t u) place h in
-    let one = subst (λ v. MeetsBehind r x (record e { value = v }) f t u) value there in
-    let two = subst (λ s. MeetsBehind r x (record e { value = o.value; state = s }) f t u) state one in
+    let two = subst (λ s. MeetsBehind r x (record e { value = o.value; state = s }) f t u) state (subst (λ v. MeetsBehind r x (record e { value = v }) f t u) value there) in
     let three = subst (λ v. MeetsBehind r x (record e { value = o.value; state = o.state }) (record f { value = v }) t u) value_now two in
     let four = subst (λ s. MeetsBehind r x (record e { value = o.value; state = o.state }) (record f { value = g.value; state = s }) t u) state_now three in
     record { known = four.known; known_now = four.known_now; value = four.value; over = four.over; errors = four.errors }
@@ -274,12 +245,8 @@ module _ (k : CharClasses) (front old new rest : List ℕ) (r : Run k (front ++ 
   room-by within c i n past t f early =
       let split = end-split-at q i n in
       let taken = ap (λ (u : End (Bool × ℕ)). u.taken) split in
-      let gap = ap (λ (u : End (Bool × ℕ)). gap_of u.state.known) split ∙ ap gap_of f.known in
-      let ends = f.ends in
       let one = length-append front (old ++ rest) in
-      let two = length-append old rest in
-      let most = within (i + n) (omega (arith, early, one)) in
-      omega (arith, most, taken, gap, ends, one, two)
+      omega (arith, within (i + n) (omega (arith, early, one)), taken, ap (λ (u : End (Bool × ℕ)). gap_of u.state.known) split ∙ ap gap_of f.known, f.ends, one, length-append old rest)
 
   -- What is known of a run's pieces by the numbers of their entries.
   pub record Entered (entry : ℕ) : Type 0 where
@@ -336,35 +303,23 @@ module _ (k : CharClasses) (front old new rest : List ℕ) (r : Run k (front ++ 
 
   far-within : (i m : ℕ) → cut_at r i z ≤ length front → far_by i m ≤ length now
   far-within i m early =
-      let most = ends-in k (read_from i) m in
-      let left = ahead-left (cut_at r i z) w in
-      let one = length-append front (new ++ rest) in
-      omega (arith, most, left, one, early)
+      omega (arith, ends-in k (read_from i) m, ahead-left (cut_at r i z) w, length-append front (new ++ rest), early)
 
   -- how far pieces of both texts go, by bytes
   module _ (c : Candidate) (past : ℕ) (end : c.end ≡ width (front ++ (old ++ take past rest))) where
     stop-width : width (take ((length front + length new) + past) now) + width old ≡ c.end + width new
     stop-width =
         let at = ap width (take-past front new rest past ((length front + length new) + past) refl) in
-        let a = width-append front (new ++ take past rest) in
-        let b = width-append new (take past rest) in
-        let d = width-append front (old ++ take past rest) in
-        let e = width-append old (take past rest) in
-        omega (arith, at, a, b, d, e, end)
+        omega (arith, at, width-append front (new ++ take past rest), width-append new (take past rest), width-append front (old ++ take past rest), width-append old (take past rest), end)
 
     to-shifted : (i m : ℕ) → far_by i m ≡ (length front + length new) + past → byte_behind k (read_from i) m + width old ≡ c.end + width new
     to-shifted i m e =
-        let here = byte-is i m ∙ ap (λ j. width (take j now)) e in
-        let stop = stop-width in
-        omega (arith, here, stop)
+        omega (arith, byte-is i m ∙ ap (λ j. width (take j now)) e, stop-width)
 
     from-shifted : (i m : ℕ) → cut_at r i z ≤ length front → past ≤ length rest → byte_behind k (read_from i) m + width old ≡ c.end + width new → far_by i m ≡ (length front + length new) + past
     from-shifted i m early room e =
-        let here = byte-is i m in
-        let stop = stop-width in
         let one = length-append front (new ++ rest) in
-        let two = length-append new rest in
-        take-same (far_by i m) ((length front + length new) + past) now (far-within i m early) (omega (arith, room, one, two)) (omega (arith, here, stop, e))
+        take-same (far_by i m) ((length front + length new) + past) now (far-within i m early) (omega (arith, room, one, length-append new rest)) (omega (arith, byte-is i m, stop-width, e))
 
   -- ---- which pieces a candidate is
 
@@ -379,22 +334,15 @@ module _ (k : CharClasses) (front old new rest : List ℕ) (r : Run k (front ++ 
         let a = width-append front (old ++ take past rest) in
         let b = width-append old (take past rest) in
         let d = width-append front (old ++ take far rest) in
-        let h = width-append old (take far rest) in
-        let one = f.end in
-        let two = g.end in
-        take-same past far rest (room-by e.within c i n past t f early) (room-by e.within c j m far u g early) (omega (arith, a, b, d, h, one, two))
+        take-same past far rest (room-by e.within c i n past t f early) (room-by e.within c j m far u g early) (omega (arith, a, b, d, width-append old (take far rest), f.end, g.end))
 
     pub one-span : span i n past t ≡ span j m far u
     one-span =
         let first = same-first in
         let room = same-past in
         let there : FoundHere c i m past u = subst (λ a. FoundHere c i m a u) (sym room) (subst (λ a. FoundHere c a m far u) (sym first) g) in
-        let one = f.ends in
-        let two = there.ends in
-        let gap = ap gap_of f.known in
-        let gap_too = ap gap_of there.known in
-        let count : n ≡ m = e.counts i n m f.go f.go_on there.go_on (omega (arith, one, two, gap, gap_too)) in
-        let trivia : t ≡ u = ap (trivia_or t) (sym f.known ∙ ap (λ a. (then_end i a q).state.known) count ∙ there.known) in
+        let count : n ≡ m = e.counts i n m f.go f.go_on there.go_on (omega (arith, f.ends, there.ends, ap gap_of f.known, ap gap_of there.known)) in
+        let trivia : t ≡ u = ap (some_or t) (sym f.known ∙ ap (λ a. (then_end i a q).state.known) count ∙ there.known) in
         (λ x. span (first x) (count x) (room x) (trivia x))
 
     -- So however it passes, these pieces do.
@@ -415,10 +363,6 @@ module _ (k : CharClasses) (front old new rest : List ℕ) (r : Run k (front ++ 
     fits : i + n ≤ e.count
     fits = e.most (i + n) first-go
 
-    some-in : (n : ℕ) → (n ≡ 0 → ⊥) → 0 < n
-    some-in zero f = absurd (f refl)
-    some-in (suc n) f = omega arith
-
     -- Without a piece it is the run's end.
     pub none-last : n ≡ 0 → IsLast es (e.number i)
     none-last none =
@@ -428,7 +372,7 @@ module _ (k : CharClasses) (front old new rest : List ℕ) (r : Run k (front ++ 
         subst (λ j. IsLast es (e.number j)) (sym count ∙ sym alone.0) e.last
 
     some-more : (IsLast es (e.number i) → ⊥) → 0 < n
-    some-more f = some-in n (λ none. f (none-last none))
+    some-more f = some-by n (λ none. f (none-last none))
 
     none-more : IsLast es (e.number i) → n ≡ 0
     none-more last = by n refl
@@ -441,11 +385,7 @@ module _ (k : CharClasses) (front old new rest : List ℕ) (r : Run k (front ++ 
     end-chars : 0 < i + n → cut_at r (i + n) z ≡ (length front + length old) + past
     end-chars some =
         let split = end-split-at q i n in
-        let taken = ap (λ (u : End (Bool × ℕ)). u.taken) split in
-        let gap = ap (λ (u : End (Bool × ℕ)). gap_of u.state.known) split ∙ ap gap_of p.known in
-        let ends = p.ends in
-        let cut = cut-some r (i + n) z some in
-        omega (arith, taken, gap, ends, cut)
+        omega (arith, ap (λ (u : End (Bool × ℕ)). u.taken) split, ap (λ (u : End (Bool × ℕ)). gap_of u.state.known) split ∙ ap gap_of p.known, p.ends, cut-some r (i + n) z some)
 
     end-byte : 0 < i + n → c.end ≡ width (take (cut_at r (i + n) z) text)
     end-byte some = p.end ∙ sym (ap width (take-past front old rest past (cut_at r (i + n) z) (end-chars some)))
@@ -470,8 +410,7 @@ module _ (k : CharClasses) (front old new rest : List ℕ) (r : Run k (front ++ 
         (first, some-number to (e.number (i + n)) (sym behind ∙ subst (λ j. BeginsAt es j c.end (e.number (i + n))) (sym first) there))
     ends-are a b (at_once from at last) =
         let first : a ≡ e.number i = some-number from (e.number i) (sym at ∙ begins-there) in
-        let none = none-more (subst (λ j. IsLast es j) first last) in
-        let sum : i ≡ i + n = omega (arith, none) in
+        let sum : i ≡ i + n = omega (arith, none-more (subst (λ j. IsLast es j) first last)) in
         (first, first ∙ ap e.number sum)
 
     looks-are : (from to a : ℕ) → LooksFrom es which from to a → from ≡ e.number i → 0 < n → a ≡ to
@@ -562,8 +501,7 @@ module _ (k : CharClasses) (front old new rest : List ℕ) (r : Run k (front ++ 
 
     pub read-by : (m : ℕ) (u : Trivia) → PassesPieces k front old new rest r i n m past t u → Read m × (nodes_now r i m u w ≡ nodes_by k (read_from i) m)
     read-by m u h =
-        let reads = e.reads c i n past t p h.before in
-        let x = reads.alike m u h.new_go h.known_now in (
+        let x = (e.reads c i n past t p h.before).alike m u h.new_go h.known_now in (
           record {
             before = (e.before c i n past t p).1 h.before;
             behind = (behind-is n refl).1 h.after;
@@ -576,10 +514,7 @@ module _ (k : CharClasses) (front old new rest : List ℕ) (r : Run k (front ++ 
 
     rises-by : e.number i < front_in k front old rest → (m j : ℕ) → m < j → AllGo (read_by k (read_from i) j) → byte_behind k (read_from i) m < byte_behind k (read_from i) j
     rises-by early m j l go =
-        let bytes = take-longer (far_by i m) (far_by i j) now (e.further i m j l go) (far-within i j p.early) in
-        let one = byte-is i m in
-        let two = byte-is i j in
-        omega (arith, one, two, bytes)
+        omega (arith, byte-is i m, byte-is i j, take-longer (far_by i m) (far_by i j) now (e.further i m j l go) (far-within i j p.early))
 
     pub begins-now : position (moved (cut_at r i z) w) ≡ c.start
     begins-now =
@@ -658,19 +593,10 @@ module _ (k : CharClasses) (front old new rest : List ℕ) (r : Run k (front ++ 
     starts-later = let l = e.cuts i mid (omega arith) b.is.go in let one = a.is.start in let two = b.is.start in omega (arith, l, one, two)
 
     in-order : mid < i + n
-    in-order = more-than mid (i + n) (λ l.
+    in-order = lt_of_not-le (λ l.
         (let early = first-early in
-        let late = a.seat.late in
-        let wider = width-append front old in
-        let start = b.is.start in
-        let end = end-byte entry e c i n past t a.is (omega (arith, some-pieces)) in
-        by-order l (omega (arith, early, late, wider, start, end))))
+        by-order l (omega (arith, early, a.seat.late, width-append front old, b.is.start, end-byte entry e c i n past t a.is (omega (arith, some-pieces))))))
       where
-        more-than : (x y : ℕ) → (y ≤ x → ⊥) → x < y
-        more-than x zero f = absurd (f (omega arith))
-        more-than zero (suc y) f = omega arith
-        more-than (suc x) (suc y) f = let l = more-than x y (λ l. f (omega (arith, l))) in omega (arith, l)
-
         -- A candidate without a piece is the whole run.
         some-pieces : 0 < n
         some-pieces = by n refl
@@ -678,11 +604,9 @@ module _ (k : CharClasses) (front old new rest : List ℕ) (r : Run k (front ++ 
             by : (m : ℕ) → n ≡ m → 0 < n
             by (suc m) is = omega (arith, is)
             by zero is =
-                let alone = a.is.empty is in
-                let over = sym (e.over 0 0 (omega arith)) ∙ alone.1 in
+                let over = sym (e.over 0 0 (omega arith)) ∙ (a.is.empty is).1 in
                 let none : 0 ≡ e.count = eqb-true 0 e.count over in
-                let most = e.most mid b.is.go in
-                absurd (omega (arith, none, most))
+                absurd (omega (arith, none, e.most mid b.is.go))
 
         by-order : i + n ≤ mid → width (take (cut_at r mid z) text) < width (take (cut_at r (i + n) z) text) → ⊥
         by-order l less = by (mid == i + n) refl
@@ -709,19 +633,17 @@ module _ (k : CharClasses) (front old new rest : List ℕ) (r : Run k (front ++ 
 
     rest-is : IsPieces k front old rest r rest_of_it mid left past t
     rest-is =
-        let all = first-go entry e c i n past t a.is in
-        let here = subst (λ m. AllGo (first_of m q)) (sym sum-is) all in
+        let here = subst (λ m. AllGo (first_of m q)) (sym sum-is) (first-go entry e c i n past t a.is) in
         let split = end-split-at q i n in
         let other = end-split-at q mid left in
         let taken = ap (λ (u : End (Bool × ℕ)). u.taken) split in
         let taken_there = ap (λ (u : End (Bool × ℕ)). u.taken) other in
         let both = ap (λ m. (first_end m q).taken) sum-is in
-        let ends = a.is.ends in
         record {
           go = b.is.go;
           go_on = go-second (first_of mid q) (then_of mid left q) (subst (λ os. AllGo os) (first-split q mid left) here);
           known = sym (ap (λ (u : End (Bool × ℕ)). u.state.known) other) ∙ ap (λ m. (first_end m q).state.known) sum-is ∙ ap (λ (u : End (Bool × ℕ)). u.state.known) split ∙ a.is.known;
-          ends = omega (arith, taken, taken_there, both, ends);
+          ends = omega (arith, taken, taken_there, both, a.is.ends);
           start = b.is.start;
           led = b.is.led;
           end = a.is.end;
@@ -785,13 +707,12 @@ module _ (k : CharClasses) (front old new rest : List ℕ) (r : Run k (front ++ 
     from-test : (m : ℕ) (u : Trivia) → Test m u → On m × (nodes_now r mid m u w ≡ nodes_by k (read_from mid) m)
     from-test m u h =
         let parts = (serves.passes n m past t u).0 h in
-        let new_part = parts.1 in
-        let x = reads.alike m u new_part.new_go new_part.known_now in (
+        let x = reads.alike m u parts.1.new_go parts.1.known_now in (
           record {
             behind = (e.behind c i n past t a.is some-n).1 parts.0.after;
             go = x.go;
-            shifted = to-shifted c past a.is.end mid m (sym x.sum ∙ new_part.shifted);
-            meets = agrees-to m (carried_by k (read_from mid) m) (subst (λ y. Agrees r (is_over i n q) (d + m) (then_end i n q).value y) x.value new_part.agrees);
+            shifted = to-shifted c past a.is.end mid m (sym x.sum ∙ parts.1.shifted);
+            meets = agrees-to m (carried_by k (read_from mid) m) (subst (λ y. Agrees r (is_over i n q) (d + m) (then_end i n q).value y) x.value parts.1.agrees);
           },
           x.nodes,
         )
@@ -804,8 +725,7 @@ module _ (k : CharClasses) (front old new rest : List ℕ) (r : Run k (front ++ 
     first-more : AllGo (first_of (suc mid) q)
     first-more =
         let all = first-go entry e c i n past t a.is in
-        let l = in-order in
-        let sum : i + n ≡ suc mid + ((i + n) - suc mid) = omega (arith, l) in
+        let sum : i + n ≡ suc mid + ((i + n) - suc mid) = omega (arith, in-order) in
         go-first (first_of (suc mid) q) (then_of (suc mid) ((i + n) - suc mid) q) (subst (λ os. AllGo os) (first-split q (suc mid) ((i + n) - suc mid)) (subst (λ m. AllGo (first_of m q)) sum all))
 
     between : StandsBetween k (front ++ (old ++ rest)) r i d c.from first.from
@@ -837,8 +757,7 @@ module _ (k : CharClasses) (front old new rest : List ℕ) (r : Run k (front ++ 
       gives = λ ts h.
           (let p = a.passes ts h in
           let m = p.0 - d in
-          let least = serves.least n p.0 past t p.1 p.2 in
-          let sum : p.0 ≡ d + m = omega (arith, least) in
+          let sum : p.0 ≡ d + m = omega (arith, serves.least n p.0 past t p.1 p.2) in
           let test : Test m p.1 = subst (λ x. PassesPieces k front old new rest r i n x past t p.1) sum p.2 in
           let on = from-test m p.1 test in
           let parts = ((serves.passes n m past t p.1).0 test).1 in
@@ -912,13 +831,11 @@ module _ (k : CharClasses) (front old new rest : List ℕ) (r : Run k (front ++ 
 
     found-reading : g.from < front_in k front old rest → reading_of g ≡ read_from i
     found-reading begun =
-        let all = fits entry e c i n past t p in
-        let carried = says-once es g.from (e.number i) g.carried (first_end i q).value g.says (e.says i (omega (arith, all))) found-from in
+        let carried = says-once es g.from (e.number i) g.carried (first_end i q).value g.says (e.says i (omega (arith, fits entry e c i n past t p))) found-from in
         let cut = cut_at r i z in
         let early = p.early in
-        let long = length-append front (new ++ rest) in
         let bytes : width (take cut text) ≡ width (take cut now) = ap width (take-append-le cut front (old ++ rest) early ∙ sym (take-append-le cut front (new ++ rest) early)) in
-        let place = one-place g.at cut now (omega (arith, early, long)) (g.start_now begun ∙ p.start ∙ bytes) in
+        let place = one-place g.at cut now (omega (arith, early, length-append front (new ++ rest))) (g.start_now begun ∙ p.start ∙ bytes) in
         (λ x. reading_on which levels (carried x) (place x))
 
   module _ (entry : ℕ) (e : Entered entry) (root : Tree) (same : bare root ≡ bare (tree k (front ++ (old ++ rest)))) (first c : Candidate) (i n past n0 past0 : ℕ) (t t0 : Trivia) (a : Chosen entry e c i n past t)
@@ -943,14 +860,13 @@ module _ (k : CharClasses) (front old new rest : List ℕ) (r : Run k (front ++ 
         let from = found-from entry e c i n past t a.is g in
         let to = found-to entry e c i n past t a.is g in
         let end = found-end entry e c i n past t a.is g in
-        let some = some-n entry e root same first c i j n past n0 past0 t t0 a b there in
-        let looks = looks-are entry e c i n past t a.is g.from g.to g.looks g.looks_from from some ∙ to in
+        let looks = looks-are entry e c i n past t a.is g.from g.to g.looks g.looks_from from (some-n entry e root same first c i j n past n0 past0 t t0 a b there) ∙ to in
         subst (λ x. ServedBy root first c x) (λ x. record { reading = sym reading x; mid = sym mid x; from = sym from x; to = sym to x; looks = sym looks x; carried_end = sym end x }) (later entry e root same first c i j n past n0 past0 t t0 a b there)
 
     -- A reading that begins with one candidate serves each that begins there or earlier.
     pub served : (i0 : ℕ) → Chosen entry e first i0 n0 past0 t0 → c.start ≤ first.start → Served k front old new rest root which levels entry first c f g
     served i0 b l =
-        let sum : i0 ≡ i + (i0 - i) = not-more i0 i (λ less. (let more = e.cuts i0 i less a.is.go in let one = a.is.start in let two = b.is.start in omega (arith, more, one, two, l))) in
+        let sum : i0 ≡ i + (i0 - i) = (let most = not-less i i0 (λ less. (let more = e.cuts i0 i less a.is.go in let one = a.is.start in let two = b.is.start in omega (arith, more, one, two, l))) in omega (arith, most)) in
         let s = served-by (i0 - i) (subst (λ m. Chosen entry e first m n0 past0 t0) sum b) in
         record {
           earlier = s.earlier;
@@ -960,8 +876,3 @@ module _ (k : CharClasses) (front old new rest : List ℕ) (r : Run k (front ++ 
           gives_too = s.gives_too;
           units = s.units;
         }
-      where
-        not-more : (x y : ℕ) → (x < y → ⊥) → x ≡ y + (x - y)
-        not-more x zero f = omega arith
-        not-more zero (suc y) f = absurd (f (omega arith))
-        not-more (suc x) (suc y) f = let more = not-more x y (λ less. f (omega (arith, less))) in omega (arith, more)

@@ -16,9 +16,10 @@ use Rattle.typst_edits.specs.BlockSplice.{block_log, closing}
 use Rattle.typst_edits.specs.Splice.{entries_from, noting}
 use Rattle.typst_edits.specs.Spot.{lowered}
 use Rattle.typst_edits.proofs.Bytes.{logged-append, noted-more}
-use Rattle.typst_edits.proofs.PiecesLog.{logged-shifted}
+use Rattle.typst_language.proofs.Logs.{logged-shift}
 use Rattle.typst_edits.proofs.Widths.{width-append}
 use Rattle.typst_candidates.specs.Records.{AllFit}
+use Rattle.std.proofs.lemmas.Option.{same_Some}
 
 -- where fewer levels are left
 pub logged-lowered : (lv f : ℕ) (z : Place) (asks : List Ask) (h : Log) → logged lv z h (lowered f asks) ≡ logged (lv - f) z h asks
@@ -38,7 +39,7 @@ block-part-law text c u ns e =
     let h = own_log c u z in
     let start = position (moved c.at z) in
     let end = closing c u.taken in
-    let own : logged max_depth z no_log (shift c.at (lowered c.fewer u.asks)) ≡ h = logged-shifted max_depth c.at z (lowered c.fewer u.asks) no_log ∙ logged-lowered max_depth c.fewer (moved c.at z) u.asks no_log in
+    let own : logged max_depth z no_log (shift c.at (lowered c.fewer u.asks)) ≡ h = logged-shift max_depth c.at z no_log (lowered c.fewer u.asks) ∙ logged-lowered max_depth c.fewer (moved c.at z) u.asks no_log in
     let all : block_log text c u ≡ with_note 0 (max_depth - c.fewer) mark.Closes end.state (moved (c.at + u.taken) z) h =
     logged-append max_depth z no_log (shift c.at (lowered c.fewer u.asks)) (noting end ∷ []) ∙ ap (with_note 0 (max_depth - c.fewer) mark.Closes end.state (moved (c.at + u.taken) z)) own in
     let note : Place → Note = λ p. record { mark = mark.Closes; before = position p; start = position p; levels = max_depth - c.fewer; state = end.state; reach = h.reach; least = h.least } in
@@ -54,10 +55,7 @@ width-kept : (n : ℕ) (b a : List ℕ) → width (moved_from n b a).before + wi
 width-kept zero b a = refl
 width-kept (suc n) b [] = refl
 width-kept (suc n) b (c ∷ cs) =
-    let i = width-kept n (c ∷ b) cs in
-    let one = width-append (c ∷ []) b in
-    let two = width-append (c ∷ []) cs in
-    omega (arith, i, one, two)
+    omega (arith, width-kept n (c ∷ b) cs, width-append (c ∷ []) b, width-append (c ∷ []) cs)
 
 fit-more : (ns : List Note) (n : Note) → AllFit ns → n.start < 2 ^ 64 - 1 → AllFit (ns ++ n ∷ [])
 fit-more [] n h s = (s, tt)
@@ -65,10 +63,7 @@ fit-more (m ∷ ns) n h s = (h.0, fit-more ns n h.1 s)
 
 fits-from : (lv : ℕ) (z : Place) (asks : List Ask) (h : Log) (was ns : List Note) → width z.before + width z.ahead < 2 ^ 64 - 1 → h.notes ≡ Some was → AllFit was → (logged lv z h asks).notes ≡ Some ns → AllFit ns
 unfolding position
-fits-from lv z [] h was ns small e fit is = subst AllFit (same-notes was ns (sym e ∙ is)) fit
-  where
-    same-notes : (us vs : List Note) → ◌≡◌ {A = Option (List Note)} (Some us) (Some vs) → us ≡ vs
-    same-notes us vs e = cc
+fits-from lv z [] h was ns small e fit is = subst AllFit (same_Some was ns (sym e ∙ is)) fit
 fits-from lv z (looked at look ∷ asks) h was ns small e fit is = fits-from lv z asks (with_hull (hull_of look (moved at z)) h) was ns small e fit is
 fits-from lv z (marked at gap fewer m s ∷ asks) h was ns small e fit is =
     let y = moved at z in

@@ -1,5 +1,5 @@
 -- Where a block of a text stands, by the bytes of a candidate.
-use Rattle.std.proofs.Common.{◌≡◌, ℕ, zero, suc, ◌+◌, ◌<◌, ◌≤◌, true, List, [], ◌∷◌, ◌++◌, length, take, refl, ap, sym, ◌∙◌, subst, arith}
+use Rattle.std.proofs.Common.{◌≡◌, ℕ, zero, suc, ◌+◌, ◌<◌, ◌≤◌, true, List, [], ◌∷◌, ◌++◌, length, take, refl, ap, sym, ◌∙◌, subst, arith, drop}
 use Rattle.typst_lines.specs.Classes.{CharClasses}
 use Rattle.typst_lines.proofs.LineTable.{width-positive}
 use Rattle.typst_tree.specs.Tree.{Tree, forest, trees, text_of, bare}
@@ -21,23 +21,16 @@ use Rattle.typst_edits.proofs.CandidateBlocks.{BlockAt, all-find}
 use Rattle.typst_edits.proofs.Edit.{among}
 use Rattle.typst_edits.proofs.Placed.{deep_text, left_text}
 use Rattle.typst_edits.proofs.SpotPlaces.{SpotPlace}
+use Rattle.typst_edits.proofs.Every.{first_or}
 
 -- ---- two holes by the same path
 
-abbrev pub first_or : {X : Type 0} → X → List X → X
-first_or x [] = x
-first_or x (y ∷ ys) = y
-
-abbrev pub but_first : {X : Type 0} → List X → List X
-but_first [] = []
-but_first (y ∷ ys) = ys
-
-split-same : (xs ys us vs : List Tree) (a b : Tree) → length xs ≡ length us → xs ++ a ∷ ys ≡ us ++ b ∷ vs → (xs ≡ us) × (a ≡ b)
+pub split-same : {X : Type 0} (xs ys us vs : List X) (a b : X) → length xs ≡ length us → xs ++ a ∷ ys ≡ us ++ b ∷ vs → (xs ≡ us) × (a ≡ b)
 split-same [] ys [] vs a b l e = (refl, ap (first_or a) e)
 split-same [] ys (u ∷ us) vs a b l e = absurd (omega (arith, l))
 split-same (x ∷ xs) ys [] vs a b l e = absurd (omega (arith, l))
 split-same (x ∷ xs) ys (u ∷ us) vs a b l e =
-    let i = split-same xs ys us vs a b (omega (arith, l)) (ap but_first e) in
+    let i = split-same xs ys us vs a b (omega (arith, l)) (ap (drop 1) e) in
     ((λ j. first_or x (e j) ∷ i.0 j), i.1)
 
 deep-same : (d f : Deep) (x y : Tree) → path_in d ≡ path_in f → fill d x ≡ fill f y → (deep_text d ≡ deep_text f) × (x ≡ y)
@@ -47,14 +40,14 @@ deep-same (under head left d right) alone x y p e = absurd (cc)
 deep-same (under head left d right) (under above before f after) x y p e =
     let kids = sym (trees_forest (left ++ fill d x ∷ right)) ∙ ap (λ (t : Tree). trees t.kids) e ∙ trees_forest (before ++ fill f y ∷ after) in
     let here = split-same left right before after (fill d x) (fill f y) (ap (first_or 0) p) kids in
-    let i = deep-same d f x y (ap but_first p) here.1 in
+    let i = deep-same d f x y (ap (drop 1) p) here.1 in
     let head_is : head.text ≡ above.text = ap (λ (t : Tree). t.head.text) e in
     ((λ j. head_is j ++ (texts (here.0 j) ++ i.0 j)), i.1)
 
 pub hole-same : (h g : Hole) (x y : Tree) → path_of h ≡ path_of g → plug h x ≡ plug g y → (left_text h ≡ left_text g) × (x ≡ y)
 hole-same h g x y p e =
     let here = split-same h.left h.right g.left g.right (fill h.deep x) (fill g.deep y) (ap (first_or 0) p) e in
-    let i = deep-same h.deep g.deep x y (ap but_first p) here.1 in
+    let i = deep-same h.deep g.deep x y (ap (drop 1) p) here.1 in
     ((λ j. texts (here.0 j) ++ i.0 j), i.1)
 
 -- ---- bytes and characters
@@ -100,10 +93,7 @@ pub record Meets (text : List ℕ) (c : Candidate) (at taken : ℕ) : Type 0 whe
 
 pub some-node : (from to : ℕ) (ts : List Tree) (c : Candidate) (b : BlockAt [] 0 from to ts c) → from ≤ to → 0 < length (text_of b.node)
 some-node from to ts c b order =
-    let starts = b.starts in
-    let ends = b.ends in
-    let end = b.end in
-    omega (arith, starts, ends, end, order)
+    omega (arith, b.starts, b.ends, b.end, order)
 
 pub meets : (k : CharClasses) (text : List ℕ) (from to : ℕ) (c : Candidate) → from ≤ to → BlockAt [] 0 from to (parsed k max_depth text).nodes c
     → (s : Spot (Unit {0})) → SpotPlace k text s → path_of s.hole ≡ c.path ++ c.from ∷ [] → Meets text c s.at (unit_at s (start_of text)).taken × (0 < length (text_of s.node))
@@ -111,9 +101,5 @@ meets k text from to c order b s p path =
     let same = hole-same s.hole b.hole s.node b.node (path ∙ b.path_is) (sym p.nodes ∙ b.is) in
     let some : 0 < length (text_of s.node) = subst (λ (t : Tree). 0 < length (text_of t)) (sym same.1) (some-node from to _ c b order) in
     let left = p.left some in
-    let both = p.both some in
     let here = ap length same.0 in
-    let node = ap (λ (t : Tree). length (text_of t)) same.1 in
-    let start = b.start in
-    let end = b.end in
-    (record { start = omega (arith, left, here, start); end = omega (arith, left, both, here, node, start, end) }, some)
+    (record { start = omega (arith, left, here, b.start); end = omega (arith, left, p.both some, here, ap (λ (t : Tree). length (text_of t)) same.1, b.start, b.end) }, some)

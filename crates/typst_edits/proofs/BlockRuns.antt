@@ -1,5 +1,5 @@
 -- The law of an edit inside some pieces of a content block's run.
-use Rattle.std.proofs.Common.{◌≡◌, ℕ, zero, suc, ◌+◌, ◌<◌, ◌==◌, if◌then◌else◌, ne_eqb, Bool, true, false, [], ◌∷◌, ◌++◌, length, refl, ap, sym, ◌∙◌, subst, arith}
+use Rattle.std.proofs.Common.{◌≡◌, ℕ, zero, suc, ◌+◌, ◌<◌, ◌==◌, if◌then◌else◌, ne_eqb, Bool, true, false, List, [], ◌∷◌, ◌++◌, length, refl, ap, sym, ◌∙◌, subst, arith}
 use Rattle.typst_kinds.specs.declared.kind.SyntaxKind.TheVariants as kind
 use Rattle.typst_kinds.specs.Kinds.{same}
 use Rattle.typst_lines.specs.Place.{Place, moved}
@@ -28,9 +28,10 @@ use Rattle.typst_edits.specs.Edit.{text_with, Passes}
 use Rattle.typst_edits.specs.Laws.{block_at}
 use Rattle.typst_edits.specs.Runs.{AllGo, End, asks_of, chain, made}
 use Rattle.typst_edits.specs.Sequence.{Sequence, turn_of, first_of, first_end, then_of, then_end, then_place, rest_of}
-use Rattle.typst_edits.specs.Spot.{ended, unit_at}
-use Rattle.typst_edits.specs.BlockRuns.{inner, look_first, look_again, bracket, inner_lead, inner_run, inner_tail, inner_close, run_of, body_of, content_of, content_with, run_at, tail_at, close_at, left_at, InnerLaw}
-use Rattle.typst_edits.proofs.Edit.{before-same, after-same, same_in-to}
+use Rattle.typst_edits.specs.Spot.{Spot, ended, unit_at}
+use Rattle.typst_edits.specs.BlockRuns.{inner, look_first, look_again, bracket, inner_lead, inner_run, inner_tail, inner_close, run_of, body_of, content_of, content_with, run_at, tail_at, close_at, left_at, EndsBefore, InnerLaw}
+use Rattle.typst_edits.proofs.Edit.{before-same, after-same}
+use Rattle.typst_edits.proofs.Inside.{same_in-at}
 use Rattle.typst_edits.proofs.Runs.{repeated-chain, made-same, chain-state, chain-taken, moved-three, moved-four}
 use Rattle.typst_edits.proofs.Text.{block-law, content-reads}
 
@@ -47,9 +48,7 @@ module _ (r : Sequence) where
   pub split-taken : (i n : ℕ) → (chain (first_of i r) (chain (then_of i n r) (rest_of i n r))).taken ≡ ((first_end i r).taken + (then_end i n r).taken) + (rest_of i n r).taken
   split-taken i n =
       let e = first_end i r in
-      let a = chain-taken (true, 0) r.point (first_of i r) (chain (then_of i n r) (rest_of i n r)) in
-      let b = chain-taken e.value e.state (then_of i n r) (rest_of i n r) in
-      omega (arith, a, b)
+      omega (arith, chain-taken (true, 0) r.point (first_of i r) (chain (then_of i n r) (rest_of i n r)), chain-taken e.value e.state (then_of i n r) (rest_of i n r))
 
   pub split-state : (i n : ℕ) → (chain (first_of i r) (chain (then_of i n r) (rest_of i n r))).state ≡ (rest_of i n r).state
   split-state i n = chain-state (first_of i r) _ ∙ chain-state (then_of i n r) _
@@ -75,8 +74,7 @@ module _ (k : CharClasses) (levels : ℕ) where
     abbrev by_exprs : Outcome (Unit {0}) → Outcome (Unit {0})
     by_exprs o =
         let place = moved (bracket k levels z s).taken z in
-        let t = inner_tail k levels o.taken o.state place in
-        let body = body_of (joined o t) in
+        let body = body_of (joined o (inner_tail k levels o.taken o.state place)) in
         content_of (look_first k levels z s) (look_again k levels z s) (bracket k levels z s) body (run (inner k levels) (close_if (same kind.RightBracket)) (moved body.taken place) body.state)
 
     content-open : block_at k (suc levels) block.Content z s ≡ by_exprs (run (inner k levels) (markup_run ends_block) (moved (bracket k levels z s).taken z) (bracket k levels z s).state)
@@ -171,6 +169,24 @@ module _ (k : CharClasses) (levels : ℕ) where
       let m = turn_of (record { level = inner k levels; stops = ends_block; place = v; point = f.state }) in
       ap (λ x. repeated m x y g.state) e ∙ ap (λ s. repeated m f.value y s) d ∙ (sane (repeat (markup_turn true ends_block) f.value)).framed v y f.state same
 
+-- If what was looked at before them ends at the stretch or before it, the bracket and the pieces before are the same in both texts.
+pub record FirstSame (k : CharClasses) (levels : ℕ) (front old new rest : List ℕ) (c : Spot (Unit {0})) (i : ℕ) : Type 0 where
+  pub opened : (let s = point_of c.start in bracket k levels (moved c.at (text_with front new rest)) s ≡ bracket k levels (moved c.at (text_with front old rest)) s)
+  pub first : first_of i (run_at k levels c (text_with front new rest)) ≡ first_of i (run_at k levels c (text_with front old rest))
+
+pub first-same : (k : CharClasses) (levels : ℕ) (front old new rest : List ℕ) (c : Spot (Unit {0})) (i : ℕ) → EndsBefore k levels front old rest c i → FirstSame k levels front old new rest c i
+first-same k levels front old new rest c i h =
+    let z0 = text_with front old rest in
+    let w0 = text_with front new rest in
+    let z = moved c.at z0 in
+    let w = moved c.at w0 in
+    let s = point_of c.start in
+    let b = bracket k levels z s in
+    let opened : bracket k levels w s ≡ b = bracket-same k levels z w s (same_in-shift c.at _ z0 w0 (before-same _ front old new rest h.opens)) in
+    let shown : 0 < i → SameIn ((inner_lead k levels z s).asks ++ asks_of (first_of i (run_at k levels c z0))) (moved b.taken z) (moved b.taken w) = λ l.
+    same_in-at _ _ _ _ _ (sym (moved-sum c.at b.taken z0)) (sym (moved-sum c.at b.taken w0)) (same_in-shift (c.at + b.taken) _ z0 w0 (before-same _ front old new rest (h.before_run l))) in
+    record { opened = opened; first = ap (λ o. first_of i (seq_by k levels o w)) opened ∙ first-by k levels i b z w shown }
+
 pub inner-law : InnerLaw
 inner-law k levels front old new rest c i n m past among h =
     let z0 = text_with front old rest in
@@ -182,10 +198,7 @@ inner-law k levels front old new rest c i n m past among h =
     let q = run_at k levels c w0 in
     let b = bracket k levels z s in
     let d = bracket k levels w s in
-    let opened : d ≡ b = bracket-same k levels z w s (same_in-shift c.at _ z0 w0 (before-same _ front old new rest h.pieces.looks.opens)) in
-    let shown : 0 < i → SameIn ((inner_lead k levels z s).asks ++ asks_of (first_of i r)) (moved b.taken z) (moved b.taken w) = λ l.
-    same_in-to _ _ _ _ _ (sym (moved-sum c.at b.taken z0)) (sym (moved-sum c.at b.taken w0)) (same_in-shift (c.at + b.taken) _ z0 w0 (before-same _ front old new rest (h.pieces.looks.before_run l))) in
-    let first_is : first_of i q ≡ first_of i r = ap (λ o. first_of i (seq_by k levels o w)) opened ∙ first-by k levels i b z w shown in
+    let first_is : first_of i q ≡ first_of i r = (first-same k levels front old new rest c i h.pieces.looks).first in
     let new_first : AllGo (first_of i q) = subst (λ os. AllGo os) (sym first_is) h.pieces.first_go in
     let e = first_end i r in
     let g = then_end i n r in
@@ -201,7 +214,7 @@ inner-law k levels front old new rest c i n m past among h =
     let v = then_place i m q in
     let y_is : y ≡ moved old_at z0 = moved-four c.at b.taken e.taken g.taken z0 ∙ ap (λ a. moved a z0) h.ends in
     let v_is : v ≡ moved new_at w0 = moved-four c.at d.taken f.taken j.taken w0 ∙ ap (λ a. moved a w0) h.shifted in
-    let all = same_in-to _ _ _ _ _ y_is v_is (after-same _ past old_at new_at front old new rest refl refl h.looks.inside) in
+    let all = same_in-at _ _ _ _ _ y_is v_is (after-same _ past old_at new_at front old new rest refl refl h.looks.inside) in
     let rest_is : u ≡ t = rest-again k levels g j y v h.value h.state (same_in-first t.asks _ y v all) in
     let behind = same_in-shift t.taken _ y v (same_in-second t.asks _ y v all) in
     let y1 = moved t.taken y in
@@ -237,15 +250,12 @@ inner-law k levels front old new rest c i n m past among h =
     let same_rest : u.taken ≡ t.taken = ap (λ (o : Outcome (Bool × ℕ)). o.taken) rest_is in
     let new_taken : (unit_at c w0).taken ≡ d.taken + (p.taken + (tail.taken + close.taken)) =
     ap (λ (o : Outcome (Unit {0})). o.taken) now ∙ content-taken k levels w s (chain (first_of i r) (chain (then_of i m q) t)) tail close ∙ ap (λ a. d.taken + (a + (tail.taken + close.taken))) new_chain in
-    let ends = h.ends in
-    let shifted = h.shifted in
-    let many = split-taken q i m in
     let passes : Passes front old new rest c (past + left_at k levels i n c z0) = record {
       starts = h.pieces.starts;
-      ends = omega (arith, old_taken, ends);
+      ends = omega (arith, old_taken, h.ends);
       goes_on = h.goes_on;
       before = h.pieces.looks.before;
       after = h.looks.behind;
-      shifted = omega (arith, new_taken, shifted, many, same_rest);
+      shifted = omega (arith, new_taken, h.shifted, split-taken q i m, same_rest);
     } in
     record { was = was; now = now; passes = passes; kept = block-law k front old new rest c _ among passes }

@@ -57,17 +57,18 @@ use Rattle.typst_edits.proofs.CandidateBlocks.{BlockAt}
 use Rattle.typst_edits.proofs.Clear.{Clear, clear-level}
 use Rattle.typst_edits.proofs.Edit.{among, before-same}
 use Rattle.typst_edits.proofs.EntryNumbers.{NoneAt, opening-some, opening-found, some-number, got-entry, past-entry, past-note, all-end, end-all, all-begin, begin-all}
-use Rattle.typst_edits.proofs.Every.{every-append}
+use Rattle.typst_edits.proofs.Every.{every-append, some_or}
 use Rattle.typst_edits.proofs.Names.{named-level}
-use Rattle.typst_edits.proofs.NestedBlocks.{nested-block-law}
+use Rattle.typst_edits.proofs.NestedInner.{nested-block-law}
 use Rattle.typst_edits.proofs.OpensApart.{opens-apart-law, opens-directly}
 use Rattle.typst_edits.proofs.SecondPlaces.{second-place}
-use Rattle.typst_edits.proofs.SpotPlaces.{SpotPlace, spot-place}
+use Rattle.typst_edits.proofs.SpotPlaces.{SpotPlace, spot-place, within-is}
 use Rattle.typst_edits.proofs.StandingLevels.{standing-law}
 use Rattle.typst_edits.proofs.Text.{block-law}
 use Rattle.typst_edits.proofs.UnnotedLevels.{unnoted-law}
 use Rattle.typst_edits.proofs.Walk.{width-over}
 use Rattle.typst_edits.proofs.Widths.{width-append, width-moved}
+use Rattle.std.proofs.lemmas.Option.{none-some}
 
 -- ---- a block's numbers
 
@@ -77,8 +78,7 @@ within-block : (k : CharClasses) (text : List ℕ) (c : Spot (Unit {0})) (opens 
 within-block k text c opens there number =
     let n = nested-block-law k text c there in
     let tail = n.inner ++ n.closes ∷ n.later in
-    let own = n.number in
-    let first : opens ≡ length n.earlier = omega (arith, own, number) in
+    let first : opens ≡ length n.earlier = omega (arith, n.number, number) in
     let many = notes_in (unit_at c (start_of text)).asks in
     let is : take many (drop (suc opens) (listed (log k text).notes)) ≡ n.inner =
     ap (λ xs. take many (drop (suc opens) xs)) (ap listed n.notes) ∙ ap (λ m. take many (drop (suc m) (n.earlier ++ n.opens ∷ tail))) first ∙ ap (take many) (past-note n.earlier n.opens tail)
@@ -112,22 +112,17 @@ module _ (in_order : InOrderLaw) (k : CharClasses) (front old rest : List ℕ) w
   pub numbers : (c : Candidate) (s : Spot (Unit {0})) → width (front ++ (old ++ rest)) < 2 ^ 64 - 1 → Among s (blocks_of_text k (front ++ (old ++ rest))) → SpotPlace k (front ++ (old ++ rest)) s
       → Meets (front ++ (old ++ rest)) c s.at (unit_at s (text_with front old rest)).taken → c.start < width front → width (front ++ old) < c.end → Numbers k front old rest c s
   numbers c s big there place m before behind =
-      let z = text_with front old rest in
-      let u = unit_at s z in
-      let one = length-append front (old ++ rest) in
-      let two = length-append old rest in
+      let u = unit_at s (text_with front old rest) in
       let three = length-append front old in
       let same_text : (front ++ old) ++ rest ≡ text = append_assoc front old rest in
-      let start = m.start in
       let end = m.end in
-      let starts : s.at < length front = early-by s.at front (old ++ rest) (omega (arith, start, before)) in
+      let starts : s.at < length front = early-by s.at front (old ++ rest) (omega (arith, m.start, before)) in
       let far : width (front ++ old) < width (take (s.at + u.taken) ((front ++ old) ++ rest)) =
       subst (λ xs. width (front ++ old) < width (take (s.at + u.taken) xs)) (sym same_text) (let r : width (front ++ old) < width (take (s.at + u.taken) text) = omega (arith, end, behind) in r) in
       let ends_behind = late-by (s.at + u.taken) (front ++ old) rest far in
       let past = (s.at + u.taken) - (length front + length old) in
       let ends : u.taken + s.at ≡ (length front + length old) + past = omega (arith, ends_behind, three) in
       let end_at : s.at + u.taken ≡ length (front ++ old) + past = omega (arith, ends_behind, three) in
-      let room = place.room in
       let d = decision-law k front old rest s past there ends in
       let tail = d.inner ++ d.closes ∷ d.later in
       let all = d.earlier ++ d.opens ∷ tail in
@@ -154,24 +149,21 @@ module _ (in_order : InOrderLaw) (k : CharClasses) (front old rest : List ℕ) w
       let front_is = front-law d.earlier tail d.opens (width front) rising (omega (arith, opens_at, before)) in
       let firsts = d.earlier ++ d.opens ∷ d.inner in
       let split : all ≡ firsts ++ d.closes ∷ d.later = sym (append_assoc d.earlier (d.opens ∷ d.inner) (d.closes ∷ d.later)) in
-      let ends_at = d.end in
-      let rear_is = rear-law firsts d.later d.closes (width (front ++ old)) (log k text).least (subst (IsRising 0) split rising) (omega (arith, ends_at, end, behind)) in
-      let firsts_long = length-append d.earlier (d.opens ∷ d.inner) in
-      let long : length firsts ≡ to = omega (arith, firsts_long) in
+      let rear_is = rear-law firsts d.later d.closes (width (front ++ old)) (log k text).least (subst (IsRising 0) split rising) (omega (arith, d.end, end, behind)) in
+      let long : length firsts ≡ to = omega (arith, length-append d.earlier (d.opens ∷ d.inner)) in
       let wide : width (front ++ old) < 2 ^ 64 - 1 = (let a = width-append front (old ++ rest) in let b = width-append old rest in let e = width-append front old in omega (arith, a, b, e, big)) in
-      let inner_long = d.long in
       record {
         past = past;
         ends = ends;
         goes_on = omega (arith, ends_behind, three);
         starts = starts;
-        room = omega (arith, room, starts, one, two, three, end_at);
+        room = omega (arith, place.room, starts, length-append front (old ++ rest), length-append old rest, three, end_at);
         end = end ∙ ap (λ j. width (take j text)) end_at ∙ ap (λ xs. width (take (length (front ++ old) + past) xs)) (sym same_text) ∙ width-over (front ++ old) past rest;
         from = from;
         to = to;
         opens = noted-units (log k text) all d.notes (λ es back. opening_of c.start 0 0 es ≡ Some from) opens;
         number = d.number;
-        last = omega (arith, inner_long);
+        last = omega (arith, d.long);
         says = noted-units (log k text) all d.notes (λ es back. SaysBlock es from to (max_depth - s.fewer) s.name s.start.held.mode) says;
         early = noted-units (log k text) all d.notes (λ es back. from < front_of (width front) 0 es ↔ AllEndBy (length front) s.before)
             ((λ l. d.before (end-all (width front) d.earlier d.opens (front_is.0 l))), (λ h. front_is.1 (all-end (width front) d.earlier d.opens (d.before_too h))));
@@ -197,9 +189,6 @@ pub record Same (o u : Outcome (Unit {0})) : Type 0 where
   pub asks : o.asks ≡ u.asks
 
 module _ (k : CharClasses) (front old new rest : List ℕ) where
-  abbrev before_text : List ℕ
-  before_text = front ++ (old ++ rest)
-
   abbrev now_text : List ℕ
   now_text = front ++ (new ++ rest)
 
@@ -229,12 +218,8 @@ module _ (k : CharClasses) (front old new rest : List ℕ) where
   alone-room s =
       let w = text_with front new rest in
       let y = moved s.at w in
-      let long = ahead-left s.at w in
       let inside = within-is _ _ _ ((lawful-block k s.name).within (max_depth - s.fewer) y (start_point (record { mode = s.start.held.mode; at_newline = newline.Continue }))) in
-      (let r : (alone s).taken ≤ max 0 (length y.ahead) = inside in omega (arith, r, long))
-    where
-      within-is : (a b c : ℕ) → a + b ≤ c → a ≤ c
-      within-is a b c h = omega (arith, h)
+      (let r : (alone s).taken ≤ max 0 (length y.ahead) = inside in omega (arith, r, ahead-left s.at w))
 
   -- its entries
   pub entries-same : (s : Spot (Unit {0})) → Same (unit_at s (text_with front new rest)) (alone s)
@@ -266,26 +251,16 @@ module _ (k : CharClasses) (front old new rest : List ℕ) where
 
     pub test-to : Passes front old new rest s n.past → Test
     test-to p =
-        let same = alone-same s there p.before in
-        let w = text_with front new rest in
-        let three = length-append front new in
-        let shifted = p.shifted in
-        let taken = same.taken in
-        let at_end : s.at + (alone s).taken ≡ length (front ++ new) + n.past = omega (arith, shifted, taken, three) in
-        let here = now-end ∙ ap (λ m. width (take m now_text)) at_end ∙ shifted-end in
-        let end = n.end in
-        let a = width-append front old in
-        let b = width-append front new in
+        let at_end : s.at + (alone s).taken ≡ length (front ++ new) + n.past = omega (arith, p.shifted, (alone-same s there p.before).taken, length-append front new) in
         record {
           before = n.early.1 p.before;
           behind = n.late.1 p.after;
-          shifted = omega (arith, here, end, a, b);
+          shifted = omega (arith, now-end ∙ ap (λ m. width (take m now_text)) at_end ∙ shifted-end, n.end, width-append front old, width-append front new);
         }
 
     pub test-from : Test → Passes front old new rest s n.past
     test-from t =
         let early = n.early.0 t.before in
-        let same = alone-same s there early in
         let end = n.end in
         let a = width-append front old in
         let b = width-append front new in
@@ -293,19 +268,16 @@ module _ (k : CharClasses) (front old new rest : List ℕ) where
         let e = length-append new rest in
         let f = length-append front new in
         let shifted = t.shifted in
-        let room = n.room in
         let starts = n.starts in
-        let most = alone-room s in
         let bytes : width (take (s.at + (alone s).taken) now_text) ≡ width (take (length (front ++ new) + n.past) now_text) = (let g = now-end in let h = shifted-end in omega (arith, g, h, shifted, end, a, b)) in
-        let at_end = take-same (s.at + (alone s).taken) (length (front ++ new) + n.past) now_text (omega (arith, most, d, e, starts)) (omega (arith, d, e, f, room)) bytes in
-        let taken = same.taken in
+        let at_end = take-same (s.at + (alone s).taken) (length (front ++ new) + n.past) now_text (omega (arith, alone-room s, d, e, starts)) (omega (arith, d, e, f, n.room)) bytes in
         record {
           starts = n.starts;
           ends = n.ends;
           goes_on = n.goes_on;
           before = early;
           after = n.late.0 t.behind;
-          shifted = omega (arith, at_end, taken, f);
+          shifted = omega (arith, at_end, (alone-same s there early).taken, f);
         }
 
 -- ---- two spots where a candidate is
@@ -318,10 +290,6 @@ record Key : Type 0 where
   name : Block
   mode : SyntaxMode
   at : ℕ
-
-abbrev entry_or : Entry → Option Entry → Entry
-entry_or e None = e
-entry_or e (Some f) = f
 
 abbrev name_in : Block → Tag → Block
 name_in b (tag.Piece at_start) = b
@@ -336,7 +304,7 @@ mode_in m tag.Closes = m
 says-same : (es : List Entry) (at_one at_two : ℕ) (from to levels : ℕ) (b : Block) (m : SyntaxMode) (first last more : ℕ) (d : Block) (n : SyntaxMode) → SaysBlock es from to levels b m → SaysBlock es first last more d n → from ≡ first → at_one ≡ at_two
     → ◌≡◌ {A = Key} (record { from = from; to = to; levels = levels; name = b; mode = m; at = at_one }) (record { from = first; to = last; levels = more; name = d; mode = n; at = at_two })
 says-same es at_one at_two from to levels b m first last more d n h k e f =
-    let same : h.entry ≡ k.entry = ap (entry_or h.entry) (sym h.is ∙ ap (slice_get es) e ∙ k.is) in
+    let same : h.entry ≡ k.entry = ap (some_or h.entry) (sym h.is ∙ ap (slice_get es) e ∙ k.is) in
     let tags = sym h.tag ∙ ap (λ (x : Entry). x.tag) same ∙ k.tag in
     let name_is : b ≡ d = ap (name_in b) tags in
     let mode_is : m ≡ n = ap (mode_in m) tags in
@@ -374,28 +342,19 @@ module _ (k : CharClasses) (front old new rest : List ℕ) (c : Candidate) where
     -- However it passes, it does so by its key.
     gives-passing : (s : Spot (Unit {0})) (there : Among s (blocks_of_text k (front ++ (old ++ rest)))) (path : path_of s.hole ≡ c.path ++ c.from ∷ []) (ts : List Tree) → Gives k front old new rest c ts → Passing ts (key_of s (numbered s there path))
     gives-passing s there path ts (of_block r past block chosen where_it_is passes made) =
-        let n = numbered s there path in
         let m = numbered r chosen where_it_is in
-        let start = (met s there path).0.start in
-        let start_too = (met r chosen where_it_is).0.start in
-        let ends = passes.ends in
-        let ends_too = m.ends in
-        let past_is : past ≡ m.past = omega (arith, ends, ends_too) in
+        let past_is : past ≡ m.past = omega (arith, passes.ends, m.ends) in
         let p : Passes front old new rest r m.past = subst (Passes front old new rest r) past_is passes in
-        let same = alone-same k front old new rest r chosen p.before in
-        let by : Passing ts (key_of r m) = (test-to k front old new rest c r chosen m p, made ∙ ap (λ us. last_node us ∷ []) same.nodes) in
-        subst (Passing ts) (one-key r s m n start_too start) by
+        let by : Passing ts (key_of r m) = (test-to k front old new rest c r chosen m p, made ∙ ap (λ us. last_node us ∷ []) (alone-same k front old new rest r chosen p.before).nodes) in
+        subst (Passing ts) (one-key r s m (numbered s there path) (met r chosen where_it_is).0.start (met s there path).0.start) by
     gives-passing s there path ts (of_pieces r i n m past t u pieces where_it_is started led end h made) = absurd (let no = sym is ∙ pieces in cc)
 
     pub found-by : width (front ++ (new ++ rest)) < 2 ^ 64 - 1 → (s : Spot (Unit {0})) (there : Among s (blocks_of_text k (front ++ (old ++ rest)))) (path : path_of s.hole ≡ c.path ++ c.from ∷ [])
         → FoundBlock k front old new rest c (numbered s there path).from
     found-by more s there path =
-        let w = text_with front new rest in
         let n = numbered s there path in
         let m = met s there path in
         let place = spot-place k (front ++ (old ++ rest)) s there in
-        let none = place.front m.1 in
-        let start = m.0.start in
         record {
           to = n.to;
           levels = max_depth - s.fewer;
@@ -403,8 +362,8 @@ module _ (k : CharClasses) (front old new rest : List ℕ) (c : Candidate) where
           mode = s.start.held.mode;
           says = n.says;
           at = s.at;
-          start = start;
-          start_now = byte-at s.at (front ++ (new ++ rest)) ∙ ap width (take-early s.at front (new ++ rest) (old ++ rest) n.starts) ∙ sym start;
+          start = m.0.start;
+          start_now = byte-at s.at (front ++ (new ++ rest)) ∙ ap width (take-early s.at front (new ++ rest) (old ++ rest) n.starts) ∙ sym m.0.start;
           gives = λ ts. (
             (λ g. gives-passing s there path ts g),
             (λ p. (let same = alone-same k front old new rest s there (n.early.0 p.0.before) in
@@ -413,17 +372,13 @@ module _ (k : CharClasses) (front old new rest : List ℕ) (c : Candidate) where
           alone = λ t. (let p = test-from k front old new rest c s there n t in
               let same = alone-same k front old new rest s there p.before in
               let kept = block-law k front old new rest s n.past there p in
-              sym same.nodes ∙ kept.fits.nodes ∙ ap (λ us. us ++ last_node (unit_at s w).nodes ∷ []) none ∙ ap (λ us. last_node us ∷ []) same.nodes);
+              sym same.nodes ∙ kept.fits.nodes ∙ ap (λ us. us ++ last_node (unit_at s (text_with front new rest)).nodes ∷ []) (place.front m.1) ∙ ap (λ us. last_node us ∷ []) same.nodes);
           units = λ t. (let p = test-from k front old new rest c s there n t in
               let same = alone-same k front old new rest s there p.before in
               let spliced_is = block-splice-law k front old new rest s n.past there p big more in
-              let number = spliced_is.number in
-              let number_too = n.number in
-              let from_is : spliced_is.opens ≡ n.from = omega (arith, number, number_too) in
-              let last = n.last in
-              let to_is : suc (spliced_is.opens + notes_in (unit_at s (text_with front old rest)).asks) ≡ n.to = omega (arith, from_is, last) in
-              let part_is = entries-same k front old new rest s same in
-              spliced_is.units ∙ (λ i. spliced (from_is i) (to_is i) (part_is i) (units_of (log k (front ++ (old ++ rest))))));
+              let from_is : spliced_is.opens ≡ n.from = omega (arith, spliced_is.number, n.number) in
+              let to_is : suc (spliced_is.opens + notes_in (unit_at s (text_with front old rest)).asks) ≡ n.to = omega (arith, from_is, n.last) in
+              spliced_is.units ∙ (λ i. spliced (from_is i) (to_is i) (entries-same k front old new rest s same i) (units_of (log k (front ++ (old ++ rest))))));
         }
       where
         take-early : (n : ℕ) (xs ys zs : List ℕ) → n < length xs → take n (xs ++ ys) ≡ take n (xs ++ zs)
@@ -460,10 +415,9 @@ asked-by : (lv : ℕ) (z : Place) (all asks : List Ask) (h : Log) (ns ms : List 
 asked-by lv z all [] h ns ms e q more f = subst (Every (Asked z all)) (ap listed (sym e ∙ f)) q
 asked-by lv z all (looked at look ∷ asks) h ns ms e q more f = asked-by lv z all asks (with_hull (hull_of look (moved at z)) h) ns ms e q more f
 asked-by lv z all (marked at gap fewer m t ∷ asks) h ns ms e q more f =
-    let k = with_note gap (lv - fewer) m t (moved at z) h in
     let note : Note = record { mark = m; before = position (moved at z); start = position (moved gap (moved at z)); levels = lv - fewer; state = t; reach = h.reach; least = h.least } in
     let here : Asked z all note = λ o. record { ask = marked at gap fewer m t; among_all = more _ (opened-first at gap fewer m t asks o); before = refl } in
-    asked-by lv z all asks k (ns ++ note ∷ []) ms (noted-more note h.notes ns e) (every-append (Asked z all) ns (note ∷ []) q (here, tt))
+    asked-by lv z all asks (with_note gap (lv - fewer) m t (moved at z) h) (ns ++ note ∷ []) ms (noted-more note h.notes ns e) (every-append (Asked z all) ns (note ∷ []) q (here, tt))
     (λ ask a. more ask (among-behind ask (if is_opening m then marked at gap fewer m t ∷ [] else []) (opened asks) a)) f
 
 pub asked-of : (k : CharClasses) (text : List ℕ) → Every (Asked (start_of text) (parsed k max_depth text).asks) (listed (log k text).notes)
@@ -491,28 +445,16 @@ none-second in_order k front old rest c b s there of from opens =
     let order : width front ≤ width (front ++ old) = (let w = width-append front old in omega (arith, w)) in
     let same = hole-same s.hole b.hole s.node b.node of.path of.nodes in
     let some : 0 < length (text_of s.node) = subst (λ (t : Tree). 0 < length (text_of t)) (sym same.1) (some-node (width front) (width (front ++ old)) _ c b order) in
-    let here = second-place k text s there some in
-    let left = ap length same.0 in
-    let start = b.start in
-    let starts = b.starts in
     let o = opening-found c.start 0 0 (listed (log k text).notes) from (in_order k text) (sym (ap (opening_of c.start 0 0) (units-listed (log k text))) ∙ opens) in
     let asked = among (Asked (start_of text) (parsed k max_depth text).asks) o.note _ (subst (Among o.note) (sym o.is) (among-here o.earlier o.note o.later)) (asked-of k text) in
     let a = asked (ap is_opening o.mark) in
-    let begin = opens-directly k text o.earlier o.note o.later o.block o.is o.mark in
-    let note_start = o.start in
-    let before = a.before in
-    let place = byte-at (place_of a.ask) text in
-    let spot_byte : width (take s.at text) ≡ c.start = omega (arith, here, left, start) in
-    let ask_byte : width (take (place_of a.ask) text) ≡ c.start = omega (arith, place, before, begin, note_start) in
-    let one = early-by s.at front (old ++ rest) (omega (arith, spot_byte, starts)) in
-    let two = early-by (place_of a.ask) front (old ++ rest) (omega (arith, ask_byte, starts)) in
+    let spot_byte : width (take s.at text) ≡ c.start = omega (arith, second-place k text s there some, ap length same.0, b.start) in
+    let ask_byte : width (take (place_of a.ask) text) ≡ c.start = omega (arith, byte-at (place_of a.ask) text, a.before, opens-directly k text o.earlier o.note o.later o.block o.is o.mark, o.start) in
+    let one = early-by s.at front (old ++ rest) (omega (arith, spot_byte, b.starts)) in
+    let two = early-by (place_of a.ask) front (old ++ rest) (omega (arith, ask_byte, b.starts)) in
     let long = length-append front (old ++ rest) in
     let meet = take-same (place_of a.ask) s.at text (omega (arith, two, long)) (omega (arith, one, long)) (ask_byte ∙ sym spot_byte) in
-    let end = unnoted-law k text s a.ask there a.among_all meet in
-    omega (arith, end, one, long)
-
-none-some : (o : Option ℕ) (n : ℕ) → o ≡ None → o ≡ Some n → ⊥
-none-some o n e f = let no = sym e ∙ f in absurd (cc)
+    omega (arith, unnoted-law k text s a.ask there a.among_all meet, one, long)
 
 pub block-test-law : InOrderLaw → BlockTestLaw
 block-test-law in_order k front old new rest root c same chosen is big more = (first, second)
@@ -521,7 +463,7 @@ block-test-law in_order k front old new rest root c same chosen is big more = (f
     b = candidate-at k (front ++ (old ++ rest)) (width front) (width (front ++ old)) root c same chosen is
 
     first : opening_of c.start 0 0 (entries_in k (front ++ (old ++ rest))) ≡ None → (ts : List Tree) → Gives k front old new rest c ts → ⊥
-    first none ts (of_block s past block there path passes made) = none-some _ _ none (numbered k front old new rest c in_order big is b s there path).opens
+    first none ts (of_block s past block there path passes made) = none-some _ (sym none ∙ (numbered k front old new rest c in_order big is b s there path).opens)
     first none ts (of_pieces r i n m past t u pieces path started led end h made) = absurd (let no = sym is ∙ pieces in cc)
 
     second : (from : ℕ) → opening_of c.start 0 0 (entries_in k (front ++ (old ++ rest))) ≡ Some from → FoundBlock k front old new rest c from

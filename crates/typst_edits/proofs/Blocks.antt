@@ -89,8 +89,7 @@ ends-node : (b : Block) (l : Level) (p : Parser Bool) (z : Place) (s : Point) â†
 unfolding run node
 ends-node b l p z s =
     let o = run l peek z s in
-    let w = moved o.taken z in
-    let q = run l p w o.state in
+    let q = run l p (moved o.taken z) o.state in
     let n = before at_token o.state in
     ends-joined b o _ (ends-plain b q.value (wrapped (enclosing b) n q) (ends-enclosing b n q.value q refl))
 

@@ -1,5 +1,5 @@
 -- The notes where pieces of a run end, and what their numbers say.
-use Rattle.std.proofs.Common.{◌≡◌, ◌==◌, ℕ, zero, suc, ◌+◌, ◌-◌, ◌<◌, ◌≤◌, ◌^◌, max, Bool, true, false, ◌&&◌, if◌then◌else◌, nat_lt, List, [], ◌∷◌, ◌++◌, length, take, append_assoc, append-nil, Some, refl, ap, sym, ◌∙◌, subst, arith}
+use Rattle.std.proofs.Common.{◌≡◌, ◌==◌, ℕ, zero, suc, ◌+◌, ◌-◌, ◌<◌, ◌≤◌, ◌^◌, max, Bool, true, false, ◌&&◌, nat_lt, List, [], ◌∷◌, ◌++◌, length, take, append_assoc, append-nil, Some, refl, ap, sym, ◌∙◌, subst, arith}
 use Rattle.std.proofs.lemmas.List.{map-append}
 use Rattle.typst_kinds.specs.declared.kind.SyntaxKind.{SyntaxKind}
 use Rattle.typst_lines.specs.Place.{Place, moved}
@@ -25,7 +25,7 @@ use Rattle.typst_grammar.specs.Grammar.{rules, max_depth, start_of, whole, parse
 pub use Rattle.typst_grammar.proofs.Fine.{and-left as first-of}
 use Rattle.typst_edits.specs.Bytes.{highest, lowest}
 use Rattle.typst_edits.specs.Edit.{AllEndBy}
-use Rattle.typst_edits.specs.Runs.{made, AllGo, End, end_of, asks_of, chain}
+use Rattle.typst_edits.specs.Runs.{made, AllGo, end_of, asks_of, chain}
 use Rattle.typst_edits.specs.Splice.{notes_in}
 use Rattle.typst_edits.specs.Sequence.{Sequence, turn_of, first_of, first_end}
 use Rattle.typst_edits.proofs.Bytes.{logged-append, noted-more, AllReach, reached-by, end-by, end-to, AllFrom, least-by, newly}
@@ -34,6 +34,8 @@ use Rattle.typst_edits.proofs.Outcomes.{shift-zero, shift-twice}
 use Rattle.typst_edits.proofs.Spots.{if-true, if-false}
 use Rattle.typst_edits.proofs.Widths.{width-moved}
 use Rattle.typst_edits.proofs.Within.{AllAt, at-first, at-second, in-level}
+use Rattle.typst_language.proofs.Within.{on_both}
+use Rattle.typst_grammar.proofs.Pieces.{end-append, go-append, made-sum}
 
 -- some trivia are known at a point
 pub record KnownAt (s : Point) : Type 0 where
@@ -106,8 +108,7 @@ module _ (l : Level) (stops : SyntaxKind → Bool) (x : Bool × ℕ) (z : Place)
       let looks = hand_asks_of l there after in
       let t = asked (hand_of l there after) after in
       let d = deep.taken in
-      let gap = gap_of t.known in
-      let mk = marked 0 gap 0 (mark.Piece carried.0 carried.1) (state_of t) in
+      let mk = marked 0 (gap_of t.known) 0 (mark.Piece carried.0 carried.1) (state_of t) in
       let first = hand_asks_of l z s in
       let second = hand_asks_of l there deep.state in
       let same : hand_asks_of l there t ≡ looks = ap (hand_asks_of l there) again in
@@ -150,17 +151,6 @@ module _ (l : Level) (stops : SyntaxKind → Bool) (x : Bool × ℕ) (z : Place)
       let is : deep.asks ≡ shift 0 (sunk called) = ap (λ (o : Outcome ℕ). shift 0 o.asks) (if-false (l.levels == 0) _ _ some) in
       subst (λ u. AllMarks P u) (sym is) (marks-shift P 0 (sunk called) (marks-sunk (λ at fewer m p. P (0 + at) fewer m p) (λ at fewer m p. f (0 + at) fewer m p) called))
 
-  gone-marks : (P : ℕ → ℕ → Mark → State → Type 0) → (l.levels == 0) ≡ false → ((at fewer : ℕ) (m : Mark) (p : State) → P at (suc fewer) m p) → P gone.taken 0 (mark.Piece carried.0 carried.1) (state_of last) → AllMarks P gone.asks
-  gone-marks P some f own =
-      let looks = hand_asks_of l there after in
-      let n = gone.taken in
-      let second = hand_asks_of l there deep.state in
-      let shifted = λ (d : ℕ) (at fewer : ℕ) (m : Mark) (p : State). P (d + at) fewer m p in
-      let behind = marks-shift P n looks (none-hand (shifted n) l.classes after.held after.known there) in
-      let early = marks-append P (hand_asks_of l z s) _ (none-hand P l.classes s.held s.known z)
-      (marks-append P deep.asks (shift deep.taken second) (deep-marks P some f) (marks-shift P deep.taken second (none-hand (shifted deep.taken) l.classes deep.state.held deep.state.known there))) in
-      subst (λ u. AllMarks P u) (sym gone-asks) (marks-append P early_asks _ early (marks-append P (shift n looks) _ behind (own, behind)))
-
   -- by what it asks before its last looks, none of which notes anything on the piece's own level
   pub turn-asks : ends stops x.1 ahead.kind ≡ false → (let o = run l (markup_turn true stops x) z s in let looks = hand_asks_of l there after in o.asks ≡ early_asks ++ (shift o.taken looks ++ piece_mark o.taken o.value.1 o.state ∷ shift o.taken looks))
   turn-asks go =
@@ -173,10 +163,6 @@ module _ (l : Level) (stops : SyntaxKind → Bool) (x : Bool × ℕ) (z : Place)
       marks-append P (hand_asks_of l z s) _ (none-hand P l.classes s.held s.known z)
       (marks-append P deep.asks (shift deep.taken second) (deep-marks P some f)
       (marks-shift P deep.taken second (none-hand (λ at fewer m p. P (deep.taken + at) fewer m p) l.classes deep.state.held deep.state.known there)))
-
-  pub turn-marks : (P : ℕ → ℕ → Mark → State → Type 0) → (l.levels == 0) ≡ false → ((at fewer : ℕ) (m : Mark) (p : State) → P at (suc fewer) m p) → ends stops x.1 ahead.kind ≡ false
-      → (let o = run l (markup_turn true stops x) z s in P o.taken 0 (mark.Piece o.value.1.0 o.value.1.1) (state_of o.state) → AllMarks P o.asks)
-  turn-marks P some f go = subst (λ (o : Outcome (Bool × (Bool × ℕ))). P o.taken 0 (mark.Piece o.value.1.0 o.value.1.1) (state_of o.state) → AllMarks P o.asks) (sym (turn-is go)) (gone-marks P some f)
 
   turn-by : (b : Bool) → ends stops x.1 ahead.kind ≡ b → (run l (markup_turn true stops x) z s).value.0 ≡ true
       → (let o = run l (markup_turn true stops x) z s in Ends o.asks o.taken o.value.1 o.state (hand_asks_of l (moved o.taken z) o.state))
@@ -228,46 +214,27 @@ module _ (m : Bool × ℕ → Meaning (Bool × (Bool × ℕ))) (looks : Place �
   pub made-ends : (n : ℕ) (x : Bool × ℕ) (z : Place) (s : Point) → AllGo (made m (suc n) x z s) → (let os = made m (suc n) x z s in let e = end_of x s os in Ends (asks_of os) e.taken e.value e.state (looks (moved e.taken z) e.state))
   made-ends zero x z s g =
       let o = m x z s in
-      let e = each x z s (first-of o.value.0 (nat_lt 0 o.taken) g.0) in
       let n : o.taken + 0 ≡ o.taken = omega arith in
       subst (λ k. Ends (o.asks ++ []) k o.value.1 o.state (looks (moved k z) o.state)) (sym n)
-      (subst (λ ls. Ends ls o.taken o.value.1 o.state (looks (moved o.taken z) o.state)) (sym (append-nil o.asks)) e)
+      (subst (λ ls. Ends ls o.taken o.value.1 o.state (looks (moved o.taken z) o.state)) (sym (append-nil o.asks)) (each x z s (first-of o.value.0 (nat_lt 0 o.taken) g.0)))
   made-ends (suc n) x z s g =
       let o = m x z s in
       let os = made m (suc n) o.value.1 (moved o.taken z) o.state in
       let e = end_of o.value.1 o.state os in
-      let place = moved-sum o.taken e.taken z in
-      subst (λ w. Ends (o.asks ++ shift o.taken (asks_of os)) (o.taken + e.taken) e.value e.state (looks w e.state)) (sym place)
+      subst (λ w. Ends (o.asks ++ shift o.taken (asks_of os)) (o.taken + e.taken) e.value e.state (looks w e.state)) (sym (moved-sum o.taken e.taken z))
       (later-ends (asks_of os) o.asks (looks (moved e.taken (moved o.taken z)) e.state) o.taken e.taken e.value e.state (made-ends n o.value.1 (moved o.taken z) o.state g.1))
 
   -- pieces after others
   pub made-add : (i n : ℕ) (x : Bool × ℕ) (z : Place) (s : Point) → (let e = end_of x s (made m i x z s) in let f = end_of e.value e.state (made m n e.value (moved e.taken z) e.state) in
       end_of x s (made m (i + n) x z s) ≡ record f { taken = e.taken + f.taken })
-  made-add zero n x z s =
-      let f = end_of x s (made m n x z s) in
-      let a : 0 + n ≡ n = omega arith in
-      let b : f.taken ≡ 0 + f.taken = omega arith in
-      ap (λ j. end_of x s (made m j x z s)) a ∙ ap (λ j. record f { taken = j }) b
-  made-add (suc i) n x z s =
-      let o = m x z s in
-      let y = moved o.taken z in
-      let e = end_of o.value.1 o.state (made m i o.value.1 y o.state) in
-      let f = end_of e.value e.state (made m n e.value (moved e.taken y) e.state) in
-      let a : suc i + n ≡ suc (i + n) = omega arith in
-      let b : o.taken + (e.taken + f.taken) ≡ (o.taken + e.taken) + f.taken = omega arith in
-      let g = end_of e.value e.state (made m n e.value (moved (o.taken + e.taken) z) e.state) in
-      ap (λ j. end_of x s (made m j x z s)) a
-      ∙ ap (λ (u : End (Bool × ℕ)). record u { taken = o.taken + u.taken }) (made-add i n o.value.1 y o.state)
-      ∙ ap (λ j. record f { taken = j }) b
-      ∙ ap (λ w. (let u = end_of e.value e.state (made m n e.value w e.state) in record u { taken = (o.taken + e.taken) + u.taken })) (sym (moved-sum o.taken e.taken z))
+  made-add i n x z s =
+      let e = end_of x s (made m i x z s) in
+      ap (λ os. end_of x s os) (made-sum m i n x z s) ∙ end-append x s (made m i x z s) (made m n e.value (moved e.taken z) e.state)
 
   pub go-add : (i n : ℕ) (x : Bool × ℕ) (z : Place) (s : Point) → AllGo (made m i x z s) → (let e = end_of x s (made m i x z s) in AllGo (made m n e.value (moved e.taken z) e.state) → AllGo (made m (i + n) x z s))
-  go-add zero n x z s g h = let a : 0 + n ≡ n = omega arith in subst (λ j. AllGo (made m j x z s)) (sym a) h
-  go-add (suc i) n x z s g h =
-      let o = m x z s in
-      let e = end_of o.value.1 o.state (made m i o.value.1 (moved o.taken z) o.state) in
-      let a : suc i + n ≡ suc (i + n) = omega arith in
-      subst (λ j. AllGo (made m j x z s)) (sym a) (g.0, go-add i n o.value.1 (moved o.taken z) o.state g.1 (subst (λ w. AllGo (made m n e.value w e.state)) (moved-sum o.taken e.taken z) h))
+  go-add i n x z s g h =
+      let e = end_of x s (made m i x z s) in
+      subst (λ os. AllGo os) (sym (made-sum m i n x z s)) (go-append (made m i x z s) (made m n e.value (moved e.taken z) e.state) g h)
 
 pub chain-asks : (x : Bool × ℕ) (s : Point) (os : List (Outcome (Bool × (Bool × ℕ)))) (q : Outcome (Bool × ℕ)) → (chain os q).asks ≡ asks_of os ++ shift (end_of x s os).taken q.asks
 chain-asks x s [] q = sym (shift-zero q.asks)
@@ -289,10 +256,6 @@ begins-append ls asks ks b = record { more = b.more ++ ks; is = ap (λ u. u ++ k
 begins-shift : (n : ℕ) (ls asks : List Ask) → Begins ls asks → Begins (shift n ls) (shift n asks)
 begins-shift n ls asks b = record { more = shift n b.more; is = ap (shift n) b.is ∙ map-append (shift_one n) ls b.more }
 
-begins-either : {A : Type 0} (b : Bool) (ls : List Ask) (o q : Outcome A) → Begins ls o.asks → Begins ls q.asks → Begins ls (if b then o else q).asks
-begins-either true ls o q h i = h
-begins-either false ls o q h i = i
-
 -- Pieces begin by asking for the token at hand.
 module _ (r : Sequence) where
   abbrev pub looks_in : Place → Point → List Ask
@@ -307,7 +270,7 @@ module _ (r : Sequence) where
   pieces-begin x z s =
       let o = turn_of r x z s in
       let b = piece-begins x z s in
-      begins-either (o.value.0 && nat_lt 0 o.taken) (looks_in z s) _ (as_last o) (begins-append (looks_in z s) o.asks _ b) b
+      on_both (λ (u : Outcome (Bool × ℕ)). Begins (looks_in z s) u.asks) (o.value.0 && nat_lt 0 o.taken) _ (as_last o) (begins-append (looks_in z s) o.asks _ b) b
 
   pub each-ends : (x : Bool × ℕ) (z : Place) (s : Point) → (turn_of r x z s).value.0 ≡ true → (let o = turn_of r x z s in Ends o.asks o.taken o.value.1 o.state (looks_in (moved o.taken z) o.state))
   each-ends x z s h = turn-ends r.level r.stops x z s h

@@ -21,7 +21,6 @@ use Rattle.typst_edits.specs.Edit.{text_with, AllEndBy, AllBeginIn}
 use Rattle.typst_edits.specs.Laws.{blocks_of_text, block_at}
 pub use Rattle.typst_edits.specs.Looks.{AllReach, AllFrom}
 use Rattle.typst_edits.specs.Named.{Named}
-use Rattle.typst_edits.specs.Splice.{notes_in}
 use Rattle.typst_edits.specs.Spot.{Spot, unit_at, around, lowered}
 use Rattle.typst_edits.proofs.Blocks.{ends}
 use Rattle.typst_edits.proofs.Edit.{among, onto, past-is}
@@ -45,9 +44,8 @@ pub noted-by : (lv : ℕ) (z : Place) (asks : List Ask) (h : Log) (ns : List Not
 noted-by lv z [] h ns e = record { more = []; is = e ∙ ap Some (sym (append-nil ns)) }
 noted-by lv z (looked at look ∷ asks) h ns e = noted-by lv z asks (with_hull (hull_of look (moved at z)) h) ns e
 noted-by lv z (marked at gap fewer m s ∷ asks) h ns e =
-    let k = with_note gap (lv - fewer) m s (moved at z) h in
     let note : Note = record { mark = m; before = position (moved at z); start = position (moved gap (moved at z)); levels = lv - fewer; state = s; reach = h.reach; least = h.least } in
-    let i = noted-by lv z asks k (ns ++ note ∷ []) (noted-more note h.notes ns e) in
+    let i = noted-by lv z asks (with_note gap (lv - fewer) m s (moved at z) h) (ns ++ note ∷ []) (noted-more note h.notes ns e) in
     record { more = note ∷ i.more; is = i.is ∙ ap Some (append_assoc ns (note ∷ []) i.more) }
 
 -- ---- how many notes are made
@@ -60,11 +58,8 @@ pub counted : (lv : ℕ) (z : Place) (asks : List Ask) (h : Log) (ns ms : List N
 counted lv z [] h ns ms e f = let same : ns ≡ ms = ap or_none (sym e ∙ f) in let l = ap length same in omega (arith, l)
 counted lv z (looked at look ∷ asks) h ns ms e f = counted lv z asks (with_hull (hull_of look (moved at z)) h) ns ms e f
 counted lv z (marked at gap fewer m s ∷ asks) h ns ms e f =
-    let k = with_note gap (lv - fewer) m s (moved at z) h in
     let note : Note = record { mark = m; before = position (moved at z); start = position (moved gap (moved at z)); levels = lv - fewer; state = s; reach = h.reach; least = h.least } in
-    let i = counted lv z asks k (ns ++ note ∷ []) ms (noted-more note h.notes ns e) f in
-    let l = length-append ns (note ∷ []) in
-    omega (arith, i, l)
+    omega (arith, counted lv z asks (with_note gap (lv - fewer) m s (moved at z) h) (ns ++ note ∷ []) ms (noted-more note h.notes ns e) f, length-append ns (note ∷ []))
 
 pub notes-one : (asks : List Ask) (at gap fewer : ℕ) (m : Mark) (s : State) → notes_in (asks ++ marked at gap fewer m s ∷ []) ≡ suc (notes_in asks)
 notes-one [] at gap fewer m s = refl
@@ -81,17 +76,6 @@ notes-own d n (marked at gap fewer m s ∷ asks) = ap suc (notes-own d n asks)
 pub record Reach (b : ℕ) (z : Place) (h : Log) (asks : List Ask) : Type 0 where
   pub before : h.reach ≤ b
   pub all : AllReach b z asks
-
--- where no notes are kept
-pub reach-by : (lv b : ℕ) (z : Place) (asks : List Ask) (h : Log) → h.notes ≡ None → (logged lv z h asks).reach ≤ b → Reach b z h asks
-reach-by lv b z [] h none e = record { before = e; all = tt }
-reach-by lv b z (looked at look ∷ asks) h none e =
-    let i = reach-by lv b z asks (with_hull (hull_of look (moved at z)) h) none e in
-    record { before = omega (arith, i.before); all = (omega (arith, i.before), i.all) }
-reach-by lv b z (marked at gap fewer m s ∷ asks) h none e =
-    let note : Note = record { mark = m; before = position (moved at z); start = position (moved gap (moved at z)); levels = lv - fewer; state = s; reach = h.reach; least = h.least } in
-    let i = reach-by lv b z asks (with_note gap (lv - fewer) m s (moved at z) h) (ap (with_more note) none) e in
-    record { before = subst (λ o. reach_behind o h.reach ≤ b) none i.before; all = i.all }
 
 -- with the notes since, where notes are kept
 pub record Reached (lv : ℕ) (z : Place) (h : Log) (ns : List Note) (asks : List Ask) : Type 0 where
@@ -144,20 +128,20 @@ end-to front more [] a = tt
 end-to front more (looked at look ∷ asks) a = (far-to at look.front front more a.0, end-to front more asks a.1)
 end-to front more (marked at gap fewer m s ∷ asks) a = end-to front more asks a
 
-mark-end : (n : ℕ) (asks : List Ask) (at gap fewer : ℕ) (m : Mark) (s : State) → AllEndBy n (asks ++ marked at gap fewer m s ∷ []) → AllEndBy n asks
-mark-end n [] at gap fewer m s h = tt
-mark-end n (looked i look ∷ asks) at gap fewer m s h = (h.0, mark-end n asks at gap fewer m s h.1)
-mark-end n (marked i g f l t ∷ asks) at gap fewer m s h = mark-end n asks at gap fewer m s h
+pub end-first : (n : ℕ) (ls ks : List Ask) → AllEndBy n (ls ++ ks) → AllEndBy n ls
+end-first n [] ks h = tt
+end-first n (looked at look ∷ ls) ks h = (h.0, end-first n ls ks h.1)
+end-first n (marked at gap fewer m s ∷ ls) ks h = end-first n ls ks h
+
+pub both-end : (n : ℕ) (ls ks : List Ask) → AllEndBy n ls → AllEndBy n ks → AllEndBy n (ls ++ ks)
+both-end n [] ks h i = i
+both-end n (looked at look ∷ ls) ks h i = (h.0, both-end n ls ks h.1 i)
+both-end n (marked at gap fewer m s ∷ ls) ks h i = both-end n ls ks h i
 
 pub end-by : (front more : List ℕ) (asks : List Ask) → AllAt (length (front ++ more)) asks → AllReach (width front) (start_of (front ++ more)) asks → AllEndBy (length front) asks
 end-by front more [] a r = tt
 end-by front more (looked at look ∷ asks) a r = (far-by at look.front front more a.0 r.0, end-by front more asks a.1 r.1)
 end-by front more (marked at gap fewer m s ∷ asks) a r = end-by front more asks a r
-
-end-mark : (n : ℕ) (asks : List Ask) (at gap fewer : ℕ) (m : Mark) (s : State) → AllEndBy n asks → AllEndBy n (asks ++ marked at gap fewer m s ∷ [])
-end-mark n [] at gap fewer m s h = tt
-end-mark n (looked i look ∷ asks) at gap fewer m s h = (h.0, end-mark n asks at gap fewer m s h.1)
-end-mark n (marked i g f l t ∷ asks) at gap fewer m s h = end-mark n asks at gap fewer m s h
 
 -- ---- where looks begin
 
@@ -211,9 +195,7 @@ begin-by front old rest end past (looked at look ∷ asks) e a f =
     let d = past + at in
     let there : end + at ≡ (length front + length old) + d = omega (arith, e) in
     let place : moved (end + at) (text_with front old rest) ≡ moved d (record { before = onto old (onto front []); ahead = rest }) = ap (λ n. moved n (text_with front old rest)) there ∙ past-is d front old rest in
-    let one = length-append front (old ++ rest) in
-    let two = length-append old rest in
-    let room : d ≤ length rest = omega (arith, a.0, there, one, two) in
+    let room : d ≤ length rest = omega (arith, a.0, there, length-append front (old ++ rest), length-append old rest) in
     let early : width (front ++ old) ≡ width (onto old (onto front [])) = omega (arith, width-append front old, width-onto old (onto front []), width-onto front [], width-none) in
     let begins : width (onto old (onto front [])) < near look.back (moved d (record { before = onto old (onto front []); ahead = rest })) = subst (λ n. n < near look.back (moved d (record { before = onto old (onto front []); ahead = rest }))) early (subst (λ y. width (front ++ old) < near look.back y) place f.0) in
     (near-by look.back d (onto old (onto front [])) rest room begins, room, begin-by front old rest end past asks e a.1 f.1)
@@ -283,8 +265,7 @@ module _ (lv : ℕ) (z : Place) (first second third : List Ask) (at fewer end ga
         number = (let n = counted lv z first no_log [] one.more refl one.is in let none : List Note = [] in let o : length none ≡ 0 = omega arith in omega (arith, n, o));
         long = (let before = one.more ++ note_one ∷ [] in
             let n = counted lv z second (with_note 0 (lv - fewer) m s (moved at z) log_one) before (before ++ two.more) (noted-more note_one log_one.notes one.more one.is) two.is in
-            let l = length-append before two.more in
-            omega (arith, n, l));
+            omega (arith, n, length-append before two.more));
         reached = one.all;
         reached_too = λ n f. one.back n (omega arith) f;
         all = three.all b;
@@ -332,10 +313,10 @@ decided k front old rest c past o n a e =
       end = (let there = width-moved (end + 0) text in let none : end + 0 ≡ end = omega arith in there ∙ ap (λ n. width (take n text)) none);
       number = ap notes_in n.opened ∙ notes-one n.earlier c.at 0 c.fewer start_mark c.start ∙ ap suc (sym b.number);
       long = b.long ∙ notes-own c.at c.fewer u.asks;
-      before = λ h. subst (λ ls. AllEndBy (length front) ls) (sym n.opened) (end-mark (length front) n.earlier c.at 0 c.fewer start_mark c.start
-          (end-by front (old ++ rest) n.earlier within_before (b.reached (width front) h)));
+      before = λ h. subst (λ ls. AllEndBy (length front) ls) (sym n.opened) (both-end (length front) n.earlier (marked c.at 0 c.fewer start_mark c.start ∷ [])
+          (end-by front (old ++ rest) n.earlier within_before (b.reached (width front) h)) tt);
       before_too = λ h. b.reached_too (width front)
-          (end-to front (old ++ rest) n.earlier (mark-end (length front) n.earlier c.at 0 c.fewer start_mark c.start (subst (λ ls. AllEndBy (length front) ls) n.opened h)));
+          (end-to front (old ++ rest) n.earlier (end-first (length front) n.earlier (marked c.at 0 c.fewer start_mark c.start ∷ []) (subst (λ ls. AllEndBy (length front) ls) n.opened h)));
       after_too = λ big h. subst (λ (l : Log). width (front ++ old) < lowest b.later l.least) (sym split.is)
           (b.back big (begin-to front old rest end past n.later there (subst (λ ls. AllBeginIn past rest ls) n.closed h)));
       after = λ h. subst (λ ls. AllBeginIn past rest ls) (sym n.closed)
@@ -351,5 +332,4 @@ decision-law k front old rest c past i e =
     let l = among (Lawful z z o o) c _ i (inside-level (rules k) k (ends k) max_depth whole z z s) in
     let n = among (Named (block_at k) max_depth) c _ i (named-level (rules k) k max_depth whole z s) in
     let b : max 0 (length (front ++ (old ++ rest))) ≡ length (front ++ (old ++ rest)) = omega arith in
-    let within = subst (λ n. AllAt n o.asks) b (in-level (rules k) k max_depth whole z s) in
-    decided k front old rest c past l.old n within e
+    decided k front old rest c past l.old n (subst (λ n. AllAt n o.asks) b (in-level (rules k) k max_depth whole z s)) e

@@ -3,6 +3,7 @@ use Rattle.std.proofs.Common.{◌≡◌, ℕ, zero, suc, ◌+◌, ◌-◌, ◌<�
 use Rattle.std.specs.Prelude.{nat_lt, nat_le}
 use Rattle.std.proofs.lemmas.Bool.Decides.{nat_tests}
 use borrow.Author.Tests.{ltb-true, lt-ltb}
+use Rattle.std.proofs.lemmas.Bool.{false_from_ne_true, or_parts, ltb-false}
 use Rattle.typst_kinds.specs.Kinds.{same, is_trivia, is_error}
 use Rattle.typst_kinds.specs.declared.kind.SyntaxKind.TheVariants as kind
 use Rattle.typst_tree.specs.Tree.{Tree, text_of}
@@ -27,6 +28,8 @@ use Rattle.typst_edits.proofs.Led.{drop-front}
 use Rattle.typst_edits.proofs.NoteNumbers.{neither}
 use Rattle.typst_edits.proofs.RootPieces.{same-place}
 use Rattle.typst_edits.proofs.RunTrees.{standing-still}
+use Rattle.typst_edits.proofs.Every.{first_or}
+use Rattle.typst_grammar.proofs.Fine.{and-right}
 
 -- ---- children
 
@@ -60,8 +63,6 @@ child-at from [] index h = absurd (omega (arith, h))
 child-at from (t ∷ ts) zero h = record { left = []; node = t; right = ts; is = refl; here = refl; at = from; at_is = omega arith; begin = refl; past = past-first from t ts; holds = λ f. refl }
 child-at from (t ∷ ts) (suc index) h =
     let c = child-at (from + length (text_of t)) ts index (omega (arith, h)) in
-    let there = c.at_is in
-    let long = bytes-first t c.left in
     record {
       left = t ∷ c.left;
       node = c.node;
@@ -69,7 +70,7 @@ child-at from (t ∷ ts) (suc index) h =
       is = ap (λ us. t ∷ us) c.is;
       here = ap suc c.here;
       at = c.at;
-      at_is = omega (arith, there, long);
+      at_is = omega (arith, c.at_is, bytes-first t c.left);
       begin = c.begin;
       past = λ n l. past-later from t ts _ index n l c.past;
       holds = λ f. c.holds f;
@@ -84,11 +85,7 @@ begins-last from (t ∷ ts) (suc n) h = let i = begins-last (from + length (text
 -- it ends before the last does
 pub child-within : (from : ℕ) (ts : List Tree) (index : ℕ) (c : ChildAt from ts index) → c.at + length (text_of c.node) ≤ from + bytes_of ts
 child-within from ts index c =
-    let all = ap bytes_of c.is in
-    let parts = bytes-append c.left (c.node ∷ c.right) in
-    let first = bytes-first c.node c.right in
-    let there = c.at_is in
-    omega (arith, all, parts, first, there)
+    omega (arith, ap bytes_of c.is, bytes-append c.left (c.node ∷ c.right), bytes-first c.node c.right, c.at_is)
 
 -- those that begin before a byte do
 begun-before : (from rs : ℕ) (ts : List Tree) (n : ℕ) → n < candidate.begun rs (laid from ts) → begins from ts n < rs
@@ -213,25 +210,18 @@ quiet-until cuts from ts index w e from_here there none_lead = by-test (nat_lt w
     by-test : (b : Bool) → nat_lt w past ≡ b → (holds_at (λ c. clings c.node) (laid from ts) w ≡ true) × (holds_at (λ c. is_hash c.node) (laid from ts) w ≡ false)
     by-test true t =
         let before : w < past = ltb-true w past t in
-        let here = e.here in
-        let sum : w ≡ length e.left + (w - length e.left) = omega (arith, here, from_here) in
-        let q = every-at own e.behind (from + bytes_of e.left) (w - length e.left) e.each (omega (arith, before, here, from_here)) in
+        let sum : w ≡ length e.left + (w - length e.left) = omega (arith, e.here, from_here) in
+        let q = every-at own e.behind (from + bytes_of e.left) (w - length e.left) e.each (omega (arith, before, e.here, from_here)) in
         let moved-to = λ (f : Child → Bool). ap (λ us. holds_at f (laid from us) w) e.is ∙ holds-behind f from e.left (own ++ e.behind) (w - length e.left) w sum in
         (moved-to (λ c. clings c.node) ∙ q.0, moved-to (λ c. is_hash c.node) ∙ q.1)
     by-test false t =
-        let over : past ≤ w = nat-over w past t in
-        let long = ap length all in
-        let parts = length-append (e.left ++ own) e.behind in
+        let over : past ≤ w = ltb-false w past t in
         let front = length-append e.left own in
-        let some : 0 < length e.behind = omega (arith, long, parts, front, over, there) in
+        let some : 0 < length e.behind = omega (arith, ap length all, length-append (e.left ++ own) e.behind, front, over, there) in
         let f = λ (c : Child). not (leads cuts c) in
         let leading : holds_at f (laid from ts) past ≡ false = ap (λ us. holds_at f (laid from us) past) all ∙ holds-behind f from (e.left ++ own) e.behind 0 past (omega (arith, front)) ∙ leads-if cuts (from + bytes_of (e.left ++ own)) e.behind e.next some in
-        let here = e.here in
-        let d : true ≡ false = sym (none_lead past (omega (arith, here)) over) ∙ leading in
+        let d : true ≡ false = sym (none_lead past (omega (arith, e.here)) over) ∙ leading in
         cc
-      where
-        nat-over : (a b : ℕ) → nat_lt a b ≡ false → b ≤ a
-        nat-over a b f = grind (arith, nat_tests)
 
 -- ---- a stretch around replaced bytes
 
@@ -248,12 +238,8 @@ cut-on false c e = cc
 leads-full : (cuts : List ℕ) (at : ℕ) (t : Tree) → not (leads cuts (child at t)) ≡ false → 0 < length (text_of t)
 leads-full cuts at t e = let more : at < at + length (text_of t) = ltb-true at (at + length (text_of t)) (cut-off (nat_lt at (at + length (text_of t))) (is_among at cuts) e) in omega (arith, more)
 
-none-of : (b c : Bool) → (b || c) ≡ false → (b ≡ false) × (c ≡ false)
-none-of true c e = cc
-none-of false c e = (refl, e)
-
 error-clings : (t : Tree) → clings t ≡ false → is_error t.head.kind ≡ false
-error-clings t e = (none-of (is_error t.head.kind) _ (none-of (is_trivia t.head.kind) _ e).1).0
+error-clings t e = (or_parts (is_error t.head.kind) _ (or_parts (is_trivia t.head.kind) _ e).1).0
 
 module _ (cuts : List ℕ) (from : ℕ) (ts : List Tree) (rs re x : ℕ) (order : rs ≤ re) where
   abbrev cs : List Child
@@ -297,20 +283,17 @@ module _ (cuts : List ℕ) (from : ℕ) (ts : List Tree) (rs re x : ℕ) (order 
 
   pub from-to : 0 < stretch.from → stretch.from < stretch.to
   from-to some =
-      let first = begun-le rs cs in
-      let near_end = begun-ended from rs re ts order in
       let test = holds_at (λ (c : Child). clings c.node || not (leads cuts c)) cs in
       let j = end_near re cs in
       let least : min (j + x) (length cs) ≤ stretch.to = on-ge test (length cs - min (j + x) (length cs)) (min (j + x) (length cs)) in
-      omega (arith, first, near_end, least, from-hashed, hashed-clung, clung-near, some)
+      omega (arith, begun-le rs cs, begun-ended from rs re ts order, least, from-hashed, hashed-clung, clung-near, some)
 
   pub to-there : stretch.to ≤ length ts
   to-there =
       let test = holds_at (λ (c : Child). clings c.node || not (leads cuts c)) cs in
       let j = end_near re cs in
       let most : stretch.to ≤ min (j + x) (length cs) + (length cs - min (j + x) (length cs)) = on-le test (length cs - min (j + x) (length cs)) (min (j + x) (length cs)) in
-      let same = length-laid from ts in
-      omega (arith, most, same)
+      omega (arith, most, length-laid from ts)
 
   -- where it doesn't begin with the first child, its first child isn't empty
   pub from-full : (some : 0 < stretch.from) → 0 < length (text_of (child-at from ts stretch.from (from-there some)).node)
@@ -341,44 +324,34 @@ module _ (cuts : List ℕ) (from : ℕ) (ts : List Tree) (rs re x : ℕ) (order 
       by-test : (b : Bool) → nat_lt (ended re cs) (length ts) ≡ b → re ≤ begins from ts stretch.to
       by-test true t =
           let fewer : ended re cs < length ts = ltb-true (ended re cs) (length ts) t in
-          let same = length-laid from ts in
-          ended-behind from re ts stretch.to (omega (arith, fewer, least, same)) fewer
+          ended-behind from re ts stretch.to (omega (arith, fewer, least, length-laid from ts)) fewer
       by-test false t =
           let none_more : length ts ≤ ended re cs = grind (arith, nat_tests) in
-          let same = length-laid from ts in
-          let last = begins-last from ts stretch.to (omega (arith, none_more, least, same)) in
-          omega (arith, last, all)
+          omega (arith, begins-last from ts stretch.to (omega (arith, none_more, least, length-laid from ts)), all)
 
   -- and so it ends after its start
   pub from-less : 0 < stretch.from → begins from ts stretch.from < begins from ts stretch.to
   from-less some =
       let c = child-at from ts stretch.from (from-there some) in
-      let full = from-full some in
-      let past = c.past stretch.to (from-to some) in
-      let at = c.begin in
-      omega (arith, full, past, at)
+      omega (arith, from-full some, c.past stretch.to (from-to some), c.begin)
 
   -- where it doesn't end with the last child, the child after it is neither empty nor an error
-  to-stop : (more : stretch.to < length ts) → (let c = child-at from ts stretch.to more in (clings c.node ≡ false) × (0 < length (text_of c.node)))
-  to-stop more =
+  to-off : (more : stretch.to < length ts) → (let c = child-at from ts stretch.to more in (clings c.node ≡ false) × (not (leads cuts (child c.at c.node)) ≡ false))
+  to-off more =
       let test = λ (c : Child). clings c.node || not (leads cuts c) in
       let j = end_near re cs in
       let c = child-at from ts stretch.to more in
-      let same = length-laid from ts in
-      let stop : holds_at test cs stretch.to ≡ false = on-stop (holds_at test cs) (length cs - min (j + x) (length cs)) (min (j + x) (length cs)) (omega (arith, more, same)) in
-      let both = none-of (clings c.node) (not (leads cuts (child c.at c.node))) (sym (c.holds test) ∙ stop) in
-      (both.0, leads-full cuts c.at c.node both.1)
+      let stop : holds_at test cs stretch.to ≡ false = on-stop (holds_at test cs) (length cs - min (j + x) (length cs)) (min (j + x) (length cs)) (omega (arith, more, length-laid from ts)) in
+      or_parts (clings c.node) (not (leads cuts (child c.at c.node))) (sym (c.holds test) ∙ stop)
+
+  to-stop : (more : stretch.to < length ts) → (let c = child-at from ts stretch.to more in (clings c.node ≡ false) × (0 < length (text_of c.node)))
+  to-stop more = let c = child-at from ts stretch.to more in let off = to-off more in (off.0, leads-full cuts c.at c.node off.1)
 
   -- and it begins at a cut
   pub to-cut : stretch.to < length ts → is_among (begins from ts stretch.to) cuts ≡ true
   to-cut more =
-      let test = λ (c : Child). clings c.node || not (leads cuts c) in
-      let j = end_near re cs in
       let c = child-at from ts stretch.to more in
-      let same = length-laid from ts in
-      let stop : holds_at test cs stretch.to ≡ false = on-stop (holds_at test cs) (length cs - min (j + x) (length cs)) (min (j + x) (length cs)) (omega (arith, more, same)) in
-      let off = none-of (clings c.node) (not (leads cuts (child c.at c.node))) (sym (c.holds test) ∙ stop) in
-      ap (λ b. is_among b cuts) c.begin ∙ cut-on (nat_lt c.at (c.at + length (text_of c.node))) (is_among c.at cuts) off.1
+      ap (λ b. is_among b cuts) c.begin ∙ cut-on (nat_lt c.at (c.at + length (text_of c.node))) (is_among c.at cuts) (to-off more).1
 
   pub to-stands : stretch.to < length ts → StandsAt from ts stretch.to (begins from ts stretch.to)
   to-stands more = stands from ts stretch.to (child-at from ts stretch.to more) (to-stop more).1
@@ -401,12 +374,8 @@ module _ (cuts : List ℕ) (from : ℕ) (ts : List Tree) (rs re x : ℕ) (order 
       by-test : (b : Bool) → (nat_lt 0 clung && holds_at hash cs (clung - 1)) ≡ b → ⊥
       by-test true t =
           let is : clung - 1 ≡ hashed = sym (ap (λ (c : Bool). if c then clung - 1 else clung) t) in
-          let d : true ≡ false = sym (second (nat_lt 0 clung) (holds_at hash cs (clung - 1)) t) ∙ (quiet (clung - 1) is).1 in
+          let d : true ≡ false = sym (and-right (nat_lt 0 clung) (holds_at hash cs (clung - 1)) t) ∙ (quiet (clung - 1) is).1 in
           cc
-        where
-          second : (b c : Bool) → (b && c) ≡ true → c ≡ true
-          second true c h = h
-          second false c h = cc
       by-test false t =
           let is : clung ≡ hashed = sym (ap (λ (c : Bool). if c then clung - 1 else clung) t) in
           let d : true ≡ false = sym (quiet clung is).0 ∙ back-stop (holds_at clinging cs) near (omega (arith, some, from-hashed, hashed-clung)) in
@@ -447,10 +416,6 @@ pub some-by : (n : ℕ) → (n ≡ 0 → ⊥) → 0 < n
 some-by zero f = absurd (f refl)
 some-by (suc n) f = omega arith
 
-unless : (b : Bool) → (b ≡ true → ⊥) → b ≡ false
-unless true f = absurd (f refl)
-unless false f = refl
-
 same-behind : (xs ys us vs : List Tree) → xs ++ ys ≡ us ++ vs → length xs ≡ length us → ys ≡ vs
 same-behind xs ys us vs e l = sym (drop-front xs ys (length xs) refl) ∙ ap (λ ws. drop (length xs) ws) e ∙ drop-front us vs (length xs) l
 
@@ -466,7 +431,7 @@ module _ (cuts : List ℕ) (from : ℕ) (ts : List Tree) (rs re x : ℕ) (order 
     first l = subst (λ b. StandsAt from ts s.from b) (sym (start_is l)) (from-stands cuts from ts rs re x order (led l))
 
     mild : 0 < i → minds_at r (first_place i r) (first_end i r) ≡ false
-    mild l = unless _ (λ minds. (let e = p.minded l (some l) minds in not-lone cuts from ts rs re x order (led l) (subst (λ b. LoneError cuts from ts b) (sym (same-place from ts s.from start e.index (first l) e.leads)) e.lone)))
+    mild l = false_from_ne_true _ (λ minds. (let e = p.minded l (some l) minds in not-lone cuts from ts rs re x order (led l) (subst (λ b. LoneError cuts from ts b) (sym (same-place from ts s.from start e.index (first l) e.leads)) e.lone)))
 
     to-more : (at index : ℕ) → LeadsAt from ts at index → end ≡ at → s.to < length ts
     to-more at index e same = past (nat_lt s.to (length ts)) refl
@@ -475,13 +440,7 @@ module _ (cuts : List ℕ) (from : ℕ) (ts : List Tree) (rs re x : ℕ) (order 
         past true t = ltb-true s.to (length ts) t
         past false t =
             let over : length ts ≤ s.to = grind (arith, nat_tests) in
-            let all = begins-last from ts s.to over in
-            let parts = ap bytes_of e.is in
-            let one = bytes-append e.left (e.node ∷ e.right) in
-            let two = bytes-first e.node e.right in
-            let there = e.begins in
-            let full = e.full in
-            absurd (omega (arith, all, parts, one, two, there, full, same, end_is))
+            absurd (omega (arith, begins-last from ts s.to over, ap bytes_of e.is, bytes-append e.left (e.node ∷ e.right), bytes-first e.node e.right, e.begins, e.full, same, end_is))
 
     next : is_over i n r ≡ false → StandsAt from ts s.to end
     next over = let f = p.next some over in subst (λ b. StandsAt from ts s.to b) (sym end_is) (to-stands cuts from ts rs re x order (to-more end (length f.front) f.leads refl))
@@ -536,25 +495,17 @@ leads-next cuts from ts front [] at is ends l cut = tt
 leads-next cuts from ts front (y ∷ ys) at is ends l cut =
     let same : y ∷ ys ≡ l.node ∷ l.right = same-behind front (y ∷ ys) l.left (l.node ∷ l.right) (sym is ∙ l.is) (sym l.here) in
     let long : length (text_of y) ≡ length (text_of l.node) = ap (λ us. length (text_of (first_or y us))) same in
-    let full = l.full in
-    (omega (arith, long, full), ap (λ b. is_among b cuts) ends ∙ cut)
-  where
-    first_or : Tree → List Tree → Tree
-    first_or t [] = t
-    first_or t (u ∷ us) = u
+    (omega (arith, long, l.full), ap (λ b. is_among b cuts) ends ∙ cut)
 
 module _ (r : Sequence) (cuts : List ℕ) (from : ℕ) (ts : List Tree) (i start : ℕ) (one : GivesOne r cuts from ts i start) (alone : MindsAlone (first_end i r).state (turn_of r (first_end i r).value (first_place i r) (first_end i r).state)) where
   -- A piece that minds errors is an error, followed only by its trivia.
   lone-at : LoneAt cuts from ts start
   lone-at =
-      let o = turn_of r (first_end i r).value (first_place i r) (first_end i r).state in
       let g = one.gives in
       let t = one.trivia in
       let us = pending (first_end i r).state.known in
-      let few = g.few in
-      let no_empties = alone.none in
-      let none : g.back ≡ 0 = omega (arith, few, no_empties) in
-      let nodes : (read_by i 1 r).nodes ≡ us ++ alone.error ∷ [] = one-node (then_end i 1 r).state o ∙ alone.nodes in
+      let none : g.back ≡ 0 = omega (arith, g.few, alone.none) in
+      let nodes : (read_by i 1 r).nodes ≡ us ++ alone.error ∷ [] = one-node (then_end i 1 r).state (turn_of r (first_end i r).value (first_place i r) (first_end i r).state) ∙ alone.nodes in
       let own : less g.back (read_by i 1 r).nodes ++ t.nodes ≡ us ++ alone.error ∷ t.nodes =
       ap (λ n. less n (read_by i 1 r).nodes ++ t.nodes) none ∙ ap (λ vs. vs ++ t.nodes) (less-none (read_by i 1 r).nodes ∙ nodes) ∙ append_assoc us (alone.error ∷ []) t.nodes in
       let left = g.before ++ us in

@@ -11,6 +11,7 @@ use Rattle.typst_language.specs.declared.calls.Note.{Note}
 use Rattle.typst_tree.specs.Tree.{Forest, none, more, Tree, forest, trees, text_of, joined}
 use Rattle.typst_tree.specs.Replace.{At, Reaches}
 use Rattle.typst_tree.specs.Laws.{start_at, or_none}
+use Rattle.typst_candidates.proofs.Rows.{begun_none}
 use Rattle.typst_candidates.specs.Units.{top_cuts}
 use Rattle.typst_candidates.specs.Candidates.{Child, laid, begun, ended, first_near, end_near, clings, is_hash, leads, child_at, holds_at, back_past, on_past, with_hash, Stretch, from_of, to_of, around, is_all, stretches, Candidate, begins, of_children, of_stretches, of_run, covers, run_in, of_block, candidates_at, candidates}
 pub use Rattle.typst_candidates.proofs.Rows.{laid_length as length-laid}
@@ -19,6 +20,8 @@ use Rattle.typst_edits.proofs.Replaced.{replaced-law}
 use Rattle.typst_edits.proofs.Every.{every-append, every-by, every-if}
 use Rattle.typst_edits.specs.Every.{Every}
 use Rattle.typst_edits.specs.CandidatePlaces.{StandsIn, CandidatePlacesLaw, CandidateTreeLaw}
+use Rattle.typst_language.proofs.Within.{on_both}
+use Rattle.typst_grammar.proofs.Fine.{and-right}
 
 -- ---- bytes of children
 
@@ -38,46 +41,22 @@ got-laid at (t ∷ ts) (suc n) = got-laid (at + length (text_of t)) ts n
 
 pub back-le : (f : ℕ → Bool) (n : ℕ) → back_past f n ≤ n
 back-le f zero = omega arith
-back-le f (suc n) = by-test (f (suc n)) (back-le f n)
-  where
-    by-test : (b : Bool) → back_past f n ≤ n → (if b then back_past f n else suc n) ≤ suc n
-    by-test true h = omega (arith, h)
-    by-test false h = omega arith
+back-le f (suc n) = on_both (λ (m : ℕ). m ≤ suc n) (f (suc n)) (back_past f n) (suc n) (omega (arith, back-le f n)) (omega arith)
 
 pub on-ge : (f : ℕ → Bool) (limit n : ℕ) → n ≤ on_past f limit n
 on-ge f zero n = omega arith
-on-ge f (suc limit) n = by-test (f n) (on-ge f limit (suc n))
-  where
-    by-test : (b : Bool) → suc n ≤ on_past f limit (suc n) → n ≤ (if b then on_past f limit (suc n) else n)
-    by-test true h = omega (arith, h)
-    by-test false h = omega arith
+on-ge f (suc limit) n = on_both (λ (m : ℕ). n ≤ m) (f n) (on_past f limit (suc n)) n (omega (arith, on-ge f limit (suc n))) (omega arith)
 
 pub on-le : (f : ℕ → Bool) (limit n : ℕ) → on_past f limit n ≤ n + limit
 on-le f zero n = omega arith
-on-le f (suc limit) n = by-test (f n) (on-le f limit (suc n))
-  where
-    by-test : (b : Bool) → on_past f limit (suc n) ≤ suc n + limit → (if b then on_past f limit (suc n) else n) ≤ n + suc limit
-    by-test true h = omega (arith, h)
-    by-test false h = omega arith
+on-le f (suc limit) n = on_both (λ (m : ℕ). m ≤ n + suc limit) (f n) (on_past f limit (suc n)) n (omega (arith, on-le f limit (suc n))) (omega arith)
 
 pub hash-le : (cs : List Child) (n : ℕ) → with_hash cs n ≤ n
-hash-le cs n = by-test (nat_lt 0 n && holds_at (λ c. is_hash c.node) cs (n - 1))
-  where
-    by-test : (b : Bool) → (if b then n - 1 else n) ≤ n
-    by-test true = omega arith
-    by-test false = omega arith
+hash-le cs n = on_both (λ (m : ℕ). m ≤ n) (nat_lt 0 n && holds_at (λ c. is_hash c.node) cs (n - 1)) (n - 1) n (omega arith) (omega arith)
 
 pub begun-le : (b : ℕ) (cs : List Child) → begun b cs ≤ length cs
 begun-le b [] = omega arith
-begun-le b (c ∷ cs) = by-test (nat_lt c.start b) (begun-le b cs)
-  where
-    by-test : (t : Bool) → begun b cs ≤ length cs → (if t then suc (begun b cs) else 0) ≤ suc (length cs)
-    by-test true h = omega (arith, h)
-    by-test false h = omega arith
-
-begun-none : (at b : ℕ) (ts : List Tree) → b ≤ at → begun b (laid at ts) ≡ 0
-begun-none at b [] h = refl
-begun-none at b (t ∷ ts) h = let off : nat_lt at b ≡ false = grind (arith, nat_tests) in rw off refl
+begun-le b (c ∷ cs) = on_both (λ (m : ℕ). m ≤ suc (length cs)) (nat_lt c.start b) (suc (begun b cs)) 0 (omega (arith, begun-le b cs)) (omega arith)
 
 pub begun-ended : (at rs re : ℕ) (ts : List Tree) → rs ≤ re → begun rs (laid at ts) ≤ suc (ended re (laid at ts))
 begun-ended at rs re [] h = omega arith
@@ -89,7 +68,7 @@ begun-ended at rs re (t ∷ ts) h = by-test (nat_lt at rs) (nat_le (at + length 
     by-test true true e ih = omega (arith, ih)
     by-test true false e ih =
         let past : re < at + length (text_of t) = grind (arith, nat_tests) in
-        omega (arith, begun-none (at + length (text_of t)) rs ts (omega (arith, past, h)))
+        omega (arith, begun_none rs (at + length (text_of t)) ts (omega (arith, past, h)))
 
 -- a stretch is of children that are there
 record Within (len : ℕ) (s : Stretch) : Type 0 where
@@ -167,14 +146,9 @@ in-child path at h ks i c s = record {
 
 -- a child that covers the replaced bytes is an inner node
 covering-inner : (rs re : ℕ) (cs : List Child) (i : ℕ) (c : Child) → covers rs re cs i c ≡ true → IsTrue c.node.head.is_inner
-covering-inner rs re cs i c e = by-tests (end_near re cs == suc i) (nat_lt c.start rs) (nat_lt re c.end) c.node.head.is_inner e
-  where
-    by-tests : (p q r b : Bool) → (p && (q && (r && b))) ≡ true → IsTrue b
-    by-tests true true true true e = refl
-    by-tests true true true false e = absurd (cc)
-    by-tests true true false b e = absurd (cc)
-    by-tests true false r b e = absurd (cc)
-    by-tests false q r b e = absurd (cc)
+covering-inner rs re cs i c e =
+    let inner = nat_lt re c.end && c.node.head.is_inner in
+    and-right (nat_lt re c.end) c.node.head.is_inner (and-right (nat_lt c.start rs) inner (and-right (end_near re cs == suc i) (nat_lt c.start rs && inner) e))
 
 -- a block alone stands in the node
 block-stands : (path : List ℕ) (at : ℕ) (h : Head) (ks : Forest) (i : ℕ) (kind : SyntaxKind) → IsTrue h.is_inner → i < length (trees ks)

@@ -89,8 +89,7 @@ module _ (cuts : List ℕ) (from : ℕ) (ts : List Tree) (rs re x : ℕ) (order 
       by-test true t =
           let more : s.to < length ts = ltb-true s.to (length ts) t in
           let c = each (begins from ts s.to) (to-cut cuts from ts rs re x order more) in
-          let some = c.some in
-          record { j = c.index; few = c.few; end = sym c.is; empty = λ e. absurd (omega (arith, some, e)) }
+          record { j = c.index; few = c.few; end = sym c.is; empty = λ e. absurd (omega (arith, c.some, e)) }
       by-test false t =
           let over : length ts ≤ s.to = grind (arith, nat_tests) in
           record { j = count; few = omega arith; end = all ∙ sym (begins-last from ts s.to over); empty = λ e. e }
@@ -106,16 +105,12 @@ module _ (cuts : List ℕ) (from : ℕ) (ts : List Tree) (rs re x : ℕ) (order 
           let one : j ≤ i = grind (arith, nat_tests) in
           let two : i ≤ j = grind (arith, nat_tests) in
           let alone : i ≡ j = omega (arith, one, two) in
-          let same = ap byte alone in
-          absurd (omega (arith, less, same))
+          absurd (omega (arith, less, ap byte alone))
 
   -- So there are pieces if some stand before them.
   some : 0 < first.i → first.i < last.j
   some l =
-      let less = from-less cuts from ts rs re x order (first.led.0 l) in
-      let start = first.start l in
-      let end = last.end in
-      by-order first.i last.j first.few (omega (arith, less, start, end))
+      by-order first.i last.j first.few (omega (arith, from-less cuts from ts rs re x order (first.led.0 l), first.start l, last.end))
 
   pub picked : Picked byte count from ts s
   picked = record {
@@ -232,14 +227,12 @@ module _ (k : CharClasses) (front old rest : List ℕ) (r : Run k (front ++ (old
   -- where the first of them begins
   cut-first : (i : ℕ) → i ≡ 0 → cut_at r i z ≡ opened_by r z
   cut-first i e =
-      let x = (first_end i q).taken + gap_of (first_end i q).state.known in
       let none : opened_by r z + 0 ≡ opened_by r z = omega arith in
-      ap (λ b. opened_by r z + (if b then 0 else x)) (ap (λ m. m == 0) e) ∙ none
+      ap (λ b. opened_by r z + (if b then 0 else ((first_end i q).taken + gap_of (first_end i q).state.known))) (ap (λ m. m == 0) e) ∙ none
 
   cut-later : (i : ℕ) → 0 < i → cut_at r i z ≡ token i
   cut-later i l =
-      let x = (first_end i q).taken + gap_of (first_end i q).state.known in
-      ap (λ b. opened_by r z + (if b then 0 else x)) (ne_eqb i 0 (λ e. absurd (omega (arith, l, e))))
+      ap (λ b. opened_by r z + (if b then 0 else ((first_end i q).taken + gap_of (first_end i q).state.known))) (ne_eqb i 0 (λ e. absurd (omega (arith, l, e))))
 
   -- where they end, with the trivia after them
   end-token : (i n j : ℕ) (t : Trivia) → i + n ≡ j → (then_end i n q).state.known ≡ Some t → end_by r i n t z ≡ token j
@@ -252,14 +245,12 @@ module _ (k : CharClasses) (front old rest : List ℕ) (r : Run k (front ++ (old
   pub is-pieces : (count i j : ℕ) → Matches count i j → is_over 0 count q ≡ true → (s : Standing q i (j - i)) → (0 < i → minds_at q (first_place i q) (first_end i q) ≡ false) → HasPieces i (j - i) s.trivia
   is-pieces count i j m over s mild =
       let n = j - i in
-      let order = m.order in
-      let sum : i + n ≡ j = omega (arith, order) in
+      let sum : i + n ≡ j = omega (arith, m.order) in
       let past = token j - (length front + length old) in
       let apart : (front ++ old) ++ rest ≡ text = append_assoc front old rest in
       let far : width (front ++ old) ≤ width (take (token j) text) = subst (λ b. width (front ++ old) ≤ b) m.end m.late in
       let over_it = as-far (token j) (front ++ old) rest (subst (λ xs. width (front ++ old) ≤ width (take (token j) xs)) (sym apart) far) in
-      let long = length-append front old in
-      let there : token j ≡ (length front + length old) + past = omega (arith, over_it, long) in
+      let there : token j ≡ (length front + length old) + past = omega (arith, over_it, length-append front old) in
       record {
         past = past;
         is = record {
@@ -271,10 +262,7 @@ module _ (k : CharClasses) (front old rest : List ℕ) (r : Run k (front ++ (old
           led = m.led;
           end = m.end ∙ ap width (take-past front old rest past (token j) there);
           none = λ l minded. absurd (let d : true ≡ false = sym minded ∙ mild l in cc);
-          empty = λ none. (let e = nothing none in (e, subst (λ d. is_over 0 d q ≡ true) (m.empty (omega (arith, e, none))) over));
+          empty = λ none. (let e = none-or-some (i ≡ 0) i (λ e. e) (λ l. (let more = m.some l in absurd (omega (arith, more, none)))) in (e, subst (λ d. is_over 0 d q ≡ true) (m.empty (omega (arith, e, none))) over));
           early = none-or-some (cut_at r i z ≤ length front) i (λ e. subst (λ d. d ≤ length front) (sym (cut-first i e)) (m.opened e)) (λ l. (let before = sooner (token i) front (old ++ rest) (subst (λ b. b < width front) (m.start l) (m.early l)) in let at = cut-later i l in omega (arith, before, at)));
         };
       }
-    where
-      nothing : j - i ≡ 0 → i ≡ 0
-      nothing none = none-or-some (i ≡ 0) i (λ e. e) (λ l. (let more = m.some l in absurd (omega (arith, more, none))))

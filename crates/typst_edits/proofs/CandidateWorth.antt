@@ -28,7 +28,7 @@ use Rattle.typst_edits.proofs.Edit.{among}
 use Rattle.typst_edits.proofs.Every.{every-by}
 use Rattle.typst_edits.proofs.InnerCandidates.{inner-candidate-law}
 use Rattle.typst_edits.proofs.InnerWorth.{inner-worth-law}
-use Rattle.typst_edits.proofs.MarkupCandidates.{Alone, Own, node-every, run-own}
+use Rattle.typst_edits.proofs.MarkupCandidates.{Own, node-every, run-own}
 use Rattle.typst_edits.proofs.NoteNumbers.{go-fewer}
 use Rattle.typst_edits.proofs.RootCandidates.{cuts-of-text, of-the-root, root-candidate-law}
 use Rattle.typst_edits.proofs.RootPieces.{take-past, behind-zero}
@@ -50,7 +50,7 @@ module _ (ns : List Note) (rs re : ℕ) where
   all-one path run zero at (more h ks r) =
       node-every ns rs re One path run at h ks r
       (λ c e on. (let i = first_near rs (laid (at + length h.text) (trees ks)) in all-one (path ++ i ∷ []) (run_in ns at h.kind c.node.head.kind) i (at + length h.text) ks))
-      (λ c (a : Alone path c) is. a.one)
+      (λ c e on one is. refl)
       (every-by {Q = One} (λ c (o : Own path c) is. absurd (let no = sym is ∙ o.pieces in cc)) _ (run-own rs re path (at + length h.text) (trees ks) run))
 
 pub one-child : (k : CharClasses) (text : List ℕ) (rs re : ℕ) (root : Tree) (c : Candidate) → Among c (candidates k text rs re root) → One c
@@ -87,20 +87,14 @@ no-piece k front old new rest root c m past t u same chosen pieces path end h th
     let s = stretch cuts.cuts 0 kids (width front) (width (front ++ old)) o.more order in
     let to : c.to ≡ s.to = ap (λ (d : Candidate). d.to) o.is in
     let ends_is : c.end ≡ begins 0 kids s.to = ap (λ (d : Candidate). d.end) o.is in
-    let all = ap length there.is in
-    let parts = length-append there.left (there.node ∷ there.right) in
-    let here = there.here in
-    let cut = to-cut cuts.cuts 0 kids (width front) (width (front ++ old)) o.more order (omega (arith, to, all, parts, here)) in
+    let cut = to-cut cuts.cuts 0 kids (width front) (width (front ++ old)) o.more order (omega (arith, to, ap length there.is, length-append there.left (there.node ∷ there.right), there.here)) in
     let b = cuts.each c.end (subst (λ b. is_among b cuts.cuts ≡ true) (sym ends_is) cut) in
     let go = go-fewer (piece_at k) b.index cuts.count (true, 0) z (lead k z).state b.few cuts.go in
     let e = end_at k 0 z in
     let gap : gap_of e.state.known ≡ t.gap = ap gap_of h.known in
-    let ends = behind-zero (e.taken + 0) t.gap _ h.ends in
-    let sum : e.taken + gap_of e.state.known ≡ (length front + length old) + past = omega (arith, gap, ends) in
+    let sum : e.taken + gap_of e.state.known ≡ (length front + length old) + past = omega (arith, gap, behind-zero (e.taken + 0) t.gap _ h.ends) in
     let byte : c.end ≡ width (take (e.taken + gap_of e.state.known) text) = end ∙ sym (ap width (take-past front old rest past (e.taken + gap_of e.state.known) sum)) in
-    let later = token-cuts k text 0 b.index b.some go in
-    let is = b.is in
-    absurd (omega (arith, byte, is, later))
+    absurd (omega (arith, byte, b.is, token-cuts k text 0 b.index b.some go))
 
 -- so their run ends there
 none-over : (k : CharClasses) (front old new rest : List ℕ) (root : Tree) (c : Candidate) (i n m past : ℕ) (t u : Trivia) → bare root ≡ bare (tree k (front ++ (old ++ rest)))

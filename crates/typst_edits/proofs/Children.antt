@@ -1,5 +1,5 @@
 -- A tree where some pieces of its run are read again: one stretch of its children exchanged.
-use Rattle.std.proofs.Common.{◌≡◌, inl, inr, ℕ, zero, suc, ◌+◌, ◌-◌, ◌<◌, ◌≤◌, Bool, true, nat_lt, List, [], ◌∷◌, ◌++◌, length, take, drop, length-append, append_assoc, Some, refl, ap, sym, ◌∙◌, subst, arith}
+use Rattle.std.proofs.Common.{◌≡◌, inl, inr, ℕ, zero, suc, ◌+◌, ◌<◌, ◌≤◌, Bool, true, nat_lt, List, [], ◌++◌, length, drop, length-append, append_assoc, Some, refl, ap, sym, ◌∙◌, subst, arith}
 use Rattle.typst_kinds.specs.declared.kind.SyntaxKind.{SyntaxKind}
 use Rattle.typst_kinds.specs.declared.kind.SyntaxKind.TheVariants as kind
 use Rattle.typst_lines.specs.Place.{Place, moved}
@@ -17,7 +17,6 @@ use Rattle.typst_language.specs.Meaning.{Outcome, Meaning, Level, plain, less, s
 use Rattle.typst_language.specs.Sound.{Tidy, Backs}
 use Rattle.typst_language.proofs.Backs.{backs-joined}
 use Rattle.typst_language.proofs.Knot.{sane-at, sane-run}
-use Rattle.typst_language.proofs.Places.{less-append, less-none}
 use Rattle.typst_grammar.specs.Markup.{markup_turn, markup_head}
 use Rattle.typst_grammar.specs.Grammar.{rules, max_depth, level_at, start_of, tree}
 use Rattle.typst_edits.specs.Children.{exchanged, Settles, with_children, together, read_from, standing_before, nodes_with, ChildrenLaw, BackLaw}
@@ -28,7 +27,7 @@ use Rattle.typst_edits.specs.Runs.{made, piece_at, AllGo, end_of, lead, pieces, 
 use Rattle.typst_edits.proofs.Boundary.{KnownAt, first-of, going-on, known-made}
 use Rattle.typst_edits.proofs.Edit.{trees-of}
 use Rattle.typst_edits.proofs.Joint.{joint-law, onwards-is, known-is, text-taking}
-use Rattle.typst_edits.proofs.Led.{behind_trivia, before_trivia, Led, led-joined}
+use Rattle.typst_edits.proofs.Led.{behind_trivia, before_trivia, Led, led-joined, drop-front, take-front, less-behind}
 use Rattle.typst_edits.proofs.RunTrees.{standing-chain, standing-still, tree-is}
 use Rattle.typst_edits.proofs.Runs.{chain-state}
 use Rattle.typst_edits.proofs.Turns.{Taking, turn-led}
@@ -37,24 +36,8 @@ use Rattle.typst_edits.specs.Sequence.{Sequence, turn_of, first_of, first_end, t
 
 -- ---- stretches of nodes
 
-less-inside : (n : ℕ) (xs ys : List Tree) → n ≤ length ys → less n (xs ++ ys) ≡ xs ++ less n ys
-less-inside n xs ys h =
-    let e : n - length ys ≡ 0 = omega (arith, h) in
-    less-append n xs ys ∙ ap (λ j. less j xs ++ less n ys) e ∙ ap (λ u. u ++ less n ys) (less-none xs)
-
-pub take-front : (xs ys : List Tree) → take (length xs) (xs ++ ys) ≡ xs
-take-front [] ys = refl
-take-front (x ∷ xs) ys = ap (λ u. x ∷ u) (take-front xs ys)
-
-drop-both : (xs ys zs : List Tree) (n : ℕ) → n ≡ length xs + length ys → drop n (xs ++ (ys ++ zs)) ≡ zs
-drop-both [] [] zs n e = ap (λ j. drop j zs) e
-drop-both [] (y ∷ ys) zs zero e = absurd (omega (arith, e))
-drop-both [] (y ∷ ys) zs (suc n) e = drop-both [] ys zs n (omega (arith, e))
-drop-both (x ∷ xs) ys zs zero e = absurd (omega (arith, e))
-drop-both (x ∷ xs) ys zs (suc n) e = drop-both xs ys zs n (omega (arith, e))
-
 pub exchanged-is : (xs ys news zs : List Tree) → exchanged (length xs) (length xs + length ys) news (xs ++ (ys ++ zs)) ≡ xs ++ (news ++ zs)
-exchanged-is xs ys news zs = ap (λ u. u ++ (news ++ drop (length xs + length ys) (xs ++ (ys ++ zs)))) (take-front xs (ys ++ zs)) ∙ ap (λ u. xs ++ (news ++ u)) (drop-both xs ys zs (length xs + length ys) refl)
+exchanged-is xs ys news zs = ap (λ u. u ++ (news ++ drop (length xs + length ys) (xs ++ (ys ++ zs)))) (take-front xs (ys ++ zs) (length xs) refl) ∙ ap (λ u. xs ++ (news ++ u)) (ap (drop (length xs + length ys)) (sym (append_assoc xs ys zs)) ∙ drop-front (xs ++ ys) zs (length xs + length ys) (sym (length-append xs ys)))
 
 -- ---- several pieces as one outcome
 
@@ -85,25 +68,21 @@ module _ (l : Level) (stops : SyntaxKind → Bool) (taking : Taking l stops) whe
       let y = moved o.taken z in
       let os = made turn n o.value.1 y o.state in
       let q = together (end_of o.value.1 o.state os).state os in
-      let go = going-on l stops x z s (first-of o.value.0 (nat_lt 0 o.taken) g.0) in
       let trims = minds (markup_head x.0 x.1 (hand_at l.classes h (Some t) z).kind) in
       let c = turn x (moved t.gap z) (before_trivia r h e a (behind_trivia t)) in
-      let one : Led t t.nodes trims o c = turn-led l stops taking x z r h e a t go in
+      let one : Led t t.nodes trims o c = turn-led l stops taking x z r h e a t (going-on l stops x z s (first-of o.value.0 (nat_lt 0 o.taken) g.0)) in
       let tidy = tidy-together turn (λ v. (sane-run l taking.calls_sane taking.blocks_sane (markup_turn true stops v)).backs) n o.value.1 y o.state in
       let all = led-joined t t.nodes trims o c q one (subst (λ p. Tidy p q) one.state tidy) in
-      let few = all.few in
       let long : length (joined o q).nodes ≡ length (t.nodes ++ all.rest) = ap length all.nodes in
-      let sum = length-append t.nodes all.rest in
-      record { hints = all.hints; few = omega (arith, few, long, sum) }
+      record { hints = all.hints; few = omega (arith, all.few, long, length-append t.nodes all.rest) }
 
   -- some pieces that begin where trivia are known
   pub gives-pieces : (n : ℕ) (x : Bool × ℕ) (z : Place) (s : Point) → 0 < n → KnownAt s → (let os = made turn n x z s in AllGo os → Gives (together (end_of x s os).state os))
   gives-pieces zero x z s some known g = absurd (omega (arith, some))
   gives-pieces (suc n) x z s some known g =
-      let t = known.trivia in
-      let is = known-is l.classes s t known.is in
+      let is = known-is l.classes s known.trivia known.is in
       subst (λ p. (let os = made turn (suc n) x z p in Gives (together (end_of x p os).state os))) (sym is)
-      (gives-before n x z s.reading s.held s.empties s.is_after_error t (subst (λ p. AllGo (made turn (suc n) x z p)) is g))
+      (gives-before n x z s.reading s.held s.empties s.is_after_error known.trivia (subst (λ p. AllGo (made turn (suc n) x z p)) is g))
 
 -- some pieces as one outcome, and what follows them: it hints at nothing, and takes back nothing that stands before them
 pub record Apart (p o : Outcome (Unit {0})) : Type 0 where
@@ -126,7 +105,7 @@ stretch-is ts rest p o t g hints nodes =
     let before = less p.back ts in
     let own = less o.back p.nodes in
     ap (λ hs. standing o (hinted hs before ++ p.nodes)) g.hints ∙ ap (λ hs. hinted hs (less o.back (before ++ p.nodes)) ++ o.nodes) hints
-    ∙ ap (λ us. us ++ o.nodes) (less-inside o.back before p.nodes g.few) ∙ ap (λ us. (before ++ own) ++ us) nodes
+    ∙ ap (λ us. us ++ o.nodes) (less-behind o.back before p.nodes g.few) ∙ ap (λ us. (before ++ own) ++ us) nodes
     ∙ append_assoc before own (t.nodes ++ rest) ∙ ap (λ us. before ++ us) (sym (append_assoc own t.nodes rest))
 
 -- ---- pieces of a run that is read so
@@ -148,24 +127,19 @@ module _ (r : Sequence) (taking : Taking r.level r.stops) (known : KnownAt r.poi
 -- ---- the run of a text
 
 module _ (k : CharClasses) where
-  abbrev top : Level
-  top = level_at k max_depth
-
   pub text-known : (z : Place) → KnownAt (lead k z).state
   unfolding run
   text-known z = record { trivia = _; is = refl }
 
   pub top-known : (i : ℕ) (z : Place) → AllGo (pieces k i z) → KnownAt (end_at k i z).state
-  top-known i z g = known-made top is_end i (true, 0) z (lead k z).state (text-known z) g
+  top-known i z g = known-made (level_at k max_depth) is_end i (true, 0) z (lead k z).state (text-known z) g
 
   -- What follows takes back no more than stands there.
   pub behind-back : (i n : ℕ) (z : Place) → (onwards_from k i n z).back ≤ (end_from k i n z).state.empties
   behind-back i n z =
       let f = end_from k i n z in
       let tidy = (sane-at (rules k) k max_depth (repeat (markup_turn true is_end) f.value >>= λ _. flush_trivia)).backs (place_from k i n z) f.state in
-      let back = tidy.back in
-      let is = ap (λ (o : Outcome (Unit {0})). o.back) (onwards-is k i n z) in
-      omega (arith, back, is)
+      omega (arith, tidy.back, ap (λ (o : Outcome (Unit {0})). o.back) (onwards-is k i n z))
 
 pub children-law : ChildrenLaw
 children-law k front old new rest i n m past t u h some more same =

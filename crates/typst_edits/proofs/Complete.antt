@@ -2,6 +2,7 @@
 use Rattle.std.proofs.Common.{◌≡◌, ◌⊎◌, inl, inr, ℕ, zero, suc, Bool, true, false, ◌&&◌, if◌then◌else◌, nat_lt, List, [], ◌∷◌, ◌++◌, length, map, append-nil, Option, Some, None, refl, ap, sym, ◌∙◌, subst}
 use Rattle.std.specs.List.{flat_map}
 use Rattle.std.proofs.lemmas.Grind.{flat_map-append}
+use Rattle.std.proofs.lemmas.List.{map-append}
 use Rattle.typst_kinds.specs.declared.mode.SyntaxMode.{SyntaxMode}
 use Rattle.typst_lines.specs.Place.{Place, moved}
 use Rattle.typst_lines.specs.Classes.{CharClasses}
@@ -11,7 +12,7 @@ use Rattle.typst_language.specs.declared.reading.Reading.{Reading}
 use Rattle.typst_language.specs.Ask.{Ask, shift, shift_one, sunk, sink_one, only_looks}
 use Rattle.typst_language.specs.Ask.Ask.{looked, marked}
 use Rattle.typst_language.specs.Calls.{Call, Answer}
-use Rattle.typst_language.specs.Hand.{at_trivia, len_at, asks_by, ahead_asks, ahead_of, ahead_asks_of, asks_column, column_asks, hand_asks}
+use Rattle.typst_language.specs.Hand.{at_trivia, len_at, asks_by, ahead_asks, ahead_of, ahead_asks_of, asks_column, column_asks, hand_asks, column_look}
 use Rattle.typst_language.specs.Point.{Trivia, Point, state_of, forgot}
 use Rattle.typst_language.specs.Shape.{Shape}
 use Rattle.typst_language.specs.Steps.{peek}
@@ -22,6 +23,7 @@ use Rattle.typst_language.specs.Knot.{Rules, meaning_of, level_of}
 use Rattle.typst_grammar.specs.Markup.{markup_reading}
 use Rattle.typst_language.specs.Meaning.{Outcome, Meaning, Level, answered, joined, followed, as_last, turns, bound, repeated, before, blockless, grown, is_more, growths, growing, nestings, nesting, bounded, given_up, entered, plain, start_point, done, run}
 use Rattle.typst_grammar.specs.Grammar.{rules, max_depth, start_of, whole}
+use Rattle.typst_language.proofs.Frame.{grown-asks}
 use Rattle.typst_edits.specs.Edit.{Among}
 use Rattle.typst_edits.specs.Edit.Among.{this, that}
 use Rattle.typst_edits.specs.Hole.{Hole}
@@ -30,9 +32,9 @@ use Rattle.typst_edits.specs.Lost.{opening, is_opening, opens, opened, unless_so
 use Rattle.typst_edits.specs.Lost.Stands.{stands, is_lost}
 use Rattle.typst_edits.specs.Occurrences.{Spots, joined_spots, goes, last_spot, turns_spots, repeated_spots, reshaped_spot, wrapped_spot, grown_spot, growths_spots, growing_spots, nestings_spots, nesting_spots, scoped_spot, bounded_spots, spots, call_spots, block_spots, level_spots}
 use Rattle.typst_edits.specs.Spot.{Spot, valued, then_spot, after_spot, rehole, sunk_spot, closed_spot}
-use Rattle.typst_edits.proofs.Every.{Every, every-append, every-map}
-use Rattle.typst_edits.proofs.Wrap.{every-weaker}
+use Rattle.typst_edits.proofs.Every.{Every, every-append, every-map, every-by}
 use Rattle.typst_edits.proofs.Edit.{among}
+use Rattle.typst_language.proofs.Within.{on_both}
 
 -- ---- one of several
 
@@ -61,11 +63,7 @@ opened-append xs ys = flat_map-append opens xs ys
 
 pub opened-by : (f : Ask → Ask) → ((ask : Ask) → opens (f ask) ≡ map f (opens ask)) → (asks : List Ask) → opened (map f asks) ≡ map f (opened asks)
 opened-by f h [] = refl
-opened-by f h (ask ∷ asks) = ap (λ u. u ++ opened (map f asks)) (h ask) ∙ ap (λ u. map f (opens ask) ++ u) (opened-by f h asks) ∙ sym (maps (opens ask) (opened asks))
-  where
-    maps : (xs ys : List Ask) → map f (xs ++ ys) ≡ map f xs ++ map f ys
-    maps [] ys = refl
-    maps (x ∷ xs) ys = ap (λ u. f x ∷ u) (maps xs ys)
+opened-by f h (ask ∷ asks) = ap (λ u. u ++ opened (map f asks)) (h ask) ∙ ap (λ u. map f (opens ask) ++ u) (opened-by f h asks) ∙ sym (map-append f (opens ask) (opened asks))
 
 opens-if : (f : Ask → Ask) (b : Bool) (x : Ask) → (if b then f x ∷ [] else []) ≡ map f (if b then x ∷ [] else [])
 opens-if f true x = refl
@@ -86,27 +84,21 @@ opened-looks (marked at gap fewer m s ∷ asks) = opened-looks asks
 
 opened-trivia : (k : CharClasses) (m : SyntaxMode) (n : ℕ) (z : Place) → opened (asks_by k m n z) ≡ []
 opened-trivia k m zero z = refl
-opened-trivia k m (suc n) z = none (at_trivia k m z) (shift (len_at k m z) (asks_by k m n (moved (len_at k m z) z)))
-    (opened-by (shift_one (len_at k m z)) (opens-shift (len_at k m z)) (asks_by k m n (moved (len_at k m z) z)) ∙ ap (map (shift_one (len_at k m z))) (opened-trivia k m n (moved (len_at k m z) z)))
-  where
-    none : (b : Bool) (asks : List Ask) → opened asks ≡ [] → opened (if b then asks else []) ≡ []
-    none true asks h = h
-    none false asks h = refl
+opened-trivia k m (suc n) z =
+    let l = len_at k m z in
+    let rest = asks_by k m n (moved l z) in
+    on_both (λ (us : List Ask). opened us ≡ []) (at_trivia k m z) (shift l rest) [] (opened-by (shift_one l) (opens-shift l) rest ∙ ap (map (shift_one l)) (opened-trivia k m n (moved l z))) refl
 
 -- What is asked for a token notes no block.
 pub opened-hand : (k : CharClasses) (held : Reading) (known : Option Trivia) (z : Place) → opened (hand_asks k held known z) ≡ []
 unfolding hand_asks ahead_asks
 opened-hand k held known z =
     let a = ahead_of k held.mode known z in
-    opened-append (ahead_asks_of k held.mode known z) (column_asks held a.newlines a.gap z) ∙ ap (λ u. u ++ opened (column_asks held a.newlines a.gap z)) (ahead-none known) ∙ column-none (asks_column held a.newlines) _
+    opened-append (ahead_asks_of k held.mode known z) (column_asks held a.newlines a.gap z) ∙ ap (λ u. u ++ opened (column_asks held a.newlines a.gap z)) (ahead-none known) ∙ on_both (λ (us : List Ask). opened us ≡ []) (asks_column held a.newlines) (looked a.gap (column_look (moved a.gap z)) ∷ []) [] refl refl
   where
     ahead-none : (t : Option Trivia) → opened (ahead_asks_of k held.mode t z) ≡ []
     ahead-none None = opened-trivia k held.mode (length z.ahead) z
     ahead-none (Some t) = refl
-
-    column-none : (b : Bool) (look : _) → opened (if b then looked (ahead_of k held.mode known z).gap look ∷ [] else []) ≡ []
-    column-none true look = refl
-    column-none false look = refl
 
 -- ---- each of these notes is of one of these blocks, or lost
 
@@ -117,7 +109,7 @@ abbrev pub Covered : {A : Type 0} → List (Spot A) → List Ask → List Ask �
 Covered cs ls asks = Every (One cs ls) (opened asks)
 
 covered-weaker : {A B : Type 0} (cs : List (Spot A)) (ds : List (Spot B)) (ls ms asks : List Ask) → ((ask : Ask) → One cs ls ask → One ds ms ask) → Covered cs ls asks → Covered ds ms asks
-covered-weaker cs ds ls ms asks f h = every-weaker (One cs ls) (One ds ms) f (opened asks) h
+covered-weaker cs ds ls ms asks f h = every-by f (opened asks) h
 
 covered-map : {A B : Type 0} (f : Spot A → Spot B) → ((c : Spot A) → opening (f c) ≡ opening c) → (cs : List (Spot A)) (ls asks : List Ask) → Covered cs ls asks → Covered (map f cs) ls asks
 covered-map f e cs ls asks h = covered-weaker cs (map f cs) ls ls asks step h
@@ -133,7 +125,7 @@ covered-joined : {A B : Type 0} (o : Outcome B) (cs : List (Spot B)) (ls : List 
     → Covered (joined_spots o cs p ds) (ls ++ shift o.taken ms) (o.asks ++ shift o.taken p.asks)
 covered-joined o cs ls p ds ms h k =
     subst (Every (One (joined_spots o cs p ds) (ls ++ shift o.taken ms))) (sym (opened-append o.asks (shift o.taken p.asks) ∙ ap (λ u. opened o.asks ++ u) (opened-by (shift_one o.taken) (opens-shift o.taken) p.asks)))
-    (every-append _ (opened o.asks) (map (shift_one o.taken) (opened p.asks)) (every-weaker (One cs ls) _ first (opened o.asks) h) (every-map (One ds ms) _ (shift_one o.taken) second (opened p.asks) k))
+    (every-append _ (opened o.asks) (map (shift_one o.taken) (opened p.asks)) (every-by first (opened o.asks) h) (every-map (One ds ms) _ (shift_one o.taken) second (opened p.asks) k))
   where
     first : (ask : Ask) → One cs ls ask → One (joined_spots o cs p ds) (ls ++ shift o.taken ms) ask
     first ask (inl i) = inl (any-left _ (map (λ c. then_spot c p) cs) (map (after_spot o) ds) (any-map (λ c. opening c ≡ ask) (λ d. opening d ≡ ask) (λ c. then_spot c p) (λ c g. g) cs i))
@@ -215,10 +207,6 @@ module _ {A : Type 0} (m : A → Meaning (Bool × A)) (sp : A → Spots (Bool ×
       (covered-nestings shape begin n o.value.1 w o.state))
       (covered-map last_spot (λ c. refl) (sp x z s) (f x z s) o.asks (h x z s)))
 
-asks-grown : {A : Type 0} (n : ℕ) (shape : Option Shape) (o : Outcome A) → (grown n shape o).asks ≡ o.asks
-asks-grown n None o = refl
-asks-grown n (Some shape) o = refl
-
 module _ {A : Type 0} (m : A → Meaning (Option Shape × A)) (sp : A → Spots (Option Shape × A)) (f : A → Lost) (h : (x : A) (z : Place) (s : Point) → Covered (sp x z s) (f x z s) (m x z s).asks) (n : ℕ) where
   covered-growths : (k : ℕ) (o : Outcome A) (cs : List (Spot A)) (ls : List Ask) (z : Place) → Covered cs ls o.asks → Covered (growths_spots m sp n k o cs z) (growths_lost m sp f n k o cs ls z) (growths m n k o z).asks
   covered-growths zero o cs ls z i = i
@@ -231,7 +219,7 @@ module _ {A : Type 0} (m : A → Meaning (Option Shape × A)) (sp : A → Spots 
       let ms = (ls ++ shift o.taken (f o.value w o.state)) ++ flat_map (λ c. grown_lost n p.value.0 (last_spot c)) ds in
       let all : Covered es ms (joined o p).asks = covered-flat (λ c. grown_spot n p.value.0 (last_spot c)) (λ c. grown_lost n p.value.0 (last_spot c)) (λ c. one-grown n p.value.0 (last_spot c)) ds (ls ++ shift o.taken (f o.value w o.state)) (joined o p).asks
       (covered-joined o cs ls p (sp o.value w o.state) (f o.value w o.state) i (h o.value w o.state)) in
-      let j : Covered es ms next.asks = subst (Covered es ms) (sym (asks-grown n p.value.0 (answered p.value.1 (joined o p)))) all in
+      let j : Covered es ms next.asks = subst (Covered es ms) (sym (grown-asks n p.value.0 (answered p.value.1 (joined o p)))) all in
       covered-if (is_more p.value.0 && nat_lt 0 p.taken) _ es _ ms (growths m n k next z) next (covered-growths k next es ms z j) j
 
 -- ---- a block
@@ -241,7 +229,7 @@ covered-closed b m sp z s ls h =
     let o = m z (forgot s) in (
       inl (inl refl),
       subst (Every (One (bounded_spots b m sp z s) ls)) (sym (opened-append o.asks (marked o.taken 0 0 mark.Closes (state_of o.state) ∷ []) ∙ append-nil (opened o.asks)))
-          (every-weaker (One (map (closed_spot b s) (sp z (forgot s))) ls) _ more (opened o.asks) (covered-map (closed_spot b s) (λ c. refl) (sp z (forgot s)) ls o.asks h)),
+          (every-by more (opened o.asks) (covered-map (closed_spot b s) (λ c. refl) (sp z (forgot s)) ls o.asks h)),
     )
   where
     more : (ask : Ask) → One (map (closed_spot b s) (sp z (forgot s))) ls ask → One (bounded_spots b m sp z s) ls ask
@@ -259,7 +247,7 @@ covered-sunk cs ls asks h = subst (Every (One (map sunk_spot cs) (sunk ls))) (sy
 
 all-lost : {A : Type 0} (cs : List (Spot A)) (xs : List Ask) → Every (One cs xs) xs
 all-lost cs [] = tt
-all-lost cs (x ∷ xs) = (inr (inl refl), every-weaker (One cs xs) (One cs (x ∷ xs)) more xs (all-lost cs xs))
+all-lost cs (x ∷ xs) = (inr (inl refl), every-by more xs (all-lost cs xs))
   where
     more : (ask : Ask) → One cs xs ask → One cs (x ∷ xs) ask
     more ask (inl i) = inl i
@@ -315,20 +303,16 @@ module _ (r : Rules) (k : CharClasses) where
 
 -- ---- of a text
 
-lost-among : (ask : Ask) (ls : List Ask) → Any (λ l. l ≡ ask) ls → Among ask ls
-lost-among ask [] i = elim i [ ]
-lost-among ask (l ∷ ls) (inl e) = subst (λ u. Among u (l ∷ ls)) e (this ls)
-lost-among ask (l ∷ ls) (inr i) = that l ls (lost-among ask ls i)
+-- one of several that is so
+pub record Chosen {X : Type 0} (P : X → Type 0) (xs : List X) : Type 0 where
+  pub one : X
+  pub among : Among one xs
+  pub holds : P one
 
-record Chosen (cs : List (Spot (Unit {0}))) (ask : Ask) : Type 0 where
-  spot : Spot (Unit {0})
-  among : Among spot cs
-  is : opening spot ≡ ask
-
-chosen-among : (ask : Ask) (cs : List (Spot (Unit {0}))) → Any (λ c. opening c ≡ ask) cs → Chosen cs ask
-chosen-among ask [] i = elim i [ ]
-chosen-among ask (c ∷ cs) (inl e) = record { spot = c; among = this cs; is = e }
-chosen-among ask (c ∷ cs) (inr i) = let r = chosen-among ask cs i in record { spot = r.spot; among = that c cs r.among; is = r.is }
+pub chosen : {X : Type 0} (P : X → Type 0) (xs : List X) → Any P xs → Chosen P xs
+chosen P [] h = elim h [ ]
+chosen P (x ∷ xs) (inl h) = record { one = x; among = this xs; holds = h }
+chosen P (x ∷ xs) (inr h) = let r = chosen P xs h in record { one = r.one; among = that x xs r.among; holds = r.holds }
 
 pub complete-law : CompleteLaw
 unfolding blocks_of_text lost_of_text
@@ -341,5 +325,5 @@ complete-law k text ask i = said (among (One (level_spots (rules k) k max_depth 
     s = start_point markup_reading
 
     said : One (level_spots (rules k) k max_depth whole z s) (level_lost (rules k) k max_depth whole z s) ask → Stands k text ask
-    said (inl h) = let r = chosen-among ask _ h in stands r.spot r.among r.is
-    said (inr h) = is_lost (lost-among ask _ h)
+    said (inl h) = let r = chosen (λ c. opening c ≡ ask) (level_spots (rules k) k max_depth whole z s) h in stands r.one r.among r.holds
+    said (inr h) = let r = chosen (λ l. l ≡ ask) (level_lost (rules k) k max_depth whole z s) h in is_lost (subst (λ a. Among a (level_lost (rules k) k max_depth whole z s)) r.holds r.among)

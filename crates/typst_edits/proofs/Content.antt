@@ -98,17 +98,14 @@ module _ (l : Level) (d : (c : Call) → Sane (l.deeper c)) (e : (b : Block) →
 
     nothing-left : (z : Place) (s : Point) → s.known ≡ None → z.ahead ≡ [] → (run l (peek >> block_of) z s).taken ≡ 0
     nothing-left z s blank f =
-        let w = (sane-run l d e (peek >> block_of)).within z s in
         let b : bound z s ≡ 0 = ap (λ (k : Option Trivia). max (gap_of k) (length z.ahead)) blank ∙ ap (λ (xs : List ℕ). max 0 (length xs)) f in
-        omega (arith, w, b)
+        omega (arith, (sane-run l d e (peek >> block_of)).within z s, b)
 
     begun-by : (t : Bool) (z : Place) (s : Point) → s.known ≡ None → at_trivia l.classes s.held.mode z ≡ false → 0 < (run l (peek >> block_of) z s).taken → is_end (token_at l.classes s.held.mode z).kind ≡ t → Begun l z s
     begun-by true z s blank h some t = let n = nothing-left z s blank (token-ends l.classes s.held.mode z t) in absurd (omega (arith, n, some))
     begun-by false z s blank h some t =
         let k = direct-hand z s blank h in
-        let len = k.len in
-        let more = token-takes l.classes s.held.mode z t in
-        record { trivia = k.trivia; gap = k.gap; some = omega (arith, len, more); room = omega (arith, len) }
+        record { trivia = k.trivia; gap = k.gap; some = omega (arith, k.len, token-takes l.classes s.held.mode z t); room = omega (arith, k.len) }
 
     alone-by : (t : Bool) (z : Place) (s : Point) → s.known ≡ None → at_trivia l.classes s.held.mode z ≡ false → 0 < (run l (peek >> block_of) z s).taken → is_end (token_at l.classes s.held.mode z).kind ≡ t
         → Alone (run l (peek >> block_of) z s)

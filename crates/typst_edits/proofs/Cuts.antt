@@ -5,17 +5,14 @@ use Rattle.typst_lines.specs.Place.{Place, moved}
 use Rattle.typst_tokens.specs.Sight.{width}
 use Rattle.typst_language.specs.Point.{gap_of, point_of}
 use Rattle.typst_language.specs.Steps.{peek}
-use Rattle.typst_language.specs.Meaning.{Meaning, bound, start_point, run}
+use Rattle.typst_language.specs.Meaning.{Meaning, bound, run}
 use Rattle.typst_language.specs.Sound.{Within}
 use Rattle.typst_language.proofs.Knot.{sane-at, sane-run}
 use Rattle.typst_language.proofs.Places.{ahead-left, moved-sum}
-use Rattle.typst_grammar.specs.declared.part.RunKind.TheVariants as of
-use Rattle.typst_grammar.specs.Markup.{markup_turn, markup_reading}
-use Rattle.typst_grammar.specs.Pieces.{stops_of, first_look}
+use Rattle.typst_grammar.specs.Markup.{markup_turn}
 use Rattle.typst_grammar.specs.Grammar.{rules, max_depth, start_of}
 use Rattle.typst_edits.specs.BlockRuns.{bracket, run_at, opened_at}
 use Rattle.typst_edits.specs.InnerBytes.{inner_end}
-use Rattle.typst_edits.specs.InnerPiecesTest.{level_in, end_alone}
 use Rattle.typst_edits.specs.Joint.{text_run}
 use Rattle.typst_edits.specs.NumberedNotes.{cut_behind, CutsLaw, InnerCutsLaw}
 use Rattle.typst_edits.specs.Runs.{AllGo, End, end_at, pieces, start}
@@ -32,7 +29,7 @@ module _ (r : Sequence) (leads : Leads r) where
   turn x = turn_of r x
 
   within : (x : Bool × ℕ) → Within (turn x)
-  within x = (sane-run r.level leads.deeper leads.blocks (markup_turn true r.stops x)).within
+  within x = (sane-run r.level leads.taking.calls_sane leads.taking.blocks_sane (markup_turn true r.stops x)).within
 
   -- a piece takes more than the trivia before it
   next-cut : (i : ℕ) → AllGo (first_of (suc i) r) → (first_end i r).taken + gap_of (first_end i r).state.known < (first_end (suc i) r).taken
@@ -41,14 +38,11 @@ module _ (r : Sequence) (leads : Leads r) where
       let w = moved e.taken r.place in
       let o = turn e.value w e.state in
       let there = known-made r.level r.stops i (true, 0) r.place r.point leads.known (go-fewer turn i (suc i) (true, 0) r.place r.point (omega arith) g) in
-      let go = go-next turn i (true, 0) r.place r.point g in
-      let not_stopped = going-on r.level r.stops e.value w e.state (first-of o.value.0 (nat_lt 0 o.taken) go) in
-      let past = (turn-fronts r leads e.value w e.state there.trivia there.is not_stopped).some in
-      let gap = ap gap_of there.is in
+      let not_stopped = going-on r.level r.stops e.value w e.state (first-of o.value.0 (nat_lt 0 o.taken) (go-next turn i (true, 0) r.place r.point g)) in
+      let led = (turn-fronts r leads e.value w e.state there.trivia there.is not_stopped).led in
       let one : suc i ≡ i + 1 = omega arith in
       let next = ap (λ n. (first_end n r).taken) one in
-      let sum = ap (λ (u : End (Bool × ℕ)). u.taken) (made-add turn (looks_in r) (each-ends r) i 1 (true, 0) r.place r.point) in
-      omega (arith, past, gap, next, sum)
+      omega (arith, led.some, led.taken, ap gap_of there.is, next, ap (λ (u : End (Bool × ℕ)). u.taken) (made-add turn (looks_in r) (each-ends r) i 1 (true, 0) r.place r.point))
 
   cut-least : (i : ℕ) (e : End (Bool × ℕ)) → e.taken ≤ cut_behind i e
   cut-least zero e = omega arith
@@ -61,15 +55,11 @@ module _ (r : Sequence) (leads : Leads r) where
   pub tokens-rise : (i j : ℕ) → i < j → AllGo (first_of j r) → (first_end i r).taken + gap_of (first_end i r).state.known < cut_behind j (first_end j r)
   tokens-rise i j l g =
       let next = next-cut i (go-fewer turn (suc i) j (true, 0) r.place r.point (omega (arith, l)) g) in
-      let more = least-taken turn (suc i) j (true, 0) r.place r.point (omega (arith, l)) in
-      let there = cut-least j (first_end j r) in
-      omega (arith, next, more, there)
+      omega (arith, next, least-taken turn (suc i) j (true, 0) r.place r.point (omega (arith, l)), cut-least j (first_end j r))
 
   cuts-rise : (i j : ℕ) → i < j → AllGo (first_of j r) → cut_behind i (first_end i r) < cut_behind j (first_end j r)
   cuts-rise i j l g =
-      let rise = tokens-rise i j l g in
-      let here = cut-most i (first_end i r) in
-      omega (arith, rise, here)
+      omega (arith, tokens-rise i j l g, cut-most i (first_end i r))
 
   pub cuts-within : (j : ℕ) → cut_behind j (first_end j r) ≤ bound r.place r.point
   cuts-within j = let most = turns-within turn within j (true, 0) r.place r.point in let here = cut-most j (first_end j r) in omega (arith, most, here)
@@ -81,8 +71,7 @@ cuts-law k text i j l g =
     let r = text_run k z in
     let leads = text-leads k z in
     let room = (sane-at (rules k) k max_depth peek).within z start in
-    let most = cuts-within r leads j in
-    take-longer (cut_behind i (first_end i r)) (cut_behind j (first_end j r)) text (cuts-rise r leads i j l g) (omega (arith, room, most))
+    take-longer (cut_behind i (first_end i r)) (cut_behind j (first_end j r)) text (cuts-rise r leads i j l g) (omega (arith, room, cuts-within r leads j))
 
 -- So does the token after fewer pieces, even after none.
 pub token-cuts : (k : CharClasses) (text : List ℕ) (i j : ℕ) → i < j → AllGo (pieces k j (start_of text))
@@ -93,8 +82,7 @@ token-cuts k text i j l g =
     let r = text_run k z in
     let leads = text-leads k z in
     let room = (sane-at (rules k) k max_depth peek).within z start in
-    let most = cuts-within r leads j in
-    take-longer ((end_at k i z).taken + gap_of (end_at k i z).state.known) (cut_behind j (first_end j r)) text (tokens-rise r leads i j l g) (omega (arith, room, most))
+    take-longer ((end_at k i z).taken + gap_of (end_at k i z).state.known) (cut_behind j (first_end j r)) text (tokens-rise r leads i j l g) (omega (arith, room, cuts-within r leads j))
 
 pub inner-cuts-law : InnerCutsLaw
 unfolding run
@@ -107,11 +95,10 @@ inner-cuts-law k levels text c i j l g =
     let most = cuts-within r leads j in
     let more = cuts-rise r leads i j l g in
     let there : r.place ≡ moved a z = sym (moved-sum c.at (bracket k levels (moved c.at z) (point_of c.start)).taken z) in
-    let left = ahead-left a z in
     let long = ap (λ (y : Place). length y.ahead) there in
     let one = cut-from a i (first_end i r) in
     let two = cut-from a j (first_end j r) in
-    take-longer (cut_behind i (inner_end k levels i c z)) (cut_behind j (inner_end k levels j c z)) text (omega (arith, more, one, two)) (omega (arith, room, most, more, left, long, two))
+    take-longer (cut_behind i (inner_end k levels i c z)) (cut_behind j (inner_end k levels j c z)) text (omega (arith, more, one, two)) (omega (arith, room, most, more, ahead-left a z, long, two))
 
 -- The trivia after pieces of a block's run end in the text.
 pub inner-within : (k : CharClasses) (levels : ℕ) (text : List ℕ) (c : Spot (Unit {0})) (j : ℕ) → opened_at k levels c (start_of text) ≤ length text
@@ -120,17 +107,6 @@ inner-within k levels text c j opened =
     let z = start_of text in
     let r = run_at k levels c z in
     let a = opened_at k levels c z in
-    let b = (bracket k levels (moved c.at z) (point_of c.start)).state in
-    let room = (in-sane k levels peek).within r.place b in
     let most = turns-within (turn_of r) (λ x. (in-sane k levels (markup_turn true r.stops x)).within) j (true, 0) r.place r.point in
     let there : r.place ≡ moved a z = sym (moved-sum c.at (bracket k levels (moved c.at z) (point_of c.start)).taken z) in
-    let left = ahead-left a z in
-    let long = ap (λ (y : Place). length y.ahead) there in
-    omega (arith, room, most, left, long, opened)
-
--- So do those after pieces that are read by themselves.
-pub alone-within : (k : CharClasses) (levels : ℕ) (x : Bool × ℕ) (m : ℕ) (y : Place) → (let e = end_alone k levels x m y in e.taken + gap_of e.state.known ≤ length y.ahead)
-alone-within k levels x m y =
-    let room = (in-sane k levels peek).within y (start_point markup_reading) in
-    let most = turns-within (λ v. run (level_in k levels) (markup_turn true (stops_of of.Block) v)) (λ v. (in-sane k levels (markup_turn true (stops_of of.Block) v)).within) m x y (first_look (level_in k levels) y).state in
-    omega (arith, room, most)
+    omega (arith, (in-sane k levels peek).within r.place (bracket k levels (moved c.at z) (point_of c.start)).state, most, ahead-left a z, ap (λ (y : Place). length y.ahead) there, opened)

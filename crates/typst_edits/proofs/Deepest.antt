@@ -1,13 +1,13 @@
 -- A content block in which no level is left notes nothing; so if notes say that pieces stand in a block, a level is left there.
-use Rattle.std.proofs.Common.{◌≡◌, ℕ, zero, suc, ◌-◌, ◌==◌, eq-eqb, Bool, true, false, ◌&&◌, List, [], ◌∷◌, ◌++◌, length, take, Some, None, refl, ap, sym, ◌∙◌, arith}
-use Rattle.std.specs.Prelude.{Option, nat_lt}
+use Rattle.std.proofs.Common.{◌≡◌, ℕ, zero, suc, ◌-◌, ◌==◌, eq-eqb, Bool, true, false, ◌&&◌, List, [], ◌∷◌, ◌++◌, take, Some, None, refl, ap, sym, ◌∙◌, arith}
+use Rattle.std.specs.Prelude.{nat_lt}
+use Rattle.std.proofs.lemmas.List.{nil_from_length}
 use Rattle.typst_kinds.specs.declared.kind.SyntaxKind.{SyntaxKind}
 use Rattle.typst_lines.specs.Place.{Place, moved}
 use Rattle.typst_lines.specs.Classes.{CharClasses}
 use Rattle.typst_tokens.specs.Sight.{width}
 use Rattle.typst_language.specs.declared.calls.Block.TheVariants as block
 use Rattle.typst_language.specs.declared.calls.Mark.TheVariants as mark
-use Rattle.typst_language.specs.declared.calls.Note.{Note}
 use Rattle.typst_language.specs.declared.reading.Reading.{Reading}
 use Rattle.typst_language.specs.Ask.{shift}
 use Rattle.typst_language.specs.Depth.{too_deep, skip_one}
@@ -31,14 +31,14 @@ use Rattle.typst_edits.specs.PieceNotes.{listed}
 use Rattle.typst_edits.specs.Splice.{notes_in}
 use Rattle.typst_edits.specs.Spot.{Spot, ended, unit_at}
 use Rattle.typst_edits.proofs.Edit.{among}
-use Rattle.typst_edits.proofs.EmptyBlocks.{none-close}
 use Rattle.typst_edits.proofs.EmptyRuns.{Never, none-flush}
 use Rattle.typst_edits.proofs.InnerCuts.{opens_at, cuts-past, opens-before, both-on}
-use Rattle.typst_edits.proofs.Marks.{AllMarks, marks-append, marks-shift, none-hand}
+use Rattle.typst_edits.proofs.Marks.{AllMarks, marks-append, marks-shift, none-hand, none-close}
 use Rattle.typst_edits.proofs.Names.{named-level}
-use Rattle.typst_edits.proofs.NestedBlocks.{nested-block-law}
+use Rattle.typst_edits.proofs.NestedInner.{nested-block-law}
 use Rattle.typst_edits.proofs.Sides.{count-none}
 use Rattle.typst_edits.proofs.Spots.{if-true}
+use Rattle.std.proofs.lemmas.Option.{none-some}
 
 -- ---- what notes nothing
 
@@ -136,10 +136,6 @@ module _ (k : CharClasses) where
 
 -- ---- a block in which pieces stand
 
-nothing : (ns : List Note) → length ns ≡ 0 → ns ≡ []
-nothing [] e = refl
-nothing (n ∷ ns) e = absurd (omega (arith, e))
-
 none-in : (k : CharClasses) (text : List ℕ) (s : Spot (Unit {0})) → Among s (blocks_of_text k text) → s.name ≡ block.Content → max_depth - s.fewer ≡ 0 → notes_in (unit_at s (start_of text)).asks ≡ 0
 unfolding blocks_of_text
 none-in k text s there name none =
@@ -151,15 +147,10 @@ none-in k text s there name none =
     ap (λ m. m y p) named.reads ∙ ap (λ v. ended (block_at k v s.name y p)) none ∙ ap (λ x. ended (block_at k 0 x y p)) name in
     ap (λ (o : Outcome (Unit {0})). notes_in o.asks) reads ∙ count-none (block_at k 0 block.Content y p).asks (silent-block k y p)
 
-none-some : (o : Option (List ℕ)) (cuts : List ℕ) → o ≡ None → o ≡ Some cuts → ⊥
-none-some o cuts e f = let no = sym e ∙ f in absurd (cc)
-
 pub some-level : OpensApartLaw → (k : CharClasses) (text : List ℕ) (s : Spot (Unit {0})) (cuts : List ℕ) → Among s (blocks_of_text k text) → s.name ≡ block.Content → cuts_in (width (take s.at text)) (listed (log k text).notes) ≡ Some cuts → max_depth - s.fewer ≡ 0 → ⊥
 some-level apart k text s cuts there name have none =
     let n = nested-block-law k text s there in
-    let many = none-in k text s there name none in
-    let long = n.long in
-    let empty : n.inner ≡ [] = nothing n.inner (omega (arith, many, long)) in
+    let empty : n.inner ≡ [] = nil_from_length n.inner (omega (arith, none-in k text s there name none, n.long)) in
     let rest = n.inner ++ n.closes ∷ n.later in
     let notes : listed (log k text).notes ≡ n.earlier ++ n.opens ∷ rest = ap listed n.notes in
     let at = n.opens.start in
@@ -172,4 +163,4 @@ some-level apart k text s cuts there name have none =
     let nothing_in : behind_first (starts lv (up_to_end lv rest)) ≡ None = ap (λ xs. behind_first (starts lv (up_to_end lv (xs ++ n.closes ∷ n.later)))) empty ∙ ap (λ xs. behind_first (starts lv xs)) ends in
     let all : cuts_in (width (take s.at text)) (listed (log k text).notes) ≡ None =
     ap (λ x. cuts_in x (listed (log k text).notes)) (sym n.start) ∙ ap (cuts_in at) notes ∙ cuts-past at n.earlier (n.opens ∷ rest) before ∙ own ∙ nothing_in in
-    none-some _ cuts all have
+    none-some cuts (sym all ∙ have)

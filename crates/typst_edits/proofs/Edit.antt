@@ -1,7 +1,7 @@
 -- A stretch of a text replaced: what ends before it and what begins after it shows the same.
 use Rattle.std.proofs.Common.{◌≡◌, ℕ, zero, suc, ◌+◌, ◌≤◌, List, [], ◌∷◌, ◌++◌, length, take, Some, refl, ap, sym, ◌∙◌, arith}
 use Rattle.typst_tree.specs.Tree.{Tree, forest}
-use Rattle.typst_lines.specs.Place.{Place, moved}
+use Rattle.typst_lines.specs.Place.{moved}
 use Rattle.typst_tokens.specs.Reader.{Look, Agree, marked as ended_by_mark}
 use Rattle.typst_language.specs.Ask.{Ask, SameIn}
 use Rattle.typst_language.specs.Ask.Ask.{looked, marked}
@@ -14,7 +14,7 @@ use Rattle.typst_edits.specs.Spot.{Spot, Fits, unit_at}
 use Rattle.typst_edits.specs.Edit.{Among, text_with, AllEndBy, AllBeginIn, Passes, alter, put, replaced, Edited}
 use Rattle.typst_edits.specs.Edit.Among.{this, that}
 use Rattle.typst_edits.proofs.Every.{Every}
-use Rattle.typst_edits.proofs.Inside.{Edits, Lawful}
+use Rattle.typst_edits.proofs.Inside.{Edits, Lawful, same_in-at}
 
 -- ---- before it
 
@@ -66,13 +66,10 @@ pub past-is : (d : ℕ) (front mid rest : List ℕ) → moved ((length front + l
 past-is d front mid rest =
     moved-sum (length front + length mid) d _ ∙ ap (moved d) (moved-sum (length front) (length mid) _ ∙ ap (moved (length mid)) (moved-over front (mid ++ rest) []) ∙ moved-over mid rest (onto front []))
 
-pub same_in-to : (asks : List Ask) (z y w v : Place) → z ≡ y → w ≡ v → SameIn asks y v → SameIn asks z w
-same_in-to asks z y w v e f h = rw (e, f) h
-
 pub after-same : (asks : List Ask) (d m k : ℕ) (front old new rest : List ℕ) → m ≡ (length front + length old) + d → k ≡ (length front + length new) + d → AllBeginIn d rest asks
     → SameIn asks (moved m (text_with front old rest)) (moved k (text_with front new rest))
 after-same asks d m k front old new rest e f h =
-    same_in-to asks _ _ _ _ (ap (λ n. moved n (text_with front old rest)) e ∙ past-is d front old rest) (ap (λ n. moved n (text_with front new rest)) f ∙ past-is d front new rest)
+    same_in-at asks _ _ _ _ (ap (λ n. moved n (text_with front old rest)) e ∙ past-is d front old rest) (ap (λ n. moved n (text_with front new rest)) f ∙ past-is d front new rest)
     (after-looks asks d (onto old (onto front [])) (onto new (onto front [])) rest h)
 
 -- ---- the path

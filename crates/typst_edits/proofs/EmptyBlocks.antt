@@ -7,7 +7,7 @@ use Rattle.typst_kinds.specs.declared.mode.SyntaxMode.TheVariants as mode
 use Rattle.typst_kinds.specs.Kinds.{same, is_error}
 use Rattle.typst_lines.specs.Place.{Place, moved}
 use Rattle.typst_lines.specs.Classes.{CharClasses}
-use Rattle.typst_tokens.specs.Sight.{position, hull_of}
+use Rattle.typst_tokens.specs.Sight.{position}
 use Rattle.typst_tree.specs.Tree.{text_of}
 use Rattle.typst_language.specs.declared.calls.Block.TheVariants as block
 use Rattle.typst_language.specs.declared.calls.Mark.{Mark}
@@ -18,7 +18,6 @@ use Rattle.typst_language.specs.Ask.{Ask, shift}
 use Rattle.typst_language.specs.Ask.Ask.{looked, marked}
 use Rattle.typst_language.specs.declared.reading.AtNewline.TheVariants as newline
 use Rattle.typst_language.specs.Hand.{Hand, told, hand_at, token_at}
-use Rattle.typst_language.specs.Log.{Log, with_hull, with_note, logged}
 use Rattle.typst_language.specs.Point.{Trivia, Point, point_of, state_of}
 use Rattle.typst_language.specs.Shape.{after_node}
 use Rattle.typst_language.specs.Shape.Making.{itself}
@@ -27,7 +26,7 @@ use Rattle.typst_language.specs.Syntax.Op.{takes}
 use Rattle.typst_language.specs.Meaning.{Outcome, Level, plain, joined, repeated, hand_of, hand_asks_of, asked, entered, renewed, taken_node, flushed_state, done, run}
 use Rattle.typst_grammar.specs.Markup.{ends, ends_block, markup_reading}
 use Rattle.typst_grammar.specs.Grammar.{max_depth, start_of, log}
-use Rattle.typst_edits.specs.BlockRuns.{inner, look_first, look_again, bracket, inner_lead, inner_run, inner_tail, inner_close, run_at}
+use Rattle.typst_edits.specs.BlockRuns.{inner, look_again, bracket, inner_lead, inner_run, inner_tail, inner_close, run_at}
 use Rattle.typst_edits.specs.EmptyRuns.{IsEmpty, EmptyBlockLaw}
 use Rattle.typst_edits.specs.Every.{Every}
 use Rattle.typst_edits.specs.Joint.{onwards, passed}
@@ -36,16 +35,17 @@ use Rattle.typst_edits.specs.Sequence.{Sequence, turn_of}
 use Rattle.typst_edits.specs.Spot.{lowered, unit_at}
 use Rattle.typst_edits.proofs.BlockRuns.{content-is}
 use Rattle.typst_edits.proofs.BlockLog.{block-log}
-use Rattle.typst_edits.proofs.Bytes.{noted-more}
+use Rattle.typst_edits.proofs.Bytes.{counted}
 use Rattle.typst_edits.proofs.EmptyRuns.{Knows, hand-gap, asked-knows, flushed-knows, passed-kind, Looks, begin-each, begin-one, token_look, looks-hand, looks-append, unmoved, run-stopped, onwards-looks, Never, none-flush, end-any}
 use Rattle.typst_edits.proofs.Every.{every-append}
 use Rattle.typst_edits.proofs.Forward.{token-still}
-use Rattle.typst_edits.proofs.InnerBytes.{asks_before, content-asks}
-use Rattle.typst_edits.proofs.Marks.{AllMarks, marks-append, marks-by, marks-shift, marks-lowered, none-hand, NoteOf, noted-each}
+use Rattle.typst_edits.proofs.InnerBytes.{asks_before, content-asks, before-marks}
+use Rattle.typst_edits.proofs.Marks.{AllMarks, marks-append, marks-by, marks-shift, marks-lowered, none-hand, NoteOf, noted-each, none-close}
 use Rattle.typst_edits.proofs.Text.{content-reads}
 use Rattle.typst_edits.proofs.Sides.{count-append, count-shift, count-none}
 use Rattle.typst_edits.proofs.PieceAsks.{lifted-count}
 use Rattle.typst_edits.specs.Splice.{notes_in}
+use Rattle.typst_language.proofs.Within.{on_both}
 
 -- ---- looks
 
@@ -78,11 +78,7 @@ close-looks l z s h =
     let b = same kind.RightBracket (told (hand_of l z s)).kind in
     let in_took = every-append P (hand_asks_of l z a) [] (looks-hand l z a (asked-knows l z 0 s h)).each tt in
     every-append P (hand_asks_of l z s) (shift 0 (if b then taken else plain false a).asks) (looks-hand l z s h).each
-    (unmoved (token_look l z) 0 (if b then taken else plain false a).asks refl (either P b taken (plain false a) in_took tt))
-  where
-    either : (P : Ask → Type 0) (b : Bool) (o p : Outcome Bool) → Every P o.asks → Every P p.asks → Every P (if b then o else p).asks
-    either P true o p h i = h
-    either P false o p h i = i
+    (unmoved (token_look l z) 0 (if b then taken else plain false a).asks refl (on_both (λ (o : Outcome Bool). Every P o.asks) b taken (plain false a) in_took tt))
 
 -- what is taken after the trivia of a run without an expression
 onwards-taken : (r : Sequence) (x : Bool × ℕ) (z : Place) (s : Point) → Knows 0 s → ends r.stops x.1 (told (hand_of r.level z s)).kind ≡ true → (onwards r x z s).taken ≡ 0
@@ -124,8 +120,7 @@ module _ (k : CharClasses) (levels : ℕ) (z : Place) (s : Point) where
       let a = asked (hand_of l y p) p in
       let h = asked-knows l y t.gap p (run-knows t known) in
       let tail = run l flush_trivia y a in
-      let taken = flush-taken l y t.gap a h in
-      let there : ((0 + 0) + 0) + tail.taken ≡ t.gap = omega (arith, taken) in
+      let there : ((0 + 0) + 0) + tail.taken ≡ t.gap = omega (arith, flush-taken l y t.gap a h) in
       let f = flush-knows l y t.gap a h in
       let u = after_node false [] tail.state in
       let known_there : Knows 0 u = record { held = f.held; trivia = f.trivia; known = f.known; gap = f.gap } in
@@ -149,23 +144,13 @@ module _ (k : CharClasses) (levels : ℕ) (z : Place) (s : Point) where
   pub end-still : (t : Trivia) → the_run.point.known ≡ Some t → IsEmpty the_run → (token_look l (moved t.gap the_run.place)).back ≡ 0
   end-still t known e =
       let y = the_run.place in
-      let p = the_run.point in
-      let h = run-knows t known in
       let g = hand_at k markup_reading (Some t) y in
-      let alike : hand_of l y p ≡ g = (λ i. hand_at k (h.held i) (known i) y) in
+      let alike : hand_of l y the_run.point ≡ g = (λ i. hand_at k ((run-knows t known).held i) (known i) y) in
       let ends_it : ends_block g.kind ≡ true = end-any (same kind.RightBracket g.kind) (ends_block g.kind) (0 == 0) (ap (λ (a : Hand). ends ends_block 0 a.kind) (sym alike) ∙ e) in
       let w = moved t.gap y in
       token-still k w.before w.ahead (ap ends_block (sym (hand-token k mode.Markup t y)) ∙ ends_it)
 
 -- ---- one note
-
--- As many notes are made as there are marks.
-noted-count : (lv : ℕ) (z : Place) (asks : List Ask) (h : Log) (ns ms : List Note) → h.notes ≡ Some ns → (logged lv z h asks).notes ≡ Some ms → length ms ≡ length ns + notes_in asks
-noted-count lv z [] h ns ms e f = let same : ns ≡ ms = cc in omega (arith, ap length same)
-noted-count lv z (looked at look ∷ asks) h ns ms e f = noted-count lv z asks (with_hull (hull_of look (moved at z)) h) ns ms e f
-noted-count lv z (marked at gap fewer m s ∷ asks) h ns ms e f =
-    let note : Note = record { mark = m; before = position (moved at z); start = position (moved gap (moved at z)); levels = lv - fewer; state = s; reach = h.reach; least = h.least } in
-    omega (arith, noted-count lv z asks (with_note gap (lv - fewer) m s (moved at z) h) (ns ++ note ∷ []) ms (noted-more note h.notes ns e) f, length-append ns (note ∷ []))
 
 record One (ns : List Note) : Type 0 where
   only : Note
@@ -175,22 +160,6 @@ one-of : (ns : List Note) → length ns ≡ 1 → One ns
 one-of [] e = absurd (omega (arith, e))
 one-of (n ∷ []) e = record { only = n; is = refl }
 one-of (n ∷ m ∷ ns) e = absurd (omega (arith, e))
-
-pub none-close : (P : ℕ → ℕ → Mark → State → Type 0) (l : Level) (w : Place) (p : Point) → AllMarks P (run l (close_if (same kind.RightBracket)) w p).asks
-unfolding run close_if
-none-close P l w p =
-    let a = asked (hand_of l w p) p in
-    let y = moved 0 w in
-    let Q = λ (at fewer : ℕ) (m : Mark) (u : State). P (0 + at) fewer m u in
-    let took = done l (takes false itself) y a in
-    let taken = joined took (plain true took.state) in
-    let b = same kind.RightBracket (told (hand_of l w p)).kind in
-    let in_took = marks-append Q (hand_asks_of l y a) [] (none-hand Q l.classes a.held a.known y) tt in
-    marks-append P (hand_asks_of l w p) _ (none-hand P l.classes p.held p.known w) (marks-shift P 0 (if b then taken else plain false a).asks (either Q b taken (plain false a) in_took tt))
-  where
-    either : (P : ℕ → ℕ → Mark → State → Type 0) (b : Bool) (o p : Outcome Bool) → AllMarks P o.asks → AllMarks P p.asks → AllMarks P (if b then o else p).asks
-    either P true o p h i = h
-    either P false o p h i = i
 
 -- It says that a run begins, where a given number of levels fewer are left.
 abbrev Begins : ℕ → ℕ → ℕ → Mark → State → Type 0
@@ -231,10 +200,6 @@ module _ (k : CharClasses) (levels : ℕ) (z : Place) (s : Point) where
       let close = inner_close k levels (o.taken + t.taken) t.state r.place in
       let is = ap (λ (u : Outcome (Unit {0})). u.asks) (content-is k levels z s) ∙ content-asks k levels z s o t close in
       let b = bracket k levels z s in
-      let s1 = (look_first k levels z s).state in
-      let s2 = (look_again k levels z s).state in
-      let before = marks-append Never (look_first k levels z s).asks _ (none-hand Never k s.held s.known z)
-      (marks-append Never (look_again k levels z s).asks b.asks (none-hand Never k s1.held s1.known z) (none-hand Never k s2.held s2.known z)) in
       let ls = (inner_lead k levels z s).asks in
       let stop : o.asks ≡ hand_asks_of l r.place r.point ++ [] = ap (λ (u : Outcome (Bool × ℕ)). u.asks) (run-stopped l ends_block (true, 0) r.place r.point e) in
       let in_run : AllMarks Never o.asks = subst (λ u. AllMarks Never u) (sym stop) (marks-append Never (hand_asks_of l r.place r.point) [] (none-hand Never k r.point.held r.point.known r.place) tt) in
@@ -242,7 +207,7 @@ module _ (k : CharClasses) (levels : ℕ) (z : Place) (s : Point) where
       (marks-shift Never t.taken close.asks (none-close Never l (moved (o.taken + t.taken) r.place) (after_node false [] t.state)))) in
       let behind = shift o.taken (t.asks ++ shift t.taken close.asks) in
       let inside = marks-append Never (ls ++ o.asks) behind (marks-append Never ls o.asks (none-hand Never k b.state.held b.state.known r.place) in_run) last in
-      subst (λ u. Single 0 u) (sym is) (single-in (asks_before k levels z s) ((ls ++ o.asks) ++ behind) b.taken (state_of b.state) before inside)
+      subst (λ u. Single 0 u) (sym is) (single-in (asks_before k levels z s) ((ls ++ o.asks) ++ behind) b.taken (state_of b.state) (before-marks k levels Never z s) inside)
 
 pub empty-block-law : EmptyBlockLaw
 unfolding blocks_of_text log position
@@ -253,15 +218,14 @@ empty-block-law k levels front old rest c past t chosen name left empty known =
     let s = point_of c.start in
     let y = moved c.at z in
     let u = unit_at c z in
-    let reads = content-reads k text c chosen levels name left z in
     let f = c.fewer in
-    let in_unit = subst (λ (v : Outcome (Unit {0})). Single 0 v.asks) (sym reads) (block-single k levels y s empty) in
+    let in_unit = subst (λ (v : Outcome (Unit {0})). Single 0 v.asks) (sym (content-reads k text c chosen levels name left z)) (block-single k levels y s empty) in
     let own = shift c.at (lowered f u.asks) in
     let single = single-lowered f c.at u.asks in_unit in
     -- its notes
     let begun = d.earlier ++ d.opens ∷ [] in
     let two = noted-each (Begins f) max_depth z own d.begun begun d.begun_is single.each in
-    let size : length two.more ≡ 1 = omega (arith, noted-count max_depth z own d.begun begun (begun ++ two.more) d.begun_is two.is, length-append begun two.more, single.size) in
+    let size : length two.more ≡ 1 = omega (arith, counted max_depth z own d.begun begun (begun ++ two.more) d.begun_is two.is, length-append begun two.more, single.size) in
     let only = one-of two.more size in
     let of_it = (subst (λ ns. Every (NoteOf (Begins f) max_depth z) ns) only.is two.each).0 in
     let fewer : of_it.fewer ≡ f = of_it.holds.0 in

@@ -9,7 +9,6 @@ use Rattle.typst_lines.specs.Classes.{CharClasses}
 use Rattle.typst_tokens.specs.Reader.{Look, look}
 use Rattle.typst_tokens.specs.Sight.{position}
 use Rattle.typst_language.specs.Tokens.{token}
-use Rattle.typst_tree.specs.Tree.{Tree}
 use Rattle.typst_language.specs.declared.calls.Mark.{Mark}
 use Rattle.typst_language.specs.declared.calls.Mark.TheVariants as mark
 use Rattle.typst_language.specs.declared.calls.Note.{Note}
@@ -21,7 +20,6 @@ use Rattle.typst_language.specs.Depth.{is_end}
 use Rattle.typst_language.specs.Hand.{AtHand, told, hand_at, hand_asks, column_look}
 use Rattle.typst_language.specs.Log.{no_log, logged}
 use Rattle.typst_language.specs.Point.{Trivia, Point, state_of}
-use Rattle.typst_language.specs.Shape.{after_node}
 use Rattle.typst_language.specs.Steps.{flush_trivia}
 use Rattle.typst_language.specs.Meaning.{Outcome, Level, plain, joined, as_last, repeated, hand_of, hand_asks_of, asked, flushed_state, run}
 use Rattle.typst_grammar.specs.Markup.{ends, markup_turn, markup_reading}
@@ -39,6 +37,7 @@ use Rattle.typst_edits.proofs.Outcomes.{shift-zero}
 use Rattle.typst_edits.proofs.Root.{whole-is}
 use Rattle.typst_edits.proofs.RunTrees.{whole-asks}
 use Rattle.typst_edits.proofs.Spots.{if-true, if-false}
+use Rattle.typst_edits.proofs.Known.{flushed-held}
 
 -- ---- looks at one token
 
@@ -69,12 +68,8 @@ hand-gap l z n s h = ap (λ v. (hand_at l.classes s.held v z).gap) h.known ∙ h
 pub asked-knows : (l : Level) (z : Place) (n : ℕ) (s : Point) → Knows n s → Knows n (asked (hand_of l z s) s)
 asked-knows l z n s h = record { held = h.held; trivia = _; known = refl; gap = hand-gap l z n s h }
 
-flushed-held : (ts : List Tree) (s : Point) → (elim ts as (λ _. Point) [ [] ↦ s | t ∷ us ↦ after_node false [] s ]).held ≡ s.held
-flushed-held [] s = refl
-flushed-held (t ∷ ts) s = refl
-
 pub flushed-knows : (l : Level) (z : Place) (n : ℕ) (s : Point) → Knows n s → Knows 0 (flushed_state (hand_of l z s) s)
-flushed-knows l z n s h = record { held = flushed-held (hand_of l z s).trivia s ∙ h.held; trivia = _; known = refl; gap = refl }
+flushed-knows l z n s h = record { held = flushed-held (hand_of l z s) s ∙ h.held; trivia = _; known = refl; gap = refl }
 
 -- After known trivia the token at hand is the same.
 pub passed-kind : (l : Level) (z : Place) (t : Trivia) (s : Point) → s.known ≡ Some t → (hand_of l (moved t.gap z) (passed t s)).kind ≡ (hand_of l z s).kind
@@ -151,7 +146,6 @@ pub onwards-looks : (r : Sequence) (x : Bool × ℕ) (z : Place) (s : Point) →
 unfolding run
 onwards-looks r x z s h e =
     let l = r.level in
-    let q = as_last (stopped l r.stops x z s) in
     let p = asked (hand_of l z s) s in
     subst (λ (o : Outcome (Bool × ℕ)). Looks (token_look l z) (joined o (run l flush_trivia (moved o.taken z) o.state)).asks) (sym (run-stopped l r.stops x z s e))
     (looks-append (token_look l z) (hand_asks_of l z s ++ []) (shift 0 (run l flush_trivia z p).asks)
@@ -200,8 +194,7 @@ module _ (k : CharClasses) (text : List ℕ) where
       let in_run : AllMarks Never q.asks = subst (λ u. AllMarks Never u) (sym stop) (marks-append Never (hand_asks_of (level_at k max_depth) z0 s) [] (none-hand Never k s.held s.known z0) tt) in
       let last = marks-shift Never q.taken t.asks (none-flush (λ at fewer m p. ⊥) (level_at k max_depth) (moved q.taken z0) q.state) in
       let none : AllMarks Never behind = marks-append Never ((lead k z0).asks ++ q.asks) (shift q.taken t.asks) (marks-append Never (lead k z0).asks q.asks (none-hand Never k start.held start.known z0) in_run) last in
-      let h = logged max_depth z0 no_log (first ∷ []) in
-      let n = noted-each Never max_depth z0 behind h _ refl none in
+      let n = noted-each Never max_depth z0 behind (logged max_depth z0 no_log (first ∷ [])) _ refl none in
       let note : Note = record { mark = mark.Piece true 0; before = position z0; start = position z0; levels = max_depth; state = state_of start; reach = no_log.reach; least = no_log.least } in
       record {
         note = note;

@@ -1,19 +1,17 @@
 -- What is read between two brackets gives one node alone, and the state after it follows from the reading before it.
-use Rattle.std.proofs.Common.{◌≡◌, ◌⊎◌, inl, inr, ℕ, ◌+◌, ◌-◌, ◌<◌, ◌≤◌, Bool, true, false, if◌then◌else◌, nat_lt, List, [], ◌∷◌, ◌++◌, length, take, length-append, length-take, append-nil, encode_utf8_all, None, refl, ap, sym, ◌∙◌, subst, arith}
-use Rattle.std.proofs.lemmas.Str.{length-le-encodes}
+use Rattle.std.proofs.Common.{◌≡◌, ◌⊎◌, inl, inr, ◌+◌, ◌-◌, ◌<◌, ◌≤◌, false, if◌then◌else◌, nat_lt, List, [], ◌∷◌, ◌++◌, length, length-append, append-nil, None, refl, ap, sym, ◌∙◌, subst, arith}
 use Rattle.typst_kinds.specs.declared.mode.SyntaxMode.{SyntaxMode}
 use Rattle.typst_kinds.specs.Kinds.{is_error}
 use Rattle.typst_lines.specs.Place.{Place, moved}
 use Rattle.typst_tree.specs.Tree.{Tree, text_of}
 use Rattle.typst_lines.specs.Classes.{CharClasses}
-use Rattle.typst_language.proofs.TokenTexts.{text-token}
 use Rattle.typst_language.specs.declared.calls.Block.{Block}
 use Rattle.typst_language.specs.Calls.{Call}
 use Rattle.typst_language.specs.declared.reading.AtNewline.{AtNewline}
 use Rattle.typst_language.specs.declared.reading.Reading.{Reading}
-use Rattle.typst_language.specs.Hand.{Hand, Ahead, len_at, at_trivia, hand_at, text_ahead}
+use Rattle.typst_language.specs.Hand.{Hand, Ahead, len_at, at_trivia, hand_at}
 use Rattle.typst_language.specs.Point.{Point, forgot}
-use Rattle.typst_language.specs.Shape.{hinted, count_empty, after_node}
+use Rattle.typst_language.specs.Shape.{hinted, after_node}
 use Rattle.typst_language.specs.Shape.Making.{itself}
 use Rattle.typst_language.specs.Steps.{peek, eat_making, eat}
 use Rattle.typst_language.specs.Syntax.{Parser}
@@ -26,7 +24,8 @@ use Rattle.typst_language.proofs.Rests.{Rests, mode-is, rule-is}
 use Rattle.typst_language.proofs.Within.{on_if}
 use Rattle.typst_edits.proofs.Outcomes.{hints-first}
 use Rattle.typst_edits.proofs.Reached.{ahead-direct}
-use Rattle.typst_edits.proofs.Led.{some-text}
+use Rattle.typst_edits.proofs.Fronts.{few-node, full-taken}
+use Rattle.typst_edits.proofs.Led.{none-of}
 
 -- ---- the state after it
 
@@ -34,7 +33,7 @@ use Rattle.typst_edits.proofs.Led.{some-text}
 abbrev pub state_from : Reading → Point
 state_from r = record { reading = r; held = r; empties = 0; is_after_error = false; known = None }
 
-reading-is : (a b : Reading) → a.mode ≡ b.mode → a.at_newline ≡ b.at_newline → a ≡ b
+pub reading-is : (a b : Reading) → a.mode ≡ b.mode → a.at_newline ≡ b.at_newline → a ≡ b
 reading-is a b e f = ap (λ m. record a { mode = m }) e ∙ ap (λ (n : AtNewline). record { mode = b.mode; at_newline = n }) f
 
 -- The token at hand is read in the outer reading if the inner one is left with the token read in it.
@@ -83,15 +82,8 @@ took-some : (k : CharClasses) (h : Hand) (z : Place) (s : Point) → h.gap ≡ 0
     → (let t = taken_node k itself h z in (after_node (is_error t.head.kind) (text_of t) s).empties ≡ 0)
 took-some k h z s e a b =
     let t = taken_node k itself h z in
-    let taken = text_ahead h.len (moved h.gap z) in
-    let there : moved h.gap z ≡ z = ap (λ n. moved n z) e in
-    let long : length taken ≡ h.len = omega (arith, b, length-take h.len z.ahead, ap (λ (w : Place). length (take h.len w.ahead)) there) in
-    let text : count_empty (text_of t) ≡ 0 = ap count_empty (text-token k h.token taken) ∙ some-text (encode_utf8_all taken) (omega (arith, long, a, length-le-encodes taken)) in
-    by_case (is_error t.head.kind) (text_of t) text
-  where
-    by_case : (b : Bool) (text : List ℕ) → count_empty text ≡ 0 → (after_node b text s).empties ≡ 0
-    by_case true text e = e
-    by_case false text e = refl
+    let room : length (moved h.gap z).ahead ≡ length z.ahead = ap (λ n. length (moved n z).ahead) e in
+    omega (arith, few-node (is_error t.head.kind) (text_of t) s 1 (full-taken k itself h z a (omega (arith, b, room))) (omega arith))
 
 -- ---- one node alone
 
@@ -115,22 +107,16 @@ alone-after o p e f g a =
       node = a.node;
       nodes = ap (λ hs. hinted hs (less p.back o.nodes) ++ p.nodes) a.hints ∙ ap (λ n. less n o.nodes ++ p.nodes) a.back ∙ ap (λ ts. ts ++ p.nodes) (less-none o.nodes ∙ e) ∙ a.nodes;
       back = back;
-      hints = none-both (nat_lt p.back (length o.nodes)) (nat_lt (length o.nodes) p.back) o.hints p.hints g a.hints;
+      hints = none-of (nat_lt p.back (length o.nodes)) (nat_lt (length o.nodes) p.back) o.hints p.hints g a.hints;
     }
-  where
-    none-both : (b c : Bool) (hs js : List (List ℕ)) → hs ≡ [] → js ≡ [] → (if b then hs else (if c then js else hs ++ js)) ≡ []
-    none-both true c hs js e f = e
-    none-both false true hs js e f = f
-    none-both false false hs js e f = ap (λ u. u ++ js) e ∙ f
 
 pub alone-plain : {A B : Type 0} (a : A) (o : Outcome B) → Alone o → Alone (joined o (plain a o.state))
 alone-plain a o h =
-    let n = ap length h.nodes in
     record {
       node = h.node;
       nodes = append-nil (less 0 o.nodes) ∙ less-none o.nodes ∙ h.nodes;
       back = omega (arith, h.back);
-      hints = hints-first o (plain a o.state) (omega (arith, n)) ∙ h.hints;
+      hints = hints-first o (plain a o.state) (omega (arith, ap length h.nodes)) ∙ h.hints;
     }
 
 -- What takes some characters before it goes on takes nothing back.
@@ -166,8 +152,7 @@ opener-eat l = record {
   back = λ z s. (let e = some-taken (hand_of l z s).trivia (taken_node l.classes itself (hand_of l z s) z) in omega (arith, e));
   hints = λ z s. (let o = done l (takes false itself) z s in
       let n = run l peek (moved o.taken z) o.state in
-      let e = some-taken (hand_of l z s).trivia (taken_node l.classes itself (hand_of l z s) z) in
-      hints-first o (joined n (plain (tt {0}) n.state)) (omega (arith, e)));
+      hints-first o (joined n (plain (tt {0}) n.state)) (omega (arith, some-taken (hand_of l z s).trivia (taken_node l.classes itself (hand_of l z s) z))));
   some = λ z s. (let h = hand_of l z s in
       let ts = h.trivia ++ taken_node l.classes itself h z ∷ [] in
       let blank : List Tree = [] in
@@ -189,8 +174,7 @@ module _ (l : Level) (d : (c : Call) → Sane (l.deeper c)) (e : (b : Block) →
       let o = run l p z t in
       let n = run l q (moved o.taken z) o.state in
       let none : o.state.empties ≡ 0 = begins.empties z t g some room in
-      let b = ((sane-run l d e q).backs (moved o.taken z) o.state).back in
-      let a = apart-joined o n (begins.back z t) (begins.hints z t) (begins.some z t) (omega (arith, b, none)) in
+      let a = apart-joined o n (begins.back z t) (begins.hints z t) (begins.some z t) (omega (arith, ((sane-run l d e q).backs (moved o.taken z) o.state).back, none)) in
       record { back = a.back; hints = a.hints }
 
   -- After it the token at hand is read in its reading.
@@ -198,8 +182,7 @@ module _ (l : Level) (d : (c : Call) → Sane (l.deeper c)) (e : (b : Block) →
   unfolding run
   alike-enclosed r q z s =
       let o = run l p z (entered r s) in
-      let h = (sane-run l d e q).rests (moved o.taken z) o.state in
-      taken-alike o.state (run l q (moved o.taken z) o.state).state h (begins.held z (entered r s))
+      taken-alike o.state (run l q (moved o.taken z) o.state).state ((sane-run l d e q).rests (moved o.taken z) o.state) (begins.held z (entered r s))
     where
       taken-alike : (s t : Point) → Rests s.reading s.held t → s.held ≡ s.reading → t.held ≡ t.reading
       taken-alike s t h e = rests-alike s.reading t (subst (λ u. Rests s.reading u t) e h)

@@ -1,5 +1,5 @@
 -- A block's two notes among the entries of records, by number.
-use Rattle.std.proofs.Common.{◌≡◌, ℕ, suc, ◌+◌, ◌-◌, ◌<◌, ◌≤◌, ◌==◌, eq-eqb, Bool, true, false, ◌&&◌, if◌then◌else◌, List, [], ◌∷◌, ◌++◌, length, drop, Option, Some, None, refl, ap, sym, ◌∙◌, arith}
+use Rattle.std.proofs.Common.{◌≡◌, ℕ, suc, ◌+◌, ◌-◌, ◌<◌, ◌≤◌, ◌==◌, eq-eqb, Bool, true, false, ◌&&◌, if◌then◌else◌, List, [], ◌∷◌, ◌++◌, length, drop, Some, refl, ap, sym, ◌∙◌, arith}
 use Rattle.std.proofs.lemmas.Bool.{eqb-true}
 use Rattle.std.specs.List.{slice_get}
 use Rattle.typst_language.specs.declared.calls.Block.{Block}
@@ -11,6 +11,7 @@ use Rattle.typst_candidates.specs.Entries.{tag_of, entry_of, entries_by, last_st
 use Rattle.typst_candidates.specs.Records.{is_opening, opening_of, IsRising, AllEnd, AllBegin}
 use Rattle.typst_edits.specs.Bytes.{highest, lowest}
 use Rattle.typst_edits.proofs.Walk.{first-if as if-on}
+pub use Rattle.std.proofs.lemmas.Option.{same_Some as some-number}
 
 -- ---- the first block that begins at a byte
 
@@ -81,21 +82,13 @@ pub record Opening (at number : ℕ) (ns : List Note) (p : ℕ) : Type 0 where
   pub start : note.start ≡ at
   pub index : p ≡ number + length earlier
 
-pub some-number : (m n : ℕ) → ◌≡◌ {A = Option ℕ} (Some m) (Some n) → m ≡ n
-some-number m n e = ap or_zero e
-  where
-    or_zero : Option ℕ → ℕ
-    or_zero None = 0
-    or_zero (Some n) = n
-
 pub opening-found : (at start number : ℕ) (ns : List Note) (p : ℕ) → IsRising start ns → opening_of at start number (entries_by start ns) ≡ Some p → Opening at number ns p
 opening-found at start number [] p r e = absurd (cc)
 opening-found at start number (n ∷ ns) p r e = by-test (λ f. opening-found at n.start (suc number) ns p r.2 f) (opens n.mark) (n.start == at) refl refl
   where
     next : Opening at (suc number) ns p → Opening at number (n ∷ ns) p
     next i =
-        let j = i.index in
-        record { earlier = n ∷ i.earlier; note = i.note; later = i.later; block = i.block; is = ap (λ us. n ∷ us) i.is; mark = i.mark; start = i.start; index = omega (arith, j) }
+        record { earlier = n ∷ i.earlier; note = i.note; later = i.later; block = i.block; is = ap (λ us. n ∷ us) i.is; mark = i.mark; start = i.start; index = omega (arith, i.index) }
 
     by-test : (opening_of at n.start (suc number) (entries_by n.start ns) ≡ Some p → Opening at (suc number) ns p) → (a b : Bool) → opens n.mark ≡ a → (n.start == at) ≡ b → Opening at number (n ∷ ns) p
     by-test more true true f g =

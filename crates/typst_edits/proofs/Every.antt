@@ -1,5 +1,5 @@
--- What holds of each element of a list.
-use Rattle.std.proofs.Common.{◌≡◌, Bool, true, false, if◌then◌else◌, List, [], ◌∷◌, ◌++◌, map, refl}
+-- What holds of each element of a list, and small facts of lists and numbers.
+use Rattle.std.proofs.Common.{◌≡◌, ℕ, zero, suc, ◌<◌, ◌≤◌, Bool, true, false, if◌then◌else◌, List, [], ◌∷◌, ◌++◌, map, Option, None, Some, refl, arith}
 use Rattle.std.specs.List.{flat_map}
 pub use Rattle.typst_edits.specs.Every.{Every}
 
@@ -26,3 +26,17 @@ every-if P false xs ys h k = k refl
 pub every-any : {X : Type 0} (xs : List X) → Every (λ x. Unit {0}) xs
 every-any [] = tt
 every-any (x ∷ xs) = (tt, every-any xs)
+
+-- the first of several, and what is there, or another one
+abbrev pub first_or : {A : Type 0} → A → List A → A
+first_or x [] = x
+first_or x (y ∷ ys) = y
+
+abbrev pub some_or : {A : Type 0} → A → Option A → A
+some_or x None = x
+some_or x (Some y) = y
+
+pub not-less : (m n : ℕ) → (n < m → ⊥) → m ≤ n
+not-less zero n h = omega arith
+not-less (suc m) zero h = absurd (h (omega arith))
+not-less (suc m) (suc n) h = let l = not-less m n (λ l. h (omega (arith, l))) in omega (arith, l)

@@ -27,7 +27,7 @@ same-here [] z = tt
 same-here (looked at look ∷ asks) z = (record { before = refl; ahead = refl }, same-here asks z)
 same-here (marked at gap fewer mark s ∷ asks) z = (tt, same-here asks z)
 
-tail-none : {A : Type 0} (ys : List A) (y : A) → ys ++ y ∷ [] ≡ [] → ⊥
+pub tail-none : {A : Type 0} (ys : List A) (y : A) → ys ++ y ∷ [] ≡ [] → ⊥
 tail-none [] y h = cc
 tail-none (a ∷ ys) y h = cc
 

@@ -11,7 +11,7 @@ use Rattle.typst_lines.specs.Sets.{among}
 use Rattle.typst_tokens.specs.Characters.{is_space, is_u64, is_code_point}
 use Rattle.typst_tokens.specs.Escapes.{code_point, backslash}
 use Rattle.typst_lines.specs.Classes.{CharClasses}
-use Rattle.typst_tokens.specs.Common.{whitespace, shebang, line_comment, block_comment, comment_end, comment_step, in_comment, line_ends, space}
+use Rattle.typst_tokens.specs.Common.{whitespace, shebang, line_comment, block_comment, comment_end, comment_step, in_comment, line_ends}
 use Rattle.typst_tokens.specs.Markup.{dot, marker_or_text, marker, hyphen, minus, emphasis, heading, numbering, markup}
 use Rattle.typst_tokens.specs.Common.{sign}
 use Rattle.typst_tokens.specs.Reader.{Reader, Turn, Look, no_look, from_before, skip_look, place, spanned, span_look, at_word, exec, look}
@@ -36,6 +36,7 @@ use Rattle.typst_language.specs.Hand.{token_at, len_at, at_trivia, Ahead, ahead_
 use Rattle.typst_language.specs.Meaning.{run as read}
 use Rattle.typst_language.specs.Point.{Trivia, gap_of}
 use Rattle.typst_language.proofs.Places.{moved-sum}
+use Rattle.typst_language.proofs.Within.{on_both}
 use Rattle.typst_grammar.specs.Markup.{ends_block}
 use Rattle.typst_grammar.proofs.Fine.{and-left, or-left as or-first, or-right as or-second}
 use Rattle.typst_edits.specs.Looks.{AllFrom}
@@ -51,16 +52,7 @@ abbrev Bare : Reader Memory Token → Place → Type 0
 Bare r p = is_still (exec r p).0.kind ≡ false
 
 bare-if : (b : Bool) (x y : Reader Memory Token) (p : Place) → Bare x p → Bare y p → Bare (if b then x else y) p
-bare-if true x y p h i = h
-bare-if false x y p h i = i
-
-kind-if : (b : Bool) (x y : SyntaxKind) → is_still x ≡ false → is_still y ≡ false → is_still (if b then x else y) ≡ false
-kind-if true x y h i = h
-kind-if false x y h i = i
-
-token-if : (b : Bool) (x y : Token) → is_still x.kind ≡ false → is_still y.kind ≡ false → is_still (if b then x else y).kind ≡ false
-token-if true x y h i = h
-token-if false x y h i = i
+bare-if b x y p h i = on_both (λ (r : Reader Memory Token). Bare r p) b x y h i
 
 word-bare : (n : ℕ) (word : List ℕ) (x y : Reader Memory Token) (p : Place) → Bare x p → Bare y p → Bare (at_word n word x y) p
 word-bare n [] x y p h i = h
@@ -68,7 +60,7 @@ word-bare n (c ∷ word) x y p h i = bare-if (passes (λ d. d == c) (scout n p))
 
 point-bare : (digits : List ℕ) (p : Place) → Bare (code_point digits) p
 unfolding code_point
-point-bare digits p = bare-if (passes (λ c. c == 125) (scout 0 p)) _ _ p (token-if (is_code_point digits) _ _ refl refl) refl
+point-bare digits p = bare-if (passes (λ c. c == 125) (scout 0 p)) _ _ p (on_both (λ (t : Token). is_still t.kind ≡ false) (is_code_point digits) _ _ refl refl) refl
 
 backslash-bare : (p : Place) → Bare backslash p
 unfolding backslash
@@ -173,33 +165,29 @@ raw-bare p =
     let q = past (λ c. c == 96) p in
     bare-if (length ticks == 2) _ _ q refl (raw-end-bare (spanned in_raw (fence (length ticks) 0) q.before q.ahead).1)
 
-either : (P : Reader Memory Token → Type 0) (b : Bool) (x y : Reader Memory Token) → P x → P y → P (if b then x else y)
-either P true x y h i = h
-either P false x y h i = i
-
 -- A token of markup or a closing bracket is one.
 markup-each : (P : Reader Memory Token → Type 0) (k : CharClasses) (c : ℕ) (p : Place) → ((r : Reader Memory Token) → Bare r p → P r) → P (sign kind.RightBracket) → P (markup k c)
 unfolding markup sign marker text_from
 markup-each P k c p bare bracket =
-    either P (c == 92) _ _ (bare _ (backslash-bare p))
-    (either P (c == 104) _ _ (bare _ (link-or-text-bare k p))
-    (either P (c == 60) _ _ (bare _ (label-bare k p))
-    (either P (c == 64) _ _ (bare _ (ref-bare k p))
-    (either P (c == 46) _ _ (bare _ (dot-bare k p))
-    (either P (c == 45) _ _ (bare _ (minus-bare k p))
-    (either P (c == 42) _ _ (bare _ (emphasis-bare k kind.Star p refl))
-    (either P (c == 95) _ _ (bare _ (emphasis-bare k kind.Underscore p refl))
-    (either P (c == 35) _ _ (bare _ refl)
-    (either P (c == 91) _ _ (bare _ refl)
-    (either P (c == 93) _ _ bracket
-    (either P (c == 39 || c == 34) _ _ (bare _ refl)
-    (either P (c == 36) _ _ (bare _ refl)
-    (either P (c == 126) _ _ (bare _ refl)
-    (either P (c == 58) _ _ (bare _ refl)
-    (either P (c == 61) _ _ (bare _ (heading-bare k p))
-    (either P (c == 43) _ _ (bare _ (marker-bare k kind.EnumMarker (moved 1 p) refl))
-    (either P (c == 47) _ _ (bare _ (marker-bare k kind.TermMarker (moved 1 p) refl))
-    (either P (is_ascii_digit c) _ _ (bare _ (numbering-bare k p))
+    on_both P (c == 92) _ _ (bare _ (backslash-bare p))
+    (on_both P (c == 104) _ _ (bare _ (link-or-text-bare k p))
+    (on_both P (c == 60) _ _ (bare _ (label-bare k p))
+    (on_both P (c == 64) _ _ (bare _ (ref-bare k p))
+    (on_both P (c == 46) _ _ (bare _ (dot-bare k p))
+    (on_both P (c == 45) _ _ (bare _ (minus-bare k p))
+    (on_both P (c == 42) _ _ (bare _ (emphasis-bare k kind.Star p refl))
+    (on_both P (c == 95) _ _ (bare _ (emphasis-bare k kind.Underscore p refl))
+    (on_both P (c == 35) _ _ (bare _ refl)
+    (on_both P (c == 91) _ _ (bare _ refl)
+    (on_both P (c == 93) _ _ bracket
+    (on_both P (c == 39 || c == 34) _ _ (bare _ refl)
+    (on_both P (c == 36) _ _ (bare _ refl)
+    (on_both P (c == 126) _ _ (bare _ refl)
+    (on_both P (c == 58) _ _ (bare _ refl)
+    (on_both P (c == 61) _ _ (bare _ (heading-bare k p))
+    (on_both P (c == 43) _ _ (bare _ (marker-bare k kind.EnumMarker (moved 1 p) refl))
+    (on_both P (c == 47) _ _ (bare _ (marker-bare k kind.TermMarker (moved 1 p) refl))
+    (on_both P (is_ascii_digit c) _ _ (bare _ (numbering-bare k p))
     (bare _ (text-bare k (moved 1 p)))))))))))))))))))))
 
 -- ---- what is trivia looks only ahead
@@ -218,8 +206,7 @@ unfolding sign
 markup-fore k c p = markup-each (λ r. Fore r p) k c p (λ r h. bare-fore r p h) (λ e. absurd (cc))
 
 fore-if : (b : Bool) (x y : Reader Memory Token) (p : Place) → Fore x p → Fore y p → Fore (if b then x else y) p
-fore-if true x y p h i = h
-fore-if false x y p h i = i
+fore-if b x y p h i = on_both (λ (r : Reader Memory Token). Fore r p) b x y h i
 
 turn-back : (t : Turn Memory) (c : ℕ) (b a : List ℕ) → ((m : Memory) → (span_look in_comment m (c ∷ b) a).back ≡ 0)
     → (elim t as (λ _. Look) [ leave ↦ no_look | last after ↦ no_look | go after ↦ from_before (c ∷ a) (span_look in_comment after (c ∷ b) a) ]).back ≡ 0
@@ -248,10 +235,7 @@ block-fore : (p : Place) → (look block_comment p).back ≡ 0
 unfolding block_comment
 block-fore p =
     let q = moved 2 p in
-    let n = length (spanned in_comment (comment 0 0) q.before q.ahead).0 in
-    let one = comment-back q.ahead q.before (comment 0 0) in
-    let two = skip-back n q.ahead no_look refl in
-    skip-back 2 p.ahead _ (omega (arith, one, two))
+    skip-back 2 p.ahead _ (omega (arith, comment-back q.ahead q.before (comment 0 0), skip-back (length (spanned in_comment (comment 0 0) q.before q.ahead).0) q.ahead no_look refl))
 
 hash-bare : (k : CharClasses) (p : Place) → Bare (hash k Markup) p
 unfolding hash shebang of_mode markup sign
@@ -299,22 +283,14 @@ bare-still r p h = none-still r p (or-second (is_trivia (exec r p).0.kind) (ends
 
 space-still : (p : Place) → ends_block (exec (whitespace Markup) p).0.kind ≡ false
 unfolding whitespace
-space-still p = space-ends (line_ends false (run (is_space Markup) p))
-  where
-    kind-ends : (b : Bool) → ends_block (if b then kind.Parbreak else kind.Space) ≡ false
-    kind-ends true = refl
-    kind-ends false = refl
-
-    space-ends : (n : ℕ) → ends_block (space Markup n).kind ≡ false
-    space-ends n = kind-ends (nat_lt 1 n)
+space-still p = on_both (λ (s : SyntaxKind). ends_block s ≡ false) (nat_lt 1 (line_ends false (run (is_space Markup) p))) kind.Parbreak kind.Space refl refl
 
 slash-still : (k : CharClasses) (p : Place) → ends_block (exec (slash k Markup) p).0.kind ≡ false
 unfolding slash of_mode markup marker line_comment block_comment
 slash-still k p =
-    let marker = marker-bare k kind.TermMarker (moved 1 p) refl in
-    either (λ r. ends_block (exec r p).0.kind ≡ false) (passes (λ d. d == 47) (scout 1 p)) line_comment _ refl
-    (either (λ r. ends_block (exec r p).0.kind ≡ false) (passes (λ d. d == 42) (scout 1 p)) block_comment (markup k 47) refl
-    (or-second (is_trivia (exec (markup k 47) p).0.kind) (ends_block (exec (markup k 47) p).0.kind) marker))
+    on_both (λ (r : Reader Memory Token). ends_block (exec r p).0.kind ≡ false) (passes (λ d. d == 47) (scout 1 p)) line_comment _ refl
+    (on_both (λ (r : Reader Memory Token). ends_block (exec r p).0.kind ≡ false) (passes (λ d. d == 42) (scout 1 p)) block_comment (markup k 47) refl
+    (or-second (is_trivia (exec (markup k 47) p).0.kind) (ends_block (exec (markup k 47) p).0.kind) (marker-bare k kind.TermMarker (moved 1 p) refl)))
 
 bracket-still : (b : List ℕ) (c : ℕ) (a : List ℕ) → Still (sign kind.RightBracket) (place b (c ∷ a))
 unfolding sign
@@ -326,11 +302,11 @@ token-still k b [] = λ e. refl
 token-still k b (c ∷ a) =
     let p = place b (c ∷ a) in
     let P = λ (r : Reader Memory Token). Still r p in
-    let own = either P (is_space Markup c) (whitespace Markup) _ (none-still (whitespace Markup) p (space-still p))
-    (either P (c == 35) (hash k Markup) _ (bare-still (hash k Markup) p (hash-bare k p))
-    (either P (c == 47) (slash k Markup) _ (none-still (slash k Markup) p (slash-still k p))
-    (either P (c == 42) (star k Markup) _ (bare-still (star k Markup) p (star-bare k p))
-    (either P (c == 96) (backtick k Markup) (of_mode k Markup c) (bare-still (backtick k Markup) p (tick-bare k p)) (markup-each P k c p (λ r h. bare-still r p h) (bracket-still b c a)))))) in
+    let own = on_both P (is_space Markup c) (whitespace Markup) _ (none-still (whitespace Markup) p (space-still p))
+    (on_both P (c == 35) (hash k Markup) _ (bare-still (hash k Markup) p (hash-bare k p))
+    (on_both P (c == 47) (slash k Markup) _ (none-still (slash k Markup) p (slash-still k p))
+    (on_both P (c == 42) (star k Markup) _ (bare-still (star k Markup) p (star-bare k p))
+    (on_both P (c == 96) (backtick k Markup) (of_mode k Markup c) (bare-still (backtick k Markup) p (tick-bare k p)) (markup-each P k c p (λ r h. bare-still r p h) (bracket-still b c a)))))) in
     λ e. (let i = own e in omega (arith, i))
 
 -- ---- the look at the token at hand

@@ -19,6 +19,7 @@ use Rattle.typst_edits.proofs.EntryNumbers.{got-entry, past-entry}
 use Rattle.typst_edits.proofs.NestedPieces.{first_own, piece-found, first-found, past-nested, own-here, some-own, head-same, tail-same, apart, rising-behind, entries-behind, entries-end}
 use Rattle.typst_edits.proofs.NoteNumbers.{level-append, numbered-at}
 use Rattle.typst_edits.proofs.Spots.{if-true, if-false}
+use Rattle.typst_language.proofs.Within.{on_both}
 
 -- ---- notes by numbers
 
@@ -85,11 +86,9 @@ every-none Q (x ∷ xs) e = absurd (omega (arith, e))
 
 few-level : (lv : ℕ) (xs : List Note) → length (of_level lv xs) ≤ length xs
 few-level lv [] = omega arith
-few-level lv (x ∷ xs) = by-test (x.levels == lv) (few-level lv xs)
-  where
-    by-test : (b : Bool) → length (of_level lv xs) ≤ length xs → length (if b then x ∷ of_level lv xs else of_level lv xs) ≤ suc (length xs)
-    by-test true few = omega (arith, few)
-    by-test false few = omega (arith, few)
+few-level lv (x ∷ xs) =
+    let few = few-level lv xs in
+    on_both (λ (ys : List Note). length ys ≤ suc (length xs)) (x.levels == lv) (x ∷ of_level lv xs) (of_level lv xs) (omega (arith, few)) (omega (arith, few))
 
 -- ---- from one note up to another
 
@@ -126,15 +125,13 @@ nested-mids lv fs es [] o ahead p beyond line brackets nest e f own says = none 
 nested-mids lv fs es (m ∷ ms) o ahead p beyond line brackets nest e f own says =
     let same = head-same o m ahead (ms ++ p ∷ beyond) f in
     let own_too : m.levels ≡ lv = ap (λ (n : Note). n.levels) (sym same) ∙ own in
-    let a = apart lv fs es m ms nest own_too e in
-    piece lv m ms line brackets (ap (λ (n : Note). n.mark) (sym same) ∙ says) own_too a.behind
+    piece lv m ms line brackets (ap (λ (n : Note). n.mark) (sym same) ∙ says) own_too (apart lv fs es m ms nest own_too e).behind
 
 -- ---- among entries
 
 begins-at : (at : ℕ) (ms ns : List Note) (number : ℕ) → IsRising 0 (ms ++ ns) → first_own (λ n. n.start == at) 0 (length ms) ns ≡ Some number → BeginsAt (entries_by 0 (ms ++ ns)) (length ms) at number
 begins-at at ms ns number r h =
-    let es = entries_by 0 (ms ++ ns) in
-    ap (λ start. piece_of at 0 start (length ms) (drop (length ms) es)) (entries-end 0 ms ns r)
+    ap (λ start. piece_of at 0 start (length ms) (drop (length ms) (entries_by 0 (ms ++ ns)))) (entries-end 0 ms ns r)
     ∙ ap (piece_of at 0 (last_start 0 ms) (length ms)) (entries-behind 0 ms ns)
     ∙ piece-found at 0 (last_start 0 ms) (length ms) ns (rising-behind 0 ms ns r) ∙ h
 
@@ -185,20 +182,17 @@ module _ (lv : ℕ) (pre ns suf : List Note) (text : List ℕ) (e : ℕ → End 
   up-to i j l m few =
       let a = h.at i l in
       let b = h.at j m in
-      let one = a.index in
-      let two = b.index in
-      between lv a.earlier a.note a.later b.earlier b.note b.later (sym a.is ∙ b.is) b.own (omega (arith, few, one, two))
+      between lv a.earlier a.note a.later b.earlier b.note b.later (sym a.is ∙ b.is) b.own (omega (arith, few, a.index, b.index))
 
   -- None of the run's notes before one has its token where that has it.
   none-there : (i j : ℕ) (l : i ≤ count) (m : j ≤ count) (few : i ≤ j) → Every (λ n. (n.start == cut j) ≡ false) (of_level lv (up-to i j l m few).mids)
   none-there i j l m few =
       let b = h.at j m in
       let f = up-to i j l m few in
-      let index = b.index in
       let firsts = numbered-first (SaysOf text e) 0 (of_level lv b.earlier) (b.note ∷ of_level lv b.later) (subst (λ us. Numbered (SaysOf text e) 0 us) (ap (of_level lv) b.is ∙ level-at lv b.earlier b.note b.later b.own) h.each) in
       let apart_all : Every (λ n. (n.start == cut j) ≡ false) (of_level lv b.earlier) =
       every-numbered (SaysOf text e) (λ n. (n.start == cut j) ≡ false) 0 j (of_level lv b.earlier)
-      (λ d n less says. ne_eqb n.start (cut j) (λ same. (let start = says.start in let rise = h.cuts_rise d j less m in omega (arith, same, start, rise)))) (omega (arith, index)) firsts in
+      (λ d n less says. ne_eqb n.start (cut j) (λ same. (let start = says.start in let rise = h.cuts_rise d j less m in omega (arith, same, start, rise)))) (omega (arith, b.index)) firsts in
       every-second (λ n. (n.start == cut j) ≡ false) (of_level lv (h.at i l).earlier) (of_level lv f.mids)
       (subst (λ us. Every (λ n. (n.start == cut j) ≡ false) us) (ap (of_level lv) f.earlier ∙ level-append lv (h.at i l).earlier f.mids) apart_all)
 
@@ -213,21 +207,16 @@ module _ (lv : ℕ) (pre ns suf : List Note) (text : List ℕ) (e : ℕ → End 
   mids-long : (i j : ℕ) (l : i ≤ count) (m : j ≤ count) (few : i ≤ j) → number i + length (up-to i j l m few).mids ≡ number j
   mids-long i j l m few =
       let f = up-to i j l m few in
-      let one = (h.at i l).all in
-      let two = (h.at j m).all in
-      let sum = ap length f.earlier in
-      let parts = length-append (h.at i l).earlier f.mids in
-      omega (arith, one, two, sum, parts)
+      omega (arith, (h.at i l).all, (h.at j m).all, ap length f.earlier, length-append (h.at i l).earlier f.mids)
 
   goes-on : (i j : ℕ) → i ≤ j → j ≤ count → BeginsAt (entries_by 0 all) (number i) (cut j) (number j)
   goes-on i j few m =
       let l : i ≤ count = omega (arith, few, m) in
-      let a = h.at i l in
       let b = h.at j m in
       let f = up-to i j l m few in
       let p : Note → Bool = λ n. n.start == cut j in
       let before = firsts_of i l in
-      let behind = a.note ∷ behind_of i l in
+      let behind = (h.at i l).note ∷ behind_of i l in
       let says = says-at j m in
       let v = (e j).value in
       let parts : behind ≡ f.mids ++ b.note ∷ behind_of j m = ap (λ us. us ++ suf) f.behind ∙ append_assoc f.mids (b.note ∷ b.later) suf in
@@ -260,11 +249,7 @@ module _ (lv : ℕ) (pre ns suf : List Note) (text : List ℕ) (e : ℕ → End 
       let n = h.at count l in
       let p : Note → Bool = λ n. true in
       let k = suc (number count) in
-      let few = ap (λ us. length (of_level lv us)) n.is in
-      let sum = level-long lv n.earlier n.note n.later n.own in
-      let index = n.index in
-      let long = h.long in
-      let nothing : length (of_level lv n.later) ≡ 0 = omega (arith, few, sum, index, long) in
+      let nothing : length (of_level lv n.later) ≡ 0 = omega (arith, ap (λ us. length (of_level lv us)) n.is, level-long lv n.earlier n.note n.later n.own, n.index, h.long) in
       first-drop count l ∙ past-nested p lv k n.later suf (later-nested count l) (every-none (λ n. p n ≡ false) (of_level lv n.later) nothing) ∙ h.over (k + length n.later)
 
   rises : (i j : ℕ) → i < j → j ≤ count → number i < number j
@@ -272,22 +257,15 @@ module _ (lv : ℕ) (pre ns suf : List Note) (text : List ℕ) (e : ℕ → End 
       let l : i ≤ count = omega (arith, less, m) in
       let few : i ≤ j = omega (arith, less) in
       let f = up-to i j l m few in
-      let one = (h.at i l).index in
-      let two = (h.at j m).index in
       let sum = ap (λ us. length (of_level lv us)) f.earlier ∙ ap length (level-append lv (h.at i l).earlier f.mids) ∙ length-append (of_level lv (h.at i l).earlier) (of_level lv f.mids) in
-      let most = few-level lv f.mids in
-      let all_long = mids-long i j l m few in
-      omega (arith, less, one, two, sum, most, all_long)
+      omega (arith, less, (h.at i l).index, (h.at j m).index, sum, few-level lv f.mids, mids-long i j l m few)
 
   not-last : (i : ℕ) → i < count → IsLast (entries_by 0 all) (number i) → ⊥
   not-last i less nothing =
-      let long = h.long in
       let l : i ≤ count = omega (arith, less) in
       let n = h.at i l in
       let few = ap (λ us. length (of_level lv us)) n.is in
-      let sum = level-long lv n.earlier n.note n.later n.own in
-      let index = n.index in
-      some-own lv (suc (number i)) n.later suf (later-nested i l) (omega (arith, few, sum, index, long, less)) (sym (first-drop i l) ∙ nothing)
+      some-own lv (suc (number i)) n.later suf (later-nested i l) (omega (arith, few, level-long lv n.earlier n.note n.later n.own, n.index, h.long, less)) (sym (first-drop i l) ∙ nothing)
 
   says-piece : (i : ℕ) → i ≤ count → SaysPiece (entries_by 0 all) (number i) (e i).value
   says-piece i l =
@@ -310,8 +288,5 @@ module _ (lv : ℕ) (pre ns suf : List Note) (text : List ℕ) (e : ℕ → End 
       let l : count ≤ count = omega arith in
       let n = h.at count l in
       let k = suc (number count) in
-      let there = n.all in
-      let parts = ap length n.is in
-      let sum = length-append n.earlier (n.note ∷ n.later) in
-      let same : k + length n.later ≡ length pre + length ns = omega (arith, there, parts, sum) in
+      let same : k + length n.later ≡ length pre + length ns = omega (arith, n.all, ap length n.is, length-append n.earlier (n.note ∷ n.later)) in
       ap (closing_of 0 k) (drop-at count l ∙ ap (λ us. entries_by n.note.start (n.later ++ us)) is) ∙ closing-found lv k n.note.start n.later c later (later-nested count l) says ∙ ap Some same

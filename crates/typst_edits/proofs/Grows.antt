@@ -139,11 +139,10 @@ growths_spots-enough m sp w n zero j z known o cs h a b = absurd (omega (arith, 
 growths_spots-enough m sp w n (suc i) zero z known o cs h a b = absurd (omega (arith, h))
 growths_spots-enough m sp w n (suc i) (suc j) z known o cs h a b =
     let p = m o.value (moved o.taken z) o.state in
-    let e = enough-grew z known n o p h (w o.value (moved o.taken z) o.state) in
     let t = grown-taken n p.value.0 (answered p.value.1 (joined o p)) in
     if-same (goes_on p) _ _ _ (λ g.
     let some : 0 < p.taken = ltb-true 0 p.taken (and-second (is_more p.value.0) (nat_lt 0 p.taken) g) in
-    growths_spots-enough m sp w n i j z known (grew n o p) _ e (omega (arith, t)) (omega (arith, t)))
+    growths_spots-enough m sp w n i j z known (grew n o p) _ (enough-grew z known n o p h (w o.value (moved o.taken z) o.state)) (omega (arith, t)) (omega (arith, t)))
 
 pub inside-growing : {A : Type 0} (m : A → Meaning (Option Shape × A)) (sp : A → Spots (Option Shape × A)) (first : Meaning A) (firsts : Spots A) (n : Point → ℕ) → ((x : A) → Within (m x)) → ((x : A) → Framed (m x)) → ((x : A) → Backs (m x)) → ((x : A) → Inside (m x) (sp x))
     → Within first → Framed first → Inside first firsts → (z w : Place) (s : Point) → Every (Lawful z w (growing m (n s) first z s) (growing m (n s) first w s)) (growing_spots m sp (n s) first firsts z s)

@@ -1,5 +1,5 @@
 -- An expression that isn't expected gives one error after the trivia, and only such an expression takes back the empty errors before it.
-use Rattle.std.proofs.Common.{◌≡◌, ℕ, zero, suc, ◌<◌, ◌==◌, Bool, true, false, if◌then◌else◌, ◌&&◌, nat_lt, List, [], ◌∷◌, ◌++◌, length, drop, length-append, append_assoc, Some, None, refl, ap, sym, ◌∙◌, subst, arith}
+use Rattle.std.proofs.Common.{◌≡◌, ℕ, zero, suc, ◌<◌, ◌==◌, Bool, true, false, ◌&&◌, nat_lt, List, [], ◌∷◌, ◌++◌, length, drop, length-append, append_assoc, Some, None, refl, ap, sym, ◌∙◌, subst, arith}
 use borrow.Author.Tests.{lt-ltb}
 use Rattle.typst_kinds.specs.Kinds.{is_error}
 use Rattle.typst_kinds.specs.declared.kind.SyntaxKind.{SyntaxKind}
@@ -25,7 +25,7 @@ use Rattle.typst_language.specs.Meaning.{Outcome, Meaning, Level, plain, less, s
 use Rattle.typst_language.proofs.HintedNodes.{hinted-append}
 use Rattle.typst_language.proofs.Knot.{sane-run}
 use Rattle.typst_language.proofs.Places.{less-none}
-use Rattle.typst_language.proofs.Within.{on_both}
+use Rattle.typst_language.proofs.Within.{on_both, on_if}
 use Rattle.typst_grammar.specs.head.MarkupHead.{MarkupHead}
 use Rattle.typst_grammar.specs.head.MarkupHead.TheVariants as head
 use Rattle.typst_grammar.specs.Markup.{ends, ends_block, note_piece, markup_turn, markup_head, markup_by, markup_expr}
@@ -47,6 +47,7 @@ use Rattle.typst_edits.proofs.Outcomes.{hints-first}
 use Rattle.typst_edits.proofs.RunTrees.{standing-still}
 use Rattle.typst_edits.proofs.Turns.{turn_tail, turn_at, one-turn, stopped-back, led-behind, Taking, turn-led}
 use Rattle.typst_edits.proofs.InnerJoint.{block-taking}
+use Rattle.std.proofs.lemmas.Bool.{both_ways}
 
 -- ---- nodes that begin with an error
 
@@ -54,12 +55,8 @@ pub advised-error : (hints : List (List ℕ)) (t : Tree) → is_error t.head.kin
 advised-error [] t e = e
 advised-error (hint ∷ hints) t e = advised-error hints (advised (hint_with None hint) t) e
 
-made-wrong-by : (message : List ℕ) (t : Tree) (b : Bool) → is_error t.head.kind ≡ b → is_error (if b then t else error_of message (text_of t)).head.kind ≡ true
-made-wrong-by message t true e = e
-made-wrong-by message t false e = refl
-
 made-wrong : (message : List ℕ) (t : Tree) → is_error (made_error message t).head.kind ≡ true
-made-wrong message t = made-wrong-by message t (is_error t.head.kind) refl
+made-wrong message t = on_if (λ (u : Tree). is_error u.head.kind ≡ true) (is_error t.head.kind) t (error_of message (text_of t)) (λ e. e) (λ e. refl)
 
 -- Hints leave it an error.
 hinted-wrong : (hints : List (List ℕ)) (ts us : List Tree) → begins_wrong ts ≡ true → begins_wrong (hinted hints ts ++ us) ≡ true
@@ -111,13 +108,11 @@ pub record Still {A : Type 0} (q : Outcome A) : Type 0 where
 erring-joined : {A B : Type 0} (t : Trivia) (o : Outcome B) (q : Outcome A) → Erring t o → Still q → Erring t (joined o q)
 erring-joined t o q h s =
     let long : length o.nodes ≡ length (t.nodes ++ h.error ∷ []) = ap length h.nodes in
-    let sum = length-append t.nodes (h.error ∷ []) in
-    let none = s.back in
     record {
       error = h.error;
       is = h.is;
       nodes = standing-still q o.nodes s.hints s.back s.nodes ∙ h.nodes;
-      hints = hints-first o q (omega (arith, long, sum, none)) ∙ h.hints;
+      hints = hints-first o q (omega (arith, long, length-append t.nodes (h.error ∷ []), s.back)) ∙ h.hints;
     }
 
 erring-asked : {A B : Type 0} (t : Trivia) (v : B) (s : Point) (ls : List Ask) (m : Bool) (o : Outcome A) → Erring t o → Erring t (joined (record (plain v s) { asks = ls; met = m }) o)
@@ -232,12 +227,10 @@ module _ (l : Level) (stops : SyntaxKind → Bool) (taking : Taking l stops)
     no-empties : ends stops x.1 (told (hand_of l z at)).kind ≡ false → Erring t one → one.state.empties ≡ 0
     no-empties go err =
         let led = turn-led l stops taking x z r h e a t go in
-        let few = led.few in
-        let same = ap (λ (s : Point). s.empties) led.state in
         let both : t.nodes ++ led.rest ≡ t.nodes ++ err.error ∷ [] = sym led.nodes ∙ err.nodes in
         let rest : led.rest ≡ err.error ∷ [] = sym (drop-front t.nodes led.rest (length t.nodes) refl) ∙ ap (drop (length t.nodes)) both ∙ drop-front t.nodes (err.error ∷ []) (length t.nodes) refl in
         let long : length led.rest ≡ length (err.error ∷ []) = ap length rest in
-        omega (arith, few, same, long)
+        omega (arith, led.few, ap (λ (s : Point). s.empties) led.state, long)
 
     -- some pieces that begin so
     module _ (n : ℕ) (g : AllGo (made turn (suc n) x z at)) where
@@ -262,9 +255,7 @@ module _ (l : Level) (stops : SyntaxKind → Bool) (taking : Taking l stops)
       pieces-wrong : trims ≡ true → WrongFirst t (joined one q).nodes
       pieces-wrong mind =
           let err = erring-turn l r h e a z t taking.level_left stops x (wrong r h e a z t x mind) go in
-          let none = no-empties go err in
-          let back = tidy.back in
-          wrong-standing t one.nodes q (erring-wrong t one err) (omega (arith, none, back))
+          wrong-standing t one.nodes q (erring-wrong t one err) (omega (arith, no-empties go err, tidy.back))
 
     -- all from here on
     onward-mild : ends stops x.1 (told (hand_of l z at)).kind ≡ false → trims ≡ false → (onward x z at).back ≡ 0
@@ -281,15 +272,11 @@ module _ (l : Level) (stops : SyntaxKind → Bool) (taking : Taking l stops)
     unfolding run
     onward-wrong go mind =
         let err = erring-turn l r h e a z t taking.level_left stops x (wrong r h e a z t x mind) go in
-        let none = no-empties go err in
         let led = turn-led l stops taking x z r h e a t go in
-        let some = led.some in
-        let taken = led.taken in
-        let g : goes one ≡ true = ap (λ b. b && nat_lt 0 one.taken) (turn-goes l stops x z at go) ∙ lt-ltb 0 one.taken (omega (arith, some, taken)) in
+        let g : goes one ≡ true = ap (λ b. b && nat_lt 0 one.taken) (turn-goes l stops x z at go) ∙ lt-ltb 0 one.taken (omega (arith, led.some, led.taken)) in
         let p = repeated turn one.value.1 (moved one.taken z) one.state in
         let tidy_rest = backs (repeat (markup_turn true stops) one.value.1) (moved one.taken z) one.state in
-        let back = tidy_rest.back in
-        let w = wrong-standing t one.nodes p (erring-wrong t one err) (omega (arith, none, back)) in
+        let w = wrong-standing t one.nodes p (erring-wrong t one err) (omega (arith, no-empties go err, tidy_rest.back)) in
         let is : repeated turn x z at ≡ joined one p = one-turn turn (λ v. (sane-run l taking.calls_sane taking.blocks_sane (markup_turn true stops v)).within) x z at g in
         let rest = repeated turn x z at in
         let first : WrongFirst t rest.nodes = subst (λ (o : Outcome (Bool × ℕ)). WrongFirst t o.nodes) (sym is) w in
@@ -354,13 +341,12 @@ module _ (r : Sequence) (taking : Taking r.level r.stops)
     (known : KnownAt r.point) where
   pub headed : (i n : ℕ) → AllGo (first_of i r) → AllGo (then_of i n r) → Headed r i n
   headed i n g h =
-      let l = r.level in
       let e = first_end i r in
       let f = then_end i n r in
-      let first_known = known-made l r.stops i (true, 0) r.place r.point known g in
-      let then_known = known-made l r.stops n e.value (first_place i r) e.state first_known h in
-      let p = pieces-facts l r.stops taking wrong n e.value (first_place i r) e.state first_known h in
-      let o = onward-facts l r.stops taking wrong f.value (then_place i n r) f.state then_known in
+      let first_known = known-made r.level r.stops i (true, 0) r.place r.point known g in
+      let then_known = known-made r.level r.stops n e.value (first_place i r) e.state first_known h in
+      let p = pieces-facts r.level r.stops taking wrong n e.value (first_place i r) e.state first_known h in
+      let o = onward-facts r.level r.stops taking wrong f.value (then_place i n r) f.state then_known in
       record { first = p.0; pieces_back = p.1; next = o.0; behind_back = o.1 }
 
   -- where its pieces begin with one that minds errors
@@ -379,18 +365,13 @@ unfolding run
 inner-head-law k levels z s i n g h =
     headed (inner_run k levels z s) (block-taking k levels) (erring-call k levels) (record { trivia = _; is = refl }) i n g h
 
--- No errors are minded where the law of heads says so.
-unminded : (b : Bool) → b ≡ false → b ≡ true → {A : Type 0} → A
-unminded true e f = cc
-unminded false e f = cc
-
 pub meets-law : MeetsLaw
 meets-law k z i n f t u g h well known known_now value = record {
   known = known;
   known_now = known_now;
   value = value;
   over = λ o kind. ends-alike f.value.1 (then_end i n (text_run k z)).value.1 kind;
-  errors = λ o m. unminded _ ((head-law k z i n g h).next (well o) o) m;
+  errors = λ o m. absurd (both_ways _ ((head-law k z i n g h).next (well o) o) m);
 }
 
 pub inner-meets-law : InnerMeetsLaw
@@ -399,7 +380,7 @@ inner-meets-law k levels z s i n f t u g h well known known_now value nesting = 
   known_now = known_now;
   value = value;
   over = λ o kind. ap (λ a. ends ends_block a kind) (nesting o);
-  errors = λ o m. unminded _ ((inner-head-law k levels z s i n g h).next (well o) o) m;
+  errors = λ o m. absurd (both_ways _ ((inner-head-law k levels z s i n g h).next (well o) o) m);
 }
 
 -- The law of the piece that minds errors, of a text's run and of a content block's.

@@ -1,5 +1,5 @@
 -- Marks stand in order by their tokens: each at the token of the one before it, or after that.
-use Rattle.std.proofs.Common.{◌≡◌, ℕ, zero, suc, ◌+◌, ◌-◌, ◌<◌, ◌≤◌, ◌==◌, Bool, true, false, ◌&&◌, nat_lt, List, [], ◌∷◌, ◌++◌, take, append_assoc, append-nil, Option, Some, None, refl, ap, sym, ◌∙◌, subst, arith}
+use Rattle.std.proofs.Common.{◌≡◌, ℕ, zero, suc, ◌+◌, ◌-◌, ◌≤◌, ◌==◌, Bool, true, false, ◌&&◌, nat_lt, List, [], ◌∷◌, ◌++◌, take, append_assoc, append-nil, Option, Some, None, refl, ap, sym, ◌∙◌, subst, arith}
 use Rattle.typst_kinds.specs.Kinds.{same}
 use Rattle.typst_kinds.specs.declared.kind.SyntaxKind.{SyntaxKind}
 use Rattle.typst_kinds.specs.declared.kind.SyntaxKind.TheVariants as kind
@@ -18,39 +18,36 @@ use Rattle.typst_language.specs.declared.reading.Reading.{Reading}
 use Rattle.typst_language.specs.Ask.{Ask, shift}
 use Rattle.typst_language.specs.Ask.Ask.{looked, marked}
 use Rattle.typst_language.specs.Depth.{deeper, is_end, too_deep}
-use Rattle.typst_language.specs.Hand.{len_at, hand_at}
+use Rattle.typst_language.specs.Hand.{hand_at}
 use Rattle.typst_language.specs.Knot.{meaning_of, level_of, blocks_of}
 use Rattle.typst_language.specs.Log.{Log, no_log, with_hull, with_note, logged}
 use Rattle.typst_language.specs.Point.{Trivia, Point, forgot, gap_of}
 use Rattle.typst_language.specs.Shape.{Shape, becomes}
 use Rattle.typst_language.specs.Shape.Making.{itself}
 use Rattle.typst_language.specs.Steps.{peek, node, node_with_trivia, note, flush_trivia, close_if}
-use Rattle.typst_language.specs.Syntax.{Op, Parser, ◌>>◌}
+use Rattle.typst_language.specs.Syntax.{Parser, ◌>>◌}
 use Rattle.typst_language.specs.Syntax.Begin.{at_token, at_trivia}
-use Rattle.typst_language.specs.Syntax.Op.{hand, so, further, column, erred, takes, takes_so, flushes, complains, advises, marks, is_deepest}
-use Rattle.typst_language.specs.Syntax.Parser.{gives, does, next, pick, repeat, wraps, grows, nests, scoped, either, calls, block}
-use Rattle.typst_language.specs.Meaning.{Outcome, Meaning, Level, plain, joined, turns, as_last, bound, repeated, before, growing, nesting, given_up, bounded, blockless, entered, hand_of, hand_asks_of, start_point, done, run}
-use Rattle.typst_language.proofs.Ends.{hand-takes}
-use Rattle.typst_language.proofs.Knot.{Sane, sane-meaning, sane-block, sane-plain}
+use Rattle.typst_language.specs.Syntax.Op.{takes, flushes, marks, is_deepest}
+use Rattle.typst_language.specs.Syntax.Parser.{gives, does, next, repeat, wraps, scoped, block}
+use Rattle.typst_language.specs.Meaning.{Outcome, Meaning, Level, plain, joined, turns, as_last, bound, repeated, before, bounded, blockless, entered, hand_of, hand_asks_of, start_point, done, run}
 use Rattle.typst_language.proofs.Places.{moved-sum}
 use Rattle.typst_language.proofs.Within.{on_both, on_if}
-use Rattle.typst_grammar.specs.Grammar.{rules, production, max_depth, start_of, whole, parsed, log, block_production}
-use Rattle.typst_grammar.specs.Markup.{ends, ends_block, note_piece, markup_turn, markup_run, markup_is_empty, markup_head, markup_reading, content_block}
+use Rattle.typst_grammar.specs.Grammar.{rules, production, max_depth, start_of, whole, parsed, log, block_production, level_at}
+use Rattle.typst_grammar.specs.Markup.{ends, ends_block, note_piece, markup_turn, markup_run, markup_is_empty, markup_reading, content_block}
 use Rattle.typst_grammar.specs.Sequences.{code_block}
 use Rattle.typst_grammar.proofs.Guarded.{Guarded, guarded-close, guarded-deep, guarded-deeper, guarded-node}
 use Rattle.typst_grammar.proofs.GuardedCode.{guarded-production, guarded-inside-code}
 use Rattle.typst_edits.specs.InOrder.{InOrderLaw}
-use Rattle.typst_edits.specs.Joint.{minds}
 use Rattle.typst_edits.specs.PieceNotes.{listed}
 use Rattle.typst_edits.proofs.Boundary.{KnownAt}
 use Rattle.typst_edits.proofs.Bytes.{noted-more}
-use Rattle.typst_edits.proofs.Joint.{known-is, takes-call}
-use Rattle.typst_edits.proofs.Led.{behind_trivia, same-judged, before_trivia, Takes}
-use Rattle.typst_edits.proofs.Marks.{none-hand}
+use Rattle.typst_edits.proofs.InnerJoint.{block-taking}
+use Rattle.typst_edits.proofs.Joint.{known-is, text-taking}
+use Rattle.typst_edits.proofs.Led.{behind_trivia, before_trivia}
 use Rattle.typst_edits.proofs.Rising.{take-more}
 use Rattle.typst_edits.proofs.Spots.{if-true}
-use Rattle.typst_edits.proofs.Turns.{turn_tail, takes-turn, end-by}
-use Rattle.typst_edits.proofs.Upward.{Upward, up-low, up-append, up-shift, up-sunk, up-looks, up-none, ups-turns, up-growths, ups-nestings, up-joined, Unmarked}
+use Rattle.typst_edits.proofs.Turns.{turn_tail, Taking, turn-led}
+use Rattle.typst_edits.proofs.Upward.{Joins, Upward, ups, up-low, up-append, up-shift, up-sunk, up-none, unmarked-hand, from-joined, from-hand, from-run}
 use Rattle.typst_edits.proofs.Widths.{width-moved, width-none}
 
 -- ---- marks in a list of asks
@@ -64,6 +61,9 @@ any gap m = Unit {0}
 
 abbrev Orders : ℕ → ℕ → List Ask → Type 0
 Orders lo hi ls = Upward gaps any lo hi ls
+
+orders : Joins Orders
+orders = ups gaps any
 
 -- ---- whatever the language can say, and notes nothing by itself
 
@@ -84,54 +84,6 @@ order-bounded : (b : Block) (m : Meaning (Unit {0})) → AllInOrder m → AllInO
 order-bounded b m h z s =
     let o = m z (forgot s) in
     (omega arith, tt, up-append gaps any 0 o.taken o.taken o.asks _ (h z (forgot s)) (omega arith, tt, omega arith))
-
-module _ (l : Level) (deep : (call : Call) → AllInOrder (l.deeper call)) (held : (b : Block) → AllInOrder (l.blocks b)) where
-  unmarked-hand : (z : Place) (s : Point) → Unmarked (hand_asks_of l z s)
-  unmarked-hand z s = none-hand (λ at fewer m t. ⊥) l.classes s.held s.known z
-
-  order-hand : (z : Place) (s : Point) (hi : ℕ) → Orders 0 hi (hand_asks_of l z s)
-  order-hand z s hi = up-none gaps any 0 hi (hand_asks_of l z s) (omega arith) (unmarked-hand z s)
-
-  order-more : (z : Place) (s : Point) (hi at : ℕ) (look : _) → Orders 0 hi (hand_asks_of l z s ++ looked at look ∷ [])
-  order-more z s hi at look = up-append gaps any 0 hi hi (hand_asks_of l z s) (looked at look ∷ []) (order-hand z s hi) (omega arith)
-
-  order-done : {A : Type 0} (seen : Bool) (o : Op A) → Silent seen (does o) → AllInOrder (done l o)
-  order-done seen hand q z s = order-hand z s 0
-  order-done seen (so way) q z s = order-more z s 0 _ _
-  order-done seen further q z s = order-more z s 0 _ _
-  order-done seen column q z s = order-more z s 0 _ _
-  order-done seen erred q z s = omega arith
-  order-done seen (takes trims making) q z s = order-hand z s _
-  order-done seen (takes_so way making) q z s = order-more z s _ _ _
-  order-done seen flushes q z s = order-hand z s _
-  order-done seen (complains message) q z s = omega arith
-  order-done seen (advises hint) q z s = omega arith
-  order-done seen (marks m) q z s = absurd (cc)
-  order-done seen is_deepest q z s = omega arith
-
-  order-run : {A : Type 0} (seen : Bool) (p : Parser A) → Silent seen p → AllInOrder (run l p)
-  unfolding run repeated growing nesting
-  order-run seen (gives a) q z s = omega arith
-  order-run seen (does o) q z s = order-done seen o q z s
-  order-run seen (next p f) q z s =
-      let o = run l p z s in
-      up-joined gaps any 0 o (run l (f o.value) (moved o.taken z) o.state) (order-run seen p q.0 z s) (order-run _ (f o.value) (q.1 o.value) (moved o.taken z) o.state)
-  order-run seen (pick true p r) q z s = order-run seen p (q.0 refl) z s
-  order-run seen (pick false p r) q z s = order-run seen r (q.1 refl) z s
-  order-run seen (repeat p x) q z s = ups-turns gaps any (λ y. run l (p y)) (λ y. order-run false (p y) (q y)) (suc (bound z s)) x z s
-  order-run seen (wraps f begin p) q z s = order-run false p q z s
-  order-run seen (grows begin p f) q z s = up-growths gaps any (λ y. run l (f y)) (λ y. order-run false (f y) (q.1 y)) (before begin s) (suc (bound z s)) (run l p z s) z (order-run false p q.0 z s)
-  order-run seen (nests f begin p x) q z s = ups-nestings gaps any f begin (λ y. run l (p y)) (λ y. order-run false (p y) (q y)) (suc (bound z s)) x z s
-  order-run seen (scoped f p) q z s = order-run false p q z (entered (f s.reading) s)
-  order-run seen (either p is_wrong r) q z s =
-      let o = run l p z s in
-      let u = run l r z s in
-      on_both InOrder (is_wrong o.value) (given_up o u) o (up-looks gaps any 0 u.taken (o.asks ++ u.asks) (omega arith)) (order-run false p q.0 z s)
-  order-run seen (calls call) q z s = up-sunk gaps any 0 (l.deeper call z s).taken (l.deeper call z s).asks (deep call z s)
-  order-run seen (block b) q z s =
-      let o = done l flushes z s in
-      let p = bounded b (l.blocks b) (moved o.taken z) o.state in
-      on_if InOrder (l.has b) (joined o p) (plain tt s) (λ has. up-joined gaps any 0 o p (order-hand z s o.taken) (order-bounded b (l.blocks b) (held b) (moved o.taken z) o.state)) (λ _. omega arith)
 
 -- ---- a run of pieces
 
@@ -161,17 +113,16 @@ unfolding hand_at
 hand-gap k held None z = omega arith
 hand-gap k held (Some t) z = omega arith
 
--- A piece begins by taking the token at hand, with the trivia before it.
-abbrev Leads : Level → Type 0
-Leads l = (h : Reading) (z : Place) (t : Trivia) (x : Bool × ℕ) → 0 < len_at l.classes h.mode (moved t.gap z) → Takes h z t t (minds (markup_head x.0 x.1 (hand_at l.classes h (Some t) z).kind)) (l.deeper (MarkupExpr x.0 x.1))
-
 module _ (l : Level) (deep : (call : Call) → AllInOrder (l.deeper call)) (held : (b : Block) → AllInOrder (l.blocks b)) where
   silent : {A : Type 0} (p : Parser A) → Silent false p → AllInOrder (run l p)
-  silent p q = order-run l deep held false p q
+  silent p q z s =
+      from-run Orders orders l (λ m. false) (λ m gap s e. absurd (cc)) (λ z s. Unit {0}) (λ B p z s e. tt)
+      (λ call z s. up-sunk gaps any 0 (l.deeper call z s).taken (l.deeper call z s).asks (deep call z s))
+      (λ b has z s t. let o = done l flushes z s in order-bounded b (l.blocks b) (held b) (moved o.taken z) o.state) false p q z s (λ e. tt)
 
   peek-order : (lo : ℕ) (z : Place) (s : Point) → lo ≤ (hand_of l z s).gap → ToToken lo (run l peek z s)
   unfolding run
-  peek-order lo z s e = up-none gaps any lo (0 + (hand_of l z s).gap) (hand_asks_of l z s) (omega (arith, e)) (unmarked-hand l deep held z s)
+  peek-order lo z s e = up-none gaps any lo (0 + (hand_of l z s).gap) (hand_asks_of l z s) (omega (arith, e)) (unmarked-hand l z s)
 
   note-order : (m : Mark) (z : Place) (s : Point) → ToToken 0 (run l (note m) z s)
   unfolding run note
@@ -180,10 +131,9 @@ module _ (l : Level) (deep : (call : Call) → AllInOrder (l.deeper call)) (held
       let b = done l (marks m) z a.state in
       let c = run l peek z b.state in
       let gap = gap_of c.state.known in
-      let more = hand-gap l.classes a.state.held a.state.known z in
-      order-next 0 0 gap a (joined b (joined c (plain (tt {0}) c.state))) (reaching 0 a (order-hand l deep held z s 0))
+      order-next 0 0 gap a (joined b (joined c (plain (tt {0}) c.state))) (reaching 0 a (from-hand Orders orders l z s 0))
       (order-next 0 (gap_of a.state.known) gap b (joined c (plain (tt {0}) c.state)) (omega arith, tt, omega arith)
-      (order-next (gap_of a.state.known) gap gap c (plain (tt {0}) c.state) (peek-order (gap_of a.state.known) z b.state more) (omega arith)))
+      (order-next (gap_of a.state.known) gap gap c (plain (tt {0}) c.state) (peek-order (gap_of a.state.known) z b.state (hand-gap l.classes a.state.held a.state.known z)) (omega arith)))
 
   tail-order : (brackets : ℕ) (z : Place) (s : Point) → ToToken 0 (run l (turn_tail brackets) z s)
   unfolding run note_piece
@@ -193,7 +143,7 @@ module _ (l : Level) (deep : (call : Call) → AllInOrder (l.deeper call)) (held
       let n = run l (note (mark.Piece line brackets)) z a.state in
       let last : Outcome (Bool × (Bool × ℕ)) = plain (true, (line, brackets)) n.state in
       let gap = gap_of n.state.known in
-      order-next 0 0 gap a (joined n last) (reaching 0 a (order-hand l deep held z s 0)) (order-next 0 gap gap n last (note-order (mark.Piece line brackets) z a.state) (omega arith))
+      order-next 0 0 gap a (joined n last) (reaching 0 a (from-hand Orders orders l z s 0)) (order-next 0 gap gap n last (note-order (mark.Piece line brackets) z a.state) (omega arith))
 
   module _ (stops : SyntaxKind → Bool) where
     turn-order : (x : Bool × ℕ) (z : Place) (s : Point) → ToToken 0 (run l (markup_turn true stops x) z s)
@@ -202,7 +152,7 @@ module _ (l : Level) (deep : (call : Call) → AllInOrder (l.deeper call)) (held
         let a = run l peek z s in
         let d = run l (deeper (MarkupExpr x.0 x.1) x.1) z a.state in
         let t = run l (turn_tail d.value) (moved d.taken z) d.state in
-        let none = reaching 0 a (order-hand l deep held z s 0) in
+        let none = reaching 0 a (from-hand Orders orders l z s 0) in
         let stop : Outcome (Bool × (Bool × ℕ)) = plain (false, x) a.state in
         on_if (λ (q : Outcome (Bool × (Bool × ℕ))). ToToken 0 (joined a q)) (ends stops x.1 a.value.kind) stop (joined d t)
         (λ _. order-next 0 0 (gap_of a.state.known) a stop none (omega arith))
@@ -227,7 +177,7 @@ module _ (l : Level) (deep : (call : Call) → AllInOrder (l.deeper call)) (held
         let stop : Outcome (Bool × (Bool × ℕ)) = plain (false, x) a.state in
         subst (λ (q : Outcome (Bool × (Bool × ℕ))). ToToken lo (joined a q)) (sym (if-true (ends stops x.1 a.value.kind) stop _ e)) (order-next lo (gap_of a.state.known) (gap_of a.state.known) a stop here (omega arith))
 
-    module _ (sd : (c : Call) → Sane (l.deeper c)) (sb : (b : Block) → Sane (l.blocks b)) (end_stops : stops kind.End ≡ true) (some_level : (l.levels == 0) ≡ false) (leads : Leads l) where
+    module _ (taking : Taking l stops) where
       led-order : (x : Bool × ℕ) (z : Place) (t : Trivia) (r h : Reading) (e : ℕ) (a : Bool) → ends stops x.1 (hand_at l.classes h (Some t) z).kind ≡ false → ToToken t.gap (run l (markup_turn true stops x) z (before_trivia r h e a t))
       unfolding hand_at
       led-order x z t r h e a go =
@@ -235,15 +185,13 @@ module _ (l : Level) (deep : (call : Call) → AllInOrder (l.deeper call)) (held
           let p = before_trivia r h e a (behind_trivia t) in
           let o = run l (markup_turn true stops x) z (before_trivia r h e a t) in
           let c = run l (markup_turn true stops x) w p in
-          let some = hand-takes l.classes h (Some t) z (end-by stops end_stops x.1 (hand_at l.classes h (Some t) z).kind go) in
-          let led = takes-turn l sd sb h z t t (same-judged h t) some_level stops x _ (leads h z t x some) go r e e a a (λ _. refl) in
-          let taken = led.taken in
+          let led = turn-led l stops taking x z r h e a t go in
           let gap = ap (λ (q : Point). gap_of q.known) led.state in
           let far = c.taken + gap_of c.state.known in
           let hi = o.taken + gap_of o.state.known in
           let from = up-shift gaps any t.gap 0 far c.asks (turn-order x w p) in
           subst (λ ls. Orders t.gap hi ls) (sym led.asks)
-          (up-low gaps any t.gap (t.gap + 0) hi (shift t.gap c.asks) (omega arith) (orders-high (t.gap + 0) (t.gap + far) hi (shift t.gap c.asks) (omega (arith, taken, gap)) from))
+          (up-low gaps any t.gap (t.gap + 0) hi (shift t.gap c.asks) (omega arith) (orders-high (t.gap + 0) (t.gap + far) hi (shift t.gap c.asks) (omega (arith, led.taken, gap)) from))
 
       piece-order : (x : Bool × ℕ) (z : Place) (s : Point) → KnownAt s → ToToken (gap_of s.known) (run l (markup_turn true stops x) z s)
       piece-order x z s known = by-end (ends stops x.1 (hand_of l z s).kind) refl
@@ -264,7 +212,7 @@ module _ (l : Level) (deep : (call : Call) → AllInOrder (l.deeper call)) (held
           on_both (λ (q : Outcome (Bool × ℕ)). ToToken (gap_of s.known) q) (o.value.0 && nat_lt 0 o.taken) (joined o p) (as_last o)
           (order-next (gap_of s.known) (gap_of o.state.known) (gap_of p.state.known) o p first (pieces-order n o.value.1 (moved o.taken z) o.state (turn-known x z s))) first
 
-    module _ (sd : (c : Call) → Sane (l.deeper c)) (sb : (b : Block) → Sane (l.blocks b)) (end_stops : stops kind.End ≡ true) (leads : (l.levels == 0) ≡ false → Leads l) where
+    module _ (taking : (l.levels == 0) ≡ false → Taking l stops) where
       run-order : (z : Place) (s : Point) → ToToken 0 (run l (markup_run stops) z s)
       unfolding run markup_run repeated
       run-order z s =
@@ -281,7 +229,7 @@ module _ (l : Level) (deep : (call : Call) → AllInOrder (l.deeper call)) (held
           (order-next 0 (gap_of s.known) gap m (joined a (joined r (plain (tt {0}) r.state))) (omega arith, tt, omega arith)
           (order-next (gap_of s.known) (gap_of a.state.known) gap a (joined r (plain (tt {0}) r.state)) (peek-order (gap_of s.known) z s (hand-gap l.classes s.held s.known z))
           (order-next (gap_of a.state.known) gap gap r (plain (tt {0}) r.state)
-          (pieces-order sd sb end_stops e (leads e) (suc (bound z a.state)) (true, 0) z a.state (record { trivia = _; is = refl })) (omega arith)))))
+          (pieces-order (taking e) (suc (bound z a.state)) (true, 0) z a.state (record { trivia = _; is = refl })) (omega arith)))))
 
       -- and the trivia after it
       flushed-order : AllInOrder (run l (markup_run stops >> flush_trivia))
@@ -294,18 +242,18 @@ module _ (l : Level) (deep : (call : Call) → AllInOrder (l.deeper call)) (held
           let gap = gap_of o.state.known in
           let all = hand-gap l.classes o.state.held o.state.known w in
           all-taken (joined o (joined f n)) (order-next 0 gap 0 o (joined f n) (run-order z s)
-          (order-next gap 0 0 f n (up-none gaps any gap (f.taken + 0) (hand_asks_of l w o.state) (omega (arith, all)) (unmarked-hand l deep held w o.state)) (reaching 0 n (silent (peek >> gives (tt {0})) (refl, λ _. tt) (moved f.taken w) f.state))))
+          (order-next gap 0 0 f n (up-none gaps any gap (f.taken + 0) (hand_asks_of l w o.state) (omega (arith, all)) (unmarked-hand l w o.state)) (reaching 0 n (silent (peek >> gives (tt {0})) (refl, λ _. tt) (moved f.taken w) f.state))))
 
   all-next : {A B : Type 0} (p : Parser B) (f : B → Parser A) → AllInOrder (run l p) → ((b : B) → AllInOrder (run l (f b))) → AllInOrder (run l (next p f))
   unfolding run
-  all-next p f h k z s = let o = run l p z s in up-joined gaps any 0 o (run l (f o.value) (moved o.taken z) o.state) (h z s) (k o.value (moved o.taken z) o.state)
+  all-next p f h k z s = let o = run l p z s in from-joined Orders orders 0 o (run l (f o.value) (moved o.taken z) o.state) (h z s) (k o.value (moved o.taken z) o.state)
 
   all-node : {A : Type 0} (shape : A → Shape) (p : Parser A) → AllInOrder (run l p) → AllInOrder (run l (node shape p))
   unfolding node run
   all-node shape p h z s =
       let a = run l peek z s in
       let o = run l (wraps shape at_token p) z a.state in
-      up-joined gaps any 0 a (joined o (plain o.value.0 o.state)) (order-hand l deep held z s 0) (up-joined gaps any 0 o (plain o.value.0 o.state) (h z a.state) (omega arith))
+      from-joined Orders orders 0 a (joined o (plain o.value.0 o.state)) (from-hand Orders orders l z s 0) (from-joined Orders orders 0 o (plain o.value.0 o.state) (h z a.state) (omega arith))
 
   all-scoped : {A : Type 0} (f : Reading → Reading) (p : Parser A) → AllInOrder (run l p) → AllInOrder (run l (scoped f p))
   unfolding run
@@ -313,14 +261,14 @@ module _ (l : Level) (deep : (call : Call) → AllInOrder (l.deeper call)) (held
 
   all-trivia : (k : SyntaxKind) (p : Parser (Unit {0})) → AllInOrder (run l (p >> flush_trivia)) → AllInOrder (run l (node_with_trivia k p))
   unfolding node_with_trivia run
-  all-trivia k p h z s = let o = run l (wraps (λ _. becomes k) at_trivia (p >> flush_trivia)) z s in up-joined gaps any 0 o (plain o.value.1 o.state) (h z s) (omega arith)
+  all-trivia k p h z s = let o = run l (wraps (λ _. becomes k) at_trivia (p >> flush_trivia)) z s in from-joined Orders orders 0 o (plain o.value.1 o.state) (h z s) (omega arith)
 
 -- ---- at every level
 
 module _ (k : CharClasses) where
-  leads-by : (levels : ℕ) → (levels == 0) ≡ false → Leads (level_of (rules k) k levels)
-  leads-by zero e = absurd (cc)
-  leads-by (suc n) e = λ h z t x some. takes-call k n h z t t (same-judged h t) x some
+  block-takes : (levels : ℕ) → (levels == 0) ≡ false → Taking (blockless k levels (meaning_of (rules k) k levels)) ends_block
+  block-takes zero e = absurd (cc)
+  block-takes (suc n) e = block-taking k n
 
   none-held : (levels : ℕ) (b : Block) → AllInOrder ((blockless k levels (meaning_of (rules k) k levels)).blocks b)
   none-held levels b z s = omega arith
@@ -332,7 +280,7 @@ module _ (k : CharClasses) where
       let held = none-held levels in
       all-next l i held peek _ (silent l i held peek refl) (λ _.
       all-next l i held _ _ (all-node l i held _ _ (all-scoped l i held _ _ (all-next l i held _ _ (silent l i held (does (takes false itself)) refl) (λ _.
-      all-next l i held _ _ (all-next l i held _ _ (all-trivia l i held kind.Markup (markup_run ends_block) (flushed-order l i held ends_block (sane-meaning (rules k) k levels) (λ b. sane-plain tt) refl (leads-by levels))) (λ _. silent l i held (gives _) tt))
+      all-next l i held _ _ (all-next l i held _ _ (all-trivia l i held kind.Markup (markup_run ends_block) (flushed-order l i held ends_block (block-takes levels))) (λ _. silent l i held (gives _) tt))
       (λ _. silent l i held (close_if (same kind.RightBracket)) (guarded-close (λ (m : Mark). false) false (same kind.RightBracket)))))))
       (λ _. silent l i held (gives (tt {0})) tt))
   block-order levels i block.Code =
@@ -344,9 +292,9 @@ module _ (k : CharClasses) where
   call-order (suc levels) call z s =
       silent (level_of (rules k) k levels) (call-order levels) (block-order levels (call-order levels)) (production k call) (guarded-production (λ (m : Mark). false) false k call) z s
 
-  whole-order : (levels : ℕ) → AllInOrder (run (level_of (rules k) k levels) whole)
+  whole-order : AllInOrder (run (level_at k max_depth) whole)
   unfolding whole
-  whole-order levels = flushed-order (level_of (rules k) k levels) (call-order levels) (block-order levels (call-order levels)) is_end (sane-meaning (rules k) k levels) (sane-block (rules k) k levels) refl (leads-by levels)
+  whole-order = flushed-order (level_at k max_depth) (call-order max_depth) (block-order max_depth (call-order max_depth)) is_end (λ _. text-taking k)
 
 -- ---- in bytes
 
@@ -366,17 +314,15 @@ noted-order lv text (marked at gap fewer m s ∷ asks) h ns lo hi e r =
     let i = noted-order lv text asks (with_note gap (lv - fewer) m s (moved at z) h) (ns ++ note ∷ []) (at + gap) hi (noted-more note h.notes ns e) r.2 in
     let before : note.before ≡ width (take at text) = width-moved at text in
     let start : note.start ≡ width (take (at + gap) text) = ap (λ (y : Place). width y.before) (sym (moved-sum at gap z)) ∙ width-moved (at + gap) text in
-    let one = take-more lo at text r.0 in
-    let two = take-more at (at + gap) text (omega arith) in
     record {
       more = note ∷ i.more;
       is = i.is ∙ ap Some (append_assoc ns (note ∷ []) i.more);
-      rising = (omega (arith, one, before), omega (arith, two, before, start), subst (λ n. IsRising n i.more) (sym start) i.rising);
+      rising = (omega (arith, take-more lo at text r.0, before), omega (arith, take-more at (at + gap) text (omega arith), before, start), subst (λ n. IsRising n i.more) (sym start) i.rising);
     }
 
 pub in-order-law : InOrderLaw
 unfolding log
 in-order-law k text =
     let o = parsed k max_depth text in
-    let n = noted-order max_depth text o.asks no_log [] 0 o.taken refl (whole-order k max_depth (start_of text) (start_point markup_reading)) in
+    let n = noted-order max_depth text o.asks no_log [] 0 o.taken refl (whole-order k (start_of text) (start_point markup_reading)) in
     subst (λ ns. IsRising 0 ns) (sym (ap listed n.is)) (subst (λ d. IsRising d n.more) width-none n.rising)

@@ -86,31 +86,26 @@ noted-nth P levels z [] h ns i j e a = record { more = []; is = e ∙ ap Some (s
 noted-nth P levels z (looked at look ∷ asks) h ns i j e a = noted-nth P levels z asks (with_hull (hull_of look (moved at z)) h) ns i j e a
 noted-nth P levels z (marked at gap zero m s ∷ asks) h ns i j e a =
     let left = suc levels - 0 in
-    let k = with_note gap left m s (moved at z) h in
     let note : Note = record { mark = m; before = position (moved at z); start = position (moved gap (moved at z)); levels = left; state = s; reach = h.reach; least = h.least } in
-    let r = noted-nth P levels z asks k (ns ++ note ∷ []) (suc i) j (noted-more note h.notes ns e) a.1 in
+    let r = noted-nth P levels z asks (with_note gap left m s (moved at z) h) (ns ++ note ∷ []) (suc i) j (noted-more note h.notes ns e) a.1 in
     let own : of_level (suc levels) (note ∷ r.more) ≡ note ∷ of_level (suc levels) r.more = if-true (left == suc levels) _ _ (eq-eqb left (suc levels) (omega arith)) in
-    let all = r.all in
     let long : length (of_level (suc levels) (note ∷ r.more)) ≡ suc (length (of_level (suc levels) r.more)) = ap length own in
     record {
       more = note ∷ r.more;
       is = r.is ∙ ap Some (append_assoc ns (note ∷ []) r.more);
       each = subst (λ xs. Numbered (NoteNth P z) i xs) (sym own) (record { at = at; gap = gap; says = m; told = s; holds = a.0; mark = refl; before = refl; start = refl; state = refl }, r.each);
-      all = omega (arith, all, long);
+      all = omega (arith, r.all, long);
     }
 noted-nth P levels z (marked at gap (suc fewer) m s ∷ asks) h ns i j e a =
     let left = suc levels - suc fewer in
-    let k = with_note gap left m s (moved at z) h in
     let note : Note = record { mark = m; before = position (moved at z); start = position (moved gap (moved at z)); levels = left; state = s; reach = h.reach; least = h.least } in
-    let r = noted-nth P levels z asks k (ns ++ note ∷ []) i j (noted-more note h.notes ns e) a in
+    let r = noted-nth P levels z asks (with_note gap left m s (moved at z) h) (ns ++ note ∷ []) i j (noted-more note h.notes ns e) a in
     let other : of_level (suc levels) (note ∷ r.more) ≡ of_level (suc levels) r.more = if-false (left == suc levels) _ _ (ne_eqb left (suc levels) (omega arith)) in
-    let all = r.all in
-    let long = ap length other in
     record {
       more = note ∷ r.more;
       is = r.is ∙ ap Some (append_assoc ns (note ∷ []) r.more);
       each = subst (λ xs. Numbered (NoteNth P z) i xs) (sym other) r.each;
-      all = omega (arith, all, long);
+      all = omega (arith, r.all, ap length other);
     }
 
 pub numbered-by : (P Q : ℕ → Note → Type 0) → ((i : ℕ) (n : Note) → P i n → Q i n) → (i : ℕ) (ns : List Note) → Numbered P i ns → Numbered Q i ns

@@ -5,7 +5,9 @@ use Rattle.typst_lines.specs.Place.{Place, moved}
 use Rattle.typst_lines.specs.Classes.{CharClasses}
 use Rattle.typst_tokens.specs.Sight.{width}
 use Rattle.typst_language.specs.declared.calls.Block.TheVariants as block
+use Rattle.typst_language.specs.declared.calls.Mark.{Mark}
 use Rattle.typst_language.specs.declared.calls.Mark.TheVariants as mark
+use Rattle.typst_language.specs.declared.reading.State.{State}
 use Rattle.typst_language.specs.Ask.{Ask, shift, shift_one}
 use Rattle.typst_language.specs.Ask.Ask.{looked, marked}
 use Rattle.typst_language.specs.Meaning.{Outcome, Meaning, repeated, start_point, run}
@@ -22,16 +24,16 @@ use Rattle.typst_edits.specs.Laws.{blocks_of_text, block_at}
 use Rattle.typst_edits.specs.RunBytes.{PieceNote}
 use Rattle.typst_edits.specs.Runs.{made, AllGo, End, end_of, asks_of, chain}
 use Rattle.typst_edits.specs.Sequence.{Sequence, turn_of, first_of, first_end, then_of, then_end, rest_of}
-use Rattle.typst_edits.specs.Spot.{Spot, unit_at, around, lower, lowered, ended}
+use Rattle.typst_edits.specs.Spot.{Spot, unit_at, around, lowered, ended}
 use Rattle.typst_edits.proofs.Blocks.{ends}
 use Rattle.typst_edits.proofs.BlockRuns.{sane, content_by, by_run, content-is, content-split, content-taken, split-taken}
 use Rattle.typst_edits.proofs.Boundary.{piece_mark, chain-asks, begins-append, looks_in, pieces-begin, each-ends, made-add, go-add, from-both, boundary, told-at}
 use Rattle.typst_edits.specs.Splice.{notes_in}
 use Rattle.typst_edits.proofs.EmptyRuns.{Never}
 use Rattle.typst_edits.proofs.Marks.{AllMarks, marks-append, none-hand}
-use Rattle.typst_edits.proofs.PieceAsks.{lifted-count}
+use Rattle.typst_edits.proofs.PieceAsks.{lifted-count, lifted-append, lifted-ends}
 use Rattle.typst_edits.proofs.Sides.{count-append, count-shift, count-none}
-use Rattle.typst_edits.proofs.Bytes.{AllFrom, begin-by, begin-to}
+use Rattle.typst_edits.proofs.Bytes.{AllFrom, begin-by, begin-to, both-end}
 use Rattle.typst_edits.proofs.Edit.{among}
 use Rattle.typst_edits.proofs.Inside.{Lawful}
 use Rattle.typst_edits.proofs.InnerJoint.{inner-fronted}
@@ -39,7 +41,8 @@ use Rattle.typst_edits.proofs.Law.{inside-level}
 use Rattle.typst_edits.proofs.Outcomes.{shift-zero, shift-twice}
 use Rattle.typst_edits.proofs.Runs.{repeated-chain, chain-state, chain-taken}
 use Rattle.typst_edits.proofs.Text.{content-reads}
-use Rattle.typst_edits.proofs.Within.{AllAt, at-second}
+use Rattle.typst_edits.proofs.Within.{AllAt, at-second, at-first}
+use Rattle.typst_edits.proofs.Seen.{end-first, end-second}
 
 -- ---- what is asked in a content block
 
@@ -134,13 +137,13 @@ module _ (k : CharClasses) (levels : ℕ) where
   unfolding run
   lead-bare z s = let b = bracket k levels z s in none-hand Never k b.state.held b.state.known (moved b.taken z)
 
-  pub before-bare : (z : Place) (s : Point) → AllMarks Never (asks_before k levels z s)
+  pub before-marks : (P : ℕ → ℕ → Mark → State → Type 0) (z : Place) (s : Point) → AllMarks P (asks_before k levels z s)
   unfolding run
-  before-bare z s =
+  before-marks P z s =
       let s1 = (look_first k levels z s).state in
       let s2 = (look_again k levels z s).state in
-      marks-append Never (look_first k levels z s).asks _ (none-hand Never k s.held s.known z)
-      (marks-append Never (look_again k levels z s).asks (bracket k levels z s).asks (none-hand Never k s1.held s1.known z) (none-hand Never k s2.held s2.known z))
+      marks-append P (look_first k levels z s).asks _ (none-hand P k s.held s.known z)
+      (marks-append P (look_again k levels z s).asks (bracket k levels z s).asks (none-hand P k s1.held s1.known z) (none-hand P k s2.held s2.known z))
 
 -- As many notes are made in several turns as in the first and in those after it.
 made-count : {A : Type 0} (f : A → Meaning (Bool × A)) (i n : ℕ) (x : A) (z : Place) (s : Point)
@@ -151,35 +154,22 @@ made-count f (suc i) n x z s =
     let y = moved o.taken z in
     let same : suc i + n ≡ suc (i + n) = omega arith in
     let is = ap (λ j. notes_in (asks_of (made f j x z s))) same in
-    let rest = made-count f i n o.value.1 y o.state in
     let os = made f i o.value.1 y o.state in
     let e = end_of o.value.1 o.state os in
     let all = asks_of (made f (i + n) o.value.1 y o.state) in
-    let a = count-append o.asks (shift o.taken all) in
-    let b = count-shift o.taken all in
     let c = count-append o.asks (shift o.taken (asks_of os)) in
-    let d = count-shift o.taken (asks_of os) in
     let place = ap (λ v. notes_in (asks_of (made f n e.value v e.state))) (moved-sum o.taken e.taken z) in
-    omega (arith, is, rest, a, b, c, d, place)
+    omega (arith, is, made-count f i n o.value.1 y o.state, count-append o.asks (shift o.taken all), count-shift o.taken all, c, count-shift o.taken (asks_of os), place)
 
 nothing-more : (n : ℕ) → n + 0 ≡ n
 nothing-more n = omega arith
 
 -- ---- looks in a larger whole
 
-lowered-append : (a f : ℕ) (ls ks : List Ask) → shift a (lowered f (ls ++ ks)) ≡ shift a (lowered f ls) ++ shift a (lowered f ks)
-lowered-append a f [] ks = refl
-lowered-append a f (l ∷ ls) ks = ap (λ u. shift_one a (lower f l) ∷ u) (lowered-append a f ls ks)
-
 ends-lowered : (n a f : ℕ) (ls : List Ask) → AllEndBy n (shift a (lowered f ls)) → AllEndBy n (shift a ls)
 ends-lowered n a f [] h = tt
 ends-lowered n a f (looked at look ∷ ls) h = (h.0, ends-lowered n a f ls h.1)
 ends-lowered n a f (marked at gap fewer m s ∷ ls) h = ends-lowered n a f ls h
-
-ends-lower : (n a f : ℕ) (ls : List Ask) → AllEndBy n (shift a ls) → AllEndBy n (shift a (lowered f ls))
-ends-lower n a f [] h = tt
-ends-lower n a f (looked at look ∷ ls) h = (h.0, ends-lower n a f ls h.1)
-ends-lower n a f (marked at gap fewer m s ∷ ls) h = ends-lower n a f ls h
 
 from-lowered : (b : ℕ) (z : Place) (a f : ℕ) (ls : List Ask) → AllFrom b z (shift a (lowered f ls)) → AllFrom b z (shift a ls)
 from-lowered b z a f [] h = tt
@@ -197,14 +187,7 @@ at-lowered n a f (looked at look ∷ ls) h = (h.0, at-lowered n a f ls h.1)
 at-lowered n a f (marked at gap fewer m s ∷ ls) h = at-lowered n a f ls h
 
 split-ends : (n : ℕ) (ls ks : List Ask) → AllEndBy n (ls ++ ks) → AllEndBy n ls × AllEndBy n ks
-split-ends n [] ks h = (tt, h)
-split-ends n (looked at look ∷ ls) ks h = let i = split-ends n ls ks h.1 in ((h.0, i.0), i.1)
-split-ends n (marked at gap fewer m s ∷ ls) ks h = split-ends n ls ks h
-
-pub both-end : (n : ℕ) (ls ks : List Ask) → AllEndBy n ls → AllEndBy n ks → AllEndBy n (ls ++ ks)
-both-end n [] ks h i = i
-both-end n (looked at look ∷ ls) ks h i = (h.0, both-end n ls ks h.1 i)
-both-end n (marked at gap fewer m s ∷ ls) ks h i = both-end n ls ks h i
+split-ends n ls ks h = (end-first n ls ks h, end-second n ls ks h)
 
 split-from : (b : ℕ) (z : Place) (ls ks : List Ask) → AllFrom b z (ls ++ ks) → AllFrom b z ls × AllFrom b z ks
 split-from b z [] ks h = (tt, h)
@@ -212,9 +195,7 @@ split-from b z (looked at look ∷ ls) ks h = let i = split-from b z ls ks h.1 i
 split-from b z (marked at gap fewer m s ∷ ls) ks h = split-from b z ls ks h
 
 split-at : (n : ℕ) (ls ks : List Ask) → AllAt n (ls ++ ks) → AllAt n ls × AllAt n ks
-split-at n [] ks h = (tt, h)
-split-at n (looked at look ∷ ls) ks h = let i = split-at n ls ks h.1 in ((h.0, i.0), i.1)
-split-at n (marked at gap fewer m s ∷ ls) ks h = split-at n ls ks h
+split-at n ls ks h = (at-first n ls ks h, at-second n ls ks h)
 
 -- ---- the note where pieces of a block's run end
 
@@ -252,28 +233,27 @@ module _ (k : CharClasses) (levels : ℕ) (text : List ℕ) (c : Spot (Unit {0})
   abbrev asks_behind : ℕ → List Ask
   asks_behind j = asks_by k levels z s (first_end j r)
 
-  -- the note where j pieces end, and what its numbers say
-  record NoteIn (j : ℕ) : Type 0 where
-    told : PieceNote (log k text) (suc levels) text (ended_at j)
-    start : 0 < j → told.note.start ≡ width (take ((ended_at j).taken + gap_of (ended_at j).state.known) text)
+  -- the note where j pieces end, and what its numbers say of what was asked before it and after it
+  record NoteIn (j : ℕ) (e : End (Bool × ℕ)) (behind : List Ask) : Type 0 where
+    told : PieceNote (log k text) (suc levels) text e
+    start : 0 < j → told.note.start ≡ width (take (e.taken + gap_of e.state.known) text)
     count : length told.earlier ≡ notes_in c.before + notes_in (asks_of (first_of j r))
-    start_first : j ≡ 0 → told.note.start ≡ width (take (ended_at j).taken text)
+    start_first : j ≡ 0 → told.note.start ≡ width (take e.taken text)
     reached : (front more : List ℕ) → text ≡ front ++ more → highest told.earlier told.note.reach ≤ width front → Early (length front) j
     reached_too : (front more : List ℕ) → text ≡ front ++ more → Early (length front) j → highest told.earlier told.note.reach ≤ width front
-    begun : (b : ℕ) → b < lowest told.later (log k text).least → AllFrom b z0 (shift (ended_at j).taken (asks_behind j)) × AllFrom b z0 (shift end c.after)
-    begun_too : (b : ℕ) → 0 < j → b < 2 ^ 64 - 1 → AllFrom b z0 (shift (ended_at j).taken (asks_behind j)) → AllFrom b z0 (shift end c.after) → b < lowest told.later (log k text).least
-    placed : AllAt (length text) (shift (ended_at j).taken (asks_behind j))
+    begun : (b : ℕ) → b < lowest told.later (log k text).least → AllFrom b z0 behind × AllFrom b z0 (shift end c.after)
+    begun_too : (b : ℕ) → 0 < j → b < 2 ^ 64 - 1 → AllFrom b z0 behind → AllFrom b z0 (shift end c.after) → b < lowest told.later (log k text).least
+    placed : AllAt (length text) behind
     placed_after : AllAt (length text) (shift end c.after)
 
-  note-in : (j : ℕ) → AllGo (first_of j r) → NoteIn j
+  note-in : (j : ℕ) → AllGo (first_of j r) → NoteIn j (ended_at j) (shift (ended_at j).taken (asks_behind j))
   unfolding run
   note-in j g =
       let b = opened k levels z s in
       let f = c.fewer in
       let e = first_end j r in
       let behind = asks_behind j in
-      let q = rest_by k levels z s e in
-      let begins = begins-append (looks_in r (moved e.taken r.place) e.state) q.asks _ (pieces-begin r e.value (moved e.taken r.place) e.state) in
+      let begins = begins-append (looks_in r (moved e.taken r.place) e.state) (rest_by k levels z s e).asks _ (pieces-begin r e.value (moved e.taken r.place) e.state) in
       let cut = boundary r (first_point k levels z s) refl (asks_first k levels z s) j behind g begins in
       let what = mark.Piece e.value.0 e.value.1 in
       let m = marked e.taken cut.gap 0 what (state_of e.state) in
@@ -290,8 +270,8 @@ module _ (k : CharClasses) (levels : ℕ) (text : List ℕ) (c : Spot (Unit {0})
       let low = λ (ls : List Ask). shift c.at (lowered f ls) in
       let m2 = marked (c.at + (b + e.taken)) cut.gap (f + 0) what (state_of e.state) in
       let moved_own : low (unit_at c z0).asks ≡ low pre ++ (low one ++ m2 ∷ (low two ++ low three)) =
-      ap low own ∙ ap (λ u. low (pre ++ u)) apart ∙ lowered-append c.at f pre (one ++ m1 ∷ (two ++ three))
-      ∙ ap (λ u. low pre ++ u) (lowered-append c.at f one (m1 ∷ (two ++ three)) ∙ ap (λ u. low one ++ m2 ∷ u) (lowered-append c.at f two three)) in
+      ap low own ∙ ap (λ u. low (pre ++ u)) apart ∙ lifted-append c.at f pre (one ++ m1 ∷ (two ++ three))
+      ∙ ap (λ u. low pre ++ u) (lifted-append c.at f one (m1 ∷ (two ++ three)) ∙ ap (λ u. low one ++ m2 ∷ u) (lifted-append c.at f two three)) in
       let after = shift end c.after in
       let rest = m2 ∷ (low two ++ (low three ++ after)) in
       let early = c.before ++ (low pre ++ low one) in
@@ -317,22 +297,18 @@ module _ (k : CharClasses) (levels : ℕ) (text : List ℕ) (c : Spot (Unit {0})
         start = λ l. t.start ∙ ap (λ n. width (take (n + cut.gap) text)) place ∙ ap (λ n. width (take ((at + e.taken) + n) text)) (cut.gap_is l);
         count =
             (let a = t.count in
-            let b1 = count-append c.before (low pre ++ low one) in
-            let b2 = count-append (low pre) (low one) in
             let b3 = lifted-count c.at f pre in
             let b4 = lifted-count c.at f one in
             let b5 = count-shift b cut.early in
-            let b6 = count-none pre (before-bare k levels z s) in
+            let b6 = count-none pre (before-marks k levels Never z s) in
             let ls = asks_first k levels z s in
             let os = asks_of (first_of j r) in
             let all_is = ap notes_in cut.is in
             let d1 = count-append (ls ++ os) late in
-            let d2 = count-append ls os in
             let d3 = count-none ls (lead-bare k levels z s) in
             let d4 = count-append cut.early (m ∷ (cut.late ++ late)) in
-            let d5 = count-append cut.late late in
             let d6 = count-none cut.late (cut.late_bare (lead-bare k levels z s)) in
-            omega (arith, a, b1, b2, b3, b4, b5, b6, all_is, d1, d2, d3, d4, d5, d6));
+            omega (arith, a, count-append c.before (low pre ++ low one), count-append (low pre) (low one), b3, b4, b5, b6, all_is, d1, count-append ls os, d3, d4, count-append cut.late late, d6));
         start_first = λ none. t.start ∙ ap (λ n. width (take (n + cut.gap) text)) place ∙ ap (λ n. width (take ((at + e.taken) + n) text)) (cut.gap_first none) ∙ ap (λ n. width (take n text)) (nothing-more (at + e.taken));
         reached = λ front more same h.
             (let n = length front in
@@ -345,8 +321,8 @@ module _ (k : CharClasses) (levels : ℕ) (text : List ℕ) (c : Spot (Unit {0})
             });
         reached_too = λ front more same h.
             (let n = length front in
-            let d = ends-lower n c.at f one (subst (λ u. AllEndBy n u) (sym (shift-twice c.at b cut.early)) (cut.ends_too n at h.before_run)) in
-            t.reached_too front more same (both-end n c.before (low pre ++ low one) h.before (both-end n (low pre) (low one) (ends-lower n c.at f pre h.opens) d)));
+            let d = lifted-ends c.at f n one (subst (λ u. AllEndBy n u) (sym (shift-twice c.at b cut.early)) (cut.ends_too n at h.before_run)) in
+            t.reached_too front more same (both-end n c.before (low pre ++ low one) h.before (both-end n (low pre) (low one) (lifted-ends c.at f n pre h.opens) d)));
         begun = λ n l.
             (let a = split-from n z0 (low two) (low three ++ after) (t.begun n l) in
             let d = split-from n z0 (low three) after a.1 in
@@ -366,45 +342,17 @@ module _ (k : CharClasses) (levels : ℕ) (text : List ℕ) (c : Spot (Unit {0})
   abbrev asks_from : ℕ → ℕ → List Ask
   asks_from i n = let q = rest_of i n r in let t = tail_at k levels i n c z0 in q.asks ++ shift q.taken (t.asks ++ shift t.taken (close_at k levels i n c z0).asks)
 
-  record NoteBoth (i n : ℕ) : Type 0 where
-    told : PieceNote (log k text) (suc levels) text (both i n)
-    count : length told.earlier ≡ (notes_in c.before + notes_in (asks_of (first_of i r))) + notes_in (asks_of (then_of i n r))
-    start : 0 < i + n → told.note.start ≡ width (take ((both i n).taken + gap_of (both i n).state.known) text)
-    begun : (b : ℕ) → b < lowest told.later (log k text).least → AllFrom b z0 (shift (both i n).taken (asks_from i n)) × AllFrom b z0 (shift end c.after)
-    begun_too : (b : ℕ) → 0 < i + n → b < 2 ^ 64 - 1 → AllFrom b z0 (shift (both i n).taken (asks_from i n)) → AllFrom b z0 (shift end c.after) → b < lowest told.later (log k text).least
-    placed : AllAt (length text) (shift (both i n).taken (asks_from i n))
-    placed_after : AllAt (length text) (shift end c.after)
-
-  note-both : (i n : ℕ) → AllGo (first_of i r) → AllGo (then_of i n r) → NoteBoth i n
+  note-both : (i n : ℕ) → AllGo (first_of i r) → AllGo (then_of i n r) → NoteIn (i + n) (both i n) (shift (both i n).taken (asks_from i n))
   note-both i n g h =
-      let two = note-in (i + n) (go-add (turn_of r) (looks_in r) (each-ends r) i n (true, 0) r.place r.point g h) in
       let f = then_end i n r in
       let fe = first_end i r in
       let u : End (Bool × ℕ) = record f { taken = fe.taken + f.taken } in
       let sum : first_end (i + n) r ≡ u = made-add (turn_of r) (looks_in r) (each-ends r) i n (true, 0) r.place r.point in
       let rest_is : rest_by k levels z s u ≡ rest_of i n r = ap (λ w. repeated (turn_of r) f.value w f.state) (moved-sum fe.taken f.taken r.place) in
       let asks_with = λ (q : Outcome (Bool × ℕ)). (let t = inner_tail k levels (u.taken + q.taken) q.state r.place in q.asks ++ shift q.taken (t.asks ++ shift t.taken (inner_close k levels ((u.taken + q.taken) + t.taken) t.state r.place).asks)) in
-      let asks_is : shift (ended_at (i + n)).taken (asks_behind (i + n)) ≡ shift (both i n).taken (asks_from i n) =
-      ap (λ (v : End (Bool × ℕ)). shift (at + v.taken) (asks_by k levels z s v)) sum ∙ ap (λ q. shift (at + u.taken) (asks_with q)) rest_is in
-      let t = two.told in
-      record {
-        told = record {
-          earlier = t.earlier;
-          note = t.note;
-          later = t.later;
-          notes = t.notes;
-          mark = t.mark ∙ ap (λ (v : End (Bool × ℕ)). mark.Piece v.value.0 v.value.1) sum;
-          before = t.before ∙ ap (λ (v : End (Bool × ℕ)). width (take (at + v.taken) text)) sum;
-          levels = t.levels;
-          state = t.state ∙ ap (λ (v : End (Bool × ℕ)). state_of v.state) sum;
-        };
-        count = (let a = two.count in let b = made-count (turn_of r) i n (true, 0) r.place r.point in omega (arith, a, b));
-        start = λ l. two.start l ∙ ap (λ (v : End (Bool × ℕ)). width (take ((at + v.taken) + gap_of v.state.known) text)) sum;
-        begun = λ b l. (let p = two.begun b l in (subst (λ ls. AllFrom b z0 ls) asks_is p.0, p.1));
-        begun_too = λ b l big f d. two.begun_too b l big (subst (λ ls. AllFrom b z0 ls) (sym asks_is) f) d;
-        placed = subst (λ ls. AllAt (length text) ls) asks_is two.placed;
-        placed_after = two.placed_after;
-      }
+      subst (λ (q : Outcome (Bool × ℕ)). NoteIn (i + n) (both i n) (shift (both i n).taken (asks_with q))) rest_is
+      (subst (λ (v : End (Bool × ℕ)). NoteIn (i + n) (record v { taken = at + v.taken }) (shift (at + v.taken) (asks_by k levels z s v))) sum
+      (note-in (i + n) (go-add (turn_of r) (looks_in r) (each-ends r) i n (true, 0) r.place r.point g h)))
 
   -- how many characters the block takes
   unit-taken : (i n : ℕ) → AllGo (first_of i r) → AllGo (then_of i n r)
@@ -414,10 +362,7 @@ module _ (k : CharClasses) (levels : ℕ) (text : List ℕ) (c : Spot (Unit {0})
       let t = tail_at k levels i n c z0 in
       let close = close_at k levels i n c z0 in
       let split = ap (λ (o : Outcome (Unit {0})). o.taken) (content-split k levels z s i n g h) in
-      let all = content-taken k levels z s (chain (first_of i r) (chain (then_of i n r) q)) t close in
-      let run = split-taken r i n in
-      let is = ap (λ (o : Outcome (Unit {0})). o.taken) reads in
-      omega (arith, is, split, all, run)
+      omega (arith, ap (λ (o : Outcome (Unit {0})). o.taken) reads, split, content-taken k levels z s (chain (first_of i r) (chain (then_of i n r) q)) t close, split-taken r i n)
 
 -- ---- after the trivia
 
@@ -455,8 +400,6 @@ inner-decision-law k levels front old rest c i n chosen name level g h =
     let z = text_with front old rest in
     let o = parsed k max_depth text in
     let l = among (Lawful z z o o) c _ chosen (inside-level (rules k) k (ends k) max_depth whole z z (start_point markup_reading)) in
-    let s = point_of c.start in
-    let y = moved c.at z in
     let reads = content-reads k text c chosen levels name level z in
     let one = note-in k levels text c l.old reads level i g in
     let two = note-both k levels text c l.old reads level i n g h in
@@ -465,12 +408,11 @@ inner-decision-law k levels front old rest c i n chosen name level g h =
     let taken = unit-taken k levels text c l.old reads level i n g h in
     let u = inner_both k levels i n c z in
     let asks = asks_from k levels text c l.old reads level i n in
-    let close = close_at k levels i n c z in
     record {
       begins = one.told;
       ends = two.told;
       number = one.count;
-      number_end = two.count;
+      number_end = (let r = run_at k levels c z in let a = two.count in let b = made-count (turn_of r) i n (true, 0) r.place r.point in omega (arith, a, b));
       token = λ m. one.start m;
       token_first = λ m. one.start_first m;
       trivia_end = λ m. two.start m;
@@ -486,18 +428,16 @@ inner-decision-law k levels front old rest c i n chosen name level g h =
       after_trivia = λ past t known e m.
           (let p = two.begun b m in
           let v = past-trivia k levels i n c z t known in
-          let took = v.taken in
           let ls = asks_past k levels i n t c z in
           let is = ap (shift u.taken) v.asks ∙ shift-twice u.taken t.gap ls in
           record {
             inside = begin-by front old rest (u.taken + t.gap) past ls e (subst (λ ls. AllAt (length text) ls) is two.placed) (subst (λ ls. AllFrom b z ls) is p.0);
-            behind = begin-by front old rest end (past + left_past k levels i n t c z) c.after (omega (arith, taken, e, took)) two.placed_after p.1;
+            behind = begin-by front old rest end (past + left_past k levels i n t c z) c.after (omega (arith, taken, e, v.taken)) two.placed_after p.1;
           });
       after_trivia_too = λ past t known e m big f.
           (let v = past-trivia k levels i n c z t known in
-          let took = v.taken in
           let ls = asks_past k levels i n t c z in
           let is = ap (shift u.taken) v.asks ∙ shift-twice u.taken t.gap ls in
           two.begun_too b m big (subst (λ ls. AllFrom b z ls) (sym is) (begin-to front old rest (u.taken + t.gap) past ls e f.inside))
-          (begin-to front old rest end (past + left_past k levels i n t c z) c.after (omega (arith, taken, e, took)) f.behind));
+          (begin-to front old rest end (past + left_past k levels i n t c z) c.after (omega (arith, taken, e, v.taken)) f.behind));
     }

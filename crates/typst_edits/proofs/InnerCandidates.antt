@@ -85,14 +85,10 @@ some-is P a b e h = subst (λ o. elim o as (λ _. Type 0) [ None ↦ Unit {0} | 
 pub lies : (at : ℕ) (ts : List Tree) (i : ℕ) (c : Child) → child_at (laid at ts) i ≡ Some c → Lies at ts c
 lies at [] i c e = absurd (cc)
 lies at (t ∷ ts) zero c e =
-    let l = length-texts t ts in
-    some-is (Lies at (t ∷ ts)) (record { start = at; end = at + length (text_of t); node = t }) c e (record { from = omega arith; long = refl; to = omega (arith, l) })
+    some-is (Lies at (t ∷ ts)) (record { start = at; end = at + length (text_of t); node = t }) c e (record { from = omega arith; long = refl; to = omega (arith, length-texts t ts) })
 lies at (t ∷ ts) (suc i) c e =
-    let l = length-texts t ts in
     let r = lies (at + length (text_of t)) ts i c e in
-    let from = r.from in
-    let to = r.to in
-    record { from = omega (arith, from); long = r.long; to = omega (arith, to, l) }
+    record { from = omega (arith, r.from); long = r.long; to = omega (arith, r.to, length-texts t ts) }
 
 -- where the node of a block that isn't empty begins and ends, in bytes
 pub record Seat (text : List ℕ) (s : Spot (Unit {0})) : Type 0 where
@@ -120,23 +116,17 @@ module _ (k : CharClasses) (levels : ℕ) (text : List ℕ) (c : Spot (Unit {0})
   unfolding blocks_of_text run
   no-errors =
       let z = start_of text in
-      let s = point_of c.start in
-      let y = moved c.at z in
-      (opens-by k levels y s (begun-at k levels text c chosen name left z (same-here c.before z) some)).empties
+      (opens-by k levels (moved c.at z) (point_of c.start) (begun-at k levels text c chosen name left z (same-here c.before z) some)).empties
 
   -- its bracket, its markup with the children of its run, and what stands after that
   node-shape : LeadingInner k levels text c 0 0 first-trivia.trivia
   node-shape =
-      let back = (inner-back-law k levels text c 0 0).behind_back in
-      let none_there = no-errors in
-      leading-inner-law k levels text c 0 0 first-trivia.trivia chosen name left some tt tt first-trivia.is (inr (omega (arith, back, none_there)))
+      leading-inner-law k levels text c 0 0 first-trivia.trivia chosen name left some tt tt first-trivia.is (inr (omega (arith, (inner-back-law k levels text c 0 0).behind_back, no-errors)))
 
   -- Of these only the second is markup.
   pub plain-shape : Plain c.node
   plain-shape =
-      let back = (inner-back-law k levels text c 0 0).behind_back in
-      let none_there = no-errors in
-      plain-block k levels text c 0 0 first-trivia.trivia chosen name left some tt tt first-trivia.is (inr (omega (arith, back, none_there)))
+      plain-block k levels text c 0 0 first-trivia.trivia chosen name left some tt tt first-trivia.is (inr (omega (arith, (inner-back-law k levels text c 0 0).behind_back, no-errors)))
 
 -- ---- a candidate among its markup's children
 
@@ -159,9 +149,8 @@ record InRun (ns : List Note) (rs re at from : ℕ) (kids : List Tree) (c : Cand
 in-markup : (ns : List Note) (rs re at from : ℕ) (closed : Bool) (lead : Tree) (kids closing : List Tree) (c : Candidate) → InMarkup ns rs re at (block_with closed lead kids closing) c → at + length (text_of (opening_child closed lead)) ≡ from
     → InRun ns rs re at from kids c
 in-markup ns rs re at from closed lead kids closing c m sum =
-    let opening = opening_child closed lead in
     let markup = inner_of kind.Markup (forest kids) in
-    let start = (at + 0) + length (text_of opening) in
+    let start = (at + 0) + length (text_of (opening_child closed lead)) in
     let second : Child = record { start = start; end = start + length (text_of markup); node = markup } in
     let own = some-is (λ (d : Child). Among c (of_run rs re c.path (d.start + length d.node.head.text) (trees d.node.kids) (run_in ns at kind.ContentBlock d.node.head.kind))) m.child second (sym m.is) m.chosen in
     let before : start < rs = some-is (λ (d : Child). d.start < rs) m.child second (sym m.is) m.starts in
@@ -188,30 +177,22 @@ of-block apart k levels front old rest root s chosen name level c same candidate
     let there : Among c (candidates k text rs re (fill deep s.node)) = subst (λ cs. Among c cs) (bare-candidates-law ns rs re root was same ∙ ap (candidates k text rs re) own_tree) candidate in
     let m : InMarkup ns rs re (0 + length (left_text hole)) s.node c = among _ c _ there (descend ns rs re deep s.node [] (top_cuts ns) 0) pieces path in
     let in_node = lies ((0 + length (left_text hole)) + length s.node.head.text) (trees s.node.kids) 1 m.child m.is in
-    let order = width-append front old in
-    let starts = m.starts in
-    let ends_at = m.ends in
-    let from = in_node.from in
-    let to = in_node.to in
     let held : length (text_of s.node) ≡ length s.node.head.text + length (texts (trees s.node.kids)) = length-append s.node.head.text _ ∙ ap (λ n. length s.node.head.text + n) (ap length (joined-trees s.node.kids)) in
-    let full : 0 < length (text_of s.node) = omega (arith, order, starts, ends_at, from, to, held) in
+    let full : 0 < length (text_of s.node) = omega (arith, width-append front old, m.starts, m.ends, in_node.from, in_node.to, held) in
     let seat = seat-of k text s chosen full in
     let shape = node-shape k levels text s chosen name level seat.some in
     let at = width (take s.at text) in
-    let left_is = seat.left_is in
-    let both = seat.both in
-    let here : 0 + length (left_text hole) ≡ at = omega (arith, left_is) in
+    let here : 0 + length (left_text hole) ≡ at = omega (arith, seat.left_is) in
     let cuts = cuts-of-block apart k levels text s chosen name level in
-    let early : at < rs = omega (arith, here, from, starts) in
-    let late : re < width (take (s.at + (unit_at s (start_of text)).taken) text) = omega (arith, here, to, ends_at, held, both) in
+    let early : at < rs = omega (arith, here, in_node.from, m.starts) in
+    let late : re < width (take (s.at + (unit_at s (start_of text)).taken) text) = omega (arith, here, in_node.to, m.ends, held, seat.both) in
     let apart_text : (front ++ old) ++ rest ≡ text = append_assoc front old rest in
-    let long = length-append front old in
     let behind = further (s.at + (unit_at s (start_of text)).taken) (front ++ old) rest (subst (λ xs. re < width (take (s.at + (unit_at s (start_of text)).taken) xs)) (sym apart_text) late) in
     let in_shape = subst (λ x. InMarkup ns rs re at x c) shape.node (subst (λ a. InMarkup ns rs re a s.node c) here m) in
     let run = in-markup ns rs re at shape.from shape.closed shape.bracket shape.kids shape.closing c in_shape shape.opening in
     let kids : shape.kids ≡ kids_in s.node = sym (ap kids_in shape.node ∙ trees-of shape.kids) in
     record {
-      around = record { starts = sooner s.at front (old ++ rest) early; ends = omega (arith, long, behind) };
+      around = record { starts = sooner s.at front (old ++ rest) early; ends = omega (arith, length-append front old, behind) };
       some = seat.some;
       starts = subst (λ a. a < rs) shape.begins run.starts;
       ends = subst (λ a. re < a + bytes_of (kids_in s.node)) shape.begins (subst (λ ts. re < shape.from + bytes_of ts) kids run.ends);
@@ -227,11 +208,10 @@ one-cut : (k : CharClasses) (levels : ℕ) (text : List ℕ) (s : Spot (Unit {0}
     → is_among (token_byte text (inner_both k levels i 1 s (start_of text))) b.cuts ≡ true)
 one-cut k levels text s at i b g h =
     let r = run_at k levels s (start_of text) in
-    let a = opened_at k levels s (start_of text) in
     let one : i + 1 ≡ suc i = omega arith in
     let more : AllGo (first_of (suc i) r) = subst (λ j. AllGo (first_of j r)) one (go-add (turn_of r) (looks_in r) (each-ends r) i 1 (true, 0) r.place r.point g h) in
     let end = made-add (turn_of r) (looks_in r) (each-ends r) i 1 (true, 0) r.place r.point in
-    let byte = λ (e : End (Bool × ℕ)). width (take ((a + e.taken) + gap_of e.state.known) text) in
+    let byte = λ (e : End (Bool × ℕ)). width (take ((opened_at k levels s (start_of text) + e.taken) + gap_of e.state.known) text) in
     let there : token_byte text (inner_end k levels (suc i) s (start_of text)) ≡ token_byte text (inner_both k levels i 1 s (start_of text)) = ap (λ j. byte (first_end j r)) (sym one) ∙ ap byte end in
     subst (λ c. is_among c b.cuts ≡ true) there (b.is.has (suc i) (omega arith) (b.all (suc i) more))
 
@@ -263,10 +243,7 @@ module _ (k : CharClasses) (levels : ℕ) (front old rest : List ℕ) (s : Spot 
       let e = first_end i r in
       let a = opened_at k levels s z in
       let sum : a + (e.taken + gap_of e.state.known) ≡ (a + e.taken) + gap_of e.state.known = omega arith in
-      is ∙ ap (λ b. width (take (a + (if b then 0 else e.taken + gap_of e.state.known)) whole_text)) (ne_eqb i 0 (not-none i l)) ∙ ap (λ d. width (take d whole_text)) sum
-    where
-      not-none : (j : ℕ) → 0 < j → j ≡ 0 → ⊥
-      not-none j l e = absurd (omega (arith, l, e))
+      is ∙ ap (λ b. width (take (a + (if b then 0 else e.taken + gap_of e.state.known)) whole_text)) (ne_eqb i 0 (λ e. absurd (omega (arith, l, e)))) ∙ ap (λ d. width (take d whole_text)) sum
 
   end-byte : (at past : ℕ) → (inner_both k levels i n s z).taken + t.gap ≡ (length front + length old) + past → at ≡ width (front ++ (old ++ take past rest)) → at ≡ token_byte whole_text (inner_both k levels i n s z)
   end-byte at past ends is =
@@ -284,9 +261,7 @@ module _ (k : CharClasses) (levels : ℕ) (front old rest : List ℕ) (s : Spot 
   -- Pieces there, or none after others, separate what follows them from what is before them.
   settles : (j l : ℕ) → (0 < j → 0 < l) → Settles l (onwards_in k levels j l s z)
   settles zero zero f =
-      let back = (inner-back-law k levels whole_text s 0 0).behind_back in
-      let none_there = no-errors k levels whole_text s chosen name level some in
-      inr (omega (arith, back, none_there))
+      inr (omega (arith, (inner-back-law k levels whole_text s 0 0).behind_back, no-errors k levels whole_text s chosen name level some))
   settles zero (suc l) f = inl (omega arith)
   settles (suc j) l f = inl (f (omega arith))
 

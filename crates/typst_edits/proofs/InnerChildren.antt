@@ -35,16 +35,16 @@ use Rattle.typst_edits.specs.RunTrees.{given}
 use Rattle.typst_edits.specs.Runs.{AllGo, chain}
 use Rattle.typst_edits.specs.Sequence.{Sequence, turn_of, first_of, first_end, then_of, then_end, then_place, rest_of}
 use Rattle.typst_edits.specs.Spot.{Spot, last_node, unit_at}
-use Rattle.typst_edits.proofs.BlockRuns.{sane, content_by, split, split-taken, split-state}
+use Rattle.typst_edits.proofs.BlockRuns.{sane, content_by, split, split-taken, split-state, first-same}
 use Rattle.typst_edits.proofs.Blocks.{ends, last-is}
 use Rattle.typst_edits.proofs.Children.{exchanged-is, tidy-together, given-together, stretch-is, run-apart}
 use Rattle.typst_edits.proofs.Clear.{Clear, clear-level}
 use Rattle.typst_edits.proofs.Content.{Begun, again, content-begun}
 use Rattle.typst_edits.proofs.Edit.{among, before-same, trees-of, alter-at, replaced-plug}
-use Rattle.typst_edits.proofs.Enclosed.{opener-takes}
+use Rattle.typst_edits.proofs.Enclosed.{opener-takes, Apart}
 use Rattle.typst_edits.proofs.Fitting.{same-here}
 use Rattle.typst_edits.proofs.Inside.{Lawful}
-use Rattle.typst_edits.proofs.InnerJoint.{onward-fronted, first-same, inner-joint-law, block-taking}
+use Rattle.typst_edits.proofs.InnerJoint.{onward-fronted, inner-joint-law, block-taking}
 use Rattle.typst_edits.proofs.Law.{inside-level}
 use Rattle.typst_edits.proofs.Led.{none-of}
 use Rattle.typst_edits.proofs.RunTrees.{standing-none, standing-still, standing-chain}
@@ -52,22 +52,17 @@ use Rattle.typst_edits.proofs.Text.{content-reads}
 use Rattle.typst_edits.proofs.Boundary.{KnownAt}
 use Rattle.typst_language.specs.Ask.{SameIn}
 use Rattle.typst_language.specs.declared.calls.Block.TheVariants as block
+use Rattle.typst_language.proofs.Within.{on_both}
 
 -- ---- what leaves the nodes before it as they are
 
-pub record Quiet {A : Type 0} (o : Outcome A) : Type 0 where
-  back : o.back ≡ 0
-  hints : o.hints ≡ []
-
 -- It stands after them.
-quiet-standing : {A : Type 0} (o : Outcome A) (ts : List Tree) → Quiet o → standing o ts ≡ ts ++ o.nodes
+quiet-standing : {A : Type 0} (o : Outcome A) (ts : List Tree) → Apart o → standing o ts ≡ ts ++ o.nodes
 quiet-standing o ts q = ap (λ hs. hinted hs (less o.back ts) ++ o.nodes) q.hints ∙ ap (λ n. less n ts ++ o.nodes) q.back ∙ ap (λ us. us ++ o.nodes) (less-none ts)
 
-quiet-joined : {A B : Type 0} (o : Outcome B) (p : Outcome A) → Quiet o → Quiet p → Quiet (joined o p)
+quiet-joined : {A B : Type 0} (o : Outcome B) (p : Outcome A) → Apart o → Apart p → Apart (joined o p)
 quiet-joined o p q r =
-    let one = q.back in
-    let two = r.back in
-    record { back = omega (arith, one, two); hints = none-of (nat_lt p.back (length o.nodes)) (nat_lt (length o.nodes) p.back) o.hints p.hints q.hints r.hints }
+    record { back = omega (arith, q.back, r.back); hints = none-of (nat_lt p.back (length o.nodes)) (nat_lt (length o.nodes) p.back) o.hints p.hints q.hints r.hints }
 
 -- ---- the node of a content block
 
@@ -78,12 +73,8 @@ shaped-is false lb kids ends = refl
 hints-joined : {A B : Type 0} (o : Outcome B) (p : Outcome A) → o.hints ≡ [] → p.hints ≡ [] → (joined o p).hints ≡ []
 hints-joined o p e f = none-of (nat_lt p.back (length o.nodes)) (nat_lt (length o.nodes) p.back) o.hints p.hints e f
 
-quiet-if : {A : Type 0} (b : Bool) (o p : Outcome A) → Quiet o → Quiet p → Quiet (if b then o else p)
-quiet-if true o p q r = q
-quiet-if false o p q r = r
-
 -- the trivia after a run
-tail-quiet : (k : CharClasses) (levels n : ℕ) (s : Point) (z : Place) → Quiet (inner_tail k levels n s z)
+tail-quiet : (k : CharClasses) (levels n : ℕ) (s : Point) (z : Place) → Apart (inner_tail k levels n s z)
 unfolding run flush_trivia
 tail-quiet k levels n s z =
     let l = inner k levels in
@@ -159,7 +150,7 @@ module _ (k : CharClasses) (levels : ℕ) (z : Place) (s : Point) where
       ∙ standing-joined r (plain (tt {0}) r.state) none ∙ standing-still (plain (tt {0}) r.state) (standing r none) refl refl refl)
 
   -- the block's one node, by its run
-  pub node-is : (r : Outcome (Bool × ℕ)) (t : Outcome (Unit {0})) (close : Outcome Bool) (b : Opens) → Quiet (the_run r t) → Quiet close
+  pub node-is : (r : Outcome (Bool × ℕ)) (t : Outcome (Unit {0})) (close : Outcome Bool) (b : Opens) → Apart (the_run r t) → Apart close
       → (content_by k levels z s r t close).nodes ≡ block_with close.value b.node (standing t (standing r [])) close.nodes ∷ []
   unfolding run
   node-is r t close b quiet shut =
@@ -168,13 +159,13 @@ module _ (k : CharClasses) (levels : ℕ) (z : Place) (s : Point) where
       let body = body_of o in
       let kids = standing t (standing r []) in
       let none : 0 + o.back ≡ 0 = ap (λ n. 0 + n) quiet.back in
-      let quiet_w : Quiet w = record { back = quiet.back; hints = quiet.hints } in
+      let quiet_w : Apart w = record { back = quiet.back; hints = quiet.hints } in
       let one = joined w (plain w.value.1 w.state) in
       let two = plain (is_nil w.value.1) w.state in
       let w_nodes : w.nodes ≡ inner_of kind.Markup (forest kids) ∷ [] =
       ap (λ n. take n o.nodes ++ inner_of kind.Markup (forest (drop n o.nodes)) ∷ []) none ∙ ap (λ ts. inner_of kind.Markup (forest ts) ∷ []) (run-nodes r t) in
       let quiet_one = quiet-joined w (plain w.value.1 w.state) quiet_w (record { back = refl; hints = refl }) in
-      let quiet_body : Quiet body = quiet-joined one two quiet_one (record { back = refl; hints = refl }) in
+      let quiet_body : Apart body = quiet-joined one two quiet_one (record { back = refl; hints = refl }) in
       let body_nodes : body.nodes ≡ inner_of kind.Markup (forest kids) ∷ [] =
       standing-still two one.nodes refl refl refl ∙ standing-still (plain w.value.1 w.state) w.nodes refl refl refl ∙ w_nodes in
       let opening = bracket k levels z s in
@@ -183,15 +174,14 @@ module _ (k : CharClasses) (levels : ℕ) (z : Place) (s : Point) where
       let all_nodes : all.nodes ≡ b.node ∷ inner_of kind.Markup (forest kids) ∷ close.nodes =
       quiet-standing rest opening.nodes (quiet-joined body close quiet_body shut) ∙ ap (λ ts. ts ++ rest.nodes) b.nodes
       ∙ ap (λ ts. b.node ∷ ts) (quiet-standing close body.nodes shut ∙ ap (λ ts. ts ++ close.nodes) body_nodes) in
-      let quiet_all : Quiet all = quiet-joined opening rest (record { back = refl; hints = refl }) (quiet-joined body close quiet_body shut) in
+      let quiet_all : Apart all = quiet-joined opening rest (record { back = refl; hints = refl }) (quiet-joined body close quiet_body shut) in
       let second = look_again k levels z s in
-      let left = left_to second.state.reading all in
       let n = length (pending second.state.known) in
-      let block = wrapped (encloses kind.ContentBlock) n left in
+      let block = wrapped (encloses kind.ContentBlock) n (left_to second.state.reading all) in
       let zero_more : n + all.back ≡ 0 = ap (λ a. a + all.back) b.pending_none ∙ ap (λ a. 0 + a) quiet_all.back in
       let block_nodes : block.nodes ≡ block_with close.value b.node kids close.nodes ∷ [] =
       ap (λ a. take a all.nodes ++ shaped (encloses kind.ContentBlock close.value) (drop a all.nodes)) zero_more ∙ ap (λ ts. shaped (encloses kind.ContentBlock close.value) ts) all_nodes ∙ shaped-is close.value b.node kids close.nodes in
-      let quiet_block : Quiet block = record { back = quiet_all.back; hints = quiet_all.hints } in
+      let quiet_block : Apart block = record { back = quiet_all.back; hints = quiet_all.hints } in
       let value = plain block.value.0 block.state in
       let done = plain (tt {0}) block.state in
       let inside = joined block value in
@@ -209,16 +199,15 @@ module _ (k : CharClasses) (levels : ℕ) (z : Place) (s : Point) where
   abbrev whole_tail : Outcome (Unit {0})
   whole_tail = let r = inner_run k levels z s in inner_tail k levels whole_run.taken whole_run.state r.place
 
-  run-quiet : Opens → Quiet (the_run whole_run whole_tail)
+  run-quiet : Opens → Apart (the_run whole_run whole_tail)
   unfolding run
   run-quiet b =
-      let l = inner k levels in
       let r = inner_run k levels z s in
       let x = (bracket k levels z s).state in
       let o = whole_run in
       let t = whole_tail in
       let at = r.point in
-      let h = hand_of l r.place x in
+      let h = hand_of (inner k levels) r.place x in
       let u : Trivia = record { nodes = h.trivia; gap = h.gap; newlines = h.newlines } in
       let f = onward-fronted k levels at.held r.place u (true, 0) at.reading at.empties at.is_after_error in
       let tail = tail-quiet k levels o.taken o.state r.place in
@@ -230,25 +219,19 @@ module _ (k : CharClasses) (levels : ℕ) (z : Place) (s : Point) where
       let first = inner_lead k levels z s in
       let last = plain (tt {0}) o.state in
       let tidy_run = (sane k levels (repeat (markup_turn true ends_block) (true, 0))).backs r.place at in
-      let tidy_tail = (sane k levels flush_trivia).backs (moved o.taken r.place) o.state in
-      let tidy_four = backs-joined at o last tidy_run (tidy-plain (tt {0}) o.state) in
-      let tidy_three = backs-joined x first (joined o last) (record { back = omega arith; left = omega arith }) tidy_four in
+      let tidy_three = backs-joined x first (joined o last) (record { back = omega arith; left = omega arith }) (backs-joined at o last tidy_run (tidy-plain (tt {0}) o.state)) in
       let tidy_two = backs-joined x two (joined first (joined o last)) (record { back = omega arith; left = omega arith }) tidy_three in
       let tidy_one = backs-joined x one (joined two (joined first (joined o last))) (tidy-plain false x) tidy_two in
-      let tidy = backs-joined x (joined one (joined two (joined first (joined o last)))) t tidy_one tidy_tail in
-      let back = tidy.back in
-      let none = b.empties in
+      let tidy = backs-joined x (joined one (joined two (joined first (joined o last)))) t tidy_one ((sane k levels flush_trivia).backs (moved o.taken r.place) o.state) in
       let four = joined o last in
       let three = joined first four in
       let both = joined two three in
-      let hints_four = hints-joined o last hints refl in
-      let hints_three = hints-joined first four refl hints_four in
-      let hints_two = hints-joined two three refl hints_three in
-      record { back = omega (arith, back, none); hints = hints-joined (joined one both) t (hints-joined one both refl hints_two) tail.hints }
+      let hints_three = hints-joined first four refl (hints-joined o last hints refl) in
+      record { back = omega (arith, tidy.back, b.empties); hints = hints-joined (joined one both) t (hints-joined one both refl (hints-joined two three refl hints_three)) tail.hints }
 
   -- by its pieces
   pub pieces-quiet : (i n : ℕ) → Opens → (let r = inner_run k levels z s in AllGo (first_of i r) → AllGo (then_of i n r)
-      → Quiet (the_run (chain (first_of i r) (chain (then_of i n r) (rest_of i n r))) (inner_tail k levels (((first_end i r).taken + (then_end i n r).taken) + (rest_of i n r).taken) (rest_of i n r).state r.place)))
+      → Apart (the_run (chain (first_of i r) (chain (then_of i n r) (rest_of i n r))) (inner_tail k levels (((first_end i r).taken + (then_end i n r).taken) + (rest_of i n r).taken) (rest_of i n r).state r.place)))
   pieces-quiet i n b g h =
       let r = inner_run k levels z s in
       let q = chain (first_of i r) (chain (then_of i n r) (rest_of i n r)) in
@@ -256,10 +239,10 @@ module _ (k : CharClasses) (levels : ℕ) (z : Place) (s : Point) where
       let is : the_run whole_run whole_tail ≡ the_run q (inner_tail k levels taken (rest_of i n r).state r.place) =
       ap (λ (o : Outcome (Bool × ℕ)). the_run o (inner_tail k levels o.taken o.state r.place)) (split r (λ x. (sane k levels (markup_turn true ends_block x)).within) i n g h)
       ∙ ap (λ a. the_run q (inner_tail k levels a q.state r.place)) (split-taken r i n) ∙ ap (λ a. the_run q (inner_tail k levels taken a r.place)) (split-state r i n) in
-      subst (λ o. Quiet o) is (run-quiet b)
+      subst (λ o. Apart o) is (run-quiet b)
 
 -- the closing bracket
-pub close-quiet : (k : CharClasses) (levels n : ℕ) (s : Point) (z : Place) → Quiet (inner_close k levels n s z)
+pub close-quiet : (k : CharClasses) (levels n : ℕ) (s : Point) (z : Place) → Apart (inner_close k levels n s z)
 unfolding run close_if
 close-quiet k levels n s z =
     let l = inner k levels in
@@ -271,7 +254,7 @@ close-quiet k levels n s z =
     let took = done l (takes false itself) (moved 0 w) a in
     let taken = joined took (plain true took.state) in
     let b = same kind.RightBracket (told h).kind in
-    let quiet = quiet-if b taken (plain false a) (quiet-joined took (plain true took.state) (record { back = refl; hints = refl }) (record { back = refl; hints = refl })) (record { back = refl; hints = refl }) in
+    let quiet = on_both (λ (u : Outcome Bool). Apart u) b taken (plain false a) (quiet-joined took (plain true took.state) (record { back = refl; hints = refl }) (record { back = refl; hints = refl })) (record { back = refl; hints = refl }) in
     quiet-joined first (if b then taken else plain false a) (record { back = refl; hints = refl }) quiet
 
 -- ---- a node at the end of a path
@@ -359,13 +342,10 @@ both-open k levels front old new rest c i n m past t u chosen h =
     let w = text_with front new rest in
     let s = point_of c.start in
     let passes = (inner-joint-law k levels front old new rest c i n m past t u chosen h).passes in
-    let starts = h.pieces.starts in
-    let ends_old = passes.ends in
-    let ends_new = passes.shifted in
     let begun = begun-at k levels (front ++ (old ++ rest)) c chosen h.pieces.name h.pieces.level in
     record {
-      old_opens = opens-by k levels (moved c.at z) s (begun z (same-here c.before z) (omega (arith, starts, ends_old)));
-      new_opens = opens-by k levels (moved c.at w) s (begun w (before-same c.before front old new rest h.pieces.looks.before) (omega (arith, starts, ends_new)));
+      old_opens = opens-by k levels (moved c.at z) s (begun z (same-here c.before z) (omega (arith, h.pieces.starts, passes.ends)));
+      new_opens = opens-by k levels (moved c.at w) s (begun w (before-same c.before front old new rest h.pieces.looks.before) (omega (arith, h.pieces.starts, passes.shifted)));
     }
 
 -- a text's tree, by a block's node
@@ -395,12 +375,11 @@ inner-children-law k levels front old new rest c i n m past t u chosen h some mo
     let l = among (Lawful z z o o) c _ chosen (inside-level (rules k) k (ends k) max_depth whole z z (start_point markup_reading)) in
     let opens = both-open k levels front old new rest c i n m past t u chosen h in
     let opens_old = opens.old_opens in
-    let opens_new = opens.new_opens in
     let lb = opens_old.node in
-    let lb_is : opens_new.node ≡ lb = ap last_node (sym opens_new.nodes ∙ ap (λ (a : Outcome (Unit {0})). a.nodes) firsts.opened ∙ opens_old.nodes) in
+    let lb_is : opens.new_opens.node ≡ lb = ap last_node (sym opens.new_opens.nodes ∙ ap (λ (a : Outcome (Unit {0})). a.nodes) firsts.opened ∙ opens_old.nodes) in
     let close = close_at k levels i n c z in
     let last = tail_at k levels i n c z in
-    let shut : Quiet close = close-quiet k levels ((((first_end i r).taken + (then_end i n r).taken) + (rest_of i n r).taken) + last.taken) last.state r.place in
+    let shut : Apart close = close-quiet k levels ((((first_end i r).taken + (then_end i n r).taken) + (rest_of i n r).taken) + last.taken) last.state r.place in
     let x = kept.behind in
     let before = standing_in k levels i n c z in
     let olds = nodes_in k levels i n t c z in
@@ -420,7 +399,7 @@ inner-children-law k levels front old new rest c i n m past t u chosen h some mo
     let now : (unit_at c w).nodes ≡ new_node ∷ [] =
     ap (λ (a : Outcome (Unit {0})). a.nodes) kept.now
     ∙ ap (λ os. (content_with k levels v s (chain os (chain (then_of i m q) (rest_of i m q))) tail_new close).nodes) (sym firsts.first)
-    ∙ node-is k levels v s chain_new tail_new close opens_new (pieces-quiet k levels v s i m opens_new new_first h.pieces.new_go) shut
+    ∙ node-is k levels v s chain_new tail_new close opens.new_opens (pieces-quiet k levels v s i m opens.new_opens new_first h.pieces.new_go) shut
     ∙ ap (λ a. block_with close.value a (standing tail_new (standing chain_new [])) close.nodes ∷ []) lb_is ∙ ap (λ ts. block_with close.value lb ts close.nodes ∷ []) kids_new in
     let node : c.node ≡ old_node = sym (last-is c.front c.node) ∙ ap last_node (sym l.fits.nodes ∙ was) in
     let node_now : last_node (unit_at c w).nodes ≡ new_node = ap last_node now in

@@ -1,6 +1,6 @@
 -- The cuts of a content block's run are where the tokens after its pieces begin, by the notes of a reading.
-use Rattle.std.proofs.Common.{◌≡◌, ℕ, zero, suc, ◌+◌, ◌-◌, ◌<◌, ◌≤◌, Bool, true, false, ◌&&◌, ◌||◌, ◌==◌, eq-eqb, ne_eqb, nat_lt, List, [], ◌∷◌, ◌++◌, length, map, take, append_assoc, Some, refl, ap, sym, ◌∙◌, subst, arith}
-use Rattle.std.proofs.lemmas.Bool.{eqb-true, eqb-false, ltb-true, ltb-false}
+use Rattle.std.proofs.Common.{◌≡◌, ℕ, suc, ◌+◌, ◌-◌, ◌<◌, ◌≤◌, Bool, true, false, ◌&&◌, ◌||◌, ◌==◌, eq-eqb, ne_eqb, nat_lt, List, [], ◌∷◌, ◌++◌, length, map, take, append_assoc, Some, refl, ap, sym, ◌∙◌, subst, arith}
+use Rattle.std.proofs.lemmas.Bool.{eqb-true, eqb-false, ltb-true, ltb-false, and_left, and_right, or_left, or_right}
 use Rattle.typst_tokens.specs.Sight.{width}
 use Rattle.typst_lines.specs.Place.{Place, moved}
 use Rattle.typst_lines.specs.Classes.{CharClasses}
@@ -30,7 +30,7 @@ use Rattle.typst_edits.specs.Runs.{made, AllGo, End, end_of}
 use Rattle.typst_edits.specs.Sequence.{turn_of, first_of, first_end}
 use Rattle.typst_edits.specs.Spot.{Spot}
 use Rattle.typst_edits.proofs.BlockRuns.{sane as in-sane}
-use Rattle.typst_edits.proofs.NoteNumbers.{go-fewer, go-next}
+use Rattle.typst_edits.proofs.NoteNumbers.{less-than, go-fewer, go-next}
 use Rattle.typst_edits.proofs.NumberedNotes.{numbered-inner-law}
 use Rattle.typst_edits.proofs.Spots.{if-true, if-false}
 
@@ -54,49 +54,51 @@ module _ (apart : OpensApartLaw) (k : CharClasses) (text : List ℕ) (opens : No
       by-mark (mark.Piece line brackets) f = ap (λ w. opens_content w && n.start == opens.start) f
       by-mark (mark.Opens block.Code) f = ap (λ w. opens_content w && n.start == opens.start) f
       by-mark (mark.Opens block.Content) f =
-          let sooner = apart k text done todo later n opens block.Content own e f is_own in
-          ap (λ w. opens_content w && n.start == opens.start) f ∙ ne_eqb n.start opens.start (omega (arith, sooner))
+          ap (λ w. opens_content w && n.start == opens.start) f ∙ ne_eqb n.start opens.start (omega (arith, apart k text done todo later n opens block.Content own e f is_own))
       by-mark mark.Closes f = ap (λ w. opens_content w && n.start == opens.start) f
 
 -- ---- the starts of its pieces
 
-pub piece-is : (m : Mark) (line : Bool) (brackets : ℕ) → m ≡ mark.Piece line brackets → is_piece m ≡ true
+piece-is : (m : Mark) (line : Bool) (brackets : ℕ) → m ≡ mark.Piece line brackets → is_piece m ≡ true
 piece-is m line brackets e = ap is_piece e
 
 open-is : (m : Mark) (line : Bool) (brackets : ℕ) → m ≡ mark.Piece line brackets → is_closing m ≡ false
 open-is m line brackets e = ap is_closing e
 
-pub both-off : (b c : Bool) → c ≡ false → (b && c) ≡ false
-both-off true c e = e
-both-off false c e = refl
-
-first-off : (b c : Bool) → b ≡ false → (b && c) ≡ false
-first-off true c e = cc
-first-off false c e = refl
-
 abbrev pub starts_of : List Note → List ℕ
 starts_of = map (λ (n : Note). n.start)
 
+pub starts-are : (text : List ℕ) (e : ℕ → End (Bool × ℕ)) (levels i : ℕ) (ns : List Note) → Numbered (SaysOf text e) i (of_level levels ns) → starts levels ns ≡ starts_of (of_level levels ns)
+starts-are text e levels i [] h = refl
+starts-are text e levels i (n ∷ ns) h = by-level (n.levels == levels) refl (λ j g. starts-are text e levels j ns g)
+  where
+    by-level : (b : Bool) → (n.levels == levels) ≡ b → ((j : ℕ) → Numbered (SaysOf text e) j (of_level levels ns) → starts levels ns ≡ starts_of (of_level levels ns)) → starts levels (n ∷ ns) ≡ starts_of (of_level levels (n ∷ ns))
+    by-level true f next =
+        let own : of_level levels (n ∷ ns) ≡ n ∷ of_level levels ns = if-true (n.levels == levels) _ _ f in
+        let says = subst (Numbered (SaysOf text e) i) own h in
+        if-true (is_piece n.mark && n.levels == levels) _ _ (both-on (is_piece n.mark) (n.levels == levels) (piece-is n.mark _ _ says.0.says.mark) f)
+        ∙ ap (λ us. n.start ∷ us) (next (suc i) says.1)
+        ∙ sym (ap starts_of own)
+    by-level false f next =
+        let other : of_level levels (n ∷ ns) ≡ of_level levels ns = if-false (n.levels == levels) _ _ f in
+        if-false (is_piece n.mark && n.levels == levels) _ _ (and_right (is_piece n.mark) (n.levels == levels) f)
+        ∙ next i (subst (Numbered (SaysOf text e) i) other h)
+        ∙ sym (ap starts_of other)
+
+-- up to where the block ends
 module _ (text : List ℕ) (e : ℕ → End (Bool × ℕ)) (levels : ℕ) (closes : Note) (later : List Note) (ends : closes.mark ≡ mark.Closes) (there : closes.levels ≡ levels) where
-  starts-are : (i : ℕ) (ns : List Note) → Numbered (SaysOf text e) i (of_level levels ns) → starts levels (up_to_end levels (ns ++ closes ∷ later)) ≡ starts_of (of_level levels ns)
-  starts-are i [] h = ap (starts levels) (if-true (is_closing closes.mark && closes.levels == levels) _ _ (both-on (is_closing closes.mark) (closes.levels == levels) (ap is_closing ends) (eq-eqb closes.levels levels there)))
-  starts-are i (n ∷ ns) h = by-level (n.levels == levels) (λ j r. starts-are j ns r) refl
+  all-inner : (i : ℕ) (ns : List Note) → Numbered (SaysOf text e) i (of_level levels ns) → up_to_end levels (ns ++ closes ∷ later) ≡ ns
+  all-inner i [] h = if-true (is_closing closes.mark && closes.levels == levels) _ _ (both-on (is_closing closes.mark) (closes.levels == levels) (ap is_closing ends) (eq-eqb closes.levels levels there))
+  all-inner i (n ∷ ns) h = by-level (n.levels == levels) (λ j r. all-inner j ns r) refl
     where
-      by-level : (b : Bool) → ((j : ℕ) → Numbered (SaysOf text e) j (of_level levels ns) → starts levels (up_to_end levels (ns ++ closes ∷ later)) ≡ starts_of (of_level levels ns)) → (n.levels == levels) ≡ b → starts levels (up_to_end levels ((n ∷ ns) ++ closes ∷ later)) ≡ starts_of (of_level levels (n ∷ ns))
+      by-level : (b : Bool) → ((j : ℕ) → Numbered (SaysOf text e) j (of_level levels ns) → up_to_end levels (ns ++ closes ∷ later) ≡ ns) → (n.levels == levels) ≡ b → up_to_end levels ((n ∷ ns) ++ closes ∷ later) ≡ n ∷ ns
       by-level true next f =
           let own : of_level levels (n ∷ ns) ≡ n ∷ of_level levels ns = if-true (n.levels == levels) _ _ f in
           let says = subst (Numbered (SaysOf text e) i) own h in
-          let is_mark = says.0.says.mark in
-          ap (starts levels) (if-false (is_closing n.mark && n.levels == levels) _ _ (first-off (is_closing n.mark) (n.levels == levels) (open-is n.mark _ _ is_mark)))
-          ∙ if-true (is_piece n.mark && n.levels == levels) _ _ (both-on (is_piece n.mark) (n.levels == levels) (piece-is n.mark _ _ is_mark) f)
-          ∙ ap (λ us. n.start ∷ us) (next (suc i) says.1)
-          ∙ sym (ap starts_of own)
+          if-false (is_closing n.mark && n.levels == levels) _ _ (and_left (is_closing n.mark) (n.levels == levels) (open-is n.mark _ _ says.0.says.mark)) ∙ ap (λ us. n ∷ us) (next (suc i) says.1)
       by-level false next f =
           let other : of_level levels (n ∷ ns) ≡ of_level levels ns = if-false (n.levels == levels) _ _ f in
-          ap (starts levels) (if-false (is_closing n.mark && n.levels == levels) _ _ (both-off (is_closing n.mark) (n.levels == levels) f))
-          ∙ if-false (is_piece n.mark && n.levels == levels) _ _ (both-off (is_piece n.mark) (n.levels == levels) f)
-          ∙ next i (subst (Numbered (SaysOf text e) i) other h)
-          ∙ sym (ap starts_of other)
+          if-false (is_closing n.mark && n.levels == levels) _ _ (and_right (is_closing n.mark) (n.levels == levels) f) ∙ ap (λ us. n ∷ us) (next i (subst (Numbered (SaysOf text e) i) other h))
 
 -- ---- the cuts
 
@@ -121,30 +123,16 @@ module _ (text : List ℕ) (e : ℕ → End (Bool × ℕ)) where
       by-test true f next d = record { index = i; some = some; few = omega (arith, long); is = eqb-true b n.start f ∙ h.0.start }
       by-test false f next d = next d
 
-  unequal : (i j : ℕ) → i ≤ j → (j ≡ i → ⊥) → suc i ≤ j
-  unequal zero zero h f = absurd (f refl)
-  unequal zero (suc j) h f = omega arith
-  unequal (suc i) zero h f = absurd (omega (arith, h))
-  unequal (suc i) (suc j) h f = let u = unequal i j (omega (arith, h)) (λ e. f (ap suc e)) in omega (arith, u)
-
   has-cut : (i count : ℕ) (ns : List Note) → i + length ns ≡ suc count → Numbered (SaysOf text e) i ns → (j : ℕ) → i ≤ j → j ≤ count → is_among (width (take (cut_behind j (e j)) text)) (starts_of ns) ≡ true
   has-cut i count [] long h j from to = absurd (omega (arith, long, from, to))
   has-cut i count (n ∷ ns) long h j from to = by-test (j == i) refl (λ d. has-cut (suc i) count ns (omega (arith, long)) h.1 j d to)
     where
-      here-or : (b c : Bool) → b ≡ true → (b || c) ≡ true
-      here-or true c f = refl
-      here-or false c f = cc
-
-      later-or : (b c : Bool) → c ≡ true → (b || c) ≡ true
-      later-or true c f = refl
-      later-or false c f = f
-
       by-test : (c : Bool) → (j == i) ≡ c → (suc i ≤ j → is_among (width (take (cut_behind j (e j)) text)) (starts_of ns) ≡ true) → is_among (width (take (cut_behind j (e j)) text)) (starts_of (n ∷ ns)) ≡ true
       by-test true f next =
           let same : j ≡ i = eqb-true j i f in
-          here-or (width (take (cut_behind j (e j)) text) == n.start) (is_among (width (take (cut_behind j (e j)) text)) (starts_of ns)) (eq-eqb (width (take (cut_behind j (e j)) text)) n.start (ap (λ l. width (take (cut_behind l (e l)) text)) same ∙ sym h.0.start))
+          or_left (width (take (cut_behind j (e j)) text) == n.start) (is_among (width (take (cut_behind j (e j)) text)) (starts_of ns)) (eq-eqb (width (take (cut_behind j (e j)) text)) n.start (ap (λ l. width (take (cut_behind l (e l)) text)) same ∙ sym h.0.start))
       by-test false f next =
-          later-or (width (take (cut_behind j (e j)) text) == n.start) (is_among (width (take (cut_behind j (e j)) text)) (starts_of ns)) (next (unequal i j from (eqb-false j i f)))
+          or_right (width (take (cut_behind j (e j)) text) == n.start) (is_among (width (take (cut_behind j (e j)) text)) (starts_of ns)) (next (less-than i j from (λ s. eqb-false j i f (sym s))))
 
   -- The starts, without the first, are the cuts.
   pub record Behind (count : ℕ) (starts : List ℕ) : Type 0 where
@@ -195,7 +183,7 @@ cuts-of-block apart k levels text c chosen name left =
     let here : opens_at at n.opens ≡ true = both-on (opens_content n.opens.mark) (at == at) (ap opens_content (n.name ∙ ap mark.Opens name)) (eq-eqb at at refl) in
     let own : cuts_in at (n.opens ∷ more) ≡ behind_first (starts n.opens.levels (up_to_end n.opens.levels more)) = if-true (opens_at at n.opens) _ _ here in
     let level : behind_first (starts n.opens.levels (up_to_end n.opens.levels more)) ≡ behind_first (starts (suc levels) (up_to_end (suc levels) more)) = ap (λ l. behind_first (starts l (up_to_end l more))) n.levels_there in
-    let starts_is = starts-are text e (suc levels) n.closes n.later n.name_end n.levels_end 0 n.inner n.each in
+    let starts_is = ap (starts (suc levels)) (all-inner text e (suc levels) n.closes n.later n.name_end n.levels_end 0 n.inner n.each) ∙ starts-are text e (suc levels) 0 n.inner n.each in
     let b = behind-are text e n.count (of_level (suc levels) n.inner) n.all n.each in
     let at_is : width (take c.at text) ≡ at = sym n.start in
     let r = run_at k levels c (start_of text) in

@@ -1,5 +1,5 @@
 -- The law of an edit inside some pieces of a content block's run that leaves other trivia or other errors after them.
-use Rattle.std.proofs.Common.{◌≡◌, ℕ, suc, ◌+◌, ◌<◌, ne_eqb, Bool, true, false, if◌then◌else◌, [], ◌∷◌, List, ◌++◌, length, Some, refl, ap, sym, ◌∙◌, subst, arith}
+use Rattle.std.proofs.Common.{◌≡◌, ℕ, suc, ◌+◌, ne_eqb, Bool, true, false, if◌then◌else◌, [], ◌∷◌, List, ◌++◌, length, Some, refl, ap, sym, ◌∙◌, subst, arith}
 use Rattle.typst_kinds.specs.declared.kind.SyntaxKind.TheVariants as kind
 use Rattle.typst_kinds.specs.Kinds.{same, is_error}
 use Rattle.typst_lines.specs.Place.{Place, moved}
@@ -22,15 +22,16 @@ use Rattle.typst_language.proofs.Looks.{same_in-shift, same_in-first, same_in-se
 use Rattle.typst_language.proofs.Places.{moved-sum}
 use Rattle.typst_grammar.specs.Markup.{ends_block, markup_turn, markup_reading}
 use Rattle.typst_grammar.specs.Grammar.{rules}
-use Rattle.typst_edits.specs.BlockRuns.{EndsBefore, inner, look_again, bracket, inner_lead, inner_run, content_with, run_at, tail_at, close_at}
+use Rattle.typst_edits.specs.BlockRuns.{inner, look_again, bracket, inner_run, content_with, run_at, tail_at, close_at}
 use Rattle.typst_edits.specs.Edit.{text_with, Passes}
 use Rattle.typst_edits.specs.InnerJoint.{onwards_in, onwards_past, left_past, InnerJointLaw}
 use Rattle.typst_edits.specs.Joint.{passed, Exchanged, Meets}
-use Rattle.typst_edits.specs.Runs.{AllGo, End, asks_of, chain}
+use Rattle.typst_edits.specs.Runs.{AllGo, End, chain}
 use Rattle.typst_edits.specs.Sequence.{turn_of, first_of, first_end, then_of, then_end, then_place, rest_of}
 use Rattle.typst_edits.specs.Spot.{Spot, ended, unit_at}
-use Rattle.typst_edits.proofs.BlockRuns.{split-taken, sane, content-split, content-taken, bracket-same, seq_by, first-by}
-use Rattle.typst_edits.proofs.Edit.{before-same, after-same, same_in-to}
+use Rattle.typst_edits.proofs.BlockRuns.{split-taken, sane, content-split, content-taken, first-same}
+use Rattle.typst_edits.proofs.Edit.{after-same}
+use Rattle.typst_edits.proofs.Inside.{same_in-at}
 use Rattle.typst_edits.proofs.Joint.{exchanged, takes-call, known-is}
 use Rattle.typst_edits.proofs.Led.{behind_trivia, before_trivia, same-renewed, kind-behind, asks-behind}
 use Rattle.typst_edits.proofs.Meeting.{ReadAs, read-as, read-made, judged-alike, Met, met}
@@ -59,8 +60,7 @@ module _ (k : CharClasses) (levels : ℕ) where
   unfolding run
   block-read i n z s =
       let r = inner_run k levels z s in
-      let p = entered markup_reading (look_again k levels z s).state in
-      let reading : r.point.reading ≡ markup_reading = ((sane k levels (does (takes false itself))).rests z p).reading in
+      let reading : r.point.reading ≡ markup_reading = ((sane k levels (does (takes false itself))).rests z (entered markup_reading (look_again k levels z s).state)).reading in
       let rests = λ (x : Bool × ℕ). (sane k levels (markup_turn true ends_block x)).rests in
       let e = first_end i r in
       let before = read-made markup_reading (turn_of r) rests i (true, 0) r.place r.point (record { reading = reading; held = reading }) in
@@ -104,11 +104,10 @@ module _ (k : CharClasses) (levels : ℕ) where
       let took = λ (s : Point) (ls : List Ask). record (plain (tt {0}) s) { taken = 0 + old.len; nodes = tree ∷ []; asks = ls } in
       let state = same-renewed (is_error tree.head.kind) (text_of tree) markup_reading markup_reading 0 0 false false u t in
       let now = renewed (after_node (is_error tree.head.kind) (text_of tree) b) in
-      let was = renewed (after_node (is_error tree.head.kind) (text_of tree) a) in
       ap (λ x. forgets (closing (same kind.RightBracket x) (hand_asks_of l z b) (took now (hand_asks_of l z b)) b)) kind_is
       ∙ ap (λ ls. forgets (closing (same kind.RightBracket old.kind) ls (took now ls) b)) asks
       ∙ ap (λ s. forgets (closing (same kind.RightBracket old.kind) (hand_asks_of l z a) (took s (hand_asks_of l z a)) b)) state
-      ∙ closing-alike (same kind.RightBracket old.kind) (hand_asks_of l z a) (took was (hand_asks_of l z a)) m n
+      ∙ closing-alike (same kind.RightBracket old.kind) (hand_asks_of l z a) (took (renewed (after_node (is_error tree.head.kind) (text_of tree) a)) (hand_asks_of l z a)) m n
 
   -- the point where it is asked for, by what the flush before it leaves
   at-close-is : (s : Point) → ReadAs markup_reading s → (f : KnownFlush s) → after_node false [] s ≡ at_close f.newlines
@@ -121,8 +120,7 @@ module _ (k : CharClasses) (levels : ℕ) where
   pub shut-same : (z w : Place) (s p : Point) → ReadAs markup_reading s → ReadAs markup_reading p → KnownFlush s → KnownFlush p → SameIn (shut z (after_node false [] s)).asks z w
       → forgets (shut w (after_node false [] p)) ≡ forgets (shut z (after_node false [] s))
   shut-same z w s p a b f g shown =
-      let is = at-close-is s a f in
-      let there : shut z (after_node false [] s) ≡ shut z (at_close f.newlines) = ap (shut z) is in
+      let there : shut z (after_node false [] s) ≡ shut z (at_close f.newlines) = ap (shut z) (at-close-is s a f) in
       ap (λ q. forgets (shut w q)) (at-close-is p b g) ∙ shut-alike w f.newlines g.newlines
       ∙ ap (λ (o : Outcome Bool). forgets o) ((sane k levels (close_if (same kind.RightBracket))).framed z w (at_close f.newlines) (subst (λ (o : Outcome Bool). SameIn o.asks z w) there shown) ∙ sym there)
 
@@ -141,26 +139,7 @@ block-forgot false ts r s = ap (after_node false []) (left-forgot r s)
 
 content-forgets : (k : CharClasses) (levels : ℕ) (z : Place) (s : Point) (r : Outcome (Bool × ℕ)) (behind : Outcome (Unit {0})) (close : Outcome Bool) → content_with k levels z s r behind close ≡ content_with k levels z s r behind (forgets close)
 content-forgets k levels z s r behind close =
-    let o = content_with k levels z s r behind (forgets close) in
-    ap (λ p. record o { state = p }) (block-forgot close.value _ (look_again k levels z s).state.reading close.state)
-
--- If what was looked at before them ends at the stretch or before it, the bracket and the pieces before are the same in both texts.
-pub record FirstSame (k : CharClasses) (levels : ℕ) (front old new rest : List ℕ) (c : Spot (Unit {0})) (i : ℕ) : Type 0 where
-  pub opened : (let s = point_of c.start in bracket k levels (moved c.at (text_with front new rest)) s ≡ bracket k levels (moved c.at (text_with front old rest)) s)
-  pub first : first_of i (run_at k levels c (text_with front new rest)) ≡ first_of i (run_at k levels c (text_with front old rest))
-
-pub first-same : (k : CharClasses) (levels : ℕ) (front old new rest : List ℕ) (c : Spot (Unit {0})) (i : ℕ) → EndsBefore k levels front old rest c i → FirstSame k levels front old new rest c i
-first-same k levels front old new rest c i h =
-    let z0 = text_with front old rest in
-    let w0 = text_with front new rest in
-    let z = moved c.at z0 in
-    let w = moved c.at w0 in
-    let s = point_of c.start in
-    let b = bracket k levels z s in
-    let opened : bracket k levels w s ≡ b = bracket-same k levels z w s (same_in-shift c.at _ z0 w0 (before-same _ front old new rest h.opens)) in
-    let shown : 0 < i → SameIn ((inner_lead k levels z s).asks ++ asks_of (first_of i (run_at k levels c z0))) (moved b.taken z) (moved b.taken w) = λ l.
-    same_in-to _ _ _ _ _ (sym (moved-sum c.at b.taken z0)) (sym (moved-sum c.at b.taken w0)) (same_in-shift (c.at + b.taken) _ z0 w0 (before-same _ front old new rest (h.before_run l))) in
-    record { opened = opened; first = ap (λ o. first_of i (seq_by k levels o w)) opened ∙ first-by k levels i b z w shown }
+    ap (λ p. record (content_with k levels z s r behind (forgets close)) { state = p }) (block-forgot close.value _ (look_again k levels z s).state.reading close.state)
 
 -- all after some pieces that end before these trivia
 pub inner-fronted : (k : CharClasses) (levels i n : ℕ) (c : Spot (Unit {0})) (z : Place) (t : Trivia) → (then_end i n (run_at k levels c z)).state.known ≡ Some t → Fronted t t.nodes (onwards_in k levels i n c z) (onwards_past k levels i n t c z)
@@ -209,21 +188,18 @@ inner-joint-law k levels front old new rest c i n m past t u among h =
     let there : moved t.gap y ≡ moved old_at z0 = ap (moved t.gap) (moved-four c.at b.taken fe.taken e.taken z0) ∙ sym (moved-sum ((c.at + b.taken) + (fe.taken + e.taken)) t.gap z0) ∙ ap (λ a. moved a z0) h.ends in
     let here : moved u.gap v ≡ moved new_at w0 = ap (moved u.gap) (moved-four c.at d.taken ff.taken j.taken w0) ∙ sym (moved-sum ((c.at + d.taken) + (ff.taken + j.taken)) u.gap w0) ∙ ap (λ a. moved a w0) h.shifted in
     let on = onwards_past k levels i n t c z0 in
-    let all = same_in-to _ _ _ _ _ there here (after-same _ past old_at new_at front old new rest refl refl h.looks.inside) in
-    let shown_on = same_in-first on.asks _ (moved t.gap y) (moved u.gap v) all in
+    let all = same_in-at _ _ _ _ _ there here (after-same _ past old_at new_at front old new rest refl refl h.looks.inside) in
     let read_old = block-read k levels i n z s in
     let read_new = block-read k levels i m w s in
-    let all_met = block-met k levels z s y v e j t u h.meets read_old read_new shown_on in
-    let one = all_met.one in
-    let two = all_met.two in
+    let all_met = block-met k levels z s y v e j t u h.meets read_old read_new (same_in-first on.asks _ (moved t.gap y) (moved u.gap v) all) in
     -- all after the pieces, with the trivia before the closing bracket
     let is_old : onwards_in k levels i n c z0 ≡ onward k levels e.value y es =
     ap (λ p. joined rest_old (run (inner k levels) flush_trivia p rest_old.state)) (moved-three fe.taken e.taken rest_old.taken r.place) in
     let is_new : onwards_in k levels i m c w0 ≡ onward k levels j.value v js =
     ap (λ p. joined rest_new (run (inner k levels) flush_trivia p rest_new.state)) (moved-three ff.taken j.taken rest_new.taken q.place) in
-    let behind = exchanged t u t.nodes (onward k levels e.value y es) (onward k levels j.value v js) on one two in
-    let took_old : rest_old.taken + tail_old.taken ≡ t.gap + on.taken = ap (λ (o : Outcome (Unit {0})). o.taken) is_old ∙ one.taken in
-    let took_new : rest_new.taken + tail_new.taken ≡ u.gap + on.taken = ap (λ (o : Outcome (Unit {0})). o.taken) is_new ∙ two.taken in
+    let behind = exchanged t u t.nodes (onward k levels e.value y es) (onward k levels j.value v js) on all_met.one all_met.two in
+    let took_old : rest_old.taken + tail_old.taken ≡ t.gap + on.taken = ap (λ (o : Outcome (Unit {0})). o.taken) is_old ∙ all_met.one.taken in
+    let took_new : rest_new.taken + tail_new.taken ≡ u.gap + on.taken = ap (λ (o : Outcome (Unit {0})). o.taken) is_new ∙ all_met.two.taken in
     let sane_on = λ (x : Bool × ℕ). sane k levels (repeat (markup_turn true ends_block) x >>= λ _. flush_trivia) in
     let at_old = ap (λ (o : Outcome (Unit {0})). o.state) is_old in
     let at_new = ap (λ (o : Outcome (Unit {0})). o.state) is_new in
@@ -264,15 +240,13 @@ inner-joint-law k levels front old new rest c i n m past t u among h =
     ap (λ (o : Outcome (Unit {0})). o.taken) mine ∙ content-taken k levels w s (chain (first_of i q) (chain (then_of i m q) rest_new)) tail_new (close_at k levels i m c w0)
     ∙ ap (λ a. d.taken + (a + (tail_new.taken + (close_at k levels i m c w0).taken))) (split-taken q i m)
     ∙ ap (λ (o : Outcome Bool). d.taken + (((ff.taken + j.taken) + rest_new.taken) + (tail_new.taken + o.taken))) close_is in
-    let ends = h.ends in
-    let shifted = h.shifted in
     let passes : Passes front old new rest c (past + left_past k levels i n t c z0) = record {
       starts = h.pieces.starts;
-      ends = omega (arith, old_taken, ends, took_old);
+      ends = omega (arith, old_taken, h.ends, took_old);
       goes_on = h.goes_on;
       before = h.pieces.looks.before;
       after = h.looks.behind;
-      shifted = omega (arith, new_taken, shifted, took_new);
+      shifted = omega (arith, new_taken, h.shifted, took_new);
     } in
     record {
       was = was;

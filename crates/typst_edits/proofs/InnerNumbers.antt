@@ -1,5 +1,5 @@
 -- The number of a note where pieces of a content block's run end.
-use Rattle.std.proofs.Common.{◌≡◌, ℕ, suc, ◌+◌, ◌-◌, ◌<◌, ◌≤◌, ◌==◌, eq-eqb, Bool, true, false, List, [], ◌∷◌, ◌++◌, length, take, length-append, append_assoc, ap, sym, ◌∙◌, subst, arith}
+use Rattle.std.proofs.Common.{◌≡◌, ℕ, suc, ◌+◌, ◌-◌, ◌<◌, ◌≤◌, ◌==◌, eq-eqb, Bool, true, false, List, [], ◌∷◌, ◌++◌, length, take, length-append, append_assoc, ap, sym, ◌∙◌, subst, arith, drop}
 use Rattle.typst_lines.specs.Place.{Place, moved}
 use Rattle.typst_lines.specs.Classes.{CharClasses}
 use Rattle.typst_tokens.specs.Sight.{width}
@@ -24,7 +24,7 @@ use Rattle.typst_edits.specs.NumberedNotes.{of_level, Numbered, SaysOf, InnerNum
 use Rattle.typst_edits.specs.PieceNotes.{listed}
 use Rattle.typst_edits.specs.Rising.{Rising}
 use Rattle.typst_edits.specs.Runs.{AllGo}
-use Rattle.typst_edits.specs.Sequence.{Sequence, turn_of, first_of, first_end}
+use Rattle.typst_edits.specs.Sequence.{turn_of, first_of, first_end}
 use Rattle.typst_edits.specs.Spot.{Spot, unit_at}
 use Rattle.typst_edits.proofs.BlockRuns.{sane as in-sane}
 use Rattle.typst_edits.proofs.Content.{again}
@@ -34,6 +34,7 @@ use Rattle.typst_edits.proofs.Rising.{take-more, rising-law}
 use Rattle.typst_edits.proofs.Spots.{if-true}
 use Rattle.typst_edits.proofs.CandidateEnds.{some-by as positive}
 use Rattle.typst_edits.proofs.InnerChildren.{begun-at}
+use Rattle.typst_edits.proofs.Every.{first_or}
 
 -- ---- notes in order
 
@@ -53,22 +54,14 @@ pub record Behind (firsts : List Note) (o : Note) (rest : List Note) (bs : List 
   pub earlier : bs ≡ firsts ++ o ∷ mid
   pub is : rest ≡ mid ++ p ∷ behind
 
-abbrev first_or : Note → List Note → Note
-first_or n [] = n
-first_or n (m ∷ ms) = m
-
-abbrev rest_of : List Note → List Note
-rest_of [] = []
-rest_of (m ∷ ms) = ms
-
 -- A note that is none of the first ones nor the next one stands after that.
 pub behind-first : (firsts : List Note) (o : Note) (rest bs : List Note) (p : Note) (behind : List Note) → firsts ++ o ∷ rest ≡ bs ++ p ∷ behind → ((xs ys : List Note) → firsts ≡ xs ++ p ∷ ys → ⊥) → (o ≡ p → ⊥) → Behind firsts o rest bs p behind
 behind-first [] o rest [] p behind e none other = absurd (other (ap (first_or o) e))
-behind-first [] o rest (b ∷ bs) p behind e none other = let same = ap (first_or o) e in record { mid = bs; earlier = ap (λ x. x ∷ bs) (sym same); is = ap rest_of e }
+behind-first [] o rest (b ∷ bs) p behind e none other = let same = ap (first_or o) e in record { mid = bs; earlier = ap (λ x. x ∷ bs) (sym same); is = ap (drop 1) e }
 behind-first (a ∷ firsts) o rest [] p behind e none other = let same : a ≡ p = ap (first_or o) e in absurd (none [] firsts (ap (λ x. x ∷ firsts) same))
 behind-first (a ∷ firsts) o rest (b ∷ bs) p behind e none other =
     let same : a ≡ b = ap (first_or o) e in
-    let i = behind-first firsts o rest bs p behind (ap rest_of e) (λ xs ys f. none (a ∷ xs) ys (ap (λ u. a ∷ u) f)) other in
+    let i = behind-first firsts o rest bs p behind (ap (drop 1) e) (λ xs ys f. none (a ∷ xs) ys (ap (λ u. a ∷ u) f)) other in
     record { mid = i.mid; earlier = ap (λ x. x ∷ bs) (sym same) ∙ ap (λ u. a ∷ u) i.earlier; is = i.is }
 
 record Within (inner mid : List Note) (p : Note) : Type 0 where
@@ -78,11 +71,11 @@ record Within (inner mid : List Note) (p : Note) : Type 0 where
 -- A note that is none of the last ones nor the one before them stands before that.
 before-last : (inner : List Note) (o : Note) (later mid : List Note) (p : Note) (behind : List Note) → inner ++ o ∷ later ≡ mid ++ p ∷ behind → ((xs : List Note) → later ≡ xs ++ p ∷ behind → ⊥) → (o ≡ p → ⊥) → Within inner mid p
 before-last [] o later [] p behind e none other = absurd (other (ap (first_or o) e))
-before-last [] o later (m ∷ mid) p behind e none other = absurd (none mid (ap rest_of e))
+before-last [] o later (m ∷ mid) p behind e none other = absurd (none mid (ap (drop 1) e))
 before-last (x ∷ inner) o later [] p behind e none other = record { more = inner; is = ap (λ y. y ∷ inner) (ap (first_or o) e) }
 before-last (x ∷ inner) o later (m ∷ mid) p behind e none other =
     let same : x ≡ m = ap (first_or o) e in
-    let i = before-last inner o later mid p behind (ap rest_of e) none other in
+    let i = before-last inner o later mid p behind (ap (drop 1) e) none other in
     record { more = i.more; is = ap (λ y. y ∷ inner) same ∙ ap (λ u. m ∷ u) i.is }
 
 -- ---- the law
@@ -102,36 +95,27 @@ module _ (k : CharClasses) (levels : ℕ) (text : List ℕ) (c : Spot (Unit {0})
   abbrev s0 : Point
   s0 = point_of c.start
 
-  abbrev run_here : Sequence
-  run_here = run_at k levels c z0
-
   -- The bracket takes something.
   bracket-some : 0 < (unit_at c z0).taken → 0 < (bracket k levels y0 s0).taken
   unfolding blocks_of_text run
   bracket-some some =
       let l = inner k levels in
       let sd = sane-meaning (rules k) k (suc levels) in
-      let begun = begun-at k levels text c chosen name left z0 (same-here c.before z0) some in
       let s1 = asked (hand_of l y0 s0) s0 in
       let one : hand_of l y0 s1 ≡ hand_of l y0 s0 = again l sd (λ b. sane-plain tt) y0 s0 in
       let two : hand_of l y0 (look_again k levels y0 s0).state ≡ hand_of l y0 s0 = again l sd (λ b. sane-plain tt) y0 s1 ∙ one in
-      let len = ap (λ (h : Hand). h.len) two in
-      let more = begun.some in
-      omega (arith, len, more)
+      omega (arith, ap (λ (h : Hand). h.len) two, (begun-at k levels text c chosen name left z0 (same-here c.before z0) some).some)
 
   -- All lies within the text.
-  run-room : 0 < (bracket k levels y0 s0).taken → (j : ℕ) → opened_at k levels c z0 + (first_end j run_here).taken ≤ length text
+  run-room : 0 < (bracket k levels y0 s0).taken → (j : ℕ) → opened_at k levels c z0 + (first_end j (run_at k levels c z0)).taken ≤ length text
   unfolding run
   run-room some j =
-      let r = run_here in
-      let b = bracket k levels y0 s0 in
+      let r = run_at k levels c z0 in
       let one = (in-sane k levels peek).within y0 s0 in
       let two = (in-sane k levels peek).within y0 (look_first k levels y0 s0).state in
       let three = (in-sane k levels (does (takes false itself))).within y0 (entered markup_reading (look_again k levels y0 s0).state) in
-      let four = (in-sane k levels peek).within r.place b.state in
-      let five = turns-within (turn_of r) (λ x. (in-sane k levels (markup_turn true ends_block x)).within) j (true, 0) r.place r.point in
-      let there = ahead-left c.at z0 in
-      omega (arith, some, one, two, three, four, five, there)
+      let four = (in-sane k levels peek).within r.place (bracket k levels y0 s0).state in
+      omega (arith, some, one, two, three, four, turns-within (turn_of r) (λ x. (in-sane k levels (markup_turn true ends_block x)).within) j (true, 0) r.place r.point, ahead-left c.at z0)
 
 pub inner-number-law : InnerNumberLaw
 inner-number-law k levels text c i chosen name left g n p inside =
@@ -146,11 +130,10 @@ inner-number-law k levels text c i chosen name left g n p inside =
     let rise = subst (λ ns. Rising 0 (width text) ns) ns_is (rising-law k text) in
     let at_i = (first_end i r).taken in
     let before = p.before in
-    let end = n.end in
     -- The bracket stands before it.
     let least = take-more c.at (a + at_i) text (omega arith) in
     let some_by : (unit_at c z).taken ≡ 0 → ⊥ = λ none.
-    (let there : c.at + (unit_at c z).taken ≡ c.at = omega (arith, none) in let same_byte = ap (λ d. width (take d text)) there in omega (arith, least, inside, before, end, same_byte)) in
+    (let there : c.at + (unit_at c z).taken ≡ c.at = omega (arith, none) in let same_byte = ap (λ d. width (take d text)) there in omega (arith, least, inside, before, n.end, same_byte)) in
     let some : 0 < (unit_at c z).taken = positive (unit_at c z).taken some_by in
     let bracket_some = bracket-some k levels text c chosen name left some in
     let room_i = run-room k levels text c chosen name left bracket_some i in
@@ -175,15 +158,11 @@ inner-number-law k levels text c i chosen name left g n p inside =
     let split : of_level lv n.inner ≡ mids ++ p.note ∷ mores = ap (of_level lv) w.is ∙ level-append lv b.mid (p.note ∷ w.more) ∙ ap (λ ns. mids ++ ns) own in
     let there = numbered-at says 0 mids p.note mores (subst (λ ns. Numbered says 0 ns) split n.each) in
     let zero_more : 0 + j ≡ j = omega arith in
-    let here = subst (λ d. says d p.note) zero_more there in
-    let all = n.all in
-    let long = ap length split in
-    let sum = length-append mids (p.note ∷ mores) in
-    let fits : j ≤ n.count = omega (arith, all, long, sum) in
+    let fits : j ≤ n.count = omega (arith, n.all, ap length split, length-append mids (p.note ∷ mores)) in
     let go_j : AllGo (first_of j r) = go-fewer m j n.count (true, 0) r.place r.point fits n.go in
     let at_j = (first_end j r).taken in
     let room_j = run-room k levels text c chosen name left bracket_some j in
-    let here_before = here.says.before in
+    let here_before = (subst (λ d. says d p.note) zero_more there).says.before in
     let number = neither j i
     (λ l. (let less_taken = more-taken m j i (true, 0) r.place r.point l g in let more = take-longer (a + at_j) (a + at_i) text (omega (arith, less_taken)) room_i in omega (arith, more, before, here_before)))
     (λ l. (let less_taken = more-taken m i j (true, 0) r.place r.point l go_j in let more = take-longer (a + at_i) (a + at_j) text (omega (arith, less_taken)) room_j in omega (arith, more, before, here_before))) in

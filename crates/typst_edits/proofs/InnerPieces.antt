@@ -1,5 +1,5 @@
 -- Pieces in a content block that pass the test: a candidate's place is that of their nodes.
-use Rattle.std.proofs.Common.{◌≡◌, ◌⊎◌, inr, ℕ, zero, suc, ◌+◌, ◌-◌, ◌<◌, ◌==◌, ne_eqb, if◌then◌else◌, Bool, true, false, List, [], ◌∷◌, ◌++◌, length, take, drop, Some, refl, ap, sym, ◌∙◌, subst, arith}
+use Rattle.std.proofs.Common.{◌≡◌, ◌⊎◌, inr, ℕ, zero, suc, ◌+◌, ◌-◌, ◌<◌, ◌==◌, ne_eqb, Bool, true, false, List, [], ◌∷◌, ◌++◌, length, take, drop, Some, refl, ap, sym, ◌∙◌, subst, arith}
 use Rattle.typst_lines.specs.Place.{Place, moved}
 use Rattle.typst_lines.specs.Classes.{CharClasses}
 use Rattle.typst_tree.specs.Tree.{Tree}
@@ -36,15 +36,12 @@ use Rattle.typst_edits.proofs.NoneBack.{inner-none-back-law, inner-none-behind-l
 use Rattle.typst_edits.proofs.RootPieces.{take-past, drop-some, drop-none, same-place, nothing-left, first-is, put-there, end-place, nodes-left}
 use Rattle.typst_edits.proofs.BlockRuns.{split-taken}
 use Rattle.typst_edits.proofs.Text.{content-reads}
+use Rattle.typst_edits.proofs.Spots.{if-false}
 
 -- ---- a block's children
 
 pub kids-of : (closed : Bool) (lb : Tree) (kids ends : List Tree) → kids_in (block_with closed lb kids ends) ≡ kids
 kids-of closed lb kids ends = trees-of kids
-
-cut-in : (b : Bool) (a x : ℕ) → b ≡ false → a + (if b then 0 else x) ≡ a + x
-cut-in false a x e = refl
-cut-in true a x e = cc
 
 -- ---- what the test gives
 
@@ -73,30 +70,21 @@ module _ (k : CharClasses) (levels : ℕ) (front old new rest : List ℕ) (s : S
       let z = moved s.at z0 in
       let p = point_of s.start in
       let r = run_at k levels s z0 in
-      let q = rest_of i n r in
-      let last = tail_at k levels i n s z0 in
-      let close = close_at k levels i n s z0 in
       let reads = content-reads k text s among levels name level z0 in
       let split = ap (λ (o : Outcome (Unit {0})). o.taken) (content-split k levels z p i n g h) in
-      let all = content-taken k levels z p (chain (first_of i r) (chain (then_of i n r) q)) last close in
-      let run = split-taken r i n in
-      let is = ap (λ (o : Outcome (Unit {0})). o.taken) reads in
-      let took = (inner-fronted k levels i n s z0 t known).taken in
-      omega (arith, is, split, all, run, took, ends)
+      let all = content-taken k levels z p (chain (first_of i r) (chain (then_of i n r) (rest_of i n r))) (tail_at k levels i n s z0) (close_at k levels i n s z0) in
+      omega (arith, ap (λ (o : Outcome (Unit {0})). o.taken) reads, split, all, split-taken r i n, (inner-fronted k levels i n s z0 t known).taken, ends)
 
   pub joint-of : (i n m past : ℕ) (t u : Trivia) → Around front old rest s → PassesPieces k front old new rest own i n m past t u → GoesOnWell i n (run_at k levels s (text_with front old rest)) → PassesInnerJoint k levels front old new rest s i n m past t u
   joint-of i n m past t u around h well =
       let z = text_with front old rest in
-      let w = text_with front new rest in
       let r = run_at k levels s z in
-      let q = run_at k levels s w in
-      let taken = block-taken i n past t h.first_go h.old_go h.known h.ends in
-      let behind = around.ends in
+      let q = run_at k levels s (text_with front new rest) in
       record {
         pieces = record { name = name; level = level; first_go = h.first_go; old_go = h.old_go; new_go = h.new_go; starts = around.starts; looks = h.before };
         ends = h.ends;
         looks = h.after;
-        goes_on = omega (arith, taken, behind);
+        goes_on = omega (arith, block-taken i n past t h.first_go h.old_go h.known h.ends, around.ends);
         shifted = h.shifted;
         meets = inner-meets-law k levels (moved s.at z) (point_of s.start) i n (then_end i m q) t u h.first_go h.old_go well h.known h.known_now
             (λ over. carries (is_over i n r) m (then_end i n r).value (then_end i m q).value h.agrees over)
@@ -125,15 +113,12 @@ module _ (k : CharClasses) (levels : ℕ) (front old new rest : List ℕ) (s : S
     led : (0 < n ⊎ (onwards_in k levels i n s z).back ≡ 0) → LeadingInner k levels text s i n t
     led some =
         let taken = block-taken i n past t h.first_go h.old_go h.known h.ends in
-        let starts = around.starts in
-        let ends = around.ends in
-        leading-inner-law k levels text s i n t among name level (omega (arith, starts, ends)) h.first_go h.old_go h.known some
+        leading-inner-law k levels text s i n t among name level (omega (arith, around.starts, around.ends)) h.first_go h.old_go h.known some
 
 pub inner-pieces-law : InnerPiecesLaw
 inner-pieces-law k levels front old new rest s among name level c zero n m past t u around path start up end h well =
     let z = text_with front old rest in
     let w = text_with front new rest in
-    let r = block_run s levels among name level in
     let joint = joint-of k levels front old new rest s among name level 0 n m past t u around h well.goes_on in
     let back = inner-none-back-law k levels front old new rest s 0 n m past t u among joint well.starts in
     let behind = inner-none-behind-law k levels front old new rest s 0 n m past t u among joint well.goes_on in
@@ -143,7 +128,7 @@ inner-pieces-law k levels front old new rest s among name level c zero n m past 
     let to = last-place k levels front old new rest s among name level c 0 n m past t u around h well leading kids (sym leading.begins) end in
     let none = nothing-left (read_in k levels 0 n s z).back [] refl back.back in
     let from : c.from ≡ length (standing_in k levels 0 n s z) = first-is c.from (length (standing_in k levels 0 n s z)) up.1 none in
-    let news : nodes_in k levels 0 m u s w ≡ nodes_now r 0 m u w =
+    let news : nodes_in k levels 0 m u s w ≡ nodes_now (block_run s levels among name level) 0 m u w =
     nodes-left (onwards_in k levels 0 m s w) (read_in k levels 0 m s w) u.nodes behind.back_now ∙ sym (drop-none (0 == 0) (trivia_in k levels 0 s w) ((read_in k levels 0 m s w).nodes ++ u.nodes) refl) in
     let was = tree k (front ++ (old ++ rest)) in
     let to_markup = path_of s.hole ++ 1 ∷ [] in
@@ -163,19 +148,16 @@ inner-pieces-law k levels front old new rest s among name level c (suc j) n m pa
     let kids = ap kids_in leading.node ∙ kids-of leading.closed leading.bracket leading.kids leading.closing in
     let to = last-place k levels front old new rest s among name level c i n m past t u around h well leading kids (sym leading.begins) end in
     let first = length (standing_in k levels i n s z) in
-    let last = first + length (nodes_in k levels i n t s z) in
     let e = inner_end k levels i s z in
     let more : (i == 0) ≡ false = ne_eqb i 0 (omega arith) in
     let o = first_end i (run_at k levels s z) in
     let opened = opened_at k levels s z in
     let sum : opened + (o.taken + gap_of o.state.known) ≡ e.taken + gap_of e.state.known = omega arith in
-    let byte : c.start ≡ token_byte text e = start ∙ ap (λ l. width (take l text)) (cut-in (i == 0) opened (o.taken + gap_of o.state.known) more ∙ sum) in
+    let byte : c.start ≡ token_byte text e = start ∙ ap (λ l. width (take l text)) (ap (λ m. opened + m) (if-false (i == 0) 0 (o.taken + gap_of o.state.known) more) ∙ sum) in
     let there = subst (λ b. StandsAt leading.from leading.kids c.from b) byte
     (subst (λ f. StandsAt f leading.kids c.from c.start) (sym leading.begins) (subst (λ ts. StandsAt (markup_from k levels text s) ts c.from c.start) kids (well.first some))) in
     let from : c.from ≡ first + trivia_in k levels i s z = same-place leading.from leading.kids c.from (token_byte text e) (first + trivia_in k levels i s z) there (leading.first (well.starts some).0) in
     let news : drop (trivia_in k levels i s z) (nodes_in k levels i m u s w) ≡ nodes_now r i m u w = ap (λ l. drop l (nodes_in k levels i m u s w)) (sym kept.trivia_same)
     ∙ ap (drop (trivia_in k levels i s w)) (nodes-left (onwards_in k levels i m s w) (read_in k levels i m s w) u.nodes behind.back_now)
     ∙ sym (drop-some (i == 0) (trivia_in k levels i s w) ((read_in k levels i m s w).nodes ++ u.nodes) more) in
-    let was = tree k text in
-    let to_markup = path_of s.hole ++ 1 ∷ [] in
-    put-there c to_markup (first + trivia_in k levels i s z) last _ _ was kept.tree_now news from to path
+    put-there c (path_of s.hole ++ 1 ∷ []) (first + trivia_in k levels i s z) (first + length (nodes_in k levels i n t s z)) _ _ (tree k text) kept.tree_now news from to path

@@ -43,13 +43,12 @@ use Rattle.typst_edits.specs.Resumed.{fresh}
 use Rattle.typst_edits.specs.Laws.{blocks_of_text}
 use Rattle.typst_edits.specs.PieceNotes.{listed}
 use Rattle.typst_edits.specs.Runs.{made, AllGo, End, asks_of}
-use Rattle.typst_edits.specs.Sequence.{Sequence, turn_of, first_of, first_end, then_of, then_end}
+use Rattle.typst_edits.specs.Sequence.{turn_of, first_of, first_end, then_of, then_end}
 use Rattle.typst_edits.specs.Spot.{Spot}
 use Rattle.typst_edits.proofs.InnerCandidates.{no-errors, inner-candidate-law}
-use Rattle.typst_edits.proofs.InnerPiecesLog.{inner-pieces-log-law}
+use Rattle.typst_edits.proofs.PiecesLog.{inner-pieces-log-law}
 use Rattle.typst_edits.specs.Splice.{entries_from}
 use Rattle.typst_edits.proofs.InnerSplice.{inner-splice-law}
-use Rattle.typst_edits.proofs.InnerJoint.{first-same}
 use Rattle.typst_edits.proofs.Outcomes.{shift-zero}
 use Rattle.typst_edits.proofs.Resumed.{block-known, block-then-known, block-fresh, bracket-gap, inner-count-law, inner-goes-too, start-asks, start-known, start-same, start-goes}
 use Rattle.typst_edits.proofs.InnerBytes.{inner-decision-law}
@@ -58,6 +57,8 @@ use Rattle.typst_edits.proofs.ReadAlone.{Rereads, first-goes, begun, alike, goes
 use Rattle.typst_edits.proofs.RootPieces.{take-past}
 use Rattle.typst_edits.proofs.Seen.{end-first, end-second, end-shift}
 use Rattle.typst_edits.proofs.Widths.{width-append}
+use Rattle.typst_edits.proofs.BlockRuns.{first-same}
+use Rattle.std.proofs.lemmas.Bool.{both_ways}
 
 -- ---- numbers of notes
 
@@ -120,10 +121,7 @@ numbers-of ordered k text earlier note later is =
 
 pub behind-end : (front old rest : List ℕ) (past : ℕ) {start : ℕ} → start ≡ width (front ++ (old ++ take past rest)) → width (front ++ old) ≤ start
 behind-end front old rest past here =
-    let one = width-append front old in
-    let two = width-append front (old ++ take past rest) in
-    let three = width-append old (take past rest) in
-    omega (arith, here, one, two, three)
+    omega (arith, here, width-append front old, width-append front (old ++ take past rest), width-append old (take past rest))
 
 -- ---- from characters to bytes
 
@@ -141,7 +139,6 @@ token-before k levels front old rest s i some looks more =
     let opened = opened_at k levels s z in
     let r = run_at k levels s z in
     let o = inner_lead k levels (moved s.at z) (point_of s.start) in
-    let e = first_end i r in
     let a = block-seen k levels s z i (length front - opened) (end-shift opened (length front - opened) (length front) (o.asks ++ asks_of (first_of i r)) (omega arith) (looks.before_run some)) in
     omega (arith, a, more)
 
@@ -158,10 +155,8 @@ run-before k levels front old rest s i starts looks =
     let b = bracket k levels y p in
     let all = end-shift s.at most (length front) (first.asks ++ (again.asks ++ b.asks)) (omega arith) looks.opens in
     let behind = end-second most first.asks (again.asks ++ b.asks) all in
-    let one = (block-sees k levels s z peek y p most (omega arith)).ends (end-first most first.asks (again.asks ++ b.asks) all) in
-    let gap_one : gap_of first.state.known ≤ most = omega (arith, one) in
-    let two = (block-sees k levels s z peek y first.state most gap_one).ends (end-first most again.asks b.asks behind) in
-    let gap_two : gap_of again.state.known ≤ most = omega (arith, two) in
+    let gap_one : gap_of first.state.known ≤ most = omega (arith, (block-sees k levels s z peek y p most (omega arith)).ends (end-first most first.asks (again.asks ++ b.asks) all)) in
+    let gap_two : gap_of again.state.known ≤ most = omega (arith, (block-sees k levels s z peek y first.state most gap_one).ends (end-first most again.asks b.asks behind)) in
     let three = (block-sees k levels s z (does (takes false itself)) y (entered markup_reading again.state) most gap_two).ends (end-second most again.asks b.asks behind) in
     omega (arith, three, starts)
 
@@ -171,8 +166,7 @@ first-before : (k : CharClasses) (levels : ℕ) (front old rest : List ℕ) (s :
     (0 < i → note.start ≡ width (take (e.taken + gap_of e.state.known) (front ++ (old ++ rest)))) → (i ≡ 0 → note.start ≡ width (take e.taken (front ++ (old ++ rest)))) → note.start ≤ width front)
 first-before k levels front old rest s zero note starts looks g more none =
     let v = inner_end k levels 0 s (text_with front old rest) in
-    let l = run-before k levels front old rest s 0 starts looks in
-    subst (λ j. j ≤ width front) (sym (none refl)) (short v.taken front (old ++ rest) (omega (arith, l)))
+    subst (λ j. j ≤ width front) (sym (none refl)) (short v.taken front (old ++ rest) (omega (arith, run-before k levels front old rest s 0 starts looks)))
 first-before k levels front old rest s (suc j) note starts looks g more none =
     let v = inner_end k levels (suc j) s (text_with front old rest) in
     subst (λ j. j ≤ width front) (sym (more (omega arith)))
@@ -182,11 +176,10 @@ first-before k levels front old rest s (suc j) note starts looks g more none =
 
 pub inner-entries-law : InOrderLaw → InnerEntriesLaw
 inner-entries-law ordered k levels front old rest s i n past t chosen name level g h known sum big =
-    let z = text_with front old rest in
     let d = inner-decision-law k levels front old rest s i n chosen name level g h in
     let b = d.begins in
     let e = d.ends in
-    let f = inner_both k levels i n s z in
+    let f = inner_both k levels i n s (text_with front old rest) in
     let first = numbers-of ordered k (front ++ (old ++ rest)) b.earlier b.note b.later b.notes in
     let last = numbers-of ordered k (front ++ (old ++ rest)) e.earlier e.note e.later e.notes in
     let ends_at : 0 < i + n → e.note.start ≡ width (front ++ (old ++ take past rest)) = λ more.
@@ -209,27 +202,15 @@ inner-entries-law ordered k levels front old rest s i n past t chosen name level
 
 -- A block's run begins as if nothing were known except that it is markup.
 module _ (k : CharClasses) (levels : ℕ) (front old new rest : List ℕ) (s : Spot (Unit {0})) (chosen : Among s (blocks_of_text k (front ++ (old ++ rest)))) (name : s.name ≡ block.Content) (level : max_depth - s.fewer ≡ suc levels) where
-  abbrev own : Run k (front ++ (old ++ rest))
-  own = block_run s levels chosen name level
-
-  abbrev z : Place
-  z = text_with front old rest
-
   abbrev w : Place
   w = text_with front new rest
 
-  abbrev p : Sequence
-  p = run_at k levels s z
-
-  abbrev q : Sequence
-  q = run_at k levels s w
-
   -- where a block begins
-  pub begins-none : EndsBefore k levels front old rest s 0 → p.point.empties ≡ 0 → q.point.empties ≡ 0
+  pub begins-none : EndsBefore k levels front old rest s 0 → (run_at k levels s (text_with front old rest)).point.empties ≡ 0 → (run_at k levels s w).point.empties ≡ 0
   unfolding run
   begins-none looks clear = ap (λ (o : Outcome (Unit {0})). o.state.empties) (first-same k levels front old new rest s 0 looks).opened ∙ clear
 
-  pub rereads : Rereads k front old new rest own
+  pub rereads : Rereads k front old new rest (block_run s levels chosen name level)
   rereads =
       let y = moved s.at w in
       let t = point_of s.start in
@@ -250,9 +231,7 @@ module _ (k : CharClasses) (levels : ℕ) (front old new rest : List ℕ) (s : S
 pub inner-read-law : InnerReadLaw
 inner-read-law k levels front old new rest s chosen name level i n m past t ts g h known sum around none looks behind =
     let own = block_run s levels chosen name level in
-    let starts = around.starts in
-    let ends = around.ends in
-    let clear = no-errors k levels (front ++ (old ++ rest)) s chosen name level (omega (arith, starts, ends)) in
+    let clear = no-errors k levels (front ++ (old ++ rest)) s chosen name level (omega (arith, around.starts, around.ends)) in
     let again = rereads k levels front old new rest s chosen name level in (
       (λ reads. (let x = gives-to k front old new rest own again i n past t ts g clear none looks m h known sum behind (record { go = reads.go; ends = reads.ends; agrees = reads.agrees; nodes = reads.nodes }) in record { behind = x.behind; passes = x.passes; are = x.are })),
       (λ gives. (let x = reads-to k front old new rest own again i n past t ts g clear none looks m (record { behind = gives.behind; passes = gives.passes; are = gives.are }) in record { go = x.go; ends = x.ends; agrees = x.agrees; nodes = x.nodes })),
@@ -262,12 +241,9 @@ pub inner-once-law : InnerOnceLaw
 inner-once-law k levels front old new rest s chosen name level i n m j past ts us g around none looks one two =
     let z = text_with front old rest in
     let w = text_with front new rest in
-    let q = run_at k levels s w in
     let a = cut_at (block_run s levels chosen name level) i z in
     let x = (first_end i (run_at k levels s z)).value in
-    let starts = around.starts in
-    let ends = around.ends in
-    let clear = no-errors k levels (front ++ (old ++ rest)) s chosen name level (omega (arith, starts, ends)) in
+    let clear = no-errors k levels (front ++ (old ++ rest)) s chosen name level (omega (arith, around.starts, around.ends)) in
     let own = block_run s levels chosen name level in
     let again = rereads k levels front old new rest s chosen name level in
     let g_now = first-goes k front old new rest own again i looks g in
@@ -277,13 +253,7 @@ inner-once-law k levels front old new rest s chosen name level i n m j past ts u
     let v = block-then-known k levels (moved s.at w) (point_of s.start) i j g_now go_too in
     let b = alike k front old new rest own again i m u.trivia g clear none looks go u.is in
     let d = alike k front old new rest own again i j v.trivia g clear none looks go_too v.is in
-    let sum = b.sum in
-    let sum_too = d.sum in
-    let end = one.ends in
-    let end_too = two.ends in
-    let gap = ap gap_of u.is in
-    let gap_too = ap gap_of v.is in
-    let same : m ≡ j = inner-count-law k levels (moved s.at w) (point_of s.start) i m j g_now go go_too (omega (arith, sum, sum_too, end, end_too, gap, gap_too)) in
+    let same : m ≡ j = inner-count-law k levels (moved s.at w) (point_of s.start) i m j g_now go go_too (omega (arith, b.sum, d.sum, one.ends, two.ends, ap gap_of u.is, ap gap_of v.is)) in
     (same, one.nodes ∙ ap (λ c. given (read_alone k levels x c (moved a w)) [] ++ pending (end_alone k levels x c (moved a w)).state.known) same ∙ sym two.nodes)
 
 -- ---- a candidate
@@ -299,9 +269,7 @@ well : OpensApartLaw → (k : CharClasses) (levels : ℕ) (front old rest : List
     → Around front old rest s × (0 < i → TakesNone i (run_at k levels s (text_with front old rest))))
 well apart k levels front old rest root s chosen name level c i n past t same candidate pieces path start led end some g h known sum looks behind =
     let own = block_run s levels chosen name level in
-    let z = text_with front old rest in
-    let p = run_at k levels s z in
-    let x = (then_end i n p).value in
+    let p = run_at k levels s (text_with front old rest) in
     let stays : PassesPieces k front old old rest own i n n past t t = record {
       first_go = g;
       old_go = h;
@@ -312,15 +280,11 @@ well apart k levels front old rest root s chosen name level c i n past t same ca
       known_now = known;
       ends = sum;
       shifted = sum;
-      agrees = agrees-itself own (is_over i n p) n x some;
+      agrees = agrees-itself own (is_over i n p) n (then_end i n p).value some;
     } in
     let b = inner-candidate-law apart k levels front old old rest root s chosen name level c i n n past t t same candidate pieces path start led end stays in
-    (b.0, (λ l minds. not-both (minds_at p (first_place i p) (first_end i p)) _ (b.1.starts l).1 minds))
+    (b.0, (λ l minds. absurd (both_ways (minds_at p (first_place i p) (first_end i p)) (b.1.starts l).1 minds)))
   where
-    not-both : (b : Bool) (a : ℕ) → b ≡ false → b ≡ true → a ≡ 0
-    not-both true a e f = cc
-    not-both false a e f = cc
-
     agrees-itself : {text : List ℕ} (r : Run k text) (over : Bool) (m : ℕ) (x : Bool × ℕ) → 0 < m → Agrees r over m x x
     agrees-itself r false m x l = (l, refl)
     agrees-itself top true m x l = tt
@@ -354,17 +318,14 @@ inner-part-law k levels front old new rest s chosen name level (suc j) m some g 
     let w = text_with front new rest in
     let p = run_at k levels s z in
     let q = run_at k levels s w in
-    let a = cut_at (block_run s levels chosen name level) i z in
     let b = begun k front old new rest (block_run s levels chosen name level) (rereads k levels front old new rest s chosen name level) j g none looks in
-    let opened = b.opened in
-    let cut = b.cut in
     let e = first_end i q in
     let taken = ap (λ (v : End (Bool × ℕ)). v.taken) b.same in
     let gap_was = ap (λ (v : End (Bool × ℕ)). gap_of v.state.known) b.same in
     let gap = gap_of e.state.known in
     let y = moved b.trivia.gap (first_place i q) in
     let log_of = λ (v : Bool × ℕ) (y : Place). logged (suc levels) y no_log ((run q.level peek y (start_point markup_reading)).asks ++ asks_of (made (turn_of q) m v y (fresh q.level y))) in
-    let count : (opened_at k levels s w + e.taken) + gap ≡ a = omega (arith, opened, cut, taken, gap_was) in
+    let count : (opened_at k levels s w + e.taken) + gap ≡ cut_at (block_run s levels chosen name level) i z = omega (arith, b.opened, b.cut, taken, gap_was) in
     record {
       log_is = inner-pieces-log-law k levels s w i m b.trivia some b.go go b.known b.none ∙ ap (λ v. log_of v y) (ap (λ (v : End (Bool × ℕ)). v.value) b.same) ∙ ap (log_of (first_end i p).value) b.place;
       token = ap position (sym (moved-sum (opened_at k levels s w + e.taken) gap w) ∙ ap (λ n. moved n w) count);
@@ -379,15 +340,12 @@ first-part k levels front old new rest s chosen name level m around looks go =
     let w = text_with front new rest in
     let q = run_at k levels s w in
     let a = cut_at (block_run s levels chosen name level) 0 z in
-    let f = first-same k levels front old new rest s 0 looks in
-    let opened : opened_at k levels s w ≡ opened_at k levels s z = ap (λ (o : Outcome (Unit {0})). s.at + o.taken) f.opened in
+    let opened : opened_at k levels s w ≡ opened_at k levels s z = ap (λ (o : Outcome (Unit {0})). s.at + o.taken) (first-same k levels front old new rest s 0 looks).opened in
     let b = (bracket k levels (moved s.at w) (point_of s.start)).taken in
     let x : Bool × ℕ = (true, 0) in
     let count : s.at + b ≡ a = omega (arith, opened) in
     let place : q.place ≡ moved a w = sym (moved-sum s.at b w) ∙ ap (λ n. moved n w) count in
-    let starts = around.starts in
-    let ends = around.ends in
-    let clear = no-errors k levels (front ++ (old ++ rest)) s chosen name level (omega (arith, starts, ends)) in
+    let clear = no-errors k levels (front ++ (old ++ rest)) s chosen name level (omega (arith, around.starts, around.ends)) in
     let same : then_of 0 m q ≡ read_alone k levels x m q.place = start-same k levels (moved s.at w) (point_of s.start) m (λ minds. begins-none k levels front old new rest s chosen name level looks clear) go in
     let lead = (inner_lead k levels (moved s.at w) (point_of s.start)).asks in
     let asks = λ (v : Place). (first_look (level_in k levels) v).asks ++ asks_of (read_alone k levels x m v) in
@@ -403,12 +361,7 @@ same-splice a c b d x y l o was e f g h = λ i. spliced (e i) (f i) (entries_fro
 
 pub inner-units-law : InnerUnitsLaw
 inner-units-law k levels front old new rest s chosen name level i n m past t u some h none big big_new e =
-    let w = text_with front new rest in
-    let was = units_of (log k (front ++ (old ++ rest))) in
-    let never = λ (j : ℕ) (a : ℕ) (l : i + j ≡ 0). not-none i j a some l in
+    let never : (j a : ℕ) → i + j ≡ 0 → a ≡ 0 = λ j a l. absurd (omega (arith, some, l)) in
     let v = inner-splice-law k levels front old new rest s i n m past t u chosen h (never n t.gap) (never m u.gap) big big_new in
     let part = inner-part-law k levels front old new rest s chosen name level i m some h.pieces.first_go none h.pieces.looks h.pieces.new_go in
-    v ∙ same-splice _ _ _ _ _ _ _ _ was (sym e.number) (sym e.number_end) part.token part.log_is
-  where
-    not-none : (i j a : ℕ) → 0 < i → i + j ≡ 0 → a ≡ 0
-    not-none i j a l e = absurd (omega (arith, l, e))
+    v ∙ same-splice _ _ _ _ _ _ _ _ (units_of (log k (front ++ (old ++ rest)))) (sym e.number) (sym e.number_end) part.token part.log_is

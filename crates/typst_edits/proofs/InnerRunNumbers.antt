@@ -9,7 +9,6 @@ use Rattle.typst_language.specs.declared.calls.Note.{Note}
 use Rattle.typst_language.specs.Ask.{shift}
 use Rattle.typst_language.specs.Point.{gap_of, point_of}
 use Rattle.typst_language.specs.Meaning.{run}
-use Rattle.typst_language.specs.Sound.{Within}
 use Rattle.typst_candidates.specs.declared.entry.Tag.TheVariants as tag
 use Rattle.typst_candidates.specs.Cursors.{closing_of}
 use Rattle.typst_candidates.specs.Entries.{tag_of, count_of, entry_of, entries_by, last_start}
@@ -100,9 +99,6 @@ module _ (ordered : InOrderLaw) (k : CharClasses) (levels : ℕ) (text : List �
   pre-long : length pre ≡ suc (length n.earlier)
   pre-long = let nothing : List Note = [] in let long = length-append n.earlier (n.opens ∷ nothing) in omega (arith, long)
 
-  in-turn : (x : Bool × ℕ) → Within (turn_of (run_at k levels s z0) x)
-  in-turn x = (in-sane k levels (markup_turn true ends_block x)).within
-
   goes-up-to : (i : ℕ) → i ≤ n.count → AllGo (first_of i (run_at k levels s z0))
   goes-up-to i l = let r = run_at k levels s z0 in go-fewer (turn_of r) i n.count (true, 0) r.place r.point l n.go
 
@@ -117,13 +113,9 @@ module _ (ordered : InOrderLaw) (k : CharClasses) (levels : ℕ) (text : List �
       let os = asks_of (first_of i r) in
       let late = asks_by k levels y p e in
       let own = run_mark k levels y p ∷ ((firsts ++ os) ++ shift e.taken late) in
-      let is = ap notes_in (known.asks ∙ block-asks k levels y p i g) in
-      let long = known.long in
       let a = count-append (asks_before k levels y p) (shift (opened k levels y p) own) in
-      let b = count-shift (opened k levels y p) own in
       let c = count-append (firsts ++ os) (shift e.taken late) in
-      let d = count-append firsts os in
-      omega (arith, is, long, a, b, c, d)
+      omega (arith, ap notes_in (known.asks ∙ block-asks k levels y p i g), known.long, a, count-shift (opened k levels y p) own, c, count-append firsts os)
 
   -- the note where a given number of pieces end
   note-at : (i : ℕ) → i ≤ n.count → NoteAt (suc levels) (length pre) n.inner i (number_in k levels text s i)
@@ -134,18 +126,12 @@ module _ (ordered : InOrderLaw) (k : CharClasses) (levels : ℕ) (text : List �
       let p = d.begins in
       let x = notes_in (asks_of (first_of i (run_at k levels s z0))) in
       let before = known.number in
-      let number = d.number in
       let long = pre-long in
-      let h = inside-behind pre n.inner (n.closes ∷ n.later) p.earlier p.note p.later x (all-is ∙ sym notes-are ∙ ap listed p.notes) (omega (arith, number, before, long)) (few-notes i g) in
+      let h = inside-behind pre n.inner (n.closes ∷ n.later) p.earlier p.note p.later x (all-is ∙ sym notes-are ∙ ap listed p.notes) (omega (arith, d.number, before, long)) (few-notes i g) in
       let j = length (of_level lv h.earlier) in
       let says = says-by lv n.inner text (λ m. inner_end k levels m s z0) h.earlier p.note h.later j n.each h.is p.levels refl in
-      let parts = ap (λ us. length (of_level lv us)) h.is in
-      let sum = level-long lv h.earlier p.note h.later p.levels in
-      let many = n.all in
-      let fits : j ≤ n.count = omega (arith, parts, sum, many) in
+      let fits : j ≤ n.count = omega (arith, ap (λ us. length (of_level lv us)) h.is, level-long lv h.earlier p.note h.later p.levels, n.all) in
       let here = cut-here i (inner_end k levels i s z0) p.note d.token d.token_first in
-      let there = says.start in
-      let inside_long = h.long in
       record {
         earlier = h.earlier;
         note = p.note;
@@ -153,9 +139,9 @@ module _ (ordered : InOrderLaw) (k : CharClasses) (levels : ℕ) (text : List �
         is = h.is;
         own = p.levels;
         index = neither j i
-            (λ less. (let rise = inner-cuts-law k levels text s j i less g in omega (arith, rise, here, there)))
-            (λ less. (let rise = inner-cuts-law k levels text s i j less (goes-up-to j fits) in omega (arith, rise, here, there)));
-        all = omega (arith, inside_long, before, long);
+            (λ less. (let rise = inner-cuts-law k levels text s j i less g in omega (arith, rise, here, says.start)))
+            (λ less. (let rise = inner-cuts-law k levels text s i j less (goes-up-to j fits) in omega (arith, rise, here, says.start)));
+        all = omega (arith, h.long, before, long);
       }
     where
       cut-here : (i : ℕ) (e : End (Bool × ℕ)) (note : Note) → (0 < i → note.start ≡ width (take (e.taken + gap_of e.state.known) text)) → (i ≡ 0 → note.start ≡ width (take e.taken text)) → note.start ≡ width (take (cut_behind i e) text)
@@ -199,8 +185,7 @@ module _ (ordered : InOrderLaw) (k : CharClasses) (levels : ℕ) (text : List �
   says-at : SaysBlock (entries_in k text) (length n.earlier) (length pre + length n.inner) (suc levels) block.Content s.start.held.mode
   says-at =
       let from = length n.earlier in
-      let long = pre-long in
-      let same : suc from + length n.inner ≡ length pre + length n.inner = omega (arith, long) in
+      let same : suc from + length n.inner ≡ length pre + length n.inner = omega (arith, pre-long) in
       let says : SaysBlock (entries_by 0 all) from (length pre + length n.inner) (suc levels) block.Content s.start.held.mode = record {
         entry = entry_of (last_start 0 n.earlier) n.opens;
         is = got-entry 0 n.earlier n.opens tail;
@@ -212,8 +197,7 @@ module _ (ordered : InOrderLaw) (k : CharClasses) (levels : ℕ) (text : List �
 
   begins-at : (i : ℕ) → i ≤ n.count → BeginsAt (entries_in k text) (suc (length n.earlier)) (cut_in k levels text s i) (number_in k levels text s i)
   begins-at i l =
-      let before = known.number in
-      let first : number_in k levels text s 0 ≡ suc (length n.earlier) = omega (arith, before) in
+      let first : number_in k levels text s 0 ≡ suc (length n.earlier) = omega (arith, known.number) in
       subst (λ m. BeginsAt (entries_in k text) m (cut_in k levels text s i) (number_in k levels text s i)) first (found.goes_on 0 i (omega arith) l)
 
   block-over : (i m : ℕ) → i + m ≤ n.count → is_over i m (run_at k levels s z0) ≡ (i + m == n.count)

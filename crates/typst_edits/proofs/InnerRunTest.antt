@@ -146,9 +146,7 @@ module _ (ordered : InOrderLaw) (k : CharClasses) (levels : ℕ) (front old new 
 
   number-sum : (i n : ℕ) → number_in k levels text s (i + n) ≡ number_in k levels text s i + notes_in (asks_of (then_of i n q))
   number-sum i n =
-      let split = ap (λ os. notes_in (asks_of os)) (first-split q i n) in
-      let both = count-pieces (first_of i q) (then_of i n q) in
-      omega (arith, split, both)
+      omega (arith, ap (λ os. notes_in (asks_of os)) (first-split q i n), count-pieces (first_of i q) (then_of i n q))
 
   wide : width (front ++ old) < 2 ^ 64 - 1
   wide = let a = width-append front (old ++ rest) in let b = width-append old rest in let e = width-append front old in omega (arith, a, b, e, big)
@@ -160,14 +158,10 @@ module _ (ordered : InOrderLaw) (k : CharClasses) (levels : ℕ) (front old new 
   block-numbers : Numbers k front old rest whole_block s
   block-numbers =
       let place = spot-place k text s there in
-      let starts = around.starts in
-      let ends = around.ends in
-      let room = place.room in
       let one = length-append front (old ++ rest) in
-      let two = length-append front old in
-      let before = take-longer s.at (length front) text starts (omega (arith, one)) in
+      let before = take-longer s.at (length front) text around.starts (omega (arith, one)) in
       let both : take (length (front ++ old)) text ≡ front ++ old = ap (take (length (front ++ old))) (sym (append_assoc front old rest)) ∙ take-append_seam (front ++ old) rest in
-      let behind = take-longer (length (front ++ old)) (s.at + (unit_at s z).taken) text (omega (arith, ends, two)) (omega (arith, room, starts, one)) in
+      let behind = take-longer (length (front ++ old)) (s.at + (unit_at s z).taken) text (omega (arith, around.ends, length-append front old)) (omega (arith, place.room, around.starts, one)) in
       numbers ordered k front old rest whole_block s big there place (record { start = refl; end = refl }) (subst (λ xs. width (take s.at text) < width xs) (take-append_seam front (old ++ rest)) before)
       (subst (λ xs. width xs < width (take (s.at + (unit_at s z).taken) text)) both behind)
 
@@ -183,9 +177,8 @@ module _ (ordered : InOrderLaw) (k : CharClasses) (levels : ℕ) (front old new 
       let n = block-numbers in
       let opens : n.from ≡ v.opens = some-number n.from v.opens (sym n.opens ∙ v.opening) in
       let to : n.to ≡ v.closes = some-number n.to v.closes (sym n.says.closes ∙ ap (λ j. closing_of 0 (suc j) (drop (suc j) es)) opens ∙ v.says_block.closes) in
-      let last = n.last in
       record {
-        last = omega (arith, last, opens, to);
+        last = omega (arith, n.last, opens, to);
         far = n.past;
         ends = n.ends;
         late = subst (λ j. rear_in k front old rest ≤ j ↔ AllBeginIn n.past rest s.after) to n.late;
@@ -206,8 +199,7 @@ module _ (ordered : InOrderLaw) (k : CharClasses) (levels : ℕ) (front old new 
     pub before-is : number_in k levels text s i < front_in k front old rest ↔ Before k front old rest here i
     before-is =
         let e = entries in
-        let same = e.number in
-        ((λ l. e.before (omega (arith, l, same))), (λ h. (let l = e.before_too around.starts h in omega (arith, l, same))))
+        ((λ l. e.before (omega (arith, l, e.number))), (λ h. (let l = e.before_too around.starts h in omega (arith, l, e.number))))
 
     pub behind-is : 0 < n → rear_in k front old rest ≤ number_in k levels text s (i + n) ↔ Behind k front old rest here i n past t
     behind-is some =
@@ -218,9 +210,7 @@ module _ (ordered : InOrderLaw) (k : CharClasses) (levels : ℕ) (front old new 
 
     pub reads-from : Before k front old rest here i → ReadsFrom k front old new rest here of.Block (suc levels) i
     reads-from looks =
-        let starts = around.starts in
-        let ends = around.ends in
-        let clear = no-errors k levels text s there name level (omega (arith, starts, ends)) in
+        let clear = no-errors k levels text s there name level (omega (arith, around.starts, around.ends)) in
         let again = rereads k levels front old new rest s there name level in
         record {
           go = λ m h. goes-there k front old new rest here again i m is.go clear is.none looks h;
@@ -236,13 +226,10 @@ module _ (ordered : InOrderLaw) (k : CharClasses) (levels : ℕ) (front old new 
       let over = (is.empty refl).1 in
       let e = empty-block-law k levels front old rest s past t there name level over is.known in
       let end = closing in
-      let ends = end.ends in
-      let taken = block-taken k levels front old old rest s there name level 0 0 past t tt tt is.known is.ends in
-      let far : end.far ≡ past + left_past k levels 0 0 t s z = omega (arith, ends, taken) in
-      let still = end-still k levels (moved s.at z) (point_of s.start) t is.known over in
+      let far : end.far ≡ past + left_past k levels 0 0 t s z = omega (arith, end.ends, block-taken k levels front old old rest s there name level 0 0 past t tt tt is.known is.ends) in
       let early = is.early in
       let fits = room-by k front old new rest here of.Block (suc levels) within-text c 0 0 past t (found-by k front old new rest here of.Block (suc levels) c 0 0 past t is) (omega (arith, early)) in (
-        (λ l. e.after (omega (arith, still), omega (arith, fits), tt) (subst (λ p. AllBeginIn p rest s.after) far (end.late.0 l))),
+        (λ l. e.after (omega (arith, end-still k levels (moved s.at z) (point_of s.start) t is.known over), omega (arith, fits), tt) (subst (λ p. AllBeginIn p rest s.after) far (end.late.0 l))),
         (λ h. end.late.1 (subst (λ p. AllBeginIn p rest s.after) (sym far) h.behind)),
       )
 
@@ -297,11 +284,8 @@ module _ (ordered : InOrderLaw) (k : CharClasses) (levels : ℕ) (front old new 
     block-units : units_of (log k (front ++ (new ++ rest))) ≡ spliced v.opens v.closes (entries_alone k (suc levels) block.Content v.mode (moved s.at w)) (units_of (log k text))
     block-units =
         let whole = around-splice-law k levels front old new rest s i n m past t u there h big big_new in
-        let own_number = whole.number in
-        let number_too = v.before in
-        let opens : whole.opens ≡ v.opens = omega (arith, own_number, number_too) in
-        let last = closing.last in
-        let to : suc (whole.opens + notes_in (unit_at s z).asks) ≡ v.closes = omega (arith, opens, last) in
+        let opens : whole.opens ≡ v.opens = omega (arith, whole.number, v.before) in
+        let to : suc (whole.opens + notes_in (unit_at s z).asks) ≡ v.closes = omega (arith, opens, closing.last) in
         let alike = alone-same k front old new rest s there h.pieces.looks.before in
         let part = entries-same k front old new rest s alike ∙ (λ j. entries_alone k (level j) (name j) (v.mode_is j) (moved s.at w)) in
         whole.units ∙ (λ j. spliced (opens j) (to j) (part j) (units_of (log k text)))
@@ -317,9 +301,6 @@ module _ (apart : OpensApartLaw) (ordered : InOrderLaw) (numbered : InnerNumbers
     (around : Around front old rest s) (i n past : ℕ) (t : Trivia) (p : IsPieces k front old rest (block_run s levels there name level) c i n past t) where
   abbrev whole_text : List ℕ
   whole_text = front ++ (old ++ rest)
-
-  abbrev start_place : Place
-  start_place = text_with front old rest
 
   abbrev own : Run k (front ++ (old ++ rest))
   own = block_run s levels there name level
@@ -339,32 +320,26 @@ module _ (apart : OpensApartLaw) (ordered : InOrderLaw) (numbered : InnerNumbers
       let beside = (inner-candidate-law apart k more front old new rest root q too name_too level_too c j d m far a u same chosen is (sym path_too) g.start led_too g.end h).0 in
       let one = length-append front (old ++ rest) in
       let starts = around.starts in
-      let ends = around.ends in
       let starts_too = beside.starts in
-      let ends_too = beside.ends in
       let w = numbered k more (front ++ (old ++ rest)) q too name_too level_too in
-      let byte = same-byte k whole_text s q there too (omega (arith, starts, ends)) (omega (arith, starts_too, ends_too)) (sym path ∙ sym path_too) in
+      let byte = same-byte k whole_text s q there too (omega (arith, starts, around.ends)) (omega (arith, starts_too, beside.ends)) (sym path ∙ sym path_too) in
       let alike : home_of levels s ≡ home_of more q = same-home k whole_text s q levels more there too level level_too (omega (arith, starts, one)) (omega (arith, starts_too, one)) numbers_of w byte in
-      let early = p.early in
       let spans = one-span k front old new rest own of.Block (suc levels) (suc numbers_of.opens) entries_of c i n past t (found-by k front old new rest own of.Block (suc levels) c i n past t p) j d far a
-      (subst (λ (x : Home). FoundBy k front old rest c x j d far a) (sym alike) g) (omega (arith, early)) in
+      (subst (λ (x : Home). FoundBy k front old rest c x j d far a) (sym alike) g) (omega (arith, p.early)) in
       let given : GivesInner k more front old new rest q too name_too level_too j d m far a ts = record { behind = u; passes = h; are = made } in
       let here : GivesInner k more front old new rest q too name_too level_too i n m past t ts = subst (λ (x : Span). GivesInner k more front old new rest q too name_too level_too x.i x.n m x.past x.trivia ts) (sym spans) given in
       let is_too = pieces-too k levels more front old rest s q there name level too name_too level_too c i n past t alike p in
       let read = read-by k front old new rest (block_run q more too name_too level_too) of.Block (suc more) (suc w.opens) (entered ordered k more front old new rest q too name_too level_too beside w big) c i n past t is_too m here.behind here.passes in
       let pass : Passing k front old new rest c (home_of more q) w.closes i n ts = (m, read.0, here.are ∙ read.1) in
       let own_number = numbers_of.before in
-      let number_too = w.before in
       let number = ap (λ (x : Home). x.number) alike in
-      let closes : w.closes ≡ numbers_of.closes = closes-same (entries_in k whole_text) w.opens numbers_of.opens w.closes numbers_of.closes _ _ _ _ _ _ w.says_block numbers_of.says_block (omega (arith, own_number, number_too, number)) in
+      let closes : w.closes ≡ numbers_of.closes = closes-same (entries_in k whole_text) w.opens numbers_of.opens w.closes numbers_of.closes _ _ _ _ _ _ w.says_block numbers_of.says_block (omega (arith, own_number, w.before, number)) in
       subst (λ (x : Home). Passing k front old new rest c x numbers_of.closes i n ts) (sym alike) (subst (λ b. Passing k front old new rest c (home_of more q) b i n ts) closes pass)
 
   passing : (ts : List Tree) → Gives k front old new rest c ts → Passing k front old new rest c (home_of levels s) numbers_of.closes i n ts
   passing ts (of_block q far whole too at passes made) = absurd (let no = sym is ∙ whole in cc)
   passing ts (of_pieces top j d m far a u plain at start led_too end h made) =
-      let no = ap length (at ∙ path) in
-      let sum = length-append (path_of s.hole) (1 ∷ []) in
-      absurd (omega (arith, no, sum))
+      absurd (omega (arith, ap length (at ∙ path), length-append (path_of s.hole) (1 ∷ [])))
   passing ts (of_pieces (inner q more too name_too level_too) j d m far a u plain at start led_too end h made) =
       by-block more q too name_too level_too j d m far a u ts at (record { go = h.first_go; go_on = h.old_go; known = h.known; ends = h.ends; start = start; end = end }) led_too h made
 

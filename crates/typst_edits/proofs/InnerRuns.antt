@@ -44,7 +44,7 @@ use Rattle.typst_edits.proofs.BareCandidates.{bare-candidates-law}
 use Rattle.typst_edits.proofs.BlockPlaces.{hole-same, early-by as sooner}
 use Rattle.typst_edits.proofs.BlockRuns.{sane as in-sane}
 use Rattle.typst_edits.proofs.Boundary.{KnownAt}
-use Rattle.typst_edits.proofs.CandidateBlocks.{Covers, block-head, or_first}
+use Rattle.typst_edits.proofs.CandidateBlocks.{block-head}
 use Rattle.typst_edits.proofs.CandidateEnds.{begun}
 use Rattle.typst_edits.proofs.CandidateRuns.{cut-token, is-cut, picked, standing, matches, is-pieces}
 use Rattle.typst_edits.proofs.Cuts.{tokens-rise, cuts-within}
@@ -53,7 +53,8 @@ use Rattle.typst_edits.proofs.Edit.{among, trees-of}
 use Rattle.typst_edits.proofs.InnerCandidates.{OfBlock, of-block, joined-trees, lies, parted-in, plain-shape, seat-of}
 use Rattle.typst_edits.proofs.InnerCuts.{BlockCuts}
 use Rattle.typst_edits.proofs.Leading.{Plain, block-leads, turn-over}
-use Rattle.typst_edits.proofs.MarkupCandidates.{of-run}
+use Rattle.typst_edits.proofs.Every.{some_or}
+use Rattle.typst_edits.proofs.MarkupCandidates.{Covers, of-run}
 use Rattle.typst_edits.proofs.MarkupPlaces.{InContent, in-tree, of-content}
 use Rattle.typst_edits.proofs.NoteNumbers.{go-fewer, take-longer}
 use Rattle.typst_edits.proofs.OneReading.{end-split-at}
@@ -73,15 +74,14 @@ kid-plain : (at : ℕ) (ts : List Tree) (i : ℕ) (c : Child) → Every NoMarkup
 kid-plain at [] i c h e = absurd (cc)
 kid-plain at (t ∷ ts) zero c h e =
     let first : Child = record { start = at; end = at + length (text_of t); node = t } in
-    let same : first ≡ c = ap (or_first first) e in
+    let same : first ≡ c = ap (some_or first) e in
     subst (λ (d : Child). NoMarkup d.node) same h.0
 kid-plain at (t ∷ ts) (suc i) c h e = kid-plain (at + length (text_of t)) ts i c h.1 e
 
 -- Of a content block's children only the second is markup.
 second-alone : (x : Tree) → Plain x → (at i : ℕ) (c : Child) → child_at (laid at (trees x.kids)) i ≡ Some c → c.node.head.is_inner ≡ true → c.node.head.kind ≡ kind.Markup → i ≡ 1
 second-alone x p at i c e inner markup =
-    let first = opening_child p.closed p.bracket in
-    let all = first ∷ (inner_of kind.Markup (forest p.kids) ∷ p.closing) in
+    let all = opening_child p.closed p.bracket ∷ (inner_of kind.Markup (forest p.kids) ∷ p.closing) in
     let kids : trees x.kids ≡ all = ap (λ (t : Tree). trees t.kids) p.node ∙ trees-of all in
     by-index at i c (subst (λ ts. child_at (laid at ts) i ≡ Some c) kids e) inner markup
   where
@@ -92,7 +92,7 @@ second-alone x p at i c e inner markup =
     by-index : (at i : ℕ) (c : Child) → child_at (laid at (opening_child p.closed p.bracket ∷ (inner_of kind.Markup (forest p.kids) ∷ p.closing))) i ≡ Some c → c.node.head.is_inner ≡ true → c.node.head.kind ≡ kind.Markup → i ≡ 1
     by-index at zero c e inner markup =
         let first : Child = record { start = at; end = at + length (text_of (opening_child p.closed p.bracket)); node = opening_child p.closed p.bracket } in
-        let same : first ≡ c = ap (or_first first) e in
+        let same : first ≡ c = ap (some_or first) e in
         absurd (subst (λ (d : Child). NoMarkup d.node) same (opening p.closed) inner markup)
     by-index at (suc zero) c e inner markup = refl
     by-index at (suc (suc i)) c e inner markup = absurd (kid-plain _ p.closing i c p.last e inner markup)
@@ -122,8 +122,7 @@ in-block k text rs re c alone x is inner step path child there on content = absu
 in-block k text rs re c (under head left d right) x is inner step path child there on content =
     let hole : Hole = record { left = left; deep = d; right = right } in
     let none_more : length head.text ≡ 0 = sym (ap (λ (t : Tree). length t.head.text) is) in
-    let sum = length-append head.text (left_text hole) in
-    let at : 0 + length (deep_text (under head left d right)) ≡ length (left_text hole) = omega (arith, none_more, sum) in
+    let at : 0 + length (deep_text (under head left d right)) ≡ length (left_text hole) = omega (arith, none_more, length-append head.text (left_text hole)) in
     record {
       hole = hole;
       node = x;
@@ -170,14 +169,12 @@ inner-tokens k levels text s i j l g =
     let leads = block-leads k levels (moved s.at z) (point_of s.start) in
     let room = (in-sane k levels peek).within r.place (bracket k levels (moved s.at z) (point_of s.start)).state in
     let more = tokens-rise r leads i j l g in
-    let most = cuts-within r leads j in
     let last = cut-token j (first_end j r) (omega (arith, l)) in
     let there : r.place ≡ moved a z = sym (moved-sum s.at (bracket k levels (moved s.at z) (point_of s.start)).taken z) in
-    let left = ahead-left a z in
     let long = ap (λ (y : Place). length y.ahead) there in
     let u = inner_end k levels i s z in
     let v = inner_end k levels j s z in
-    take-longer (u.taken + gap_of u.state.known) (v.taken + gap_of v.state.known) text (omega (arith, more, last)) (omega (arith, room, most, more, left, long, last))
+    take-longer (u.taken + gap_of u.state.known) (v.taken + gap_of v.state.known) text (omega (arith, more, last)) (omega (arith, room, cuts-within r leads j, more, ahead-left a z, long, last))
 
 module _ (k : CharClasses) (levels : ℕ) (front old rest : List ℕ) (s : Spot (Unit {0})) (there : Among s (blocks_of_text k (front ++ (old ++ rest)))) (name : s.name ≡ block.Content) (level : max_depth - s.fewer ≡ suc levels)
     (some : 0 < (unit_at s (start_of (front ++ (old ++ rest)))).taken) (own : BlockCuts k levels (front ++ (old ++ rest)) s (width (take s.at (front ++ (old ++ rest))))) where
@@ -205,8 +202,7 @@ module _ (k : CharClasses) (levels : ℕ) (front old rest : List ℕ) (s : Spot 
   -- where pieces that follow others end
   both-end : (i n j : ℕ) → i + n ≡ j → token_byte text (inner_both k levels i n s z) ≡ byte j
   both-end i n j sum =
-      let a = opened_at k levels s z in
-      sym (ap (λ (e : End (Bool × ℕ)). token_byte text (record e { taken = a + e.taken })) (end-split-at q i n)) ∙ ap byte sum
+      sym (ap (λ (e : End (Bool × ℕ)). token_byte text (record e { taken = opened_at k levels s z + e.taken })) (end-split-at q i n)) ∙ ap byte sum
 
   -- The last piece ends with the last child.
   all-bytes : byte own.count ≡ markup_from k levels text s + bytes_of (kids_in s.node)
@@ -254,24 +250,20 @@ pieces-of k levels front old rest s there name level c b =
     let kids = kids_in s.node in
     let own = b.own in
     let cuts = own.cuts in
-    let wider = width-append front old in
-    let order : rs ≤ re = omega (arith, wider) in
+    let order : rs ≤ re = omega (arith, width-append front old) in
     let o = of-run rs re c.path from kids cuts c b.chosen in
     let token = λ (i : ℕ). token_byte text (inner_end k levels i s z) in
     let each = λ (d : ℕ) (h : is_among d cuts ≡ true). is-cut text (λ i. inner_end k levels i s z) own.count d (own.is.each d h) in
     let p = picked cuts from kids rs re o.more order token own.count each (rises k levels front old rest s there name level b.some own) (all-bytes k levels front old rest s there name level b.some own) in
     let i = p.i in
     let n = p.j - i in
-    let order_is = p.order in
-    let few = p.few in
-    let go = standing q own.count i n (omega (arith, order_is, few)) own.go (known-at k levels front old rest s there name level b.some own) in
+    let go = standing q own.count i n (omega (arith, p.order, p.few)) own.go (known-at k levels front old rest s there name level b.some own) in
     let end = token_byte text (inner_both k levels i n s z) in
     let parted = parted-in k levels front old rest s there name level b.some i n go.trivia go.first_go go.go_on go.known own end refl in
-    let well = begun cuts from kids rs re o.more order q i n (token i) end parted p.led.0 p.start (both-end k levels front old rest s there name level b.some own i n p.j (omega (arith, order_is)) ∙ p.end) in
-    let ends = b.ends in
+    let well = begun cuts from kids rs re o.more order q i n (token i) end parted p.led.0 p.start (both-end k levels front old rest s there name level b.some own i n p.j (omega (arith, p.order)) ∙ p.end) in
     let begin = from-is k levels text s in
     let before = sooner (opened_at k levels s z) front (old ++ rest) (subst (λ d. d < rs) begin b.starts) in
-    let m = matches k front old rest r c c.path cuts from kids o order token own.count (inner-token k levels text s) p begin (omega (arith, before)) (omega (arith, ends)) in
+    let m = matches k front old rest r c c.path cuts from kids o order token own.count (inner-token k levels text s) p begin (omega (arith, before)) (omega (arith, b.ends)) in
     let h = is-pieces k front old rest r c own.count i p.j m (over k levels front old rest s there name level b.some own) go (λ l. (well.starts l).1) in
     record { i = i; n = n; past = h.past; t = go.trivia; is = h.is }
 
@@ -284,9 +276,7 @@ name-is block.Content e = refl
 -- the path without its last step
 but-last : (path : List ℕ) (i : ℕ) (whole : List ℕ) → whole ≡ path ++ i ∷ [] → take (length whole - 1) whole ≡ path
 but-last path i whole e =
-    let long = length-append path (i ∷ []) in
-    let same = ap length e in
-    let short : length whole - 1 ≡ length path = omega (arith, long, same) in
+    let short : length whole - 1 ≡ length path = omega (arith, length-append path (i ∷ []), ap length e) in
     ap (λ n. take n whole) short ∙ ap (take (length path)) e ∙ take-append_seam path (i ∷ [])
 
 -- where the children of a unit's node begin
@@ -311,15 +301,9 @@ module _ (apart : OpensApartLaw) (k : CharClasses) (front old rest : List ℕ) (
   covered : Covered
   covered =
       let x = b.node in
-      let at = length (left_text b.hole) in
-      let l = lies (at + length x.head.text) (trees x.kids) b.step b.child b.there in
-      let from = l.from in
-      let to = l.to in
-      let starts = b.covers.starts in
-      let ends = b.covers.ends in
-      let order = width-append front old in
+      let l = lies (length (left_text b.hole) + length x.head.text) (trees x.kids) b.step b.child b.there in
       let held : length (text_of x) ≡ length x.head.text + length (texts (trees x.kids)) = length-append x.head.text _ ∙ ap (λ n. length x.head.text + n) (ap length (joined-trees x.kids)) in
-      record { full = omega (arith, from, to, starts, ends, order, held); early = omega (arith, from, starts) }
+      record { full = omega (arith, l.from, l.to, b.covers.starts, b.covers.ends, width-append front old, held); early = omega (arith, l.from, b.covers.starts) }
 
   -- the block of its node, if that is a unit
   module _ (s : Spot (Unit {0})) (there : Among s (blocks_of_text k (front ++ (old ++ rest)))) (of : IsOf b.hole b.node s) where
@@ -334,8 +318,7 @@ module _ (apart : OpensApartLaw) (k : CharClasses) (front old rest : List ℕ) (
 
     noted : cuts_in (width (take s.at (front ++ (old ++ rest)))) (listed (log k (front ++ (old ++ rest))).notes) ≡ Some b.content.cuts
     noted =
-        let here = ap length (hole-same s.hole b.hole s.node b.node of.path of.nodes).0 in
-        subst (λ a. cuts_in a (listed (log k whole_text).notes) ≡ Some b.content.cuts) (sym here ∙ place) b.content.noted
+        subst (λ a. cuts_in a (listed (log k whole_text).notes) ≡ Some b.content.cuts) (sym (ap length (hole-same s.hole b.hole s.node b.node of.path of.nodes).0) ∙ place) b.content.noted
 
     by-level : (levels : ℕ) → max_depth - s.fewer ≡ suc levels → InnerPiecesOf k front old rest root c
     by-level levels level =

@@ -1,5 +1,5 @@
 -- A reading that begins with one candidate serves another one, in a content block; and the law for both.
-use Rattle.std.proofs.Common.{◌≡◌, ℕ, suc, ◌+◌, ◌-◌, ◌<◌, ◌≤◌, ◌^◌, false, List, [], ◌∷◌, ◌++◌, length, length-append, take, Option, None, Some, ap, sym, ◌∙◌, subst, arith}
+use Rattle.std.proofs.Common.{◌≡◌, ℕ, suc, ◌+◌, ◌-◌, ◌<◌, ◌≤◌, ◌^◌, false, List, [], ◌∷◌, ◌++◌, length, length-append, take, Some, ap, sym, ◌∙◌, subst, arith}
 use Rattle.std.specs.List.{slice_get}
 use Rattle.typst_lines.specs.Place.{moved}
 use Rattle.typst_lines.specs.Classes.{CharClasses}
@@ -47,6 +47,7 @@ use Rattle.typst_edits.proofs.InnerRunTest.{pieces-too, entries, entry-end, ente
 use Rattle.typst_edits.proofs.MarkupCandidates.{of-run}
 use Rattle.typst_edits.proofs.RootServed.{root-served}
 use Rattle.typst_edits.proofs.SameBlocks.{home_of, same-byte, same-home}
+use Rattle.typst_edits.proofs.Every.{some_or}
 
 module _ (apart : OpensApartLaw) (ordered : InOrderLaw) (numbered : InnerNumbersLaw) (k : CharClasses) (levels : ℕ) (front old new rest : List ℕ) (root : Tree) (s : Spot (Unit {0})) (there : Among s (blocks_of_text k (front ++ (old ++ rest)))) (name : s.name ≡ block.Content) (level : max_depth - s.fewer ≡ suc levels)
     (around : Around front old rest s) (big : width (front ++ (old ++ rest)) < 2 ^ 64 - 1) (big_new : width (front ++ (new ++ rest)) < 2 ^ 64 - 1) (same : bare root ≡ bare (tree k (front ++ (old ++ rest)))) where
@@ -78,16 +79,12 @@ module _ (apart : OpensApartLaw) (ordered : InOrderLaw) (numbered : InnerNumbers
         let all = joint-of k levels front old new rest s there name level i n (d + m) past t u around h well.goes_on in
         let old_end = same-end was i n (i + d) left (omega (arith, sum)) in
         let new_end = same-end now i (d + m) (i + d) m (omega arith) in
-        let taken = new_end.taken in
-        let shifted = all.shifted in
-        let far = block-taken k levels front old old rest s there name level (i + d) left past t f.go f.go_on f.known f.ends in
-        let ends = around.ends in
         record {
           pieces = record { name = name; level = level; first_go = f.go; old_go = f.go_on; new_go = go; starts = around.starts; looks = looks };
           ends = f.ends;
           looks = behind;
-          goes_on = omega (arith, far, ends);
-          shifted = omega (arith, taken, shifted);
+          goes_on = omega (arith, block-taken k levels front old old rest s there name level (i + d) left past t f.go f.go_on f.known f.ends, around.ends);
+          shifted = omega (arith, new_end.taken, all.shifted);
           meets = meets-too was _ _ (then_end i n was) (then_end (i + d) left was) (then_end i (d + m) now) (then_end (i + d) m now) t u old_end.place old_end.value old_end.state new_end.value new_end.state all.meets;
         }
 
@@ -96,7 +93,6 @@ module _ (apart : OpensApartLaw) (ordered : InOrderLaw) (numbered : InnerNumbers
         → units_of (log k (front ++ (new ++ rest))) ≡ spliced (number_in k levels whole_text s (i + d)) (number_in k levels whole_text s (i + n)) (entries_by first.start (notes_by k (read_from k front old new rest own of.Block (suc levels) (i + d)) m)) (units_of (log k whole_text))
     units-of-part first d left m u some sum more f looks behind go known h =
         let mid = i + d in
-        let units = units_of (log k whole_text) in
         let joint = joined d left m u first sum f looks behind go h in
         let e = entries ordered k levels front old new rest s there name level around numbers big first mid left past t f in
         let at : mid + left ≡ i + n = omega (arith, sum) in
@@ -105,7 +101,7 @@ module _ (apart : OpensApartLaw) (ordered : InOrderLaw) (numbered : InnerNumbers
         let notes = (logged (suc levels) y no_log ((first_look (level_in k levels) y).asks ++ asks_of (read_alone k levels (first_end mid was).value m y))).notes in
         let part = ap (λ b. entries_from b notes) (begins-now k front old new rest own of.Block (suc levels) (suc numbers.opens) entries_of first mid left past t f) ∙ entries-listed first.start notes in
         inner-units-law k levels front old new rest s there name level mid left m past t u (omega (arith, some)) joint (f.none (omega (arith, some))) big big_new e
-        ∙ (λ a. spliced (e.number a) (to a) (part a) units)
+        ∙ (λ a. spliced (e.number a) (to a) (part a) (units_of (log k whole_text)))
 
     candidate-of : Chosen k front old new rest (block_run s levels there name level) of.Block (suc levels) (suc numbers.opens) entries_of c i n past t
     unfolding entered
@@ -123,13 +119,9 @@ module _ (apart : OpensApartLaw) (ordered : InOrderLaw) (numbered : InnerNumbers
 
 -- ---- the block of both
 
-abbrev entry_or : Entry → Option Entry → Entry
-entry_or e None = e
-entry_or e (Some f) = f
-
 levels-once : (es : List Entry) (from other to last levels more : ℕ) (b d : Block) (m n : SyntaxMode) → SaysBlock es from to levels b m → SaysBlock es other last more d n → from ≡ other → levels ≡ more
 levels-once es from other to last levels more b d m n h g e =
-    let same : h.entry ≡ g.entry = ap (entry_or h.entry) (sym h.is ∙ ap (slice_get es) e ∙ g.is) in
+    let same : h.entry ≡ g.entry = ap (some_or h.entry) (sym h.is ∙ ap (slice_get es) e ∙ g.is) in
     sym h.count ∙ ap (λ (x : Entry). x.count) same ∙ g.count
 
 inner-served : OpensApartLaw → InOrderLaw → InnerNumbersLaw → InnerPiecesOfLaw → (k : CharClasses) (front old new rest : List ℕ) (root : Tree) (first c : Candidate) → bare root ≡ bare (tree k (front ++ (old ++ rest)))
@@ -146,11 +138,9 @@ inner-served apart ordered numbered pieces k front old new rest root first c sam
     let v = numbered k one.levels text one.s one.among one.name one.level in
     let u = numbered k two.levels text two.s two.among two.name two.level in
     let starts = one.around.starts in
-    let ends = one.around.ends in
     let starts_too = two.around.starts in
-    let ends_too = two.around.ends in
     let long = length-append front (old ++ rest) in
-    let byte = same-byte k text two.s one.s two.among one.among (omega (arith, starts_too, ends_too)) (omega (arith, starts, ends)) (sym two.path ∙ at ∙ one.path) in
+    let byte = same-byte k text two.s one.s two.among one.among (omega (arith, starts_too, two.around.ends)) (omega (arith, starts, one.around.ends)) (sym two.path ∙ at ∙ one.path) in
     let home : home_of two.levels two.s ≡ home_of one.levels one.s = same-home k text two.s one.s two.levels one.levels two.among one.among two.level one.level (omega (arith, starts_too, long)) (omega (arith, starts, long)) u v byte in
     let is = pieces-too k two.levels one.levels front old rest two.s one.s two.among two.name two.level one.among one.name one.level first two.i two.n two.past two.t home two.is in
     let own_opens : opens ≡ v.opens = some-number opens v.opens (sym opening ∙ ap (λ b. opening_of b 0 0 (entries_in k text)) one.byte ∙ v.opening) in

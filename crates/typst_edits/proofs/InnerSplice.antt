@@ -28,12 +28,14 @@ use Rattle.typst_edits.specs.Sequence.{Sequence, first_of, first_end, then_of, t
 use Rattle.typst_edits.specs.Splice.{Noting, noting, notes_in, token_start, entries_from}
 use Rattle.typst_edits.specs.Spot.{unit_at, lowered}
 use Rattle.typst_edits.proofs.Boundary.{piece_mark, pieces-begin}
-use Rattle.typst_edits.proofs.BlockRuns.{sane, seq_by}
+use Rattle.typst_edits.proofs.BlockRuns.{sane, seq_by, first-same}
 use Rattle.typst_edits.proofs.BlockSplice.{block-splice-law}
-use Rattle.typst_edits.proofs.Edit.{before-same, same_in-to}
+use Rattle.typst_edits.proofs.Edit.{before-same}
+use Rattle.typst_edits.proofs.Inside.{same_in-at}
 use Rattle.typst_edits.proofs.EmptyRuns.{hand-asks, token_look}
-use Rattle.typst_edits.proofs.InnerBytes.{asks_before, content-asks, both-end, lead-bare, before-bare}
-use Rattle.typst_edits.proofs.InnerJoint.{block-read, first-same, inner-fronted, inner-joint-law}
+use Rattle.typst_edits.proofs.EmptyRuns.{Never}
+use Rattle.typst_edits.proofs.InnerBytes.{asks_before, content-asks, lead-bare, before-marks}
+use Rattle.typst_edits.proofs.InnerJoint.{block-read, inner-fronted, inner-joint-law}
 use Rattle.typst_edits.proofs.InTurn.{logged-lowered}
 use Rattle.typst_edits.proofs.Joint.{known-is}
 use Rattle.typst_edits.proofs.Led.{before_trivia}
@@ -45,6 +47,7 @@ use Rattle.typst_edits.proofs.RunSplice.{first_look, first-shift, unshifted, not
 use Rattle.typst_edits.proofs.RunTrees.{chained-asks}
 use Rattle.typst_edits.proofs.Seen.{AllSeen, seen-first, sees-level}
 use Rattle.typst_edits.proofs.Sides.{Side, entries_at, back_at, count-append, count-shift, count-none, side-by, same-at, splice-sides}
+use Rattle.typst_edits.proofs.Bytes.{both-end}
 
 -- ---- the look at a first token without trivia before it
 
@@ -71,7 +74,6 @@ module _ (k : CharClasses) (levels : ℕ) where
   unfolding run
   plain-in z s t known none =
       let r = inner_run k levels z s in
-      let b = bracket k levels z s in
       let p = r.point in
       let read = block-read k levels 0 0 z s in
       let is : p ≡ before_trivia markup_reading markup_reading p.empties p.is_after_error t = known-is k p t known ∙ (λ v. before_trivia (read.reading v) (read.held v) p.empties p.is_after_error t) in
@@ -230,9 +232,8 @@ inner-splice-law k levels front old new rest c i n m past t u among h none none_
     let behind_new = past-both rest_new tail_new close.asks on.asks u.gap on.taken (kept.behind.asks_now ∙ ap (shift u.gap) on_is) (kept.behind.taken_now ∙ ap (λ a. u.gap + a) more_is) in
     -- the token there
     let read = block-read k levels i n z s in
-    let read_new = block-read k levels i m w s in
     let hand_old : hand_asks_of l y x.state ≡ looked t.gap seen ∷ [] = hand-asks l y t.gap x.state (record { held = read.held; trivia = t; known = h.meets.known; gap = refl }) in
-    let hand_new = hand-asks l o u.gap v.state (record { held = read_new.held; trivia = u; known = h.meets.known_now; gap = refl }) in
+    let hand_new = hand-asks l o u.gap v.state (record { held = (block-read k levels i m w s).held; trivia = u; known = h.meets.known_now; gap = refl }) in
     let begun = onwards-begin r x.value (moved t.gap y) (passed t x.state) in
     let first_old : asks ≡ looked 0 seen ∷ (begun.more ++ shift on.taken close.asks) =
     ap (λ ls. ls ++ shift on.taken close.asks) (begun.is ∙ ap (λ ls. ls ++ begun.more) (hand-asks l (moved t.gap y) 0 (passed t x.state) (record { held = read.held; trivia = _; known = refl; gap = refl }))) in
@@ -248,27 +249,23 @@ inner-splice-law k levels front old new rest c i n m past t u among h none none_
     -- where the pieces and the block end
     let at = c.at + b.taken in
     let at_new = c.at + d.taken in
-    let taken = kept.passes.ends in
-    let taken_new = kept.passes.shifted in
-    let block_end : c.at + (unit_at c z0).taken ≡ end + left = omega (arith, taken) in
-    let block_stop : c.at + (unit_at c w0).taken ≡ stop + left = omega (arith, taken_new) in
-    let ends = h.ends in
-    let shifted = h.shifted in
+    let block_end : c.at + (unit_at c z0).taken ≡ end + left = omega (arith, kept.passes.ends) in
+    let block_stop : c.at + (unit_at c w0).taken ≡ stop + left = omega (arith, kept.passes.shifted) in
     let more_old = lifted at f (shift (e.taken + x.taken) (rest_old.asks ++ shift rest_old.taken (tail_old.asks ++ shift tail_old.taken close.asks))) ++ shift (end + left) c.after in
     let more_new = lifted at_new f (shift (j.taken + v.taken) (rest_new.asks ++ rest_asks)) ++ shift (stop + left) c.after in
-    let late_old = late-is at f (e.taken + x.taken) t.gap end left seen _ _ asks c.after hand_old behind_old ends in
-    let late_new = late-is at_new f (j.taken + v.taken) u.gap stop left seen _ _ asks c.after hand_now behind_new shifted in
+    let late_old = late-is at f (e.taken + x.taken) t.gap end left seen _ _ asks c.after hand_old behind_old h.ends in
+    let late_new = late-is at_new f (j.taken + v.taken) u.gap stop left seen _ _ asks c.after hand_now behind_new h.shifted in
     let ls = (inner_lead k levels z s).asks in
     let ls_new = (inner_lead k levels w s).asks in
-    let here : (at + (e.taken + x.taken)) + gap_of x.state.known ≡ end = ap (λ a. (at + (e.taken + x.taken)) + gap_of a) h.meets.known ∙ ends in
-    let here_new : (at_new + (j.taken + v.taken)) + gap_of v.state.known ≡ stop = ap (λ a. (at_new + (j.taken + v.taken)) + gap_of a) h.meets.known_now ∙ shifted in
+    let here : (at + (e.taken + x.taken)) + gap_of x.state.known ≡ end = ap (λ a. (at + (e.taken + x.taken)) + gap_of a) h.meets.known ∙ h.ends in
+    let here_new : (at_new + (j.taken + v.taken)) + gap_of v.state.known ≡ stop = ap (λ a. (at_new + (j.taken + v.taken)) + gap_of a) h.meets.known_now ∙ h.shifted in
     let side_old = side-in r b.state ls max_depth at f z0 more_old end last i n h.pieces.old_go late_old here (λ a. plain-in k levels z s t (start-known r i n t h.meets.known a) (none a)) in
     let side_new = side-in q d.state ls_new max_depth at_new f w0 more_new stop last i m h.pieces.new_go late_new here_new (λ a. plain-in k levels w s u (start-known q i m u h.meets.known_now a) (none_new a)) in
     let alike = same-at max_depth front old new rest past last big big_new begins in
     -- what is asked before them
     let cuts = cut r b.state ls i (lead-bare k levels z s) h.pieces.first_go in
     let shown : 0 < i → SameIn (ls ++ asks_of (first_of i r)) (moved b.taken z) (moved b.taken w) = λ some.
-    same_in-to _ _ _ _ _ (sym (moved-sum c.at b.taken z0)) (sym (moved-sum c.at b.taken w0)) (same_in-shift at _ z0 w0 (before-same _ front old new rest (h.pieces.looks.before_run some))) in
+    same_in-at _ _ _ _ _ (sym (moved-sum c.at b.taken z0)) (sym (moved-sum c.at b.taken w0)) (same_in-shift at _ z0 w0 (before-same _ front old new rest (h.pieces.looks.before_run some))) in
     let first_by : first_of i (seq_by k levels b w) ≡ first_of i r = ap (λ (a : Outcome (Unit {0})). first_of i (seq_by k levels a w)) (sym same.opened) ∙ same.first in
     let p = note_at r b.state i in
     let once : Again k levels i cuts.early p w d = subst (Again k levels i cuts.early p w) (sym same.opened) (again k levels i z w b cuts first_by shown) in
@@ -308,7 +305,7 @@ inner-splice-law k levels front old new rest c i n m past t u among h none none_
     let part = entries_from (token_start w0 note) (logged max_depth w0 no_log own_new).notes in
     let pieces = asks_of (first_of i r) in
     let own_pieces = asks_of (then_of i n r) in
-    let opens_none = lifted-count c.at f opens ∙ count-none opens (before-bare k levels z s) in
+    let opens_none = lifted-count c.at f opens ∙ count-none opens (before-marks k levels Never z s) in
     let from_early = lifted-count at f cuts.early ∙ cuts.count in
     let from_is : notes_in first ≡ notes_in c.before + notes_in pieces =
     count-append c.before _ ∙ ap (λ a. notes_in c.before + a) (count-append (lifted c.at f opens) (lifted at f cuts.early) ∙ ap (λ a. a + notes_in (lifted at f cuts.early)) opens_none ∙ omega (arith, from_early)) in

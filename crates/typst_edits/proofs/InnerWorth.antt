@@ -12,14 +12,13 @@ use Rattle.typst_edits.proofs.InnerSplice.{around-splice-law}
 
 pub inner-worth-law : InnerWorthLaw
 inner-worth-law k levels front old new rest s among name level c i n m past t u around path start led end h well big big_new =
-    let z = text_with front old rest in
     let w = text_with front new rest in
     let joint = joint-of k levels front old new rest s among name level i n m past t u around h well.goes_on in
     let whole = around-splice-law k levels front old new rest s i n m past t u among joint big big_new in
     record {
       is_tree = inner-pieces-law k levels front old new rest s among name level c i n m past t u around path start led end h well;
       from = whole.opens;
-      to = suc (whole.opens + notes_in (unit_at s z).asks);
+      to = suc (whole.opens + notes_in (unit_at s (text_with front old rest)).asks);
       part = entries_from (position (moved s.at w)) (block_log (front ++ (new ++ rest)) s (unit_at s w)).notes;
       units = whole.units;
     }

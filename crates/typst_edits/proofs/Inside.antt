@@ -59,34 +59,27 @@ rest-same z w o n f c x frames l e =
     let state : n.state ≡ o.state = ap (λ u. u.state) m ∙ sym (ap (λ u. u.state) l.old) in
     let there : n.taken ≡ (c.at + d.taken) + c.rest = omega (arith, ap (λ u. u.taken) m) in
     let here : o.taken ≡ (c.at + b.taken) + c.rest = omega (arith, ap (λ u. u.taken) l.old) in
-    let looked = same_in-shift c.rest q.asks _ _ (same_in-second c.after _ _ _ e.after) in
     let z2 : moved o.taken z ≡ moved c.rest (moved (c.at + b.taken) z) = ap (λ k. moved k z) here ∙ moved-sum (c.at + b.taken) c.rest z in
     let w2 : moved n.taken w ≡ moved c.rest (moved (c.at + d.taken) w) = ap (λ k. moved k w) there ∙ moved-sum (c.at + d.taken) c.rest w in
-    let shown : SameIn q.asks (moved o.taken z) (moved n.taken w) = same_in-at q.asks _ _ _ _ z2 w2 looked in
+    let shown : SameIn q.asks (moved o.taken z) (moved n.taken w) = same_in-at q.asks _ _ _ _ z2 w2 (same_in-shift c.rest q.asks _ _ (same_in-second c.after _ _ _ e.after)) in
     ap (λ v. f v (moved n.taken w) n.state) value ∙ ap (f o.value (moved n.taken w)) state ∙ frames o.value (moved o.taken z) (moved n.taken w) o.state shown
 
 pub lawful-then : {A B : Type 0} (z w : Place) (o n : Outcome B) (f : B → Meaning A) (c : Spot B) → ((b : B) → Framed (f b)) → ((b : B) → Backs (f b))
     → Lawful z w o n c → Lawful z w (followed o f z) (followed n f w) (then_spot c (f o.value (moved o.taken z) o.state))
 lawful-then z w o n f c frames tidy l =
-    let b = unit_at c z in
-    let d = unit_at c w in
     let q = f o.value (moved o.taken z) o.state in
     let t = tidy o.value (moved o.taken z) o.state in
     let same : o.state ≡ c.state = ap (λ u. u.state) l.old in
     let few : o.state.empties ≤ length c.hole.right = subst (λ (u : Point). u.empties ≤ length c.hole.right) (sym same) l.few in
     let h : q.back ≤ length c.hole.right = omega (arith, t.back, few) in
-    let one = length-append (hinted q.hints (less q.back c.hole.right)) q.nodes in
-    let two = length-less q.back c.hole.right in
-    let three = length-hinted q.hints (less q.back c.hole.right) in
-    let left = t.left in
     record {
-      old = ap (λ u. joined u q) l.old ∙ then-around c b c.node q h (no-error c c.node l.fits.head l.solid);
+      old = ap (λ u. joined u q) l.old ∙ then-around c (unit_at c z) c.node q h (no-error c c.node l.fits.head l.solid);
       fits = record { state = l.fits.state; back = l.fits.back; hints = l.fits.hints; nodes = l.fits.nodes; head = l.fits.head };
-      few = omega (arith, left, few, one, two, three, h);
+      few = omega (arith, t.left, few, length-append (hinted q.hints (less q.back c.hole.right)) q.nodes, length-less q.back c.hole.right, length-hinted q.hints (less q.back c.hole.right), h);
       solid = l.solid;
       swaps = λ x e.
           (let m = l.swaps x (edits-then z w c q x e) in
-          ap (joined n) (rest-same z w o n f c x frames l e) ∙ ap (λ u. joined u q) m ∙ then-around c d x q h (no-error c x e.fits.head l.solid));
+          ap (joined n) (rest-same z w o n f c x frames l e) ∙ ap (λ u. joined u q) m ∙ then-around c (unit_at c w) x q h (no-error c x e.fits.head l.solid));
     }
 
 -- ---- after something

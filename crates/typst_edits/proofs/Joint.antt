@@ -20,7 +20,8 @@ use Rattle.typst_grammar.specs.Grammar.{rules, level_at, max_depth}
 use Rattle.typst_edits.specs.Edit.{text_with}
 use Rattle.typst_edits.specs.Joint.{minds, passed, Exchanged, Meets, text_run, place_from, onwards_from, JointLaw}
 use Rattle.typst_edits.specs.Runs.{AllGo, End, chain, piece_at, lead, pieces, end_at, pieces_from, end_from, rest_from, tail, whole_of}
-use Rattle.typst_edits.proofs.Edit.{before-same, after-same, same_in-to}
+use Rattle.typst_edits.proofs.Edit.{before-same, after-same}
+use Rattle.typst_edits.proofs.Inside.{same_in-at}
 use Rattle.typst_edits.proofs.Led.{SameJudged, before_trivia, drop-front, Takes}
 use Rattle.typst_edits.proofs.Meeting.{ReadAs, read-made, Met, met}
 use Rattle.typst_edits.proofs.Runs.{moved-three}
@@ -112,7 +113,7 @@ joint-law k front old new rest i n m past t u h =
     let new_at = (length front + length new) + past in
     let there : moved t.gap y ≡ moved old_at z = sym (moved-three (end_at k i z).taken e.taken t.gap z) ∙ ap (λ a. moved a z) h.ends in
     let here : moved u.gap v ≡ moved new_at w = sym (moved-three (end_at k i w).taken j.taken u.gap w) ∙ ap (λ a. moved a w) h.shifted in
-    let shown = same_in-to _ _ _ _ _ there here (after-same _ past old_at new_at front old new rest refl refl h.after) in
+    let shown = same_in-at _ _ _ _ _ there here (after-same _ past old_at new_at front old new rest refl refl h.after) in
     let all = text-met k z y v e j t u h.meets (text-read k i n z) (text-read k i m w) shown in
     let behind = exchanged t u t.nodes (onward k e.value y e.state) (onward k j.value v j.state) _ all.one all.two in
     record {

@@ -43,13 +43,14 @@ use Rattle.typst_edits.proofs.InnerChildren.{inner-back-law, tree-by-block}
 use Rattle.typst_edits.proofs.InnerPieces.{kids-of}
 use Rattle.typst_edits.proofs.Joint.{onwards-is}
 use Rattle.typst_edits.proofs.Leading.{leading-law, leading-inner-law}
-use Rattle.typst_edits.proofs.Led.{none-less}
+use Rattle.typst_edits.proofs.Led.{none-less, drop-front, take-front}
 use Rattle.typst_edits.proofs.NoneBack.{inner-onwards-is}
 use Rattle.typst_edits.proofs.OneReading.{one-reading-law, Facts, go-first, go-second, first-split, end-split-at, later-place, leading, leading-most, leading-some, text-facts, block-facts}
 use Rattle.typst_edits.proofs.Replaced.{front-law, trees-bare}
 use Rattle.typst_edits.proofs.RootPieces.{same-place}
 use Rattle.typst_edits.proofs.Text.{content-reads}
 use Rattle.typst_edits.proofs.NoteNumbers.{go-fewer}
+use Rattle.typst_candidates.proofs.Tallies.{fewer}
 
 -- ---- along a path of a tree that is the same, spans aside
 
@@ -68,33 +69,17 @@ at-bare P Q f (i ∷ path) t root e h = at-lists (AtPath P path) (AtPath Q path)
 
 -- ---- stretches
 
-take-less : (n m : ℕ) (xs : List Tree) → n ≤ m → take n (take m xs) ≡ take n xs
-take-less zero m xs l = refl
-take-less (suc n) zero xs l = absurd (omega (arith, l))
-take-less (suc n) (suc m) [] l = refl
-take-less (suc n) (suc m) (x ∷ xs) l = ap (λ us. x ∷ us) (take-less n m xs (omega (arith, l)))
-
-drop-past : (n : ℕ) (xs ys : List Tree) → length xs ≡ n → drop n (xs ++ ys) ≡ ys
-drop-past n [] ys e = ap (λ j. drop j ys) (sym e)
-drop-past zero (x ∷ xs) ys e = absurd (omega (arith, e))
-drop-past (suc n) (x ∷ xs) ys e = drop-past n xs ys (omega (arith, e))
-
-take-these : (n : ℕ) (xs ys : List Tree) → length xs ≡ n → take n (xs ++ ys) ≡ xs
-take-these n [] ys e = ap (λ j. take j ys) (sym e)
-take-these zero (x ∷ xs) ys e = absurd (omega (arith, e))
-take-these (suc n) (x ∷ xs) ys e = ap (λ us. x ∷ us) (take-these n xs ys (omega (arith, e)))
-
 -- Children that are these, spans aside, begin with them there.
 begins-there : (from mid to : ℕ) (left kept right : List Tree) (t root : Tree) → bare root ≡ bare t → kids_of t ≡ left ++ (kept ++ right) → length left ≡ from → from + length kept ≡ mid → mid ≤ to → Begins from to kept root
 begins-there from mid to left kept right t root e is here there l =
     let n = length kept in
     let all : map bare (kids_of root) ≡ map bare left ++ (map bare kept ++ map bare right) = kids-bare t root e ∙ ap (map bare) is ∙ map-append bare left (kept ++ right) ∙ ap (λ us. map bare left ++ us) (map-append bare kept right) in
     let few : n ≤ to - from = omega (arith, there, l) in
-    ap (map bare) (take-less n (to - from) (drop from (kids_of root)) few)
+    ap (map bare) (sym (fewer n (to - from) (drop from (kids_of root)) few))
     ∙ sym (take-map bare n (drop from (kids_of root))) ∙ ap (take n) (sym (drop-map bare from (kids_of root)))
     ∙ ap (λ us. take n (drop from us)) all
-    ∙ ap (take n) (drop-past from (map bare left) (map bare kept ++ map bare right) (length-map left bare ∙ here))
-    ∙ take-these n (map bare kept) (map bare right) (length-map kept bare)
+    ∙ ap (take n) (drop-front (map bare left) (map bare kept ++ map bare right) from (sym (length-map left bare ∙ here)))
+    ∙ take-front (map bare kept) (map bare right) n (sym (length-map kept bare))
 
 -- ---- any run
 
@@ -113,42 +98,32 @@ module _ (k : CharClasses) (text : List ℕ) (r : Run k text) (a d : ℕ) (t : T
   abbrev own : Sequence
   own = read_as r (start_of text)
 
-  abbrev skipped : ℕ
-  skipped = leading a (first_end a own)
-
   abbrev all : List Tree
   all = (read_by a d own).nodes ++ t.nodes
 
-  fits : skipped ≤ length all
+  fits : leading a (first_end a own) ≤ length all
   fits =
       let split = subst (λ os. AllGo os) (first-split own a d) go in
       let leads = f.leads a d t (go-first (first_of a own) (then_of a d own) split) (go-second (first_of a own) (then_of a d own) split) (ap (λ (e : End (Bool × ℕ)). e.state.known) (sym (end-split-at own a d)) ∙ known) in
-      let most = leading-most a (first_end a own) in
-      let long = ap length leads.is ∙ length-append (pending (first_end a own).state.known) leads.rest in
-      omega (arith, most, long)
+      omega (arith, leading-most a (first_end a own), ap length leads.is ∙ length-append (pending (first_end a own).state.known) leads.rest)
 
   from-is : (b : ℕ) → b ≡ a → from ≡ length y.before + leading b (first_end a own)
   from-is zero e = let none = ap length (y.none_before (sym e)) in let first = s.first (sym e) in omega (arith, none, first)
   from-is (suc b) e =
       let some : 0 < a = omega (arith, e) in
-      let is = same-place (run_from r) (kids_of_run r) from _ _ (s.starts some) (y.first some) in
-      let more = leading-some b (first_end a own) in
-      omega (arith, is, more)
+      omega (arith, same-place (run_from r) (kids_of_run r) from _ _ (s.starts some) (y.first some), leading-some b (first_end a own))
 
   kept : KeptNodes k text r a d t from mid root
   kept =
       let start = from-is a refl in
-      let end = same-place (run_from r) (kids_of_run r) mid _ _ s.ends y.next in
-      let n = skipped in
+      let n = leading a (first_end a own) in
       let nodes = drop n all in
       let left = y.before ++ take n all in
       let cut : take n all ++ nodes ≡ all = take-append-drop n all in
       let children : kids_of_run r ≡ left ++ (nodes ++ y.behind) = y.children ∙ ap (λ us. y.before ++ (us ++ y.behind)) (sym cut) ∙ ap (λ us. y.before ++ us) (append_assoc (take n all) nodes y.behind) ∙ sym (append_assoc y.before (take n all) (nodes ++ y.behind)) in
-      let long = length-append y.before (take n all) in
       let taken = length-take-le n all fits in
-      let whole = sym (length-append (take n all) nodes) ∙ ap length cut in
-      let here : length left ≡ from = omega (arith, start, long, taken) in
-      let there : from + length nodes ≡ mid = omega (arith, start, end, whole, taken) in
+      let here : length left ≡ from = omega (arith, start, length-append y.before (take n all), taken) in
+      let there : from + length nodes ≡ mid = omega (arith, start, same-place (run_from r) (kids_of_run r) mid _ _ s.ends y.next, sym (length-append (take n all) nodes) ∙ ap length cut, taken) in
       record {
         left = left;
         right = y.behind;
@@ -175,17 +150,14 @@ module _ (q : Sequence) (a d : ℕ) where
 
   mild-there : minds_at q (first_place (a + d) q) (first_end (a + d) q) ≡ minds_at q (then_place a d q) (then_end a d q)
   mild-there =
-      let e = then_end a d q in
-      ap (λ (x : End (Bool × ℕ)). minds_at q (moved x.taken q.place) x) (end-split-at q a d) ∙ ap (λ w. minds_at q w e) (later-place q a d)
+      ap (λ (x : End (Bool × ℕ)). minds_at q (moved x.taken q.place) x) (end-split-at q a d) ∙ ap (λ w. minds_at q w (then_end a d q)) (later-place q a d)
 
   -- All after them takes no errors back, since there are none or the next piece doesn't mind them.
   none-taken : Facts q → AllGo (first_of a q) → AllGo (then_of a d q) → TakesNone (a + d) q → (onwards_by a d q).back ≤ (then_end a d q).state.empties
       → (b : Bool) → minds_at q (first_place (a + d) q) (first_end (a + d) q) ≡ b → (onwards_by a d q).back ≡ 0
   none-taken f g h none few false m = f.behind a d g h (sym mild-there ∙ m)
   none-taken f g h none few true m =
-      let no = none m in
-      let same = ap (λ (e : End (Bool × ℕ)). e.state.empties) (end-split-at q a d) in
-      omega (arith, few, no, same)
+      omega (arith, few, none m, ap (λ (e : End (Bool × ℕ)). e.state.empties) (end-split-at q a d))
 
   go-before : AllGo (first_of (suc (a + d)) q) → AllGo (first_of (a + d) q)
   go-before go = go-fewer (turn_of q) (a + d) (suc (a + d)) (true, 0) q.place q.point (omega arith) go
@@ -211,7 +183,6 @@ module _ (k : CharClasses) (text : List ℕ) (a d : ℕ) (t : Trivia) (some : 0 
       let q = text_run k z in
       let f = text-facts k z in
       let e = first_end a q in
-      let g = then_end a d q in
       let back_is = ap (λ (o : Outcome (Unit {0})). o.back) (onwards-is k a d z) in
       let few = (back-law k text a d).behind_back in
       let back : (onwards_from k a d z).back ≡ 0 = back_is ∙ none-taken q a d f (go-a q a d go) (go-d q a d go) none (omega (arith, few, back_is)) (minds_at q (first_place (a + d) q) (first_end (a + d) q)) refl in
@@ -219,7 +190,6 @@ module _ (k : CharClasses) (text : List ℕ) (a d : ℕ) (t : Trivia) (some : 0 
       let before = standing_before k a d z in
       let own : nodes_with k a d t z ≡ (read_by a d q).nodes ++ t.nodes = ap (λ b. less b (read_by a d q).nodes ++ t.nodes) back ∙ ap (λ us. us ++ t.nodes) (less-none (read_by a d q).nodes) in
       let kids = trees (tree k text).kids in
-      let over = goes-past q a d f go in
       let sum = end-split-at q a d in
       let at_end : (both k a d z).taken + gap_of (both k a d z).state.known ≡ cut_at (root_run k text) (a + d) z =
       omega (arith, ap (λ (x : End (Bool × ℕ)). x.taken) sum, ap (λ (x : End (Bool × ℕ)). gap_of x.state.known) sum, cut-some (a + d) 0 ((first_end (a + d) q).taken + gap_of (first_end (a + d) q).state.known) (omega (arith, some))) in
@@ -232,7 +202,7 @@ module _ (k : CharClasses) (text : List ℕ) (a d : ℕ) (t : Trivia) (some : 0 
             (let at_start : e.taken + gap_of e.state.known ≡ cut_at (root_run k text) a z = (let cut = cut-some a 0 (e.taken + gap_of e.state.known) l in omega (arith, cut)) in
             subst (λ b. LeadsAt 0 kids b (length before + length (pending e.state.known))) (ap (λ n. width (take n text)) at_start) (led.first some));
         next = subst (λ us. LeadsAt 0 kids (width (take (cut_at (root_run k text) (a + d) z) text)) (length before + length us)) own
-            (subst (λ b. LeadsAt 0 kids b (length before + length (nodes_with k a d t z))) (ap (λ n. width (take n text)) at_end) (led.next over));
+            (subst (λ b. LeadsAt 0 kids b (length before + length (nodes_with k a d t z))) (ap (λ n. width (take n text)) at_end) (led.next (goes-past q a d f go)));
       }
 
 -- ---- a content block's place
@@ -267,15 +237,10 @@ module _ (k : CharClasses) (levels : ℕ) (text : List ℕ) (c : Spot (Unit {0})
       let z = moved c.at z1 in
       let p = point_of c.start in
       let i = suc (a + d) in
-      let last = tail_at k levels i 0 c z1 in
-      let close = close_at k levels i 0 c z1 in
       let reads = content-reads k text c chosen levels name left z1 in
       let split = ap (λ (o : Outcome (Unit {0})). o.taken) (content-split k levels z p i 0 go tt) in
-      let all = content-taken k levels z p (chain (first_of i block_run) (chain (then_of i 0 block_run) (rest_of i 0 block_run))) last close in
-      let run = split-taken block_run i 0 in
-      let is = ap (λ (o : Outcome (Unit {0})). o.taken) reads in
-      let more = (block-facts k levels c z1).further (a + d) go in
-      omega (arith, is, split, all, run, more)
+      let all = content-taken k levels z p (chain (first_of i block_run) (chain (then_of i 0 block_run) (rest_of i 0 block_run))) (tail_at k levels i 0 c z1) (close_at k levels i 0 c z1) in
+      omega (arith, ap (λ (o : Outcome (Unit {0})). o.taken) reads, split, all, split-taken block_run i 0, (block-facts k levels c z1).further (a + d) go)
 
   none-behind : (onwards_in k levels a d c z1).back ≡ 0
   none-behind =
@@ -334,8 +299,7 @@ kept-nodes-law k text (inner c levels chosen name left) a d t from mid root same
 
 pub put-behind-law : PutBehindLaw
 put-behind-law k front old new rest r a d m t u from mid to root same some go before known none s l go_m known_now =
-    let text = front ++ (old ++ rest) in
     let w = text_with front new rest in
     let serves = one-reading-law k front old new rest r a d (go-before (read_as r (text_with front old rest)) a d go) before in
-    let kept = kept-nodes-law k text r a d t from mid root same some go known none s in
+    let kept = kept-nodes-law k (front ++ (old ++ rest)) r a d t from mid root same some go known none s in
     ap (λ ts. replaced_at (path_to r) from to ts root) (serves.nodes m t u (omega (arith, some)) none known go_m known_now) ∙ kept.replaced to (nodes_now r (a + d) m u w) l

@@ -1,61 +1,34 @@
 -- What is known of the trivia at hand keeps a property, if the property holds of what was asked and of what a flush leaves.
-use Rattle.std.proofs.Common.{◌≡◌, ℕ, zero, suc, Bool, true, false, ◌&&◌, if◌then◌else◌, nat_lt, List, [], ◌∷◌, Option, Some, None, refl, sym, subst}
+use Rattle.std.proofs.Common.{◌≡◌, ℕ, zero, suc, Bool, false, ◌&&◌, if◌then◌else◌, nat_lt, List, [], ◌∷◌, Option, Some, None, refl, sym, subst}
 use Rattle.typst_kinds.specs.declared.mode.SyntaxMode.{SyntaxMode}
-use Rattle.typst_kinds.specs.Kinds.{is_error}
 use Rattle.typst_lines.specs.Place.{Place, moved}
-use Rattle.typst_tree.specs.Tree.{Tree, text_of}
+use Rattle.typst_tree.specs.Tree.{Tree}
 use Rattle.typst_lines.specs.Classes.{CharClasses}
 use Rattle.typst_language.specs.Calls.{Call}
 use Rattle.typst_language.specs.declared.reading.Reading.{Reading}
 use Rattle.typst_language.specs.Hand.{Hand, known_by, hand_at}
 use Rattle.typst_language.specs.Knot.{Rules, meaning_of, level_of}
 use Rattle.typst_language.specs.Point.{Trivia, Point}
-use Rattle.typst_language.specs.Shape.{Shape, changed, after_node, after_shape}
-use Rattle.typst_language.specs.Shape.Shape.{keeps, holds, lacks, warns, fails}
+use Rattle.typst_language.specs.Shape.{Shape, after_node, after_shape}
 use Rattle.typst_language.specs.Syntax.{Op, Begin, Parser}
 use Rattle.typst_language.specs.Syntax.Op.{hand, so, further, column, erred, takes, takes_so, flushes, complains, advises, marks, is_deepest}
 use Rattle.typst_language.specs.Syntax.Parser.{gives, does, next, pick, repeat, wraps, grows, nests, scoped, either, calls, block}
 use Rattle.typst_language.specs.Meaning.{Outcome, Meaning, Level, plain, joined, answered, turns, as_last, bound, repeated, before, inside, reshaped, grown, is_more, growths, growing, nestings, nesting, given_up, bounded, same_mode, left, entered, flushed_state, done, run}
 use Rattle.typst_language.proofs.Places.{moved-sum}
+use Rattle.typst_language.proofs.Runs.{shape-held, shape-known}
 use Rattle.typst_language.proofs.Within.{on_both, grew}
 
--- ---- the state without what is known
+-- ---- how a flush leaves the state
 
--- where the token at hand is read alike, and as much is known
-record Like (s t : Point) : Type 0 where
-  mode : t.held.mode ≡ s.held.mode
-  known : t.known ≡ s.known
-
-like-node : (b : Bool) (text : List ℕ) (s : Point) → Like s (after_node b text s)
-like-node true text s = record { mode = refl; known = refl }
-like-node false text s = record { mode = refl; known = refl }
-
-like-if : (b : Bool) (s t : Point) → Like s t → Like s (if b then s else t)
-like-if true s t a = record { mode = refl; known = refl }
-like-if false s t a = a
-
-like-shape : (shape : Shape) (ts : List Tree) (s : Point) → Like s (after_shape shape ts s)
-like-shape (keeps change) [] s = record { mode = refl; known = refl }
-like-shape (keeps change) (t ∷ []) s = like-if (is_error t.head.kind) s _ (like-node (is_error (changed change t).head.kind) (text_of t) s)
-like-shape (keeps change) (t ∷ u ∷ ts) s = record { mode = refl; known = refl }
-like-shape (holds change kind) ts s = record { mode = refl; known = refl }
-like-shape (lacks count message kind) ts s = record { mode = refl; known = refl }
-like-shape (warns kind message hint) ts s = record { mode = refl; known = refl }
-like-shape (fails message) ts s = record { mode = refl; known = refl }
-
-flushed-mode : (s : Point) (ts : List Tree) → (elim ts as (λ _. Point) [ [] ↦ s | u ∷ us ↦ after_node false [] s ]).held ≡ s.held
-flushed-mode s [] = refl
-flushed-mode s (t ∷ ts) = refl
+flushed-as : (s : Point) (ts : List Tree) → (let t = elim ts as (λ _. Point) [ [] ↦ s | u ∷ us ↦ after_node false [] s ] in (t.held ≡ s.held) × (t.reading ≡ s.reading))
+flushed-as s [] = (refl, refl)
+flushed-as s (t ∷ ts) = (refl, refl)
 
 pub flushed-held : (h : Hand) (s : Point) → (flushed_state h s).held ≡ s.held
-flushed-held h s = flushed-mode s h.trivia
-
-flushed-read : (s : Point) (ts : List Tree) → (elim ts as (λ _. Point) [ [] ↦ s | u ∷ us ↦ after_node false [] s ]).reading ≡ s.reading
-flushed-read s [] = refl
-flushed-read s (t ∷ ts) = refl
+flushed-held h s = (flushed-as s h.trivia).0
 
 pub flushed-reading : (h : Hand) (s : Point) → (flushed_state h s).reading ≡ s.reading
-flushed-reading h s = flushed-read s h.trivia
+flushed-reading h s = (flushed-as s h.trivia).1
 
 -- ---- a property of what is known, by how the token at hand is read and the place
 
@@ -77,9 +50,6 @@ abbrev pub Keeps : {A : Type 0} → Saying → CharClasses → Meaning A → Typ
 Keeps P k m = (z : Place) (s : Point) → Holds P k z s → Holds P k (moved (m z s).taken z) (m z s).state
 
 module _ (P : Saying) (stays : Stays P) where
-  holds-like : (k : CharClasses) (z : Place) (s t : Point) → Like s t → Holds P k z s → Holds P k z t
-  holds-like k z s t l h = subst (λ m. P k m t.known z) (sym l.mode) (subst (λ o. P k s.held.mode o z) (sym l.known) h)
-
   holds-at : (k : CharClasses) (s : Point) (z w : Place) → w ≡ z → Holds P k z s → Holds P k w s
   holds-at k s z w e h = subst (λ x. Holds P k x s) (sym e) h
 
@@ -100,7 +70,9 @@ module _ (P : Saying) (stays : Stays P) where
       on_both (λ u. Holds P k (moved u.taken z) u.state) (o.value.0 && nat_lt 0 o.taken) (joined o p) (as_last o) (holds-joined k z o p (holds-turns k m h n o.value.1 (moved o.taken z) o.state t)) t
 
   holds-reshaped : {A : Type 0} (k : CharClasses) (z : Place) (shape : Shape) (n : ℕ) (o : Outcome A) → Holds P k (moved o.taken z) o.state → Holds P k (moved (reshaped shape n o).taken z) (reshaped shape n o).state
-  holds-reshaped k z shape n o h = holds-like k (moved o.taken z) o.state _ (like-shape shape (inside n o) o.state) h
+  holds-reshaped k z shape n o h =
+      let ts = inside n o in
+      subst (λ (r : Reading). P k r.mode (after_shape shape ts o.state).known (moved o.taken z)) (sym (shape-held shape ts o.state)) (subst (λ v. P k o.state.held.mode v (moved o.taken z)) (sym (shape-known shape ts o.state)) h)
 
   pub holds-grown : {A : Type 0} (k : CharClasses) (z : Place) (n : ℕ) (shape : Option Shape) (o : Outcome A) → Holds P k (moved o.taken z) o.state → Holds P k (moved (grown n shape o).taken z) (grown n shape o).state
   holds-grown k z n None o h = h

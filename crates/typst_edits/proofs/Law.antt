@@ -18,7 +18,7 @@ use Rattle.typst_language.specs.Syntax.{Parser, ◌>>◌}
 use Rattle.typst_language.specs.Syntax.Op.{flushes}
 use Rattle.typst_language.specs.Syntax.Parser.{gives, does, next, pick, repeat, wraps, grows, nests, scoped, either, calls, block}
 use Rattle.typst_language.specs.Knot.{Rules, blocks_of, meaning_of, level_of}
-use Rattle.typst_language.specs.Meaning.{Outcome, Meaning, Level, blockless, plain, less, followed, before, closed, bounded, deeper_by_one, chosen, entered, left_to, done, run}
+use Rattle.typst_language.specs.Meaning.{Outcome, Meaning, Level, blockless, plain, less, followed, before, closed, bounded, deeper_by_one, chosen, entered, left_to, done, run, left}
 use Rattle.typst_language.proofs.Looks.{same_in-first, same_in-sunk}
 use Rattle.typst_language.proofs.Frame.{framed-done}
 use Rattle.typst_language.proofs.Backs.{left-empties}
@@ -28,19 +28,13 @@ use Rattle.typst_edits.specs.Occurrences.{Spots, scoped_spot, bounded_spots, spo
 use Rattle.typst_edits.proofs.Every.{Every, every-map, every-if}
 use Rattle.typst_edits.proofs.Outcomes.{same-outcome, shift-zero, lowered-zero, sunk-lowered, sunk-shift, or-false}
 use Rattle.typst_edits.proofs.Inside.{Edits, Lawful, lawful-after}
-use Rattle.typst_edits.proofs.Spots.{Inside, if-true, if-false, lawful-same, joined-inside, value-same, inside-repeated, inside-wrapped, inside-nesting}
+use Rattle.typst_edits.proofs.Spots.{Inside, if-true, if-false, lawful-same, joined-inside, value-same, inside-repeated, inside-wrapped, inside-nesting, edits-as}
 use Rattle.typst_edits.proofs.Grows.{inside-growing}
 
 -- ---- another way to read
 
 edits-scoped : {A : Type 0} (outer : Reading) (z w : Place) (c : Spot A) (x : Tree) → Edits z w (scoped_spot outer c) x → Edits z w c x
-edits-scoped outer z w c x e = record {
-  before = e.before;
-  fits = record { state = e.fits.state; back = e.fits.back; hints = e.fits.hints; nodes = e.fits.nodes; head = e.fits.head };
-  covers = e.covers;
-  some = e.some;
-  after = e.after;
-}
+edits-scoped outer z w c x e = edits-as z w c.value (left outer c.state) c.hole c x e
 
 lawful-scoped : {A : Type 0} (outer : Reading) (z w : Place) (o n : Outcome A) (c : Spot A) → Lawful z w o n c → Lawful z w (left_to outer o) (left_to outer n) (scoped_spot outer c)
 lawful-scoped outer z w o n c l = record {
@@ -202,10 +196,7 @@ module _ (l : Level) (deep : (c : Call) → Spots (Answer c)) (in_block : Block 
 module _ (r : Rules) (k : CharClasses) (ends : (levels : ℕ) (b : Block) → r.has b ≡ true → (z : Place) (s : Point) → Ends b (blocks_of r k levels (meaning_of r k levels) b z s)) where
   inside-block : (levels : ℕ) → ((call : Call) → Inside (meaning_of r k levels call) (call_spots r k levels call)) → (b : Block) → Inside (blocks_of r k levels (meaning_of r k levels) b) (block_spots r k levels b)
   inside-block levels i b =
-      inside-run (blockless k levels (meaning_of r k levels)) (call_spots r k levels) (λ c y t. []) (sane-meaning r k levels) (λ c. sane-plain tt) (λ c h. no-block h) i (λ c z w s. tt) (peek >> r.block_production b)
-    where
-      no-block : {P : Type 0} → false ≡ true → P
-      no-block h = cc
+      inside-run (blockless k levels (meaning_of r k levels)) (call_spots r k levels) (λ c y t. []) (sane-meaning r k levels) (λ c. sane-plain tt) (λ c h. absurd (cc)) i (λ c z w s. tt) (peek >> r.block_production b)
 
   pub inside-meaning : (levels : ℕ) (call : Call) → Inside (meaning_of r k levels call) (call_spots r k levels call)
   unfolding meaning_of call_spots

@@ -1,17 +1,14 @@
 -- Where the pieces of a run begin among the nodes that it gives.
-use Rattle.std.proofs.Common.{◌≡◌, ℕ, zero, suc, ◌+◌, ◌-◌, ◌<◌, ◌≤◌, ◌==◌, ne_eqb, Bool, true, false, ◌&&◌, nat_lt, List, [], ◌∷◌, ◌++◌, length, take, drop, length-append, append_assoc, append-nil, Option, None, Some, refl, ap, sym, ◌∙◌, subst, arith, codes}
+use Rattle.std.proofs.Common.{◌≡◌, ℕ, zero, suc, ◌+◌, ◌-◌, ◌<◌, ◌≤◌, Bool, true, false, ◌&&◌, nat_lt, List, [], ◌∷◌, ◌++◌, length, take, drop, length-append, append_assoc, append-nil, Option, None, Some, refl, ap, sym, ◌∙◌, subst, arith, codes}
 use borrow.Author.Tests.{lt-ltb}
+use Rattle.std.proofs.lemmas.List.{nil_from_length}
 use Rattle.typst_kinds.specs.declared.kind.SyntaxKind.TheVariants as kind
 use Rattle.typst_lines.specs.Place.{Place, moved}
 use Rattle.typst_lines.specs.Classes.{CharClasses}
 use Rattle.typst_tree.specs.Tree.{Tree, forest, trees, text_of, inner_of, made_error}
 use Rattle.typst_tokens.specs.Sight.{width}
-use Rattle.typst_language.specs.declared.calls.Block.{Block}
 use Rattle.typst_language.specs.declared.calls.Block.TheVariants as block
-use Rattle.typst_language.specs.Calls.{Call}
-use Rattle.typst_language.specs.Calls.Call.{MarkupExpr}
-use Rattle.typst_language.specs.declared.reading.Reading.{Reading}
-use Rattle.typst_language.specs.Hand.{told, len_at, hand_at, utf8_ahead}
+use Rattle.typst_language.specs.Hand.{told, hand_at, utf8_ahead}
 use Rattle.typst_language.specs.Point.{Trivia, Point, point_of, gap_of, pending}
 use Rattle.typst_language.specs.Shape.Change.{turns_wrong}
 use Rattle.typst_language.specs.Shape.Making.{itself}
@@ -19,13 +16,12 @@ use Rattle.typst_language.specs.Shape.Shape.{keeps}
 use Rattle.typst_language.specs.Steps.{peek, flush_trivia}
 use Rattle.typst_language.specs.Syntax.Op.{takes as takes_token}
 use Rattle.typst_language.specs.Syntax.Parser.{does, repeat}
-use Rattle.typst_language.specs.Meaning.{Outcome, Meaning, plain, less, standing, joined, as_last, repeated, start_point, entered, hand_of, hand_asks_of, asked, run}
+use Rattle.typst_language.specs.Meaning.{Outcome, Meaning, plain, less, standing, joined, repeated, start_point, entered, hand_of, asked, run}
 use Rattle.typst_language.specs.Sound.{Tidy, Backs, Stands}
-use Rattle.typst_language.proofs.Ends.{hand-takes}
-use Rattle.typst_language.proofs.Knot.{Sane, sane-run, sane-meaning, sane-block, sane-plain}
+use Rattle.typst_language.proofs.Knot.{Sane, sane-run, sane-meaning, sane-block}
 use Rattle.typst_language.proofs.Leaves.{texts, texts-append, texts-one, texts-first, text-shaped, text-add, Holds, Keeps, kept-joined, blank-nil}
 use Rattle.typst_language.proofs.Places.{less-none, moved-sum}
-use Rattle.typst_grammar.specs.Markup.{ends, markup_turn, markup_head, markup_reading}
+use Rattle.typst_grammar.specs.Markup.{ends, markup_turn, markup_reading}
 use Rattle.typst_grammar.specs.Grammar.{rules, max_depth, level_at, start_of, whole, tree, parsed}
 use Rattle.typst_edits.specs.BlockRuns.{inner, look_first, look_again, bracket, inner_run, run_at, opened_at, tail_at, close_at}
 use Rattle.typst_edits.specs.Children.{Settles, together, read_from, standing_before, nodes_with}
@@ -34,7 +30,7 @@ use Rattle.typst_edits.specs.Every.{Every}
 use Rattle.typst_edits.specs.InnerBytes.{inner_end, inner_both}
 use Rattle.typst_edits.specs.InnerChildren.{standing_in, nodes_in, block_with}
 use Rattle.typst_edits.specs.InnerJoint.{onwards_in}
-use Rattle.typst_edits.specs.Joint.{minds, text_run, onwards_from}
+use Rattle.typst_edits.specs.Joint.{text_run, onwards_from}
 use Rattle.typst_edits.specs.Leading.{bytes_of, LeadsAt, opening_child, token_byte, both, is_over, Leading, LeadingInner, LeadingLaw, LeadingInnerLaw}
 use Rattle.typst_edits.specs.Laws.{blocks_of_text}
 use Rattle.typst_edits.specs.Occurrences.{goes}
@@ -48,21 +44,21 @@ use Rattle.typst_edits.proofs.Boundary.{KnownAt, first-of, turn-goes, going-on, 
 use Rattle.typst_edits.proofs.Children.{given-together, tidy-together, stretch-is, back-law, run-apart, text-known}
 use Rattle.typst_edits.proofs.Edit.{among, trees-of}
 use Rattle.typst_edits.proofs.Fitting.{same-here}
-use Rattle.typst_edits.proofs.Fronts.{Full, full-append, full-less, Fronts, fronts-joined, Begins, begins-turn, begins-call}
+use Rattle.typst_edits.proofs.Fronts.{Full, full-append, full-less}
 use Rattle.typst_edits.proofs.InnerChildren.{opens-by, node-is, pieces-quiet, close-quiet, kids-are, inner-back-law, begun-at}
-use Rattle.typst_edits.proofs.InnerJoint.{inner-fronted}
+use Rattle.typst_edits.proofs.InnerJoint.{inner-fronted, block-taking}
 use Rattle.typst_edits.proofs.Inside.{Lawful}
 use Rattle.typst_edits.proofs.Joint.{onwards-fronted, text-taking}
 use Rattle.typst_edits.proofs.Law.{inside-level}
-use Rattle.typst_edits.proofs.Led.{before_trivia, drop-front, less-behind}
+use Rattle.typst_edits.proofs.Led.{before_trivia, drop-front, less-behind, Led, led-joined}
 use Rattle.typst_edits.proofs.Runs.{repeated-chain, chain-state, chain-taken, moved-three}
 use Rattle.typst_edits.proofs.RunTrees.{standing-none, tree-is}
 use Rattle.typst_edits.proofs.SpotPlaces.{width-encodes}
-use Rattle.typst_edits.proofs.Spots.{if-true}
 use Rattle.typst_edits.proofs.Text.{content-reads}
 use Rattle.typst_edits.proofs.TokenNodes.{NoMarkup, bracket-plain, close-plain}
-use Rattle.typst_edits.proofs.Turns.{end-by, last-turn}
+use Rattle.typst_edits.proofs.Turns.{Taking, turn-led, stopped}
 use Rattle.typst_edits.proofs.Widths.{width-none}
+use Rattle.typst_edits.proofs.Every.{first_or}
 
 -- ---- nodes
 
@@ -72,26 +68,18 @@ bytes-append ts us = let e = ap length (texts-append ts us) in let sum = length-
 pub bytes-first : (t : Tree) (ts : List Tree) → bytes_of (t ∷ ts) ≡ length (text_of t) + bytes_of ts
 bytes-first t ts = let e = ap length (texts-first t ts) in let sum = length-append (text_of t) (texts ts) in omega (arith, e, sum)
 
-abbrev first_or : Tree → List Tree → Tree
-first_or t [] = t
-first_or t (u ∷ us) = u
-
 -- Of two ways to split the same nodes before one that isn't empty only one has a given number of bytes before it.
 part-is : (xs : List Tree) (x : Tree) (us left : List Tree) (y : Tree) (vs : List Tree) → left ++ y ∷ vs ≡ xs ++ x ∷ us → 0 < length (text_of x) → 0 < length (text_of y) → bytes_of xs ≡ bytes_of left → length xs ≡ length left
 part-is [] x us [] y vs e h i b = refl
 part-is [] x us (l ∷ left) y vs e h i b =
     let same : length (text_of l) ≡ length (text_of x) = ap (λ ts. length (text_of (first_or x ts))) e in
-    let long = bytes-first l left in
-    absurd (omega (arith, same, long, h, b))
+    absurd (omega (arith, same, bytes-first l left, h, b))
 part-is (l ∷ xs) x us [] y vs e h i b =
     let same : length (text_of y) ≡ length (text_of l) = ap (λ ts. length (text_of (first_or x ts))) e in
-    let long = bytes-first l xs in
-    absurd (omega (arith, same, long, i, b))
+    absurd (omega (arith, same, bytes-first l xs, i, b))
 part-is (l ∷ xs) x us (m ∷ left) y vs e h i b =
     let same : length (text_of m) ≡ length (text_of l) = ap (λ ts. length (text_of (first_or x ts))) e in
-    let one = bytes-first l xs in
-    let two = bytes-first m left in
-    ap suc (part-is xs x us left y vs (ap (drop 1) e) h i (omega (arith, same, one, two, b)))
+    ap suc (part-is xs x us left y vs (ap (drop 1) e) h i (omega (arith, same, bytes-first l xs, bytes-first m left, b)))
 
 -- A full node after others leads where these end.
 pub leads-at : (from : ℕ) (ts left right : List Tree) (at : ℕ) → ts ≡ left ++ right → Full right → from + bytes_of left ≡ at → LeadsAt from ts at (length left)
@@ -111,11 +99,7 @@ leads-at from ts left (y ∷ right) at is full begins = record {
 bytes-on : (text : List ℕ) (a d : ℕ) → width (take a text) + length (utf8_ahead d (moved a (start_of text))) ≡ width (take (a + d) text)
 bytes-on text a d =
     let z = start_of text in
-    let sum = length-append (utf8_ahead a z) (utf8_ahead d (moved a z)) in
-    let all = ap length (text-add a d z) in
-    let one = width-encodes (take a text) in
-    let two = width-encodes (take (a + d) text) in
-    omega (arith, sum, all, one, two)
+    omega (arith, length-append (utf8_ahead a z) (utf8_ahead d (moved a z)), ap length (text-add a d z), width-encodes (take a text), width-encodes (take (a + d) text))
 
 -- ---- pieces
 
@@ -127,28 +111,19 @@ module _ {A : Type 0} (m : A → Meaning (Bool × A)) (keeps : (x : A) → Keeps
       let o = m x z s in
       let y = moved o.taken z in
       let os = made m n o.value.1 y o.state in
-      let q = together (end_of o.value.1 o.state os).state os in
       let first = keeps x z s h in
-      kept-joined z o q first (kept-together n o.value.1 y o.state first.known) (tidy-together m backs n o.value.1 y o.state)
+      kept-joined z o (together (end_of o.value.1 o.state os).state os) first (kept-together n o.value.1 y o.state first.known) (tidy-together m backs n o.value.1 y o.state)
 
--- WHAT A RUN IS READ BY: what is called in it reads as it should, and takes its token first; the run stops at a text's end; and what stands where the run begins is known.
+-- WHAT A RUN IS READ BY: how it is read, and what stands where it begins is known.
 pub record Leads (r : Sequence) : Type 0 where
-  pub deeper : (c : Call) → Sane (r.level.deeper c)
-  pub blocks : (b : Block) → Sane (r.level.blocks b)
-  pub deep : (r.level.levels == 0) ≡ false
-  pub end_stops : r.stops kind.End ≡ true
-  pub call : (h : Reading) (z : Place) (t : Trivia) (x : Bool × ℕ) → 0 < len_at r.level.classes h.mode (moved t.gap z) → Begins h z t (minds (markup_head x.0 x.1 (hand_at r.level.classes h (Some t) z).kind)) (r.level.deeper (MarkupExpr x.0 x.1))
+  pub taking : Taking r.level r.stops
   pub stands : Stands r.place r.point.known
   pub known : KnownAt r.point
 
 pub text-leads : (k : CharClasses) (z : Place) → Leads (text_run k z)
 unfolding run
 text-leads k z = record {
-  deeper = sane-meaning (rules k) k max_depth;
-  blocks = sane-block (rules k) k max_depth;
-  deep = refl;
-  end_stops = refl;
-  call = λ h y t x more. begins-call k 255 h y t x.0 x.1 more;
+  taking = text-taking k;
   stands = ((sane-run (level_at k max_depth) (sane-meaning (rules k) k max_depth) (sane-block (rules k) k max_depth) peek).kept z start tt).known;
   known = record { trivia = _; is = refl };
 }
@@ -156,41 +131,40 @@ text-leads k z = record {
 pub block-leads : (k : CharClasses) (levels : ℕ) (z : Place) (s : Point) → Leads (inner_run k levels z s)
 unfolding run
 block-leads k levels z s = record {
-  deeper = sane-meaning (rules k) k (suc levels);
-  blocks = λ b. sane-plain tt;
-  deep = ne_eqb (suc levels) 0 (omega arith);
-  end_stops = refl;
-  call = λ h y t x more. begins-call k levels h y t x.0 x.1 more;
+  taking = block-taking k levels;
   stands = ((in-sane k levels peek).kept (moved (bracket k levels z s).taken z) (bracket k levels z s).state tt).known;
   known = record { trivia = _; is = refl };
 }
+
+-- It gives the trivia and then a node that isn't empty, as it does after them.
+pub record Fronts {A : Type 0} (t : Trivia) (o : Outcome A) : Type 0 where
+  pub trims : Bool
+  pub behind : Outcome A
+  pub led : Led t t.nodes trims o behind
+
+fronts-joined : {A B : Type 0} (t : Trivia) (o : Outcome B) (q : Outcome A) → Fronts t o → Tidy o.state q → Fronts t (joined o q)
+fronts-joined t o q f tidy = record { trims = f.trims; behind = joined f.behind q; led = led-joined t t.nodes f.trims o f.behind q f.led (subst (λ s. Tidy s q) f.led.state tidy) }
 
 module _ (r : Sequence) (leads : Leads r) where
   abbrev pub turn : Bool × ℕ → Meaning (Bool × (Bool × ℕ))
   turn x = turn_of r x
 
   pub sane : (x : Bool × ℕ) → Sane (turn x)
-  sane x = sane-run r.level leads.deeper leads.blocks (markup_turn true r.stops x)
+  sane x = sane-run r.level leads.taking.calls_sane leads.taking.blocks_sane (markup_turn true r.stops x)
 
   -- a turn that isn't stopped
-  pub turn-fronts : (x : Bool × ℕ) (z : Place) (s : Point) (t : Trivia) → s.known ≡ Some t → ends r.stops x.1 (told (hand_of r.level z s)).kind ≡ false
-      → Fronts t (minds (markup_head x.0 x.1 (hand_at r.level.classes s.held (Some t) z).kind)) (turn x z s)
-  unfolding hand_at
+  pub turn-fronts : (x : Bool × ℕ) (z : Place) (s : Point) (t : Trivia) → s.known ≡ Some t → ends r.stops x.1 (told (hand_of r.level z s)).kind ≡ false → Fronts t (turn x z s)
   turn-fronts x z s t is go =
-      let l = r.level in
-      let h = s.held in
-      let b = before_trivia s.reading h s.empties s.is_after_error t in
+      let b = before_trivia s.reading s.held s.empties s.is_after_error t in
       let same : s ≡ b = ap (λ u. record s { known = u }) is in
-      let go_there : ends r.stops x.1 (told (hand_of l z b)).kind ≡ false = subst (λ p. ends r.stops x.1 (told (hand_of l z p)).kind ≡ false) same go in
-      let some = hand-takes l.classes h (Some t) z (end-by r.stops leads.end_stops x.1 (told (hand_of l z b)).kind go_there) in
-      let trims = minds (markup_head x.0 x.1 (hand_at l.classes h (Some t) z).kind) in
-      subst (λ p. Fronts t trims (turn x z p)) (sym same) (begins-turn l leads.deeper leads.blocks h z t leads.deep r.stops x trims (leads.call h z t x some) go_there s.reading s.empties s.is_after_error)
+      let go_there : ends r.stops x.1 (told (hand_of r.level z b)).kind ≡ false = subst (λ p. ends r.stops x.1 (told (hand_of r.level z p)).kind ≡ false) same go in
+      subst (λ p. Fronts t (turn x z p)) (sym same) (record { trims = _; behind = _; led = turn-led r.level r.stops leads.taking x z s.reading s.held s.empties s.is_after_error t go_there })
 
   turn-goes-on : (x : Bool × ℕ) (z : Place) (s : Point) (t : Trivia) → s.known ≡ Some t → ends r.stops x.1 (told (hand_of r.level z s)).kind ≡ false → goes (turn x z s) ≡ true
   turn-goes-on x z s t is go =
       let o = turn x z s in
-      let past = (turn-fronts x z s t is go).some in
-      let some : 0 < o.taken = omega (arith, past) in
+      let led = (turn-fronts x z s t is go).led in
+      let some : 0 < o.taken = omega (arith, led.some, led.taken) in
       ap (λ b. b && nat_lt 0 o.taken) (turn-goes r.level r.stops x z s go) ∙ lt-ltb 0 o.taken some
 
   -- Where none goes on, the run ends.
@@ -203,46 +177,32 @@ module _ (r : Sequence) (leads : Leads r) where
 
   -- some pieces
   pieces-front : (n : ℕ) (x : Bool × ℕ) (z : Place) (s : Point) (t : Trivia) → s.known ≡ Some t → 0 < n → AllGo (made turn n x z s)
-      → Fronts t (minds (markup_head x.0 x.1 (hand_at r.level.classes s.held (Some t) z).kind)) (together (end_of x s (made turn n x z s)).state (made turn n x z s))
+      → Fronts t (together (end_of x s (made turn n x z s)).state (made turn n x z s))
   pieces-front zero x z s t is some g = absurd (omega (arith, some))
   pieces-front (suc n) x z s t is some g =
       let o = turn x z s in
       let y = moved o.taken z in
       let os = made turn n o.value.1 y o.state in
-      fronts-joined t _ o (together (end_of o.value.1 o.state os).state os) (turn-fronts x z s t is (going-on r.level r.stops x z s (first-of o.value.0 (nat_lt 0 o.taken) g.0)))
+      fronts-joined t o (together (end_of o.value.1 o.state os).state os) (turn-fronts x z s t is (going-on r.level r.stops x z s (first-of o.value.0 (nat_lt 0 o.taken) g.0)))
       (tidy-together turn (λ v. (sane v).backs) n o.value.1 y o.state)
 
   -- all after some pieces, where another follows
   rest-front : (x : Bool × ℕ) (z : Place) (s : Point) (t : Trivia) (last : Outcome (Unit {0})) → s.known ≡ Some t → Tidy (repeated turn x z s).state last → ends r.stops x.1 (told (hand_of r.level z s)).kind ≡ false
-      → Fronts t (minds (markup_head x.0 x.1 (hand_at r.level.classes s.held (Some t) z).kind)) (joined (repeated turn x z s) last)
+      → Fronts t (joined (repeated turn x z s) last)
   unfolding run
   rest-front x z s t last is tidy go =
       let o = turn x z s in
       let p = repeated turn x z s in
-      let trims = minds (markup_head x.0 x.1 (hand_at r.level.classes s.held (Some t) z).kind) in
       let w = moved (o.taken + 0) z in
       let q = repeated turn o.value.1 w o.state in
       let parts : p ≡ joined o q = repeated-chain turn (λ v. (sane v).within) 1 x z s (turn-goes-on x z s t is go, tt) in
-      let one = fronts-joined t trims o q (turn-fronts x z s t is go) ((sane-run r.level leads.deeper leads.blocks (repeat (markup_turn true r.stops) o.value.1)).backs w o.state) in
-      fronts-joined t trims p last (subst (λ u. Fronts t trims u) (sym parts) one) tidy
-
-  -- where none follows
-  stopped : (x : Bool × ℕ) (z : Place) (s : Point) → ends r.stops x.1 (told (hand_of r.level z s)).kind ≡ true → repeated turn x z s ≡ record (plain x (asked (hand_of r.level z s) s)) { asks = hand_asks_of r.level z s ++ [] }
-  unfolding run markup_turn less
-  stopped x z s f =
-      let l = r.level in
-      let v = told (hand_of l z s) in
-      let after = asked (hand_of l z s) s in
-      let first = record (plain v after) { asks = hand_asks_of l z s } in
-      let end = plain (false, x) after in
-      let is : turn x z s ≡ joined first end = ap (joined first) (if-true (ends r.stops x.1 v.kind) _ _ f) in
-      last-turn turn (λ n. (sane n).within) x z s (ap goes is) ∙ ap as_last is
+      let one = fronts-joined t o q (turn-fronts x z s t is go) ((sane-run r.level leads.taking.calls_sane leads.taking.blocks_sane (repeat (markup_turn true r.stops) o.value.1)).backs w o.state) in
+      fronts-joined t p last (subst (λ u. Fronts t u) (sym parts) one) tidy
 
   flush-nodes : (z : Place) (s : Point) (t : Trivia) → s.known ≡ Some t → (run r.level flush_trivia z s).nodes ≡ t.nodes
   unfolding run flush_trivia hand_at less
   flush-nodes z s t is =
-      let b = before_trivia s.reading s.held s.empties s.is_after_error t in
-      let same : s ≡ b = ap (λ u. record s { known = u }) is in
+      let same : s ≡ before_trivia s.reading s.held s.empties s.is_after_error t = ap (λ u. record s { known = u }) is in
       ap (λ p. (run r.level flush_trivia z p).nodes) same ∙ ap (λ ts. ts ++ []) (less-none t.nodes) ∙ append-nil t.nodes
 
   rest-over : (x : Bool × ℕ) (z : Place) (s : Point) (t : Trivia) → s.known ≡ Some t → ends r.stops x.1 (told (hand_of r.level z s)).kind ≡ true
@@ -251,11 +211,10 @@ module _ (r : Sequence) (leads : Leads r) where
   rest-over x z s t is over =
       let l = r.level in
       let after = asked (hand_of l z s) s in
-      let b = before_trivia s.reading s.held s.empties s.is_after_error t in
-      let same : s ≡ b = ap (λ u. record s { known = u }) is in
+      let same : s ≡ before_trivia s.reading s.held s.empties s.is_after_error t = ap (λ u. record s { known = u }) is in
       let flushed = run l flush_trivia z after in
       let known_there : after.known ≡ Some t = ap (λ p. (asked (hand_of l z p) p).known) same in
-      ap (λ (p : Outcome (Bool × ℕ)). (joined p (run l flush_trivia (moved p.taken z) p.state)).nodes) (stopped x z s over) ∙ standing-none flushed ∙ flush-nodes z after t known_there
+      ap (λ (p : Outcome (Bool × ℕ)). (joined p (run l flush_trivia (moved p.taken z) p.state)).nodes) (stopped r.level r.stops leads.taking x z s over) ∙ standing-none flushed ∙ flush-nodes z after t known_there
 
   -- ---- the first i pieces and the n that follow
 
@@ -308,8 +267,7 @@ module _ (r : Sequence) (leads : Leads r) where
     -- What stands before them holds what the i pieces take.
     before-text : texts before ≡ utf8_ahead e.taken r.place
     before-text =
-        let back = tidy-p.back in
-        let few : p.back ≤ q.state.empties = subst (λ (s : Point). p.back ≤ s.empties) (sym q-state) back in
+        let few : p.back ≤ q.state.empties = subst (λ (s : Point). p.back ≤ s.empties) (sym q-state) tidy-p.back in
         ap (λ ts. texts (less p.back ts)) (given-together e.state (first_of i r) [] ∙ standing-none q) ∙ holds-q.blank p.back few ∙ holds-q.text ∙ ap (λ d. utf8_ahead d r.place) q-taken
 
     -- They hold what they take.
@@ -329,25 +287,20 @@ module _ (r : Sequence) (leads : Leads r) where
         → kids ≡ before ++ ((less back p.nodes ++ ts) ++ rest) → LeadsAt from kids at (length before + length (pending e.state.known))
     first-leads from at kids rest back ts from_is at_is some few is =
         let there_known = known-made r.level r.stops i (true, 0) r.place r.point leads.known g in
-        let u = there_known.trivia in
         let us = pending e.state.known in
-        let us_is : us ≡ u.nodes = ap pending there_known.is in
-        let o = pieces-front n e.value w e.state u there_known.is some h in
-        let own = o.rest in
-        let left = o.few in
+        let us_is : us ≡ there_known.trivia.nodes = ap pending there_known.is in
+        let o = pieces-front n e.value w e.state there_known.trivia there_known.is some h in
         let empties = ap (λ (s : Point). s.empties) p-state in
-        let short : back < length own = omega (arith, few, left, empties) in
-        let kept = less back own in
+        let short : back < length o.led.rest = omega (arith, few, o.led.few, ap (λ (s : Point). s.empties) o.led.state, empties) in
+        let kept = less back o.led.rest in
         let right = (kept ++ ts) ++ rest in
-        let mine : less back p.nodes ≡ us ++ kept = ap (less back) o.nodes ∙ less-behind back u.nodes own short ∙ ap (λ xs. xs ++ kept) (sym us_is) in
+        let mine : less back p.nodes ≡ us ++ kept = ap (less back) o.led.nodes ∙ less-behind back there_known.trivia.nodes o.led.rest (omega (arith, short)) ∙ ap (λ xs. xs ++ kept) (sym us_is) in
         let all : kids ≡ (before ++ us) ++ right =
         is ∙ ap (λ xs. before ++ ((xs ++ ts) ++ rest)) mine ∙ ap (λ xs. before ++ (xs ++ rest)) (append_assoc us kept ts) ∙ ap (λ xs. before ++ xs) (append_assoc us (kept ++ ts) rest) ∙ sym (append_assoc before us right) in
-        let full = full-append (kept ++ ts) rest (full-append kept ts (full-less back own short o.full)) in
+        let full = full-append (kept ++ ts) rest (full-append kept ts (full-less back o.led.rest short o.led.full)) in
         let text_is : texts (before ++ us) ≡ utf8_ahead (e.taken + gap_of e.state.known) r.place =
         texts-append before us ∙ ap (λ xs. xs ++ texts us) before-text ∙ ap (λ xs. utf8_ahead e.taken r.place ++ xs) (pending-text w e.state.known stands-e) ∙ text-add e.taken (gap_of e.state.known) r.place in
-        let long = ap length text_is in
-        let sum = from-start (e.taken + gap_of e.state.known) in
-        let begins : from + bytes_of (before ++ us) ≡ at = omega (arith, long, sum, from_is, at_is) in
+        let begins : from + bytes_of (before ++ us) ≡ at = omega (arith, ap length text_is, from-start (e.taken + gap_of e.state.known), from_is, at_is) in
         subst (λ d. LeadsAt from kids at d) (length-append before us) (leads-at from kids (before ++ us) right at all full begins)
 
     -- where they end, with the trivia after them
@@ -360,11 +313,8 @@ module _ (r : Sequence) (leads : Leads r) where
         texts-append (less back p.nodes) t.nodes ∙ ap (λ xs. xs ++ texts t.nodes) (own-text back few) ∙ ap (λ xs. utf8_ahead f.taken w ++ xs) ts_is ∙ text-add f.taken (gap_of f.state.known) w in
         let text_is : texts (before ++ olds) ≡ utf8_ahead (e.taken + (f.taken + gap_of f.state.known)) r.place =
         texts-append before olds ∙ ap (λ xs. xs ++ texts olds) before-text ∙ ap (λ xs. utf8_ahead e.taken r.place ++ xs) olds_is ∙ text-add e.taken (f.taken + gap_of f.state.known) r.place in
-        let long = ap length text_is in
-        let sum = from-start (e.taken + (f.taken + gap_of f.state.known)) in
         let apart : e.taken + (f.taken + gap_of f.state.known) ≡ (e.taken + f.taken) + gap_of f.state.known = omega arith in
-        let sum_too = ap (λ d. width (take (a + d) text)) apart in
-        omega (arith, long, sum, sum_too, from_is, at_is)
+        omega (arith, ap length text_is, from-start (e.taken + (f.taken + gap_of f.state.known)), ap (λ d. width (take (a + d) text)) apart, from_is, at_is)
 
     -- and the one where they end
     pub next-leads : (from at : ℕ) (kids rest : List Tree) (t : Trivia) (last : Outcome (Unit {0})) → f.state.known ≡ Some t → from ≡ width (take a text) → at ≡ width (take (a + ((e.taken + f.taken) + gap_of f.state.known)) text)
@@ -373,17 +323,13 @@ module _ (r : Sequence) (leads : Leads r) where
     next-leads from at kids rest t last known_there from_is at_is tidy go few nodes is =
         let o = joined (rest_of i n r) last in
         let front = rest-front f.value (then_place i n r) f.state t last known_there tidy go in
-        let rest_is : front.rest ≡ rest = sym (ap (drop (length t.nodes)) front.nodes ∙ drop-front t.nodes front.rest (length t.nodes) refl) ∙ ap (drop (length t.nodes)) nodes ∙ drop-front t.nodes rest (length t.nodes) refl in
+        let rest_is : front.led.rest ≡ rest = sym (ap (drop (length t.nodes)) front.led.nodes ∙ drop-front t.nodes front.led.rest (length t.nodes) refl) ∙ ap (drop (length t.nodes)) nodes ∙ drop-front t.nodes rest (length t.nodes) refl in
         let olds = less o.back p.nodes ++ t.nodes in
         let all : kids ≡ (before ++ olds) ++ rest = is ∙ sym (append_assoc before olds rest) in
-        subst (λ d. LeadsAt from kids at d) (length-append before olds) (leads-at from kids (before ++ olds) rest at all (subst (λ xs. Full xs) rest_is front.full) (ends-at from at o.back t known_there from_is at_is few))
-
-nil-by : (xs : List Tree) → length xs ≡ 0 → xs ≡ []
-nil-by [] e = refl
-nil-by (x ∷ xs) e = absurd (omega (arith, e))
+        subst (λ d. LeadsAt from kids at d) (length-append before olds) (leads-at from kids (before ++ olds) rest at all (subst (λ xs. Full xs) rest_is front.led.full) (ends-at from at o.back t known_there from_is at_is few))
 
 none-behind : (ts rest us : List Tree) → us ≡ ts ++ rest → us ≡ ts → rest ≡ []
-none-behind ts rest us e d = let sum = length-append ts rest in let one = ap length e in let two = ap length d in nil-by rest (omega (arith, sum, one, two))
+none-behind ts rest us e d = let sum = length-append ts rest in let one = ap length e in let two = ap length d in nil_from_length rest (omega (arith, sum, one, two))
 
 -- ---- a text's run
 
@@ -413,7 +359,7 @@ module _ (k : CharClasses) (text : List ℕ) (i n : ℕ) (t : Trivia) (g : AllGo
       let children : kids ≡ before ++ (olds ++ front.rest) = ap (λ (y : Tree). trees y.kids) was ∙ trees-of (before ++ (olds ++ front.rest)) in
       let rest = rest_from k i n z0 in
       let last = tail k ((e.taken + f.taken) + rest.taken) rest.state z0 in
-      let tidy = (sane-run (level_at k max_depth) leads.deeper leads.blocks flush_trivia).backs (moved ((e.taken + f.taken) + rest.taken) z0) rest.state in
+      let tidy = (sane-run (level_at k max_depth) leads.taking.calls_sane leads.taking.blocks_sane flush_trivia).backs (moved ((e.taken + f.taken) + rest.taken) z0) rest.state in
       let none : 0 ≡ width (take 0 text) = sym width-none in
       let behind-zero : 0 + bytes_of (before ++ olds) ≡ bytes_of (before ++ olds) = omega arith in
       let at_first : token_byte text e ≡ width (take (0 + (e.taken + gap_of e.state.known)) text) = ap (λ d. width (take d text)) (omega arith) in
@@ -439,8 +385,7 @@ leading-law k text i n t g h known some = text-is k text i n t g h known some
 opening-text : (closed : Bool) (bracket : Tree) → length (text_of (opening_child closed bracket)) ≡ length (text_of bracket)
 opening-text true bracket = refl
 opening-text false bracket =
-    let wrong = made_error (codes "unclosed delimiter") bracket in
-    ap length (sym (texts-one wrong) ∙ text-shaped (keeps (turns_wrong (codes "unclosed delimiter"))) (bracket ∷ []) ∙ texts-one bracket)
+    ap length (sym (texts-one (made_error (codes "unclosed delimiter") bracket)) ∙ text-shaped (keeps (turns_wrong (codes "unclosed delimiter"))) (bracket ∷ []) ∙ texts-one bracket)
 
 -- Of a content block's children only the second is markup.
 pub record Plain (x : Tree) : Type 0 where
@@ -469,17 +414,13 @@ module _ (k : CharClasses) (levels : ℕ) (text : List ℕ) (c : Spot (Unit {0})
   abbrev z1 : Place
   z1 = start_of text
 
-  abbrev block_run : Sequence
-  block_run = run_at k levels c z1
-
   -- The bracket holds what it takes.
   bracket-text : (let y = moved c.at z1 in let o = bracket k levels y (point_of c.start) in texts o.nodes ≡ utf8_ahead o.taken y)
   unfolding run
   bracket-text =
       let y = moved c.at z1 in
       let s = point_of c.start in
-      let first = (in-sane k levels peek).kept y s tt in
-      let second = (in-sane k levels peek).kept y (look_first k levels y s).state first.known in
+      let second = (in-sane k levels peek).kept y (look_first k levels y s).state ((in-sane k levels peek).kept y s tt).known in
       ((in-sane k levels (does (takes_token false itself))).kept y (entered markup_reading (look_again k levels y s).state) second.known).text
 
   abbrev kids_of : List Tree → List Tree
@@ -491,27 +432,23 @@ module _ (k : CharClasses) (levels : ℕ) (text : List ℕ) (c : Spot (Unit {0})
   node-of rest hints nodes =
       let s = point_of c.start in
       let y = moved c.at z1 in
-      let r = block_run in
+      let r = run_at k levels c z1 in
       let o = parsed k max_depth text in
       let l = among (Lawful z1 z1 o o) c _ chosen (inside-level (rules k) k (block-ends k) max_depth whole z1 z1 (start_point markup_reading)) in
-      let reads = content-reads k text c chosen levels name left z1 in
-      let begun = begun-at k levels text c chosen name left z1 (same-here c.before z1) takes in
-      let opens = opens-by k levels y s begun in
+      let opens = opens-by k levels y s (begun-at k levels text c chosen name left z1 (same-here c.before z1) takes) in
       let close = close_at k levels i n c z1 in
       let last = tail_at k levels i n c z1 in
       let shut = close-quiet k levels ((((first_end i r).taken + (then_end i n r).taken) + (rest_of i n r).taken) + last.taken) last.state r.place in
-      let chained = chain (first_of i r) (chain (then_of i n r) (rest_of i n r)) in
       let was : (unit_at c z1).nodes ≡ block_with close.value opens.node (kids_of rest) close.nodes ∷ [] =
-      ap (λ (a : Outcome (Unit {0})). a.nodes) (reads ∙ ap (λ (a : Outcome (Unit {0})). ended a) (content-split k levels y s i n g h))
-      ∙ node-is k levels y s chained last close opens (pieces-quiet k levels y s i n opens g h) shut
+      ap (λ (a : Outcome (Unit {0})). a.nodes) (content-reads k text c chosen levels name left z1 ∙ ap (λ (a : Outcome (Unit {0})). ended a) (content-split k levels y s i n g h))
+      ∙ node-is k levels y s (chain (first_of i r) (chain (then_of i n r) (rest_of i n r))) last close opens (pieces-quiet k levels y s i n opens g h) shut
       ∙ ap (λ ts. block_with close.value opens.node ts close.nodes ∷ []) (kids-are k levels c z1 i n t rest some g h hints nodes) in
       let long : length (text_of (opening_child close.value opens.node)) ≡ length (utf8_ahead (bracket k levels y s).taken y) = opening-text close.value opens.node ∙ ap length (sym (texts-one opens.node) ∙ sym (ap texts opens.nodes) ∙ bracket-text) in
-      let on = bytes-on text c.at (bracket k levels y s).taken in
       record {
         closed = close.value;
         bracket = opens.node;
         closing = close.nodes;
-        opening = omega (arith, long, on);
+        opening = omega (arith, long, bytes-on text c.at (bracket k levels y s).taken);
         node = sym (last-is c.front c.node) ∙ ap last_node (sym l.fits.nodes ∙ was);
         plain = bracket-plain k levels y s opens.node opens.nodes;
         plain_end = (let m = ((first_end i r).taken + (then_end i n r).taken) + (rest_of i n r).taken in close-plain k levels m (m + last.taken) (rest_of i n r).state r.place r.place);
@@ -526,7 +463,7 @@ module _ (k : CharClasses) (levels : ℕ) (text : List ℕ) (c : Spot (Unit {0})
 
   block-is : LeadingInner k levels text c i n t
   block-is =
-      let r = block_run in
+      let r = run_at k levels c z1 in
       let o = onwards_in k levels i n c z1 in
       let e = first_end i r in
       let f = then_end i n r in
@@ -543,8 +480,7 @@ module _ (k : CharClasses) (levels : ℕ) (text : List ℕ) (c : Spot (Unit {0})
       let v = inner_both k levels i n c z1 in
       let at_first : token_byte text u ≡ width (take (a + (e.taken + gap_of e.state.known)) text) = ap (λ d. width (take d text)) (omega arith) in
       let at_next : token_byte text v ≡ width (take (a + ((e.taken + f.taken) + gap_of f.state.known)) text) = ap (λ d. width (take d text)) (omega arith) in
-      let at = ((e.taken + f.taken) + rest.taken) in
-      let tidy = (in-sane k levels flush_trivia).backs (moved at r.place) rest.state in
+      let tidy = (in-sane k levels flush_trivia).backs (moved ((e.taken + f.taken) + rest.taken) r.place) rest.state in
       let over_nodes = λ (over : is_over i n r ≡ true). ap (λ w. (joined rest (run (inner k levels) flush_trivia w rest.state)).nodes) (moved-three e.taken f.taken rest.taken r.place)
       ∙ rest-over r (block-leads k levels (moved c.at z1) (point_of c.start)) f.value (then_place i n r) f.state t known over in
       record {

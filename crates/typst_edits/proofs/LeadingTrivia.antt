@@ -27,11 +27,12 @@ use Rattle.typst_edits.specs.Spot.{Spot}
 use Rattle.typst_edits.proofs.Boundary.{KnownAt, first-of, going-on, known-made}
 use Rattle.typst_edits.proofs.Children.{exchanged-is, tidy-together, top-known, behind-back, children-law}
 use Rattle.typst_edits.proofs.InnerChildren.{in-behind, inner-children-law, with-run, tree-by-block}
-use Rattle.typst_edits.proofs.InnerJoint.{first-same, block-taking}
+use Rattle.typst_edits.proofs.InnerJoint.{block-taking}
 use Rattle.typst_edits.proofs.Joint.{joint-law, known-is, text-taking}
 use Rattle.typst_edits.proofs.Led.{none-less, less-behind, drop-front, before_trivia, led-joined}
 use Rattle.typst_edits.proofs.Runs.{chain-state}
 use Rattle.typst_edits.proofs.Turns.{Taking, turn-led}
+use Rattle.typst_edits.proofs.BlockRuns.{first-same}
 
 -- ---- stretches of nodes
 
@@ -81,15 +82,13 @@ module _ (l : Level) (stops : SyntaxKind → Bool) (taking : Taking l stops) whe
       let os = made turn n o.value.1 y o.state in
       let end = end_of o.value.1 o.state os in
       let q = together end.state os in
-      let go = going-on l stops x z s (first-of o.value.0 (nat_lt 0 o.taken) g.0) in
-      let led = turn-led l stops taking x z r h e a t go in
+      let led = turn-led l stops taking x z r h e a t (going-on l stops x z s (first-of o.value.0 (nat_lt 0 o.taken) g.0)) in
       let tidy = tidy-together turn (λ v. (sane-run l taking.calls_sane taking.blocks_sane (markup_turn true stops v)).backs) n o.value.1 y o.state in
       let all = led-joined t t.nodes _ o _ q led (subst (λ p. Tidy p q) led.state tidy) in
-      let more = all.few in
       let there = ap (λ (p : Point). p.empties) (chain-state os (plain (tt {0}) end.state)) in
       record {
         rest = less back all.rest ++ us;
-        is = ap (λ ts. less back ts ++ us) all.nodes ∙ ap (λ ts. ts ++ us) (less-behind back t.nodes all.rest (omega (arith, more, few, there))) ∙ append_assoc t.nodes (less back all.rest) us;
+        is = ap (λ ts. less back ts ++ us) all.nodes ∙ ap (λ ts. ts ++ us) (less-behind back t.nodes all.rest (omega (arith, all.few, few, there))) ∙ append_assoc t.nodes (less back all.rest) us;
       }
 
   -- The nodes of some pieces without the last, with the trivia after them, begin with the trivia before them.

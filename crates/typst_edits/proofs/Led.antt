@@ -1,32 +1,29 @@
 -- What begins by taking the token at hand gives the trivia before it, whatever errors stand before these, and asks nothing else of them.
-use Rattle.std.proofs.Common.{◌≡◌, ℕ, zero, suc, ◌+◌, ◌-◌, ◌<◌, ◌≤◌, Bool, true, false, ◌||◌, if◌then◌else◌, nat_lt, List, [], ◌∷◌, ◌++◌, length, take, drop, map, length-append, length-take, append_assoc, encode_utf8_all, Some, refl, ap, sym, ◌∙◌, subst, arith}
+use Rattle.std.proofs.Common.{◌≡◌, ℕ, zero, suc, ◌+◌, ◌-◌, ◌<◌, ◌≤◌, Bool, true, false, ◌||◌, if◌then◌else◌, nat_lt, List, [], ◌∷◌, ◌++◌, length, take, drop, map, length-append, append_assoc, Some, refl, ap, sym, ◌∙◌, subst, arith}
 use Rattle.std.proofs.lemmas.List.{map-append}
-use Rattle.std.proofs.lemmas.Str.{length-le-encodes}
 use Rattle.typst_kinds.specs.declared.kind.SyntaxKind.{SyntaxKind}
 use Rattle.typst_kinds.specs.Kinds.{is_error}
 use Rattle.typst_lines.specs.Place.{Place, moved}
 use Rattle.typst_tree.specs.Tree.{Tree, text_of}
 use Rattle.typst_tokens.specs.Reader.{Look}
-use Rattle.typst_language.proofs.TokenTexts.{text-token}
-use Rattle.typst_language.specs.Nodes.{token_node}
 use Rattle.typst_language.specs.Calls.{Call}
 use Rattle.typst_language.specs.declared.reading.Reading.{Reading}
 use Rattle.typst_language.specs.Ask.{Ask, shift, shift_one, sunk}
 use Rattle.typst_language.specs.Ask.Ask.{looked}
-use Rattle.typst_language.specs.Hand.{told, len_at, text_ahead, hand_at, hand_asks, judged, asks_column, column_look, column_at}
+use Rattle.typst_language.specs.Hand.{told, len_at, hand_at, hand_asks, judged, asks_column, column_look, column_at}
 use Rattle.typst_language.specs.Point.{Trivia, Point}
-use Rattle.typst_language.specs.Shape.{Making, hinted, Shape, shaped, after_shape, after_node, count_empty, seen}
+use Rattle.typst_language.specs.Shape.{Making, hinted, Shape, shaped, after_shape, after_node, seen}
 use Rattle.typst_language.specs.Steps.{peek}
 use Rattle.typst_language.specs.Syntax.{Parser}
 use Rattle.typst_language.specs.Syntax.Begin.{at_token}
 use Rattle.typst_language.specs.Syntax.Op.{column, takes}
 use Rattle.typst_language.specs.Syntax.Parser.{does, next, wraps, scoped, calls}
-use Rattle.typst_language.specs.Meaning.{Outcome, Meaning, Level, plain, less, standing, joined, followed, inside, wrapped, renewed, left, taken_node, run}
+use Rattle.typst_language.specs.Meaning.{Outcome, Meaning, Level, plain, less, standing, joined, followed, inside, wrapped, renewed, left, taken_node, run, answered}
 use Rattle.typst_language.specs.Sound.{Tidy, Backs}
 use Rattle.typst_language.proofs.Backs.{left-empties}
 use Rattle.typst_language.proofs.HintedNodes.{length-hinted, hinted-append}
-use Rattle.typst_language.proofs.Leaves.{text-made}
-use Rattle.typst_language.proofs.Places.{moved-sum, less-append, less-none, length-less}
+use Rattle.typst_language.proofs.Places.{moved-sum, less-append, less-none, length-less, take-all}
+use Rattle.typst_edits.proofs.Fronts.{Full, full-append, full-less, full-hinted, full-shaped, few-node, few-shaped, full-taken}
 use Rattle.typst_edits.proofs.Outcomes.{shift-zero, shift-twice, sunk-shift, hints-first}
 
 -- trivia that were passed
@@ -47,15 +44,11 @@ before_trivia r h e a t = record { reading = r; held = h; empties = e; is_after_
 
 -- ---- lists
 
-take-none : {A : Type 0} (n : ℕ) → ◌≡◌ {A = List A} (take n []) []
-take-none zero = refl
-take-none (suc n) = refl
-
 pub none-less : {A : Type 0} (n : ℕ) → ◌≡◌ {A = List A} (less n []) []
 unfolding less
-none-less n = take-none (0 - n)
+none-less n = take-all (0 - n) [] (omega arith)
 
-pub less-behind : (n : ℕ) (xs ys : List Tree) → n < length ys → less n (xs ++ ys) ≡ xs ++ less n ys
+pub less-behind : (n : ℕ) (xs ys : List Tree) → n ≤ length ys → less n (xs ++ ys) ≡ xs ++ less n ys
 less-behind n xs ys h =
     let e : n - length ys ≡ 0 = omega (arith, h) in
     less-append n xs ys ∙ ap (λ j. less j xs ++ less n ys) e ∙ ap (λ u. u ++ less n ys) (less-none xs)
@@ -90,6 +83,7 @@ pub record Led {A : Type 0} (t : Trivia) (us : List Tree) (trims : Bool) (o c : 
   pub rest : List Tree
   pub nodes : o.nodes ≡ t.nodes ++ rest
   pub nodes_too : c.nodes ≡ us ++ rest
+  pub full : Full rest
   pub few : c.state.empties < length rest
   pub asks : o.asks ≡ shift t.gap c.asks
   pub met : o.met ≡ c.met
@@ -97,39 +91,31 @@ pub record Led {A : Type 0} (t : Trivia) (us : List Tree) (trims : Bool) (o c : 
 pub standing-led : {A B : Type 0} (xs rest : List Tree) (o : Outcome B) (q : Outcome A) → o.nodes ≡ xs ++ rest → q.back < length rest → standing q o.nodes ≡ xs ++ (hinted q.hints (less q.back rest) ++ q.nodes)
 standing-led xs rest o q e h =
     let some : 0 < length (less q.back rest) = omega (arith, length-less q.back rest, h) in
-    ap (λ ts. hinted q.hints (less q.back ts) ++ q.nodes) e ∙ ap (λ ts. hinted q.hints ts ++ q.nodes) (less-behind q.back xs rest h)
+    ap (λ ts. hinted q.hints (less q.back ts) ++ q.nodes) e ∙ ap (λ ts. hinted q.hints ts ++ q.nodes) (less-behind q.back xs rest (omega (arith, h)))
     ∙ ap (λ ts. ts ++ q.nodes) (hinted-append q.hints xs (less q.back rest) some) ∙ append_assoc xs (hinted q.hints (less q.back rest)) q.nodes
 
 -- After it everything is the same.
 pub led-joined : {A B : Type 0} (t : Trivia) (us : List Tree) (trims : Bool) (o c : Outcome B) (q : Outcome A) → Led t us trims o c → Tidy c.state q → Led t us trims (joined o q) (joined c q)
 led-joined t us trims o c q h tidy =
-    let few = h.few in
-    let less_back = tidy.back in
-    let left = tidy.left in
-    let short : q.back < length h.rest = omega (arith, few, less_back) in
+    let short : q.back < length h.rest = omega (arith, h.few, tidy.back) in
     let one = length-append t.nodes h.rest in
     let two = length-append us h.rest in
     let long : length o.nodes ≡ length (t.nodes ++ h.rest) = ap length h.nodes in
     let long_too : length c.nodes ≡ length (us ++ h.rest) = ap length h.nodes_too in
-    let more = length-append (hinted q.hints (less q.back h.rest)) q.nodes in
-    let kept = length-less q.back h.rest in
-    let same = length-hinted q.hints (less q.back h.rest) in
-    let taken = h.taken in
-    let some = h.some in
-    let back = h.back in
     record {
       value = refl;
-      taken = omega (arith, taken);
-      some = omega (arith, some);
+      taken = omega (arith, h.taken);
+      some = omega (arith, h.some);
       state = refl;
-      back = omega (arith, back, short, one, two, long, long_too);
+      back = omega (arith, h.back, short, one, two, long, long_too);
       none = λ f. (let none = h.none f in omega (arith, none, short, two, long_too));
       hints = hints-first o q (omega (arith, short, one, long)) ∙ h.hints;
       hints_too = hints-first c q (omega (arith, short, two, long_too)) ∙ h.hints_too;
       rest = hinted q.hints (less q.back h.rest) ++ q.nodes;
       nodes = standing-led t.nodes h.rest o q h.nodes short;
       nodes_too = standing-led us h.rest c q h.nodes_too short;
-      few = omega (arith, few, less_back, left, more, kept, same);
+      full = full-append (hinted q.hints (less q.back h.rest)) q.nodes (full-hinted q.hints (less q.back h.rest) (full-less q.back h.rest short h.full));
+      few = omega (arith, h.few, tidy.back, tidy.left, length-append (hinted q.hints (less q.back h.rest)) q.nodes, length-less q.back h.rest, length-hinted q.hints (less q.back h.rest));
       asks = ap (λ ls. ls ++ shift o.taken q.asks) h.asks ∙ ap (λ n. shift t.gap c.asks ++ shift n q.asks) h.taken
           ∙ ap (λ ls. shift t.gap c.asks ++ ls) (sym (shift-twice t.gap c.taken q.asks)) ∙ sym (map-append (shift_one t.gap) c.asks (shift c.taken q.asks));
       met = ap (λ b. b || q.met) h.met;
@@ -147,37 +133,51 @@ led-then t us trims z o c f tidy h =
 pub led-asked : {A B : Type 0} (t : Trivia) (us : List Tree) (trims : Bool) (v : B) (s r : Point) (ls ks : List Ask) (m : Bool) (o c : Outcome A) → ls ≡ shift t.gap ks → Led t us trims o c
     → Led t us trims (joined (record (plain v s) { asks = ls; met = m }) o) (joined (record (plain v r) { asks = ks; met = m }) c)
 led-asked t us trims v s r ls ks m o c e h =
-    let taken = h.taken in
-    let some = h.some in
-    let back = h.back in
     record {
       value = h.value;
-      taken = omega (arith, taken);
-      some = omega (arith, some);
+      taken = omega (arith, h.taken);
+      some = omega (arith, h.some);
       state = h.state;
-      back = omega (arith, back);
+      back = omega (arith, h.back);
       none = λ f. (let none = h.none f in omega (arith, none));
       hints = none-of (nat_lt o.back 0) (nat_lt 0 o.back) [] o.hints refl h.hints;
       hints_too = none-of (nat_lt c.back 0) (nat_lt 0 c.back) [] c.hints refl h.hints_too;
       rest = h.rest;
       nodes = ap (λ hs. hinted hs (less o.back []) ++ o.nodes) h.hints ∙ ap (λ ts. ts ++ o.nodes) (none-less o.back) ∙ h.nodes;
       nodes_too = ap (λ hs. hinted hs (less c.back []) ++ c.nodes) h.hints_too ∙ ap (λ ts. ts ++ c.nodes) (none-less c.back) ∙ h.nodes_too;
+      full = h.full;
       few = h.few;
       asks = ap (λ js. js ++ shift 0 o.asks) e ∙ ap (λ js. shift t.gap ks ++ js) (shift-zero o.asks ∙ h.asks ∙ ap (shift t.gap) (sym (shift-zero c.asks))) ∙ sym (map-append (shift_one t.gap) ks (shift 0 c.asks));
       met = ap (λ b. m || b) h.met;
     }
 
+-- with other answers, states and looks
+pub led-like : {A B : Type 0} (t : Trivia) (us : List Tree) (trims : Bool) (o c : Outcome B) (v w : A) (p q : Point) (ls ks : List Ask) (h : Led t us trims o c) → v ≡ w → p ≡ q → q.empties < length h.rest → ls ≡ shift t.gap ks
+    → Led t us trims (record (answered v o) { state = p; asks = ls }) (record (answered w c) { state = q; asks = ks })
+led-like t us trims o c v w p q ls ks h e f few g = record {
+  value = e;
+  taken = h.taken;
+  some = h.some;
+  state = f;
+  back = h.back;
+  none = h.none;
+  hints = h.hints;
+  hints_too = h.hints_too;
+  rest = h.rest;
+  nodes = h.nodes;
+  nodes_too = h.nodes_too;
+  full = h.full;
+  few = few;
+  asks = g;
+  met = h.met;
+}
+
 -- ---- nodes
 
--- A node that holds something certainly stands there.
-abbrev pub Counts_less : Shape → Type 0
-Counts_less shape = (ts : List Tree) (s : Point) → (after_shape shape ts s).empties < length (shaped shape ts)
-
-pub led-wrapped : {A : Type 0} (t : Trivia) (us : List Tree) (f : A → Shape) (n m : ℕ) (o c : Outcome A) → ((v : A) → Counts_less (f v)) → n ≡ length t.nodes → m ≡ length us → Led t us false o c → Led t us false (wrapped f n o) (wrapped f m c)
-led-wrapped t us f n m o c shapes e d h =
+pub led-wrapped : {A : Type 0} (t : Trivia) (us : List Tree) (f : A → Shape) (n m : ℕ) (o c : Outcome A) → n ≡ length t.nodes → m ≡ length us → Led t us false o c → Led t us false (wrapped f n o) (wrapped f m c)
+led-wrapped t us f n m o c e d h =
     let none = h.none refl in
-    let back = h.back in
-    let i : n + o.back ≡ length t.nodes = omega (arith, none, back, e) in
+    let i : n + o.back ≡ length t.nodes = omega (arith, none, h.back, e) in
     let j : m + c.back ≡ length us = omega (arith, none, d) in
     let in_o : inside n o ≡ h.rest = ap (drop (n + o.back)) h.nodes ∙ drop-front t.nodes h.rest (n + o.back) i in
     let in_c : inside m c ≡ h.rest = ap (drop (m + c.back)) h.nodes_too ∙ drop-front us h.rest (m + c.back) j in
@@ -195,7 +195,8 @@ led-wrapped t us f n m o c shapes e d h =
           ∙ ap (λ ts. ts ++ shaped (f c.value) h.rest) (ap (take (n + o.back)) h.nodes ∙ take-front t.nodes h.rest (n + o.back) i);
       nodes_too = ap (λ ts. take (m + c.back) c.nodes ++ shaped (f c.value) ts) in_c
           ∙ ap (λ ts. ts ++ shaped (f c.value) h.rest) (ap (take (m + c.back)) h.nodes_too ∙ take-front us h.rest (m + c.back) j);
-      few = subst (λ ts. (after_shape (f c.value) ts c.state).empties < length (shaped (f c.value) h.rest)) (sym in_c) (shapes c.value h.rest c.state);
+      full = full-shaped (f c.value) h.rest h.full;
+      few = subst (λ ts. (after_shape (f c.value) ts c.state).empties < length (shaped (f c.value) h.rest)) (sym in_c) (few-shaped (f c.value) h.rest c.state h.full h.few);
       asks = h.asks;
       met = h.met;
     }
@@ -209,14 +210,6 @@ Takes h z t u trims m = (r : Reading) (e d : ℕ) (a b : Bool) → (trims ≡ tr
 pub same-renewed : (b : Bool) (text : List ℕ) (r h : Reading) (e d : ℕ) (i j : Bool) (t u : Trivia) → renewed (after_node b text (before_trivia r h e i t)) ≡ renewed (after_node b text (before_trivia r h d j u))
 same-renewed true text r h e d i j t u = refl
 same-renewed false text r h e d i j t u = refl
-
-no-empties : (b : Bool) (text : List ℕ) (s : Point) → count_empty text ≡ 0 → (renewed (after_node b text s)).empties ≡ 0
-no-empties true text s e = e
-no-empties false text s e = refl
-
-pub some-text : (xs : List ℕ) → 0 < length xs → count_empty xs ≡ 0
-some-text [] h = absurd (omega arith)
-some-text (x ∷ xs) h = refl
 
 same-back : (trims : Bool) (e d : ℕ) → (trims ≡ true → e ≡ d) → (if trims then e else 0) ≡ (if trims then d else 0)
 same-back true e d h = h refl
@@ -247,15 +240,9 @@ module _ (l : Level) (h : Reading) (z : Place) (t u : Trivia) (alike : SameJudge
     unfolding run hand_at
     takes-token trims making r e d a b same =
         let x = hand_at l.classes h (Some t) z in
-        let s = before_trivia r h e a t in
-        let y = before_trivia r h d b (behind_trivia u) in
         let tree = taken_node l.classes making x z in
-        let n = len_at l.classes h.mode (moved t.gap z) in
-        let text = text_ahead n (moved t.gap z) in
-        let within : n ≤ length (moved t.gap z).ahead = omega arith in
-        let long : length text ≡ n = omega (arith, within, length-take n (moved t.gap z).ahead) in
-        let full : count_empty (text_of tree) ≡ 0 = ap count_empty (text-made making (token_node l.classes x.token text) ∙ text-token l.classes x.token text) ∙ some-text (encode_utf8_all text) (omega (arith, long, some, length-le-encodes text)) in
-        let few : (renewed (after_node (is_error tree.head.kind) (text_of tree) y)).empties ≡ 0 = no-empties (is_error tree.head.kind) (text_of tree) y full in
+        let room : len_at l.classes h.mode (moved t.gap z) ≤ length (moved t.gap z).ahead = omega arith in
+        let full = full-taken l.classes making x z some room in
         record {
           value = refl;
           taken = omega arith;
@@ -268,7 +255,8 @@ module _ (l : Level) (h : Reading) (z : Place) (t u : Trivia) (alike : SameJudge
           rest = tree ∷ [];
           nodes = refl;
           nodes_too = refl;
-          few = omega (arith, few);
+          full = full;
+          few = few-node (is_error tree.head.kind) (text_of tree) (before_trivia r h d b (behind_trivia u)) 1 full (omega arith);
           asks = asks-behind;
           met = refl;
         }
@@ -301,48 +289,18 @@ module _ (l : Level) (h : Reading) (z : Place) (t u : Trivia) (alike : SameJudge
   unfolding run
   takes-scoped trims f p k r e d a b same =
       let i = k (f r) e d a b same in
-      let w = moved t.gap z in
-      let c = run l p w (before_trivia (f r) h d b (behind_trivia u)) in
-      let less_left = left-empties r c.state in
-      let few = i.few in
-      record {
-        value = i.value;
-        taken = i.taken;
-        some = i.some;
-        state = ap (left r) i.state;
-        back = i.back;
-        none = i.none;
-        hints = i.hints;
-        hints_too = i.hints_too;
-        rest = i.rest;
-        nodes = i.nodes;
-        nodes_too = i.nodes_too;
-        few = omega (arith, less_left, few);
-        asks = i.asks;
-        met = i.met;
-      }
+      let o = run l p z (before_trivia (f r) h e a t) in
+      let c = run l p (moved t.gap z) (before_trivia (f r) h d b (behind_trivia u)) in
+      led-like t u.nodes trims o c o.value c.value (left r o.state) (left r c.state) o.asks c.asks i i.value (ap (left r) i.state) (omega (arith, left-empties r c.state, i.few)) i.asks
 
-  pub takes-wraps : {A : Type 0} (f : A → Shape) (p : Parser A) → ((v : A) → Counts_less (f v)) → Takes h z t u false (run l p) → Takes h z t u false (run l (wraps f at_token p))
+  pub takes-wraps : {A : Type 0} (f : A → Shape) (p : Parser A) → Takes h z t u false (run l p) → Takes h z t u false (run l (wraps f at_token p))
   unfolding run
-  takes-wraps f p shapes k r e d a b same = led-wrapped t u.nodes f (length t.nodes) (length u.nodes) _ _ shapes refl refl (k r e d a b same)
+  takes-wraps f p k r e d a b same = led-wrapped t u.nodes f (length t.nodes) (length u.nodes) _ _ refl refl (k r e d a b same)
 
   pub takes-calls : (trims : Bool) (c : Call) → Takes h z t u trims (l.deeper c) → Takes h z t u trims (run l (calls c))
   unfolding run
-  takes-calls trims c k r e d a b same =
+  takes-calls trims call k r e d a b same =
       let i = k r e d a b same in
-      record {
-        value = i.value;
-        taken = i.taken;
-        some = i.some;
-        state = i.state;
-        back = i.back;
-        none = i.none;
-        hints = i.hints;
-        hints_too = i.hints_too;
-        rest = i.rest;
-        nodes = i.nodes;
-        nodes_too = i.nodes_too;
-        few = i.few;
-        asks = ap sunk i.asks ∙ sunk-shift t.gap (l.deeper c (moved t.gap z) (before_trivia r h d b (behind_trivia u))).asks;
-        met = i.met;
-      }
+      let o = l.deeper call z (before_trivia r h e a t) in
+      let c = l.deeper call (moved t.gap z) (before_trivia r h d b (behind_trivia u)) in
+      led-like t u.nodes trims o c o.value c.value o.state c.state (sunk o.asks) (sunk c.asks) i i.value i.state i.few (ap sunk i.asks ∙ sunk-shift t.gap c.asks)

@@ -3,20 +3,20 @@
 --     that the block fits        Fitting; Content: a content block; Enclosed: what stands between brackets; Clear: a block begins at no trivia; Reached: what is known of trivia is all of them; Known: what stays true of what is known
 --   block_law: names             Names: each block is the one of its name, between its marks; SpotWalk: what holds of each block of a reading, word by word
 --   complete_law                 Complete: word by word, by the notes of the log
---   standing_law: blocks         StandingLevels: of a whole text; Standing: word by word; Seats: a spot at a position, and in what nodes become; Positions: what holds at each position; CleanTokens: tokens
+--   standing_law: blocks         StandingLevels: of a whole text; Standing: word by word; Seats: a spot at a position, and in what nodes become; Positions: what holds at each position; CleanTokens: what holds of each token's node
 --   standing_law: unnoted        UnnotedLevels: of a whole text; Unnoted: word by word
 --   run_law                      Root: of a whole text; RunTrees: its tree and log; BlockRuns: of a content block; Runs: of any loop
 --   joint_law                    Joint: of a whole text; InnerJoint: of a content block; Meeting: any run; Turns: each head of markup, and how a run is read; Led: each word before a token is taken
 --   children_law                 Children: of a whole text; InnerChildren: of a content block; LeadingTrivia: without the trivia before the pieces
 --   head_law                     Heads: any run; NoneBack: in both texts
---   decision_law                 Bytes: the log; Boundary: where pieces of any run end; RunBytes, JointBytes: of a whole text; InnerBytes: of a content block; Widths: characters and bytes; Within: looks are at places of the text
+--   decision_law                 Bytes: the log; Boundary: where pieces of any run end; RunBytes: of a whole text; InnerBytes: of a content block; Widths: characters and bytes; Within: looks are at places of the text
 --   replaced_law                 Replaced
 --   empty_run_law                EmptyRuns: of a whole text; EmptyBlocks: of a content block
 --   candidates_law               BareCandidates, CandidatePlaces
 --   notes_law                    PieceNotes: of a whole text and of a content block; BlockLog: a block's two notes in the log; Marks: in any list of asks
 --   numbered_notes_law           NumberedNotes: of a whole text and of a content block; InTurn: the marks of a run in turn; NoteNumbers, InnerNumbers: the number of a note; Cuts: where the tokens after pieces begin
---   rising_law                   Upward: marks in order, in whatever the language can say; Rising: by where they stand; InOrder: by their tokens; OpensApart: those where blocks begin; Nested: how they stand in each other; NestedInner, NestedBlocks: between the two notes of a block
---   leading_law                  Leading: of a whole text and of a content block; Fronts: what a piece gives first
+--   rising_law                   Upward: marks in order, in whatever the language can say; Rising: by where they stand; InOrder: by their tokens; OpensApart: those where blocks begin; Nested: how they stand in each other; NestedInner: between the two notes of a block
+--   leading_law                  Leading: of a whole text and of a content block; Fronts: nodes of which the first isn't empty
 --   block_worth_law              BlockWorth
 --   part_law                     BlockPart
 --   splice_law                   Splice: of any asks; BlockSplice: of a block; RunSplice: of pieces of a text's run; InnerSplice: of pieces of a block's; PieceAsks: what is asked of them; Sides: what stands after a note; Seen: what is noted was looked at; Forward: trivia look ahead alone
@@ -36,7 +36,7 @@
 --   candidate_runs_law           RootRuns: at the root; InnerRuns: in a content block; CandidateRuns: of any run; MarkupPlaces: the node of a block in whose markup a candidate stands; SecondBlocks: it is a unit's; Deepest: a level is left in it; TokenNodes: its brackets are no markup; StartBytes: where it begins
 --   candidate_law                CandidateWorth: each case of the test
 --   answer_law                   AnswerTree: the answer's tree; Unique: the nodes in a candidate's place, and so the answer, are one
---   resume_law                   Resumed: pieces read again; PiecesLog: what is logged of them; InnerPiecesLog: in a content block
+--   resume_law                   Resumed: pieces read again; PiecesLog: what is logged of them
 --   mode_law                     BlockModes: a block's first token, and what stands in it
 --   joints_of_texts              computed (laws); Begins: the test of looks
 --   answers_of_texts, blocks_of_texts, origins_of_texts, runs_of_texts, splices_of_texts, inner_splices_of_texts, conditions_of_texts, rare_conditions_of_texts      computed (laws)
@@ -86,7 +86,6 @@ pub mod BlockWorth
 pub mod Marks
 pub mod Boundary
 pub mod RunBytes
-pub mod JointBytes
 pub mod InnerBytes
 pub mod RunTrees
 pub mod Children
@@ -114,7 +113,6 @@ pub mod InOrder
 pub mod OpensApart
 pub mod Nested
 pub mod NestedInner
-pub mod NestedBlocks
 pub mod NestedPieces
 pub mod FoundPieces
 pub mod RunNumbers
@@ -131,7 +129,6 @@ pub mod Resumed
 pub mod InnerSplice
 pub mod PiecesLog
 pub mod BlockPart
-pub mod InnerPiecesLog
 pub mod RootPieces
 pub mod RootWorth
 pub mod CandidateEnds

@@ -1,5 +1,7 @@
 -- The marks in a list of asks.
 use Rattle.std.proofs.Common.{◌≡◌, ℕ, zero, suc, ◌+◌, ◌-◌, Bool, true, false, if◌then◌else◌, List, [], ◌∷◌, ◌++◌, length, append_assoc, append-nil, Option, Some, None, refl, ap, sym, ◌∙◌}
+use Rattle.typst_kinds.specs.declared.kind.SyntaxKind.TheVariants as kind
+use Rattle.typst_kinds.specs.Kinds.{same}
 use Rattle.typst_kinds.specs.declared.mode.SyntaxMode.{SyntaxMode}
 use Rattle.typst_lines.specs.Place.{Place, moved}
 use Rattle.typst_lines.specs.Classes.{CharClasses}
@@ -11,9 +13,14 @@ use Rattle.typst_language.specs.declared.reading.Reading.{Reading}
 use Rattle.typst_language.specs.declared.reading.State.{State}
 use Rattle.typst_language.specs.Ask.{Ask, shift, sunk}
 use Rattle.typst_language.specs.Ask.Ask.{looked, marked}
-use Rattle.typst_language.specs.Hand.{len_at, at_trivia, asks_by, ahead_asks, ahead_of, asks_column, column_asks, hand_asks}
+use Rattle.typst_language.specs.Hand.{len_at, at_trivia, asks_by, ahead_asks, ahead_of, asks_column, column_asks, hand_asks, told}
 use Rattle.typst_language.specs.Log.{Log, with_hull, with_note, logged}
-use Rattle.typst_language.specs.Point.{Trivia}
+use Rattle.typst_language.specs.Point.{Trivia, Point}
+use Rattle.typst_language.specs.Meaning.{Outcome, Level, plain, joined, hand_of, hand_asks_of, asked, done, run}
+use Rattle.typst_language.specs.Shape.Making.{itself}
+use Rattle.typst_language.specs.Steps.{close_if}
+use Rattle.typst_language.specs.Syntax.Op.{takes}
+use Rattle.typst_language.proofs.Within.{on_both}
 use Rattle.typst_edits.specs.Spot.{lowered}
 use Rattle.typst_edits.proofs.Bytes.{noted-more}
 use Rattle.typst_edits.proofs.Every.{Every}
@@ -51,10 +58,6 @@ marks-sunk P f [] = tt
 marks-sunk P f (looked at look ∷ ls) = marks-sunk P f ls
 marks-sunk P f (marked at gap fewer m s ∷ ls) = (f at fewer m s, marks-sunk P f ls)
 
-pub marks-if : (P : ℕ → ℕ → Mark → State → Type 0) (b : Bool) (ls ks : List Ask) → AllMarks P ls → AllMarks P ks → AllMarks P (if b then ls else ks)
-marks-if P true ls ks h i = h
-marks-if P false ls ks h i = i
-
 -- ---- looks alone
 
 -- A property of marks holds, whatever it is.
@@ -63,10 +66,10 @@ none-trivia P k m zero z = tt
 none-trivia P k m (suc n) z =
     let n_len = len_at k m z in
     let rest = asks_by k m n (moved n_len z) in
-    marks-if P (at_trivia k m z) (shift n_len rest) [] (marks-shift P n_len rest (none-trivia (λ at fewer m s. P (n_len + at) fewer m s) k m n (moved n_len z))) tt
+    on_both (λ (us : List Ask). AllMarks P us) (at_trivia k m z) (shift n_len rest) [] (marks-shift P n_len rest (none-trivia (λ at fewer m s. P (n_len + at) fewer m s) k m n (moved n_len z))) tt
 
 none-column : (P : ℕ → ℕ → Mark → State → Type 0) (held : Reading) (newlines : Newlines) (gap : ℕ) (z : Place) → AllMarks P (column_asks held newlines gap z)
-none-column P held newlines gap z = marks-if P (asks_column held newlines) _ [] tt tt
+none-column P held newlines gap z = on_both (λ (us : List Ask). AllMarks P us) (asks_column held newlines) _ [] tt tt
 
 pub none-hand : (P : ℕ → ℕ → Mark → State → Type 0) (k : CharClasses) (held : Reading) (known : Option Trivia) (z : Place) → AllMarks P (hand_asks k held known z)
 unfolding hand_asks ahead_asks
@@ -74,6 +77,20 @@ none-hand P k held None z =
     let a = ahead_of k held.mode None z in
     marks-append P (asks_by k held.mode (length z.ahead) z) (column_asks held a.newlines a.gap z) (none-trivia P k held.mode (length z.ahead) z) (none-column P held a.newlines a.gap z)
 none-hand P k held (Some t) z = none-column P held t.newlines t.gap z
+
+-- nor is any at a content block's closing bracket
+pub none-close : (P : ℕ → ℕ → Mark → State → Type 0) (l : Level) (w : Place) (p : Point) → AllMarks P (run l (close_if (same kind.RightBracket)) w p).asks
+unfolding run close_if
+none-close P l w p =
+    let a = asked (hand_of l w p) p in
+    let y = moved 0 w in
+    let Q = λ (at fewer : ℕ) (m : Mark) (u : State). P (0 + at) fewer m u in
+    let took = done l (takes false itself) y a in
+    let taken = joined took (plain true took.state) in
+    let b = same kind.RightBracket (told (hand_of l w p)).kind in
+    let in_took = marks-append Q (hand_asks_of l y a) [] (none-hand Q l.classes a.held a.known y) tt in
+    marks-append P (hand_asks_of l w p) _ (none-hand P l.classes p.held p.known w)
+    (marks-shift P 0 (if b then taken else plain false a).asks (on_both (λ (o : Outcome Bool). AllMarks Q o.asks) b taken (plain false a) in_took tt))
 
 -- ---- the notes of a log
 
@@ -99,9 +116,8 @@ pub noted-each : (P : ℕ → ℕ → Mark → State → Type 0) (lv : ℕ) (z :
 noted-each P lv z [] h ns e a = record { more = []; is = e ∙ ap Some (sym (append-nil ns)); each = tt }
 noted-each P lv z (looked at look ∷ asks) h ns e a = noted-each P lv z asks (with_hull (hull_of look (moved at z)) h) ns e a
 noted-each P lv z (marked at gap fewer m s ∷ asks) h ns e a =
-    let k = with_note gap (lv - fewer) m s (moved at z) h in
     let note : Note = record { mark = m; before = position (moved at z); start = position (moved gap (moved at z)); levels = lv - fewer; state = s; reach = h.reach; least = h.least } in
-    let i = noted-each P lv z asks k (ns ++ note ∷ []) (noted-more note h.notes ns e) a.1 in
+    let i = noted-each P lv z asks (with_note gap (lv - fewer) m s (moved at z) h) (ns ++ note ∷ []) (noted-more note h.notes ns e) a.1 in
     record {
       more = note ∷ i.more;
       is = i.is ∙ ap Some (append_assoc ns (note ∷ []) i.more);

@@ -1,9 +1,9 @@
 -- Where a candidate among the children of a content block's markup comes from: from that run, in a markup that covers the replaced bytes.
 use Rattle.std.proofs.Common.{◌≡◌, ℕ, zero, suc, ◌+◌, ◌*◌, ◌<◌, Bool, true, false, ◌&&◌, if◌then◌else◌, nat_lt, List, [], ◌∷◌, ◌++◌, length, Option, Some, None, refl, ap, sym, subst, ◌∙◌, arith, append_assoc, append-nil, length-append}
 use Rattle.std.specs.Prelude.{◌==◌}
+use Rattle.std.proofs.lemmas.List.{append_cancel_left}
 use Rattle.std.proofs.lemmas.Bool.Decides.{nat_tests}
 use Rattle.typst_kinds.specs.Kinds.{is_block}
-use Rattle.typst_kinds.specs.declared.kind.SyntaxKind.{SyntaxKind}
 use Rattle.typst_kinds.specs.Head.{Head}
 use Rattle.typst_language.specs.declared.calls.Note.{Note}
 use Rattle.typst_language.proofs.Leaves.{texts}
@@ -15,28 +15,16 @@ use Rattle.typst_edits.specs.Every.{Every}
 use Rattle.typst_edits.specs.Hole.{Deep, fill, path_in}
 use Rattle.typst_edits.specs.Hole.Deep.{bare, under}
 use Rattle.typst_edits.proofs.Edit.{among, trees-of}
-use Rattle.typst_edits.proofs.Every.{every-append, every-by, every-if}
+use Rattle.typst_edits.proofs.Every.{every-append, every-by, every-if, first_or, some_or}
 use Rattle.typst_edits.proofs.Placed.{deep_text}
 use Rattle.typst_edits.proofs.Walk.{length-texts}
+use Rattle.typst_language.proofs.Within.{on_both}
 
 -- ---- lists
 
 every-among : {X : Type 0} (xs : List X) → Every (λ x. Among x xs) xs
 every-among [] = tt
 every-among (x ∷ xs) = (this xs, every-by (λ y h. that x xs h) xs (every-among xs))
-
--- What begins the same goes on the same.
-behind-same : (xs ys zs : List ℕ) → xs ++ ys ≡ xs ++ zs → ys ≡ zs
-behind-same [] ys zs e = e
-behind-same (x ∷ xs) ys zs e = behind-same xs ys zs (ap (drop_first) e)
-  where
-    drop_first : List ℕ → List ℕ
-    drop_first [] = []
-    drop_first (x ∷ xs) = xs
-
-abbrev head_or : ℕ → List ℕ → ℕ
-head_or n [] = n
-head_or n (x ∷ xs) = x
 
 pub longer-other : (xs : List ℕ) (y : ℕ) (ys : List ℕ) → xs ≡ xs ++ y ∷ ys → ⊥
 longer-other xs y ys e = let l = ap length e in let m = length-append xs (y ∷ ys) in absurd (omega (arith, l, m))
@@ -61,30 +49,53 @@ pub run-own : (rs re : ℕ) (path : List ℕ) (at : ℕ) (ts : List Tree) (run :
 run-own rs re path at ts None = tt
 run-own rs re path at ts (Some cuts) = let cs = laid at ts in stretches-own path at ts (stretches cuts cs (first_near rs cs) (end_near re cs) (suc (length ts)) 1)
 
--- the child alone
-pub record Alone (path : List ℕ) (c : Candidate) : Type 0 where
-  pub at_end : c.path ≡ path
-  pub whole : c.is_block ≡ true
-  pub one : c.to ≡ suc c.from
+-- ---- a child
 
-block-alone : (path : List ℕ) (at : ℕ) (ts : List Tree) (i : ℕ) (k : SyntaxKind) → Every (Alone path) (of_block path at ts i k)
-block-alone path at ts i k = every-if (Alone path) (is_block k) (of_children true path at ts i (suc i) ∷ []) [] (λ e. (record { at_end = refl; whole = refl; one = refl }, tt)) (λ e. tt)
+pub record Covers (rs re : ℕ) (c : Child) : Type 0 where
+  pub starts : c.start < rs
+  pub ends : re < c.end
+  pub inner : c.node.head.is_inner ≡ true
+
+pub covers-is : (rs re : ℕ) (cs : List Child) (i : ℕ) (c : Child) → covers rs re cs i c ≡ true → Covers rs re c
+covers-is rs re cs i c e = by-tests (end_near re cs == suc i) (nat_lt c.start rs) (nat_lt re c.end) c.node.head.is_inner e refl refl refl
+  where
+    by-tests : (p q r b : Bool) → (p && (q && (r && b))) ≡ true → nat_lt c.start rs ≡ q → nat_lt re c.end ≡ r → c.node.head.is_inner ≡ b → Covers rs re c
+    by-tests true true true true e f g h = record { starts = grind (arith, nat_tests, f); ends = grind (arith, nat_tests, g); inner = h }
+    by-tests true true true false e f g h = absurd (cc)
+    by-tests true true false b e f g h = absurd (cc)
+    by-tests true false r b e f g h = absurd (cc)
+    by-tests false q r b e f g h = absurd (cc)
+
+-- What is so of the tree of an index among some side by side, by where that begins, is so of the child there.
+abbrev pub AtIndex : (ℕ → Head → Forest → Type 0) → ℕ → ℕ → Forest → Type 0
+AtIndex P index at none = Unit {0}
+AtIndex P zero at (more h ks r) = P at h ks
+AtIndex P (suc index) at (more h ks r) = AtIndex P index (at + length (h.text ++ joined ks)) r
+
+pub at-child : (P : ℕ → Head → Forest → Type 0) (index at : ℕ) (f : Forest) (d : Child) → child_at (laid at (trees f)) index ≡ Some d → AtIndex P index at f → P d.start d.node.head d.node.kids
+at-child P index at none d e g = absurd (cc)
+at-child P zero at (more h ks r) d e g =
+    let first : Child = record { start = at; end = at + length (text_of (record { head = h; kids = ks })); node = record { head = h; kids = ks } } in
+    let same : first ≡ d = ap (some_or first) e in
+    subst (λ (d : Child). P d.start d.node.head d.node.kids) same g
+at-child P (suc index) at (more h ks r) d e g = at-child P index (at + length (h.text ++ joined ks)) r d e g
 
 module _ (ns : List Note) (rs re : ℕ) where
   -- What holds of those of its child near the bytes, if that covers them, of that child, and of those of its own run, holds of those of a node.
   pub node-every : (P : Candidate → Type 0) (path : List ℕ) (run : Option (List ℕ)) (at : ℕ) (h : Head) (ks r : Forest)
       → (let inside = at + length h.text in let cs = laid inside (trees ks) in let i = first_near rs cs in
-      ((c : Child) → child_at cs i ≡ Some c → covers rs re cs i c ≡ true → Every P (candidates_at ns rs re (path ++ i ∷ []) (run_in ns at h.kind c.node.head.kind) i inside ks)))
-      → ((c : Candidate) → Alone path c → P c) → Every P (of_run rs re path (at + length h.text) (trees ks) run) → Every P (candidates_at ns rs re path run zero at (more h ks r))
+      ((c : Child) → child_at cs i ≡ Some c → covers rs re cs i c ≡ true → Every P (candidates_at ns rs re (path ++ i ∷ []) (run_in ns at h.kind c.node.head.kind) i inside ks))
+      → ((c : Child) → child_at cs i ≡ Some c → covers rs re cs i c ≡ true → is_block c.node.head.kind ≡ true → P (of_children true path inside (trees ks) i (suc i)))
+      → Every P (of_run rs re path inside (trees ks) run) → Every P (candidates_at ns rs re path run zero at (more h ks r)))
   unfolding candidates_at
   node-every P path run at h ks r f g own =
-      let inside = at + length h.text in
-      let cs = laid inside (trees ks) in
-      let i = first_near rs cs in
-      every-append P _ _ (by-child (child_at cs i) f) own
+      let cs = laid (at + length h.text) (trees ks) in
+      every-append P _ _ (by-child (child_at cs (first_near rs cs)) f g) own
     where
       by-child : (o : Option Child) → ((c : Child) → o ≡ Some c → covers rs re (laid (at + length h.text) (trees ks)) (first_near rs (laid (at + length h.text) (trees ks))) c ≡ true
           → Every P (candidates_at ns rs re (path ++ first_near rs (laid (at + length h.text) (trees ks)) ∷ []) (run_in ns at h.kind c.node.head.kind) (first_near rs (laid (at + length h.text) (trees ks))) (at + length h.text) ks))
+          → ((c : Child) → o ≡ Some c → covers rs re (laid (at + length h.text) (trees ks)) (first_near rs (laid (at + length h.text) (trees ks))) c ≡ true → is_block c.node.head.kind ≡ true
+          → P (of_children true path (at + length h.text) (trees ks) (first_near rs (laid (at + length h.text) (trees ks))) (suc (first_near rs (laid (at + length h.text) (trees ks))))))
           → Every P (elim o as (λ _. List Candidate) [
             | None ↦ []
             | Some c ↦
@@ -92,14 +103,14 @@ module _ (ns : List Note) (rs re : ℕ) where
                 then candidates_at ns rs re (path ++ first_near rs (laid (at + length h.text) (trees ks)) ∷ []) (run_in ns at h.kind c.node.head.kind) (first_near rs (laid (at + length h.text) (trees ks))) (at + length h.text) ks ++ of_block path (at + length h.text) (trees ks) (first_near rs (laid (at + length h.text) (trees ks))) c.node.head.kind
                 else []
           ])
-      by-child None f = tt
-      by-child (Some c) f =
+      by-child None f g = tt
+      by-child (Some c) f g =
           let inside = at + length h.text in
           let cs = laid inside (trees ks) in
           let i = first_near rs cs in
           every-if P (covers rs re cs i c) (candidates_at ns rs re (path ++ i ∷ []) (run_in ns at h.kind c.node.head.kind) i inside ks ++ of_block path inside (trees ks) i c.node.head.kind) []
           (λ e. every-append P (candidates_at ns rs re (path ++ i ∷ []) (run_in ns at h.kind c.node.head.kind) i inside ks) (of_block path inside (trees ks) i c.node.head.kind) (f c refl e)
-          (every-by g (of_block path inside (trees ks) i c.node.head.kind) (block-alone path inside (trees ks) i c.node.head.kind)))
+          (every-if P (is_block c.node.head.kind) (of_children true path inside (trees ks) i (suc i) ∷ []) [] (λ one. (g c refl e one, tt)) (λ no. tt)))
           (λ e. tt)
 
   -- Each path of them begins with the node's.
@@ -109,11 +120,10 @@ module _ (ns : List Note) (rs re : ℕ) where
   paths-below path run (suc index) at (more h ks r) = paths-below path run index (at + length (h.text ++ joined ks)) r
   paths-below path run zero at (more h ks r) =
       let inside = at + length h.text in
-      let cs = laid inside (trees ks) in
-      let i = first_near rs cs in
+      let i = first_near rs (laid inside (trees ks)) in
       node-every (Below path) path run at h ks r
       (λ c e on. every-by (λ d b. record { behind = i ∷ b.behind; is = b.is ∙ append_assoc path (i ∷ []) b.behind }) _ (paths-below (path ++ i ∷ []) (run_in ns at h.kind c.node.head.kind) i inside ks))
-      (λ c a. record { behind = []; is = a.at_end ∙ sym (append-nil path) })
+      (λ c e on one. record { behind = []; is = sym (append-nil path) })
       (every-by (λ c o. record { behind = []; is = o.at_end ∙ sym (append-nil path) }) _ (run-own rs re path inside (trees ks) run))
 
   -- those of the tree of an index are those of that tree alone
@@ -135,7 +145,7 @@ module _ (ns : List Note) (rs re : ℕ) where
       let i = first_near rs (laid inside (trees ks)) in
       node-every _ path run at h ks r
       (λ c e on. every-by (λ d b pieces p. absurd (longer-other path i b.behind (sym p ∙ b.is ∙ append_assoc path (i ∷ []) b.behind))) _ (paths-below (path ++ i ∷ []) (run_in ns at h.kind c.node.head.kind) i inside ks))
-      (λ c a pieces p. absurd (let no = sym a.whole ∙ pieces in cc))
+      (λ c e on one pieces p. absurd (cc))
       (every-by (λ c a pieces p. a) _ (every-among (of_run rs re path inside (trees ks) run)))
 
   -- ---- down to a block
@@ -148,19 +158,6 @@ module _ (ns : List Note) (rs re : ℕ) where
     pub ends : re < child.end
     pub chosen : Among c (of_run rs re c.path (child.start + length child.node.head.text) (trees child.node.kids) (run_in ns at x.head.kind child.node.head.kind))
 
-  record Covers (cs : List Child) (i : ℕ) (c : Child) : Type 0 where
-    starts : c.start < rs
-    ends : re < c.end
-
-  covering : (cs : List Child) (i : ℕ) (c : Child) → covers rs re cs i c ≡ true → Covers cs i c
-  covering cs i c e = by-tests (end_near re cs == suc i) (nat_lt c.start rs) (nat_lt re c.end) c.node.head.is_inner e refl refl
-    where
-      by-tests : (p q r b : Bool) → (p && (q && (r && b))) ≡ true → nat_lt c.start rs ≡ q → nat_lt re c.end ≡ r → Covers cs i c
-      by-tests true true true b e f g = let one : c.start < rs = grind (arith, nat_tests) in let two : re < c.end = grind (arith, nat_tests) in record { starts = one; ends = two }
-      by-tests true true false b e f g = absurd (cc)
-      by-tests true false r b e f g = absurd (cc)
-      by-tests false q r b e f g = absurd (cc)
-
   -- the child after some others
   child-behind : (at : ℕ) (left : List Tree) (y : Tree) (right : List Tree)
       → child_at (laid at (left ++ y ∷ right)) (length left) ≡ Some (record { start = at + length (texts left); end = (at + length (texts left)) + length (text_of y); node = y })
@@ -171,11 +168,7 @@ module _ (ns : List Note) (rs re : ℕ) where
 
   -- the first step of a path after another
   step-is : (path : List ℕ) (i : ℕ) (behind : List ℕ) (j : ℕ) (onwards : List ℕ) (p : List ℕ) → p ≡ (path ++ i ∷ []) ++ behind → p ≡ path ++ j ∷ onwards → i ≡ j
-  step-is path i behind j onwards p e f = ap (head_or 0) (behind-same path (i ∷ behind) (j ∷ onwards) (sym (append_assoc path (i ∷ []) behind) ∙ sym e ∙ f))
-
-  -- of the tree with the block at the end of a path those in its markup
-  abbrev InBlock : List ℕ → ℕ → Tree → Candidate → Type 0
-  InBlock path at x c = c.is_block ≡ false → c.path ≡ path ++ 1 ∷ [] → InMarkup at x c
+  step-is path i behind j onwards p e f = ap (first_or 0) (append_cancel_left path (i ∷ behind) (j ∷ onwards) (sym (append_assoc path (i ∷ []) behind) ∙ sym e ∙ f))
 
   pub every-both : {X : Type 0} (P Q : X → Type 0) (xs : List X) → Every P xs → Every Q xs → Every (λ x. P x × Q x) xs
   every-both P Q [] h g = tt
@@ -198,21 +191,20 @@ module _ (ns : List Note) (rs re : ℕ) where
       (λ c b pieces p.
       let first : i ≡ 1 = step-is path i b.0.behind 1 [] c.path b.0.is p in
       let there : child_at cs 1 ≡ Some ch = subst (λ j. child_at cs j ≡ Some ch) first e in
-      let on_way = covering cs i ch on in
+      let on_way = covers-is rs re cs i ch on in
       let here : c.path ≡ path ++ i ∷ [] = p ∙ ap (λ j. path ++ j ∷ []) (sym first) in
-      let own = b.1 pieces here in
       subst (λ n. InMarkup n x c) none_more (record {
         child = ch;
         is = there;
         starts = on_way.starts;
         ends = on_way.ends;
-        chosen = subst (λ q. Among c (of_run rs re q (ch.start + length ch.node.head.text) (trees ch.node.kids) (run_in ns at x.head.kind ch.node.head.kind))) (sym here) own;
+        chosen = subst (λ q. Among c (of_run rs re q (ch.start + length ch.node.head.text) (trees ch.node.kids) (run_in ns at x.head.kind ch.node.head.kind))) (sym here) (b.1 pieces here);
       }))
       _ (every-both (Below (path ++ i ∷ [])) _ _ (paths-below (path ++ i ∷ []) (run_in ns at x.head.kind ch.node.head.kind) i inside x.kids)
       (subst (λ cs. Every (λ c. c.is_block ≡ false → c.path ≡ path ++ i ∷ [] → Among c (of_run rs re (path ++ i ∷ []) (ch.start + length ch.node.head.text) (trees ch.node.kids) (run_in ns at x.head.kind ch.node.head.kind))) cs)
       (sym (at-index (path ++ i ∷ []) (run_in ns at x.head.kind ch.node.head.kind) i inside x.kids ch e))
       (own-run (path ++ i ∷ []) (run_in ns at x.head.kind ch.node.head.kind) ch.start ch.node.head ch.node.kids none))))
-      (λ c a pieces p. absurd (let no = sym a.whole ∙ pieces in cc))
+      (λ c e on one pieces p. absurd (cc))
       (every-by (λ c o pieces p. absurd (longer-other path 1 [] (sym o.at_end ∙ p))) _ (run-own rs re path inside (trees x.kids) run))
   descend (under head left d right) x path run at =
       let ts = left ++ fill d x ∷ right in
@@ -221,8 +213,7 @@ module _ (ns : List Note) (rs re : ℕ) where
       let i = first_near rs cs in
       let next = inside + length (texts left) in
       let f = length-append head.text (texts left ++ deep_text d) in
-      let g = length-append (texts left) (deep_text d) in
-      let sum : next + length (deep_text d) ≡ at + length (head.text ++ (texts left ++ deep_text d)) = omega (arith, f, g) in
+      let sum : next + length (deep_text d) ≡ at + length (head.text ++ (texts left ++ deep_text d)) = omega (arith, f, length-append (texts left) (deep_text d)) in
       let found : child_at cs (length left) ≡ Some (record { start = next; end = next + length (text_of (fill d x)); node = fill d x }) =
       ap (λ us. child_at (laid inside us) (length left)) (trees-of ts) ∙ child-behind inside left (fill d x) right in
       node-every _ path run at head (forest ts) none
@@ -239,7 +230,7 @@ module _ (ns : List Note) (rs re : ℕ) where
       let same : q ++ (path_in d ++ 1 ∷ []) ≡ path ++ (length left ∷ (path_in d ++ 1 ∷ [])) = append_assoc path (i ∷ []) (path_in d ++ 1 ∷ []) ∙ ap (λ j. path ++ j ∷ (path_in d ++ 1 ∷ [])) first in
       subst (λ cs. Every (λ c. c.is_block ≡ false → c.path ≡ path ++ (length left ∷ (path_in d ++ 1 ∷ [])) → InMarkup (next + length (deep_text d)) x c) cs) (sym (at-index q r i inside (forest ts) _ there))
       (every-by (λ c h pieces p. h pieces (p ∙ sym same)) _ (descend d x q r next))))))
-      (λ c a pieces p. absurd (let no = sym a.whole ∙ pieces in cc))
+      (λ c e on one pieces p. absurd (cc))
       (every-by (λ c o pieces p. absurd (longer-other path (length left) (path_in d ++ 1 ∷ []) (sym o.at_end ∙ p))) _ (run-own rs re path inside (trees (forest ts)) run))
 
 -- ---- candidates of a run
@@ -255,11 +246,7 @@ module _ (rs re : ℕ) (path : List ℕ) (at : ℕ) (ts : List Tree) (cuts : Lis
   stretches-of (suc tries) x =
       let cs = laid at ts in
       let s = around cuts cs (first_near rs cs) (end_near re cs) x in
-      (record { more = x; is = refl }, if-every (is_all cs s) (stretches cuts cs (first_near rs cs) (end_near re cs) tries (2 * x)) (stretches-of tries (2 * x)))
-    where
-      if-every : (b : Bool) (ss : List Stretch) → Every (OfStretch rs re path at ts cuts) (of_stretches path at ts ss) → Every (OfStretch rs re path at ts cuts) (of_stretches path at ts (if b then [] else ss))
-      if-every true ss h = tt
-      if-every false ss h = h
+      (record { more = x; is = refl }, on_both (λ (ss : List Stretch). Every (OfStretch rs re path at ts cuts) (of_stretches path at ts ss)) (is_all cs s) [] (stretches cuts cs (first_near rs cs) (end_near re cs) tries (2 * x)) tt (stretches-of tries (2 * x)))
 
   -- Each candidate of a run is one.
   pub of-run : (c : Candidate) → Among c (of_run rs re path at ts (Some cuts)) → OfStretch rs re path at ts cuts c

@@ -7,18 +7,19 @@ use Rattle.typst_kinds.specs.declared.kind.SyntaxKind.TheVariants as kind
 use Rattle.typst_kinds.proofs.Sameness.{same-is}
 use Rattle.typst_language.specs.declared.calls.Note.{Note}
 use Rattle.typst_language.proofs.Leaves.{texts}
-use Rattle.typst_tree.specs.Tree.{Forest, none, more, Tree, forest, trees, text_of, joined}
+use Rattle.typst_tree.specs.Tree.{Forest, none, more, Tree, forest, trees, joined}
 use Rattle.typst_candidates.specs.Candidates.{Child, laid, first_near, child_at, Candidate, of_run, run_in, candidates_at}
 use Rattle.typst_candidates.specs.Units.{cuts_in}
 use Rattle.typst_edits.specs.Edit.{Among}
 use Rattle.typst_edits.specs.Every.{Every}
 use Rattle.typst_edits.specs.Hole.{Deep, fill, path_in}
 use Rattle.typst_edits.specs.Hole.Deep.{bare, under}
-use Rattle.typst_edits.proofs.CandidateBlocks.{Covers, covers-is, or_first, split-child}
+use Rattle.typst_edits.proofs.CandidateBlocks.{split-child}
 use Rattle.typst_edits.proofs.Edit.{among}
 use Rattle.typst_edits.proofs.Every.{every-by}
-use Rattle.typst_edits.proofs.MarkupCandidates.{Below, at-index, every-both, longer-other, node-every, own-run, paths-below, run-own}
+use Rattle.typst_edits.proofs.MarkupCandidates.{Covers, covers-is, AtIndex, at-child, Below, at-index, every-both, longer-other, node-every, own-run, paths-below, run-own}
 use Rattle.typst_edits.proofs.Placed.{deep_text}
+use Rattle.typst_tree.proofs.SpansAside.{forest_trees}
 
 module _ (ns : List Note) (rs re : ℕ) where
   -- In a tree that begins at a byte the candidate is children of a child of this node, which is a run and covers the replaced bytes.
@@ -35,21 +36,11 @@ module _ (ns : List Note) (rs re : ℕ) where
     pub own : Among c (of_run rs re c.path (child.start + length child.node.head.text) (trees child.node.kids) (run_in ns (at + length (deep_text deep)) node.head.kind child.node.head.kind))
 
   -- what is found of the one of an index of some trees side by side
-  abbrev In : List ℕ → ℕ → ℕ → Forest → Candidate → Type 0
-  In path index at none c = Unit {0}
-  In path zero at (more h ks r) c = h.is_inner ≡ true → (c.path ≡ path → ⊥) → Placed path at (record { head = h; kids = ks }) c
-  In path (suc index) at (more h ks r) c = In path index (at + length (h.text ++ joined ks)) r c
+  abbrev In : List ℕ → Candidate → ℕ → Head → Forest → Type 0
+  In path c at h ks = h.is_inner ≡ true → (c.path ≡ path → ⊥) → Placed path at (record { head = h; kids = ks }) c
 
   abbrev Finds : List ℕ → ℕ → ℕ → Forest → Candidate → Type 0
-  Finds path index at f c = c.is_block ≡ false → In path index at f c
-
-  in-child : (path : List ℕ) (index at : ℕ) (f : Forest) (d : Child) (c : Candidate) → child_at (laid at (trees f)) index ≡ Some d → In path index at f c → d.node.head.is_inner ≡ true → (c.path ≡ path → ⊥) → Placed path d.start d.node c
-  in-child path index at none d c e h = absurd (cc)
-  in-child path zero at (more h ks r) d c e g =
-      let first : Child = record { start = at; end = at + length (text_of (record { head = h; kids = ks })); node = record { head = h; kids = ks } } in
-      let same : first ≡ d = ap (or_first first) e in
-      subst (λ (d : Child). d.node.head.is_inner ≡ true → (c.path ≡ path → ⊥) → Placed path d.start d.node c) same g
-  in-child path (suc index) at (more h ks r) d c e g = in-child path index (at + length (h.text ++ joined ks)) r d c e g
+  Finds path index at f c = c.is_block ≡ false → AtIndex (In path c) index at f
 
   -- one within a child
   within-child : (path : List ℕ) (at i : ℕ) (h : Head) (ks : Forest) (d : Child) (c : Candidate) → child_at (laid (at + length h.text) (trees ks)) i ≡ Some d → Placed (path ++ i ∷ []) d.start d.node c → Placed path at (record { head = h; kids = ks }) c
@@ -58,11 +49,9 @@ module _ (ns : List Note) (rs re : ℕ) where
       let x = p.node in
       let own : Tree = record { head = h; kids = ks } in
       let deep = under h s.left p.deep s.right in
-      let kids : ks ≡ forest (s.left ++ fill p.deep x ∷ s.right) = sym (forest-of ks) ∙ ap forest (s.is ∙ ap (λ t. s.left ++ t ∷ s.right) p.is) in
+      let kids : ks ≡ forest (s.left ++ fill p.deep x ∷ s.right) = sym (forest_trees ks) ∙ ap forest (s.is ∙ ap (λ t. s.left ++ t ∷ s.right) p.is) in
       let one = length-append h.text (texts s.left ++ deep_text p.deep) in
-      let two = length-append (texts s.left) (deep_text p.deep) in
-      let start = s.start in
-      let at_is : d.start + length (deep_text p.deep) ≡ at + length (deep_text deep) = omega (arith, one, two, start) in
+      let at_is : d.start + length (deep_text p.deep) ≡ at + length (deep_text deep) = omega (arith, one, length-append (texts s.left) (deep_text p.deep), s.start) in
       record {
         deep = deep;
         node = x;
@@ -75,10 +64,6 @@ module _ (ns : List Note) (rs re : ℕ) where
         covers = p.covers;
         own = subst (λ a. Among c (of_run rs re c.path (p.child.start + length p.child.node.head.text) (trees p.child.node.kids) (run_in ns a x.head.kind p.child.node.head.kind))) at_is p.own;
       }
-    where
-      forest-of : (f : Forest) → forest (trees f) ≡ f
-      forest-of none = refl
-      forest-of (more h ks r) = ap (λ g. more h ks g) (forest-of r)
 
   -- one of a child's own run
   of-child : (path : List ℕ) (at i : ℕ) (h : Head) (ks : Forest) (d : Child) (c : Candidate) → child_at (laid (at + length h.text) (trees ks)) i ≡ Some d → Covers rs re d → h.is_inner ≡ true → c.path ≡ path ++ i ∷ []
@@ -111,7 +96,7 @@ module _ (ns : List Note) (rs re : ℕ) where
       by-path : (behind : List ℕ) → c.path ≡ (path ++ i ∷ []) ++ behind → Placed path at (record { head = h; kids = ks }) c
       by-path [] p = let here = p ∙ append-nil (path ++ i ∷ []) in of-child path at i h ks d c e on inner here (o.1.1 pieces here)
       by-path (j ∷ behind) p =
-          within-child path at i h ks d c e (in-child (path ++ i ∷ []) i (at + length h.text) ks d c e (o.1.0 pieces) on.inner (λ same. longer-other (path ++ i ∷ []) j behind (sym same ∙ p)))
+          within-child path at i h ks d c e (at-child (In (path ++ i ∷ []) c) i (at + length h.text) ks d e (o.1.0 pieces) on.inner (λ same. longer-other (path ++ i ∷ []) j behind (sym same ∙ p)))
 
   all-find : (path : List ℕ) (run : Option (List ℕ)) (index at : ℕ) (f : Forest) → Every (Finds path index at f) (candidates_at ns rs re path run index at f)
   unfolding candidates_at
@@ -131,7 +116,7 @@ module _ (ns : List Note) (rs re : ℕ) where
       (own-run ns rs re q own d.start d.node.head d.node.kids none) in
       every-by (λ c o. by-child path at i h ks r d c e (covers-is rs re cs i d on) o) all
       (every-both ns rs re (Below q) _ all (paths-below ns rs re q own i inside ks) (every-both ns rs re (Finds q i inside ks) _ all (all-find q own i inside ks) mine)))
-      (λ c a pieces inner other. absurd (let no = sym a.whole ∙ pieces in cc))
+      (λ c e on one pieces inner other. absurd (cc))
       (every-by {Q = Finds path zero at (more h ks r)} (λ c o pieces inner other. absurd (other o.at_end)) _ (run-own rs re path inside (trees ks) run))
 
   -- of a tree whose root is an inner node

@@ -2,9 +2,7 @@
 use Rattle.std.proofs.Common.{◌≡◌, inl, inr, ◌⊎◌, ℕ, zero, suc, Bool, true, false, ◌&&◌, if◌then◌else◌, Some, refl, ap, sym, ◌∙◌, subst}
 use Rattle.typst_kinds.specs.declared.kind.SyntaxKind.{SyntaxKind}
 use Rattle.typst_kinds.specs.declared.kind.SyntaxKind.TheVariants as kind
-use Rattle.typst_kinds.specs.declared.mode.SyntaxMode.{SyntaxMode}
 use Rattle.typst_lines.specs.Place.{Place, moved}
-use Rattle.typst_language.specs.declared.reading.AtNewline.{AtNewline}
 use Rattle.typst_language.specs.declared.reading.Reading.{Reading}
 use Rattle.typst_language.specs.Ask.{SameIn}
 use Rattle.typst_language.specs.Depth.{is_end}
@@ -21,6 +19,7 @@ use Rattle.typst_grammar.specs.Markup.{ends, markup_turn, markup_head, markup_re
 use Rattle.typst_edits.specs.Joint.{minds, onwards, passed, is_over_at, Meets}
 use Rattle.typst_edits.specs.Runs.{End, made, end_of}
 use Rattle.typst_edits.specs.Sequence.{Sequence}
+use Rattle.typst_edits.proofs.Enclosed.{reading-is}
 use Rattle.typst_edits.proofs.Led.{behind_trivia, SameJudged, before_trivia, kind-behind}
 use Rattle.typst_edits.proofs.Turns.{Fronted, fronted-behind, stopped-alike, hand-seen, Taking, fronted-same}
 use Rattle.typst_edits.proofs.EmptyRuns.{and-false as none-and}
@@ -35,13 +34,10 @@ pub record ReadAs (g : Reading) (s : Point) : Type 0 where
 either-way : {A : Type 0} (x h r g : A) → (x ≡ h) ⊎ (x ≡ r) → h ≡ g → r ≡ g → x ≡ g
 either-way x h r g a e f = elim a [ inl i ↦ i ∙ e | inr i ↦ i ∙ f ]
 
-same-reading : (h g : Reading) → h.mode ≡ g.mode → h.at_newline ≡ g.at_newline → h ≡ g
-same-reading h g e f = ap (λ (m : SyntaxMode). record { mode = m; at_newline = h.at_newline }) e ∙ ap (λ (a : AtNewline). record { mode = g.mode; at_newline = a }) f
-
 pub read-as : (g : Reading) (s p : Point) → ReadAs g s → Rests s.reading s.held p → ReadAs g p
 read-as g s p a h = record {
   reading = h.reading ∙ a.reading;
-  held = same-reading p.held g
+  held = reading-is p.held g
       (either-way p.held.mode s.held.mode s.reading.mode g.mode h.mode (ap (λ (r : Reading). r.mode) a.held) (ap (λ (r : Reading). r.mode) a.reading))
       (either-way p.held.at_newline s.held.at_newline s.reading.at_newline g.at_newline h.rule (ap (λ (r : Reading). r.at_newline) a.held) (ap (λ (r : Reading). r.at_newline) a.reading));
 }
@@ -111,8 +107,7 @@ module _ (r : Sequence) (taking : Taking r.level r.stops) where
       let held : fs.held ≡ es.held = read_now.held ∙ sym read.held in
       let alike = judged-alike fs.held u t read_now.held in
       -- the token at hand
-      let seen = hand-seen l r.stops taking e.value there here (passed t es) shown in
-      let token = ap (λ (x : Hand). x.kind) (hand-frame l.classes es.held (Some (behind_trivia t)) there here seen).hand in
+      let token = ap (λ (x : Hand). x.kind) (hand-frame l.classes es.held (Some (behind_trivia t)) there here (hand-seen l r.stops taking e.value there here (passed t es) shown)).hand in
       let now : (hand_at l.classes fs.held (Some u) v).kind ≡ (hand_at l.classes es.held (Some t) y).kind =
       sym (kind-behind l fs.held v u t alike) ∙ ap (λ h. (hand_at l.classes h (Some (behind_trivia t)) here).kind) held ∙ token in
       let now_known : (hand_at l.classes fs.held (Some u) v).kind ≡ (hand_at l.classes es.held es.known y).kind = now ∙ ap (λ k. (hand_at l.classes es.held k y).kind) (sym g.known) in
@@ -125,8 +120,7 @@ module _ (r : Sequence) (taking : Taking r.level r.stops) where
       subst (λ s. Fronted u t.nodes (onwards r f.value v s) d) (sym known_now_is)
       (fronted-behind l r.stops taking fs.held v u t alike f.value fs.reading fs.empties es.empties fs.is_after_error es.is_after_error
       (errors y e f t u g (hand_at l.classes fs.held (Some u) v).kind now_known (is_over_at r y e) refl)) in
-      let other = onwards r f.value there (passed t es) in
-      let carries : other ≡ c = carried y e f t u g (is_over_at r y e) refl in
+      let carries : onwards r f.value there (passed t es) ≡ c = carried y e f t u g (is_over_at r y e) refl in
       let same : d ≡ c =
       ap (λ a. onwards r f.value here (before_trivia a fs.held es.empties es.is_after_error (behind_trivia t))) (read_now.reading ∙ sym read.reading)
       ∙ ap (λ a. onwards r f.value here (before_trivia es.reading a es.empties es.is_after_error (behind_trivia t))) held

@@ -1,5 +1,5 @@
 -- Marks are nested: pieces of a run say its level, and blocks, with the marks in them, a deeper one.
-use Rattle.std.proofs.Common.{◌≡◌, ℕ, zero, suc, ◌+◌, ◌-◌, ◌≤◌, ◌<◌, Bool, true, false, ◌&&◌, nat_lt, List, [], ◌∷◌, ◌++◌, drop, append_assoc, append-nil, Option, Some, None, refl, ap, sym, ◌∙◌, subst, arith}
+use Rattle.std.proofs.Common.{◌≡◌, ℕ, zero, suc, ◌+◌, ◌-◌, ◌≤◌, ◌<◌, Bool, true, false, List, [], ◌∷◌, ◌++◌, append_assoc, append-nil, Some, refl, ap, sym, ◌∙◌, subst, arith}
 use Rattle.std.proofs.lemmas.List.{map-append}
 use Rattle.typst_kinds.specs.declared.kind.SyntaxKind.{SyntaxKind}
 use Rattle.typst_lines.specs.Place.{Place, moved}
@@ -12,20 +12,19 @@ use Rattle.typst_language.specs.declared.calls.Mark.{Mark}
 use Rattle.typst_language.specs.declared.calls.Mark.TheVariants as mark
 use Rattle.typst_language.specs.declared.calls.Note.{Note}
 use Rattle.typst_language.specs.declared.reading.State.{State}
-use Rattle.typst_language.specs.Ask.{Ask, shift, shift_one, sunk, sink_one, only_looks}
+use Rattle.typst_language.specs.Ask.{Ask, shift, shift_one, sunk, sink_one}
 use Rattle.typst_language.specs.Ask.Ask.{looked, marked}
 use Rattle.typst_language.specs.Knot.{meaning_of, level_of, blocks_of}
 use Rattle.typst_language.specs.Log.{Log, no_log, with_hull, with_note, logged}
-use Rattle.typst_language.specs.Point.{Point, forgot, state_of, gap_of}
-use Rattle.typst_language.specs.Shape.{Shape}
+use Rattle.typst_language.specs.Point.{Point, forgot, state_of}
 use Rattle.typst_language.specs.Calls.{Call, Answer}
 use Rattle.typst_language.specs.Depth.{anywhere, skip_one, too_deep, deeper}
 use Rattle.typst_language.specs.Steps.{peek, eat, eat_making, node, within, note, flush_trivia}
-use Rattle.typst_language.specs.Syntax.{Op, Begin, Parser, ◌>>◌}
-use Rattle.typst_language.specs.Syntax.Op.{hand, so, further, column, erred, takes, takes_so, flushes, complains, advises, marks, is_deepest}
+use Rattle.typst_language.specs.Syntax.{Parser, ◌>>◌}
+use Rattle.typst_language.specs.Syntax.Op.{flushes}
 use Rattle.typst_language.specs.Syntax.Parser.{gives, does, next, pick, repeat, wraps, grows, nests, scoped, either, calls, block}
-use Rattle.typst_language.specs.Meaning.{Outcome, Meaning, Level, plain, joined, answered, turns, as_last, bound, repeated, before, grown, is_more, growths, growing, nestings, nesting, given_up, bounded, blockless, entered, hand_asks_of, start_point, done, run}
-use Rattle.typst_language.proofs.Within.{on_both, on_if, grew}
+use Rattle.typst_language.specs.Meaning.{Meaning, Level, plain, joined, bound, repeated, before, growing, nesting, given_up, bounded, blockless, entered, start_point, done, run}
+use Rattle.typst_language.proofs.Within.{on_both, on_if}
 use Rattle.typst_grammar.specs.Grammar.{rules, production, max_depth, start_of, whole, parsed, log, block_production}
 use Rattle.typst_grammar.specs.Markup.{markup_reading, note_piece, markup_turn, markup_run}
 use Rattle.typst_grammar.proofs.Guarded.{Guarded, op_notes}
@@ -35,8 +34,9 @@ use Rattle.typst_edits.specs.Laws.{block_at}
 use Rattle.typst_edits.specs.PieceNotes.{listed}
 use Rattle.typst_edits.specs.Spot.{ended}
 use Rattle.typst_edits.proofs.Bytes.{logged-append, noted-more}
-use Rattle.typst_edits.proofs.Marks.{AllMarks, none-hand}
+use Rattle.typst_edits.proofs.Marks.{AllMarks}
 use Rattle.typst_edits.proofs.Rising.{pieces}
+use Rattle.typst_edits.proofs.Upward.{Joins, from-joined, from-turns, from-growths, from-nestings, from-looks, from-hand, from-done}
 
 -- ---- marks in a list of asks
 
@@ -81,11 +81,6 @@ nests-deep end lo ls low (unit _ _ at gap fewer to space b s t inner later e f h
     subst (λ xs. Nests (suc end) lo (marked at gap (suc fewer) (mark.Opens b) s ∷ xs)) (sym (map-append sink_one inner (marked to space fewer mark.Closes t ∷ later)))
     (unit (suc end) lo at gap (suc fewer) to space b s t (sunk inner) (sunk later) (omega (arith, low)) (omega (arith, f)) (nests-sunk end (suc fewer) inner h) (nests-deep end lo later low g))
 
-nests-looks : (end lo : ℕ) (ls : List Ask) → Nests end lo (only_looks ls)
-nests-looks end lo [] = bare end lo
-nests-looks end lo (looked at look ∷ ls) = seen end lo at look (only_looks ls) (nests-looks end lo ls)
-nests-looks end lo (marked at gap fewer m s ∷ ls) = nests-looks end lo ls
-
 nests-none : (end lo : ℕ) (ls : List Ask) → AllMarks (λ at fewer m s. ⊥) ls → Nests end lo ls
 nests-none end lo [] h = bare end lo
 nests-none end lo (looked at look ∷ ls) h = seen end lo at look ls (nests-none end lo ls h)
@@ -123,86 +118,41 @@ notes-by notes at_hand (calls c) q = tt
 notes-by notes at_hand (block b) q = refl
 
 module _ (end lo : ℕ) where
-  abbrev Nest : {A : Type 0} → Outcome A → Type 0
-  Nest o = Nests end lo o.asks
+  abbrev Nest : ℕ → ℕ → List Ask → Type 0
+  Nest from to ls = Nests end lo ls
 
   abbrev AllNest : {A : Type 0} → Meaning A → Type 0
-  AllNest m = (z : Place) (s : Point) → Nest (m z s)
+  AllNest m = (z : Place) (s : Point) → Nests end lo (m z s).asks
 
-  nest-joined : {A B : Type 0} (o : Outcome B) (p : Outcome A) → Nest o → Nest p → Nest (joined o p)
-  nest-joined o p h k = nests-append end lo o.asks (shift o.taken p.asks) h (nests-shift o.taken end lo p.asks k)
-
-  nest-turns : {A : Type 0} (m : A → Meaning (Bool × A)) → ((x : A) → AllNest (m x)) → (n : ℕ) (x : A) → AllNest (turns m n x)
-  nest-turns m h zero x z s = bare end lo
-  nest-turns m h (suc n) x z s =
-      let o = m x z s in
-      let p = turns m n o.value.1 (moved o.taken z) o.state in
-      on_both Nest (o.value.0 && nat_lt 0 o.taken) (joined o p) (as_last o) (nest-joined o p (h x z s) (nest-turns m h n o.value.1 (moved o.taken z) o.state)) (h x z s)
-
-  nest-grown : {A : Type 0} (i : ℕ) (shape : Option Shape) (o : Outcome A) → Nest o → Nest (grown i shape o)
-  nest-grown i None o h = h
-  nest-grown i (Some shape) o h = h
-
-  nest-growths : {A : Type 0} (m : A → Meaning (Option Shape × A)) → ((x : A) → AllNest (m x)) → (n i : ℕ) (o : Outcome A) (z : Place) → Nest o → Nest (growths m n i o z)
-  nest-growths m h n zero o z k = k
-  nest-growths m h n (suc i) o z k =
-      let p = m o.value (moved o.taken z) o.state in
-      let all = nest-grown n p.value.0 (answered p.value.1 (joined o p)) (nest-joined o p k (h o.value (moved o.taken z) o.state)) in
-      on_both Nest (is_more p.value.0 && nat_lt 0 p.taken) (growths m n i (grew n o p) z) (grew n o p) (nest-growths m h n i (grew n o p) z all) all
-
-  nest-nestings : {A : Type 0} (f : A → Shape) (begin : Begin) (m : A → Meaning (Bool × A)) → ((x : A) → AllNest (m x)) → (n : ℕ) (x : A) → AllNest (nestings f begin m n x)
-  nest-nestings f begin m h zero x z s = bare end lo
-  nest-nestings f begin m h (suc n) x z s =
-      let o = m x z s in
-      let p = nestings f begin m n o.value.1 (moved o.taken z) o.state in
-      on_both Nest (o.value.0 && nat_lt 0 o.taken) (joined o p) (as_last o) (nest-joined o p (h x z s) (nest-nestings f begin m h n o.value.1 (moved o.taken z) o.state)) (h x z s)
+  nest : Joins Nest
+  nest = record { append = λ from mid to. nests-append end lo; shifted = λ d to. nests-shift d end lo; none = λ from to ls e. nests-none end lo ls }
 
   module _ (l : Level) (notes : Mark → Bool) (blocks : Bool) (own : (m : Mark) (gap : ℕ) (s : State) → notes m ≡ true → Nests end lo (marked 0 gap 0 m s ∷ []))
       (deep : (call : Call) (z : Place) (s : Point) → Nests end lo (sunk (l.deeper call z s).asks))
-      (held : blocks ≡ true → (b : Block) → l.has b ≡ true → (z : Place) (s : Point) → Nest (bounded b (l.blocks b) z s)) where
-    nest-hand : (z : Place) (s : Point) → Nests end lo (hand_asks_of l z s)
-    nest-hand z s = nests-none end lo (hand_asks_of l z s) (none-hand (λ at fewer m t. ⊥) l.classes s.held s.known z)
-
-    nest-more : (z : Place) (s : Point) (at : ℕ) (look : _) → Nests end lo (hand_asks_of l z s ++ looked at look ∷ [])
-    nest-more z s at look = nests-append end lo (hand_asks_of l z s) (looked at look ∷ []) (nest-hand z s) (seen end lo at look [] (bare end lo))
-
-    nest-done : {A : Type 0} (o : Op A) → op_notes notes o ≡ true → AllNest (done l o)
-    nest-done hand q z s = nest-hand z s
-    nest-done (so way) q z s = nest-more z s _ _
-    nest-done further q z s = nest-more z s _ _
-    nest-done column q z s = nest-more z s _ _
-    nest-done erred q z s = bare end lo
-    nest-done (takes trims making) q z s = nest-hand z s
-    nest-done (takes_so way making) q z s = nest-more z s _ _
-    nest-done flushes q z s = nest-hand z s
-    nest-done (complains message) q z s = bare end lo
-    nest-done (advises hint) q z s = bare end lo
-    nest-done (marks m) q z s = own m (gap_of s.known) (state_of s) q
-    nest-done is_deepest q z s = bare end lo
-
+      (held : blocks ≡ true → (b : Block) → l.has b ≡ true → (z : Place) (s : Point) → Nests end lo (bounded b (l.blocks b) z s).asks) where
     nest-run : {A : Type 0} (p : Parser A) → Notes notes blocks p → AllNest (run l p)
     unfolding run repeated growing nesting
     nest-run (gives a) q z s = bare end lo
-    nest-run (does o) q z s = nest-done o q z s
+    nest-run (does o) q z s = from-done Nest nest l notes own o q z s
     nest-run (next p f) q z s =
         let o = run l p z s in
-        nest-joined o (run l (f o.value) (moved o.taken z) o.state) (nest-run p q.0 z s) (nest-run (f o.value) (q.1 o.value) (moved o.taken z) o.state)
+        from-joined Nest nest 0 o (run l (f o.value) (moved o.taken z) o.state) (nest-run p q.0 z s) (nest-run (f o.value) (q.1 o.value) (moved o.taken z) o.state)
     nest-run (pick true p r) q z s = nest-run p (q.0 refl) z s
     nest-run (pick false p r) q z s = nest-run r (q.1 refl) z s
-    nest-run (repeat p x) q z s = nest-turns (λ y. run l (p y)) (λ y. nest-run (p y) (q y)) (suc (bound z s)) x z s
+    nest-run (repeat p x) q z s = from-turns Nest nest (λ y. run l (p y)) (λ y. nest-run (p y) (q y)) (suc (bound z s)) x z s
     nest-run (wraps f begin p) q z s = nest-run p q z s
-    nest-run (grows begin p f) q z s = nest-growths (λ y. run l (f y)) (λ y. nest-run (f y) (q.1 y)) (before begin s) (suc (bound z s)) (run l p z s) z (nest-run p q.0 z s)
-    nest-run (nests f begin p x) q z s = nest-nestings f begin (λ y. run l (p y)) (λ y. nest-run (p y) (q y)) (suc (bound z s)) x z s
+    nest-run (grows begin p f) q z s = from-growths Nest nest (λ y. run l (f y)) (λ y. nest-run (f y) (q.1 y)) (before begin s) (suc (bound z s)) (run l p z s) z (nest-run p q.0 z s)
+    nest-run (nests f begin p x) q z s = from-nestings Nest nest f begin (λ y. run l (p y)) (λ y. nest-run (p y) (q y)) (suc (bound z s)) x z s
     nest-run (scoped f p) q z s = nest-run p q z (entered (f s.reading) s)
     nest-run (either p is_wrong r) q z s =
         let o = run l p z s in
         let u = run l r z s in
-        on_both Nest (is_wrong o.value) (given_up o u) o (nests-looks end lo (o.asks ++ u.asks)) (nest-run p q.0 z s)
+        on_both (λ u. Nests end lo u.asks) (is_wrong o.value) (given_up o u) o (from-looks Nest nest u.taken (o.asks ++ u.asks)) (nest-run p q.0 z s)
     nest-run (calls call) q z s = deep call z s
     nest-run (block b) q z s =
         let o = done l flushes z s in
         let p = bounded b (l.blocks b) (moved o.taken z) o.state in
-        on_if Nest (l.has b) (joined o p) (plain tt s) (λ has. nest-joined o p (nest-hand z s) (held q b has (moved o.taken z) o.state)) (λ _. bare end lo)
+        on_if (λ u. Nests end lo u.asks) (l.has b) (joined o p) (plain tt s) (λ has. from-joined Nest nest 0 o p (from-hand Nest nest l z s o.taken) (held q b has (moved o.taken z) o.state)) (λ _. bare end lo)
 
 -- ---- at every level
 
@@ -310,7 +260,3 @@ unit-nests k levels b z s = block-nests k levels (call-nests k levels) b z s
 
 pub same-some : {xs ys : List Note} → Some xs ≡ Some ys → xs ≡ ys
 same-some e = ap listed e
-
-pub same-behind : (ns xs ys : List Note) → ns ++ xs ≡ ns ++ ys → xs ≡ ys
-same-behind [] xs ys e = e
-same-behind (n ∷ ns) xs ys e = same-behind ns xs ys (ap (λ zs. drop 1 zs) e)

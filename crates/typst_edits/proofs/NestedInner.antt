@@ -1,11 +1,11 @@
 -- The notes between the two of a content block are nested, so no other note ends it.
-use Rattle.std.proofs.Common.{◌≡◌, ℕ, suc, ◌<◌, ◌==◌, eq-eqb, Bool, true, nat_lt, List, [], ◌∷◌, ◌++◌, length, drop, length-append, refl, ap, sym, ◌∙◌, subst, arith}
+use Rattle.std.proofs.Common.{◌≡◌, ℕ, suc, ◌<◌, ◌==◌, eq-eqb, Bool, true, nat_lt, List, [], ◌∷◌, ◌++◌, length, drop, length-append, refl, ap, sym, ◌∙◌, subst, arith, ◌-◌}
 use Rattle.typst_language.specs.declared.calls.Note.{Note}
 use Rattle.typst_candidates.specs.Nested.{Nested}
-use Rattle.typst_grammar.specs.Grammar.{start_of}
+use Rattle.typst_grammar.specs.Grammar.{start_of, max_depth}
 use Rattle.typst_grammar.specs.Markup.{ends_block, markup_turn}
 use Rattle.typst_edits.specs.BlockRuns.{run_at}
-use Rattle.typst_edits.specs.Nested.{NestedInnerLaw}
+use Rattle.typst_edits.specs.Nested.{NestedInnerLaw, NestedBlockLaw}
 use Rattle.typst_edits.specs.NumberedNotes.{of_level, NumberedInner}
 use Rattle.typst_edits.specs.PieceNotes.{listed}
 use Rattle.typst_edits.specs.Sequence.{turn_of}
@@ -15,16 +15,22 @@ use Rattle.typst_edits.proofs.NoteNumbers.{level-append}
 use Rattle.typst_edits.proofs.NumberedNotes.{NestedNumbers, nested-numbers}
 use Rattle.typst_edits.proofs.OpensApart.{opens-apart-law}
 use Rattle.typst_edits.proofs.Spots.{if-true}
+use Rattle.typst_lines.specs.Place.{moved}
+use Rattle.typst_language.specs.Log.{Log}
+use Rattle.typst_language.specs.Point.{point_of}
+use Rattle.typst_language.specs.Meaning.{Outcome}
+use Rattle.typst_edits.specs.Spot.{unit_at}
+use Rattle.typst_edits.proofs.BlockLog.{block-log}
+use Rattle.typst_edits.proofs.Bytes.{counted}
+use Rattle.typst_edits.proofs.Every.{first_or}
+use Rattle.typst_edits.proofs.InTurn.{logged-lowered}
+use Rattle.typst_edits.proofs.Nested.{Nests, unit-nests, noted-nested}
 
 -- A list cut at two of its notes: the same, or one of those before or after the other.
 data Cuts (es : List Note) (o : Note) (ahead fs : List Note) (p : Note) (beyond : List Note) : Type 0 where
   same : es ≡ fs → ahead ≡ beyond → Cuts es o ahead fs p beyond
   sooner : (between : List Note) → fs ≡ es ++ o ∷ between → ahead ≡ between ++ p ∷ beyond → Cuts es o ahead fs p beyond
   later : (between : List Note) → es ≡ fs ++ p ∷ between → beyond ≡ between ++ o ∷ ahead → Cuts es o ahead fs p beyond
-
-abbrev head_or : Note → List Note → Note
-head_or n [] = n
-head_or n (m ∷ ms) = m
 
 with-one : (x y : Note) (es fs : List Note) (o p : Note) (ahead beyond : List Note) → x ≡ y → Cuts es o ahead fs p beyond → Cuts (x ∷ es) o ahead (y ∷ fs) p beyond
 with-one x y es fs o p ahead beyond e (same f g) = same (ap (λ u. u ∷ es) e ∙ ap (λ us. y ∷ us) f) g
@@ -33,18 +39,16 @@ with-one x y es fs o p ahead beyond e (later between f g) = later between (ap (�
 
 cuts : (es : List Note) (o : Note) (ahead fs : List Note) (p : Note) (beyond : List Note) → es ++ o ∷ ahead ≡ fs ++ p ∷ beyond → Cuts es o ahead fs p beyond
 cuts [] o ahead [] p beyond e = same refl (ap (λ us. drop 1 us) e)
-cuts [] o ahead (f ∷ fs) p beyond e = sooner fs (ap (λ u. u ∷ fs) (sym (ap (head_or o) e))) (ap (λ us. drop 1 us) e)
-cuts (x ∷ es) o ahead [] p beyond e = later es (ap (λ u. u ∷ es) (ap (head_or o) e)) (sym (ap (λ us. drop 1 us) e))
-cuts (x ∷ es) o ahead (f ∷ fs) p beyond e = with-one x f es fs o p ahead beyond (ap (head_or o) e) (cuts es o ahead fs p beyond (ap (λ us. drop 1 us) e))
+cuts [] o ahead (f ∷ fs) p beyond e = sooner fs (ap (λ u. u ∷ fs) (sym (ap (first_or o) e))) (ap (λ us. drop 1 us) e)
+cuts (x ∷ es) o ahead [] p beyond e = later es (ap (λ u. u ∷ es) (ap (first_or o) e)) (sym (ap (λ us. drop 1 us) e))
+cuts (x ∷ es) o ahead (f ∷ fs) p beyond e = with-one x f es fs o p ahead beyond (ap (first_or o) e) (cuts es o ahead fs p beyond (ap (λ us. drop 1 us) e))
 
 -- a note of the level more
 pub longer : (lv : ℕ) (xs ys zs : List Note) (n : Note) → n.levels ≡ lv → zs ≡ xs ++ n ∷ ys → length (of_level lv xs) < length (of_level lv zs)
 longer lv xs ys zs n l e =
     let own : of_level lv (n ∷ ys) ≡ n ∷ of_level lv ys = if-true (n.levels == lv) _ _ (eq-eqb n.levels lv l) in
     let all : of_level lv zs ≡ of_level lv xs ++ n ∷ of_level lv ys = ap (of_level lv) e ∙ level-append lv xs (n ∷ ys) ∙ ap (λ us. of_level lv xs ++ us) own in
-    let long = ap length all in
-    let sum = length-append (of_level lv xs) (n ∷ of_level lv ys) in
-    omega (arith, long, sum)
+    omega (arith, ap length all, length-append (of_level lv xs) (n ∷ of_level lv ys))
 
 pub nested-inner-law : NestedInnerLaw
 nested-inner-law k levels text c chosen name left n =
@@ -67,8 +71,7 @@ nested-inner-law k levels text c chosen name left n =
         let r = run_at k levels c (start_of text) in
         let within = λ (x : Bool × ℕ). (in-sane k levels (markup_turn true ends_block x)).within in
         let one = few-go (turn_of r) within n.count m.count (true, 0) r.place r.point (nat_lt n.count m.count) refl m.go n.over in
-        let two = few-go (turn_of r) within m.count n.count (true, 0) r.place r.point (nat_lt m.count n.count) refl n.go m.over in
-        omega (arith, one, two)
+        omega (arith, one, few-go (turn_of r) within m.count n.count (true, 0) r.place r.point (nat_lt m.count n.count) refl n.go m.over)
 
     same-long : length (of_level (suc levels) n.inner) ≡ length (of_level (suc levels) m.inner)
     same-long = n.all ∙ ap suc same-count ∙ sym m.all
@@ -86,3 +89,34 @@ nested-inner-law k levels text c chosen name left n =
     by_start (later between e f) =
         let apart = opens-apart-law k text m.earlier between more m.opens n.opens c.name c.name (ap listed m.notes ∙ ap (λ us. m.earlier ++ m.opens ∷ us) f) m.name n.name in
         absurd (omega (arith, apart, n.start, m.start))
+
+pub nested-block-law : NestedBlockLaw
+nested-block-law k text c chosen =
+    let z = start_of text in
+    let d = block-log k text c chosen in
+    let y = moved c.at z in
+    let u = unit_at c z in
+    let lv = max_depth - c.fewer in
+    let front = d.earlier ++ d.opens ∷ [] in
+    let own_nested = subst (λ (v : Outcome (Unit {0})). Nests (suc lv) 1 v.asks) (sym d.reads) (unit-nests k lv c.name y (point_of c.start)) in
+    let nest = noted-nested lv 0 y d.begun front u.asks (omega arith) d.begun_is own_nested in
+    let all_left : lv - 0 ≡ lv = omega arith in
+    let rest = d.rest nest.more (ap (λ (v : Log). v.notes) (logged-lowered max_depth c.fewer c.at z d.begun u.asks) ∙ nest.is) in
+    record {
+      earlier = d.earlier;
+      opens = d.opens;
+      inner = nest.more;
+      closes = d.closes;
+      later = rest.0;
+      notes = rest.1;
+      name = d.name;
+      start = d.start;
+      levels_there = d.levels;
+      name_end = d.name_end;
+      end = d.end;
+      levels_end = d.levels_end;
+      nested = subst (λ v. Nested v nest.more) all_left nest.nested;
+      number = d.number;
+      long = (let n = counted lv y u.asks d.begun front (front ++ nest.more) d.begun_is nest.is in
+          omega (arith, n, length-append front nest.more));
+    }

@@ -10,6 +10,7 @@ use Rattle.typst_candidates.specs.Nested.{Nested, none, piece, block}
 use Rattle.typst_candidates.specs.Records.{IsRising}
 use Rattle.typst_candidates.proofs.Nested.{token-of}
 use Rattle.typst_edits.specs.Every.{Every}
+use Rattle.typst_edits.proofs.Every.{first_or}
 use Rattle.typst_edits.specs.NumberedNotes.{of_level}
 use Rattle.typst_edits.proofs.InnerNumbers.{behind-first}
 use Rattle.typst_edits.proofs.NestedInner.{longer}
@@ -155,16 +156,10 @@ pub record Apart (lv : ℕ) (es ls : List Note) : Type 0 where
 -- None of them says as much as a level above.
 none-such : (lv deep : ℕ) (inner xs ys : List Note) (n : Note) → Nested deep inner → deep < lv → n.levels ≡ lv → inner ≡ xs ++ n ∷ ys → ⊥
 none-such lv deep inner xs ys n nest less own e =
-    let few = longer lv xs ys inner n own e in
-    let none_is = ap length (level-none lv deep inner nest less) in
-    omega (arith, few, none_is)
-
-abbrev pub head_or : Note → List Note → Note
-head_or n [] = n
-head_or n (m ∷ ms) = m
+    omega (arith, longer lv xs ys inner n own e, ap length (level-none lv deep inner nest less))
 
 pub head-same : (x y : Note) (us vs : List Note) → x ∷ us ≡ y ∷ vs → x ≡ y
-head-same x y us vs e = ap (head_or x) e
+head-same x y us vs e = ap (first_or x) e
 
 pub tail-same : (x y : Note) (us vs : List Note) → x ∷ us ≡ y ∷ vs → us ≡ vs
 tail-same x y us vs e = ap (λ ws. drop 1 ws) e

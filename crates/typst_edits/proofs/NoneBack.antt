@@ -25,13 +25,14 @@ use Rattle.typst_edits.specs.Joint.{minds, onwards_from, text_run}
 use Rattle.typst_edits.specs.Runs.{made, AllGo, End, end_of, asks_of, lead, pieces, end_at, piece_at}
 use Rattle.typst_edits.specs.Sequence.{turn_of, first_of, first_end, then_end, rest_of, Sequence}
 use Rattle.typst_edits.specs.Spot.{Spot}
-use Rattle.typst_edits.proofs.BlockRuns.{sane}
+use Rattle.typst_edits.proofs.BlockRuns.{sane, first-same}
 use Rattle.typst_edits.proofs.Boundary.{made-ends, turn-ends}
 use Rattle.typst_edits.proofs.Children.{tidy-together}
-use Rattle.typst_edits.proofs.Edit.{before-same, same_in-to}
+use Rattle.typst_edits.proofs.Edit.{before-same}
+use Rattle.typst_edits.proofs.Inside.{same_in-at}
 use Rattle.typst_edits.proofs.Heads.{head-law, inner-head-law}
 use Rattle.typst_edits.proofs.InnerChildren.{both-open}
-use Rattle.typst_edits.proofs.InnerJoint.{first-same, inner-joint-law}
+use Rattle.typst_edits.proofs.InnerJoint.{inner-joint-law}
 use Rattle.typst_edits.proofs.Joint.{onwards-is, joint-law}
 use Rattle.typst_edits.proofs.Runs.{moved-three}
 use Rattle.typst_edits.proofs.Root.{first-same as pieces-same}
@@ -45,12 +46,10 @@ module _ (l : Level) (stops : SyntaxKind → Bool) where
   pub cut-same : (n : ℕ) (x : Bool × ℕ) (z w : Place) (s : Point) → AllGo (made turn (suc n) x z s) → SameIn (asks_of (made turn (suc n) x z s)) z w
       → (let e = end_of x s (made turn (suc n) x z s) in (hand_of l (moved e.taken w) e.state).kind ≡ (hand_of l (moved e.taken z) e.state).kind)
   cut-same n x z w s g same =
-      let os = made turn (suc n) x z s in
-      let e = end_of x s os in
+      let e = end_of x s (made turn (suc n) x z s) in
       let looks = hand_asks_of l (moved e.taken z) e.state in
       let c = made-ends turn (λ q p. hand_asks_of l q p) (λ y q p h. turn-ends l stops y q p h) n x z s g in
-      let late = same_in-second c.early _ z w (subst (λ ls. SameIn ls z w) c.is same) in
-      let seen = same_in-shift e.taken looks z w (same_in-first (shift e.taken looks) _ z w late) in
+      let seen = same_in-shift e.taken looks z w (same_in-first (shift e.taken looks) _ z w (same_in-second c.early _ z w (subst (λ ls. SameIn ls z w) c.is same))) in
       ap (λ (h : Hand). h.kind) (hand-frame l.classes e.state.held e.state.known (moved e.taken z) (moved e.taken w) seen).hand
 
 -- So the expression that follows minds errors as before.
@@ -136,7 +135,7 @@ module _ (k : CharClasses) (levels : ℕ) (front old new rest : List ℕ) (c : S
       let b = bracket k levels z (point_of c.start) in
       let f = first-same k levels front old new rest c (suc i) looks in
       let seen : SameIn (o.asks ++ asks_of (first_of (suc i) r)) r.place (moved b.taken w) =
-      same_in-to _ _ _ _ _ (sym (moved-sum c.at b.taken z0)) (sym (moved-sum c.at b.taken w0)) (same_in-shift (c.at + b.taken) _ z0 w0 (before-same _ front old new rest (looks.before_run some))) in
+      same_in-at _ _ _ _ _ (sym (moved-sum c.at b.taken z0)) (sym (moved-sum c.at b.taken w0)) (same_in-shift (c.at + b.taken) _ z0 w0 (before-same _ front old new rest (looks.before_run some))) in
       let e = first_end (suc i) r in
       let d = first_end (suc i) q in
       let same : d ≡ e = ap (end_of (true, 0) r.point) f.first in

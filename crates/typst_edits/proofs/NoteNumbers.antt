@@ -21,6 +21,12 @@ use Rattle.typst_edits.proofs.NumberedNotes.{numbered-run-law}
 use Rattle.typst_edits.proofs.Root.{within}
 use Rattle.typst_edits.proofs.Spots.{if-true}
 
+pub less-than : (m n : ℕ) → m ≤ n → (m ≡ n → ⊥) → m < n
+less-than zero zero l f = absurd (f refl)
+less-than zero (suc n) l f = omega arith
+less-than (suc m) zero l f = absurd (omega (arith, l))
+less-than (suc m) (suc n) l f = let i = less-than m n (omega (arith, l)) (λ e. f (ap suc e)) in omega (arith, i)
+
 -- ---- notes
 
 level-by : (b : Bool) (n : Note) (xs ys zs : List Note) → xs ≡ ys ++ zs → (if b then n ∷ xs else xs) ≡ (if b then n ∷ ys else ys) ++ zs
@@ -104,20 +110,14 @@ number-law k text i g p =
     ap (λ ns. of_level max_depth (listed ns)) p.notes ∙ level-append max_depth p.earlier (p.note ∷ p.later) ∙ ap (λ ns. before ++ ns) own in
     let there = numbered-at says 0 before p.note behind (subst (λ ns. Numbered says 0 ns) split numbered.each) in
     let zero_more : 0 + j ≡ j = omega arith in
-    let here = subst (λ n. says n p.note) zero_more there in
-    let all = numbered.all in
-    let long = ap length split in
-    let sum = length-append before (p.note ∷ behind) in
-    let fits : j ≤ numbered.count = omega (arith, all, long, sum) in
+    let fits : j ≤ numbered.count = omega (arith, numbered.all, ap length split, length-append before (p.note ∷ behind)) in
     let go_j : AllGo (pieces k j z) = go-fewer m j numbered.count (true, 0) z s fits numbered.go in
     let at_i = (end_at k i z).taken in
     let at_j = (end_at k j z).taken in
-    let same : width (take at_i text) ≡ width (take at_j text) = sym p.before ∙ here.says.before in
+    let same : width (take at_i text) ≡ width (take at_j text) = sym p.before ∙ (subst (λ n. says n p.note) zero_more there).says.before in
     let known = (sane-at (rules k) k max_depth peek).within z start in
-    let most_i = turns-within m (within k) i (true, 0) z s in
-    let most_j = turns-within m (within k) j (true, 0) z s in
-    let room_i : at_i ≤ length text = omega (arith, known, most_i) in
-    let room_j : at_j ≤ length text = omega (arith, known, most_j) in
+    let room_i : at_i ≤ length text = omega (arith, known, turns-within m (within k) i (true, 0) z s) in
+    let room_j : at_j ≤ length text = omega (arith, known, turns-within m (within k) j (true, 0) z s) in
     neither j i
     (λ l. (let more = take-longer at_j at_i text (more-taken m j i (true, 0) z s l g) room_i in omega (arith, more, same)))
     (λ l. (let more = take-longer at_i at_j text (more-taken m i j (true, 0) z s l go_j) room_j in omega (arith, more, same)))

@@ -1,6 +1,7 @@
 -- The notes of a run by their numbers.
-use Rattle.std.proofs.Common.{◌≡◌, ℕ, zero, suc, ◌+◌, ◌-◌, ◌<◌, if◌then◌else◌, Bool, true, false, ◌&&◌, nat_lt, List, [], ◌∷◌, ◌++◌, length, take, length-append, refl, ap, sym, ◌∙◌, subst, arith}
+use Rattle.std.proofs.Common.{◌≡◌, ℕ, zero, suc, ◌+◌, ◌-◌, ◌<◌, Bool, true, false, ◌&&◌, nat_lt, List, [], ◌∷◌, ◌++◌, length, take, length-append, refl, ap, sym, ◌∙◌, subst, arith}
 use borrow.Author.Tests.{ltb-true, lt-ltb}
+use Rattle.std.proofs.lemmas.List.{append_cancel_left}
 use Rattle.typst_kinds.specs.declared.kind.SyntaxKind.{SyntaxKind}
 use Rattle.typst_kinds.specs.declared.kind.SyntaxKind.TheVariants as kind
 use Rattle.typst_kinds.specs.Kinds.{same}
@@ -20,16 +21,13 @@ use Rattle.typst_language.specs.Hand.{told}
 use Rattle.typst_language.specs.Log.{Log, no_log, logged}
 use Rattle.typst_language.specs.Point.{Point, gap_of, point_of, state_of}
 use Rattle.typst_language.specs.Shape.{after_node}
-use Rattle.typst_language.specs.Shape.Making.{itself}
-use Rattle.typst_language.specs.Steps.{close_if}
-use Rattle.typst_language.specs.Syntax.Op.{takes}
-use Rattle.typst_language.specs.Meaning.{Outcome, Meaning, Level, joined, turns, as_last, bound, repeated, hand_of, hand_asks_of, asked, run, plain, done}
+use Rattle.typst_language.specs.Meaning.{Outcome, Meaning, Level, joined, turns, as_last, bound, repeated, hand_of, hand_asks_of, asked, run}
 use Rattle.typst_language.proofs.Knot.{sane-run}
 use Rattle.typst_language.proofs.Places.{moved-sum}
 use Rattle.typst_language.proofs.Within.{and-second}
 use Rattle.typst_grammar.specs.Markup.{ends, markup_turn, ends_block}
 use Rattle.typst_grammar.specs.Grammar.{max_depth, level_at, start_of, parsed, log}
-use Rattle.typst_edits.specs.BlockRuns.{inner, look_first, look_again, bracket, inner_lead, inner_run, inner_tail, inner_close, run_at, opened_at}
+use Rattle.typst_edits.specs.BlockRuns.{inner, bracket, inner_lead, inner_run, inner_tail, inner_close, run_at, opened_at}
 use Rattle.typst_edits.specs.Edit.{Among}
 use Rattle.typst_edits.specs.InnerBytes.{inner_end}
 use Rattle.typst_edits.specs.Laws.{blocks_of_text, block_at}
@@ -44,11 +42,11 @@ use Rattle.typst_edits.proofs.BlockRuns.{content-is}
 use Rattle.typst_edits.proofs.Boundary.{KnownAt, stopped-is, stopped-asks, turn-asks, early-marks, turn-goes, turn-known, piece_mark}
 use Rattle.typst_edits.proofs.BlockLog.{own_asks, block-log}
 use Rattle.typst_edits.proofs.Bytes.{counted}
-use Rattle.typst_edits.proofs.InnerBytes.{asks_before, run_mark, content-asks}
+use Rattle.typst_edits.proofs.InnerBytes.{asks_before, run_mark, content-asks, before-marks}
 use Rattle.typst_edits.proofs.InTurn.{InTurn, turn-append, turn-next, turn-by, turn-shift, Deeper, turn-none, NoteNth, noted-nth, numbered-by, logged-lowered}
 use Rattle.typst_edits.proofs.Joint.{known-is, text-taking}
-use Rattle.typst_edits.proofs.Marks.{AllMarks, marks-append, marks-shift, none-hand}
-use Rattle.typst_edits.proofs.Nested.{Nests, unit-nests, noted-nested, same-behind, same-some}
+use Rattle.typst_edits.proofs.Marks.{marks-append, marks-shift, none-hand, none-close}
+use Rattle.typst_edits.proofs.Nested.{Nests, unit-nests, noted-nested, same-some}
 use Rattle.typst_edits.proofs.Root.{whole-is}
 use Rattle.typst_edits.proofs.RunTrees.{whole-asks}
 use Rattle.typst_edits.proofs.Spots.{if-true, if-false}
@@ -83,10 +81,7 @@ module _ (l : Level) (stops : SyntaxKind → Bool) (taking : Taking l stops) whe
       let is = known-is l.classes s t known.is in
       let led = turn-led l stops taking x z s.reading s.held s.empties s.is_after_error t (subst (λ p. ends stops x.1 (told (hand_of l z p)).kind ≡ false) is go) in
       let same : turn x z s ≡ turn x z _ = ap (turn x z) is in
-      let some = led.some in
-      let taken = led.taken in
-      let took = ap (λ (o : Outcome (Bool × (Bool × ℕ))). o.taken) same in
-      ap (λ b. b && nat_lt 0 (turn x z s).taken) (turn-goes l stops x z s go) ∙ lt-ltb 0 (turn x z s).taken (omega (arith, some, taken, took))
+      ap (λ b. b && nat_lt 0 (turn x z s).taken) (turn-goes l stops x z s go) ∙ lt-ltb 0 (turn x z s).taken (omega (arith, led.some, led.taken, ap (λ (o : Outcome (Bool × (Bool × ℕ))). o.taken) same))
 
   -- A turn that isn't stopped notes only its end.
   one-mark : (x : Bool × ℕ) (z : Place) (s : Point) → ends stops x.1 (told (hand_of l z s)).kind ≡ false → InTurn (EndsNth turn x z s) 1 2 (turn x z s).asks
@@ -200,8 +195,7 @@ numbered-run-law k text =
     let n = noted-nth P 255 z (parsed k max_depth text).asks no_log [] 0 c refl marks in
     let there : listed (log k text).notes ≡ n.more = ap listed n.is in
     let own_notes = sym (ap (of_level max_depth) there) in
-    let all = n.all in
-    let all_are : length (of_level max_depth n.more) ≡ c = omega (arith, all) in
+    let all_are : length (of_level max_depth n.more) ≡ c = omega (arith, n.all) in
     record {
       count = r.count;
       go = r.go;
@@ -212,30 +206,12 @@ numbered-run-law k text =
 
 -- ---- a content block's run
 
-marks-either : {A : Type 0} (P : ℕ → ℕ → Mark → State → Type 0) (b : Bool) (o p : Outcome A) → AllMarks P o.asks → AllMarks P p.asks → AllMarks P (if b then o else p).asks
-marks-either P true o p h i = h
-marks-either P false o p h i = i
-
 module _ (k : CharClasses) (levels : ℕ) (z : Place) (s : Point) where
   abbrev the_run : Sequence
   the_run = inner_run k levels z s
 
   abbrev opened : ℕ
   opened = (bracket k levels z s).taken
-
-  close-marks : (P : ℕ → ℕ → Mark → State → Type 0) (w : Place) (p : Point) → AllMarks P (run (inner k levels) (close_if (same kind.RightBracket)) w p).asks
-  unfolding run close_if
-  close-marks P w p =
-      let l = inner k levels in
-      let h = hand_of l w p in
-      let a = asked h p in
-      let y = moved 0 w in
-      let Q = λ (at fewer : ℕ) (m : Mark) (u : State). P (0 + at) fewer m u in
-      let took = done l (takes false itself) y a in
-      let taken = joined took (plain true took.state) in
-      let b = same kind.RightBracket (told h).kind in
-      let in_took = marks-append Q (hand_asks_of l y a) [] (none-hand Q k a.held a.known y) tt in
-      marks-append P (hand_asks_of l w p) _ (none-hand P k p.held p.known w) (marks-shift P 0 (if b then taken else plain false a).asks (marks-either Q b taken (plain false a) in_took tt))
 
   -- the marks of a number, counted from where the block begins
   abbrev Cut : ℕ → ℕ → ℕ → ℕ → Mark → State → Type 0
@@ -259,34 +235,27 @@ module _ (k : CharClasses) (levels : ℕ) (z : Place) (s : Point) where
       let P = λ (i at gap : ℕ) (m : Mark) (p : State). Cut opened i at gap m p in
       let Q = λ (i at gap : ℕ) (m : Mark) (p : State). Cut opened i (opened + at) gap m p in
       let b = bracket k levels z s in
-      let s1 = (look_first k levels z s).state in
-      let s2 = (look_again k levels z s).state in
-      let before = marks-append Deeper (look_first k levels z s).asks _ (none-hand Deeper k s.held s.known z)
-      (marks-append Deeper (look_again k levels z s).asks b.asks (none-hand Deeper k s1.held s1.known z) (none-hand Deeper k s2.held s2.known z)) in
       let ls = (inner_lead k levels z s).asks in
       let first = turn-none Q 1 ls (none-hand Deeper k b.state.held b.state.known r.place) in
       let own = cuts-in (turn_of r) (true, 0) r.place r.point opened block-turns.count o.asks block-turns.marks in
       let behind = t.asks ++ shift t.taken close.asks in
       let last = marks-shift Deeper o.taken behind (marks-append Deeper t.asks (shift t.taken close.asks) (flush-marks Deeper (inner k levels) (moved o.taken r.place) o.state)
-      (marks-shift Deeper t.taken close.asks (close-marks Deeper (moved (o.taken + t.taken) r.place) (after_node false [] t.state)))) in
+      (marks-shift Deeper t.taken close.asks (none-close Deeper (inner k levels) (moved (o.taken + t.taken) r.place) (after_node false [] t.state)))) in
       let all = run_mark k levels z s ∷ ((ls ++ o.asks) ++ shift o.taken behind) in
       let mark_is : Q 0 0 0 (mark.Piece true 0) (state_of b.state) = record { at_is = refl; cut = omega arith; says = refl; told = refl } in
       let in_run : InTurn Q 0 c all = (mark_is, turn-append Q 1 c c (ls ++ o.asks) (shift o.taken behind) (turn-append Q 1 1 c ls o.asks first own) (turn-none Q c (shift o.taken behind) last)) in
-      subst (λ u. InTurn P 0 c u) (sym is) (turn-append P 0 0 c (asks_before k levels z s) (shift opened all) (turn-none P 0 (asks_before k levels z s) before) (turn-shift P opened 0 c all in_run))
+      subst (λ u. InTurn P 0 c u) (sym is) (turn-append P 0 0 c (asks_before k levels z s) (shift opened all) (turn-none P 0 (asks_before k levels z s) (before-marks k levels Deeper z s)) (turn-shift P opened 0 c all in_run))
 
 -- counted from a given number of characters before
 nth-moved : (m : Bool × ℕ → Meaning (Bool × (Bool × ℕ))) (x : Bool × ℕ) (y : Place) (s : Point) (a d i : ℕ) (z : Place) (note : Note)
     → NoteNth (λ j at gap what state. CutsNth m x y s d j at gap what state) (moved a z) i note → NoteNth (λ j at gap what state. CutsNth m x y s (a + d) j at gap what state) z i note
 nth-moved m x y s a d i z note n =
-    let h = n.holds in
-    let at_is = h.at_is in
-    let cut = h.cut in
     record {
       at = a + n.at;
       gap = n.gap;
       says = n.says;
       told = n.told;
-      holds = record { at_is = omega (arith, at_is); cut = omega (arith, cut); says = h.says; told = h.told };
+      holds = record { at_is = omega (arith, n.holds.at_is); cut = omega (arith, n.holds.cut); says = n.holds.says; told = n.holds.told };
       mark = n.mark;
       before = n.before ∙ ap position (sym (moved-sum a n.at z));
       start = n.start ∙ ap (λ w. position (moved n.gap w)) (sym (moved-sum a n.at z));
@@ -318,12 +287,10 @@ nested-numbers k levels text c chosen name left =
     let front = d.earlier ++ d.opens ∷ [] in
     let inner_is : logged max_depth z d.begun (own_asks k text c) ≡ logged (suc levels) y d.begun u.asks = logged-lowered max_depth c.fewer c.at z d.begun u.asks ∙ ap (λ v. logged v y d.begun u.asks) left in
     let two = noted-nth P levels y u.asks d.begun front 0 n d.begun_is marks in
-    let all = two.all in
     let rest = d.rest two.more (ap (λ (v : Log). v.notes) inner_is ∙ two.is) in
     let own_nested = subst (λ (v : Outcome (Unit {0})). Nests (suc (suc levels)) 1 v.asks) (sym reads) (unit-nests k (suc levels) block.Content y s) in
     let nest = noted-nested (suc levels) 0 y d.begun front u.asks (omega arith) d.begun_is own_nested in
     let all_left : suc levels - 0 ≡ suc levels = omega arith in
-    let same = same-behind front two.more nest.more (same-some (sym two.is ∙ nest.is)) in
     record {
       numbers = record {
         earlier = d.earlier;
@@ -342,16 +309,15 @@ nested-numbers k levels text c chosen name left =
         count = turns_are.count;
         go = turns_are.go;
         over = turns_are.over;
-        all = omega (arith, all);
+        all = omega (arith, two.all);
         each = numbered-by (NoteNth P y) _
             (λ i note h. says-of (turn_of (run_at k levels c z)) (true, 0) (run_at k levels c z).place (run_at k levels c z).point (opened_at k levels c z) text (λ j. inner_end k levels j c z) i note refl
             (nth-moved (turn_of (run_at k levels c z)) (true, 0) (run_at k levels c z).place (run_at k levels c z).point c.at b i z note h)) 0 (of_level (suc levels) two.more) two.each;
       };
-      nested = subst (λ ns. Nested (suc levels) ns) (sym same) (subst (λ v. Nested v nest.more) all_left nest.nested);
+      nested = subst (λ ns. Nested (suc levels) ns) (sym (append_cancel_left front two.more nest.more (same-some (sym two.is ∙ nest.is)))) (subst (λ v. Nested v nest.more) all_left nest.nested);
       number = d.number;
       long = (let n = counted (suc levels) y u.asks d.begun front (front ++ two.more) d.begun_is two.is in
-          let both = length-append front two.more in
-          omega (arith, n, both));
+          omega (arith, n, length-append front two.more));
       asks = ap (λ (v : Outcome (Unit {0})). v.asks) reads;
     }
 

@@ -1,14 +1,13 @@
 -- One reading of a new text serves every candidate of a run.
 use Rattle.std.proofs.Common.{◌≡◌, ℕ, zero, suc, ◌+◌, ◌-◌, ◌<◌, ◌≤◌, ◌==◌, ne_eqb, if◌then◌else◌, Bool, true, false, ◌&&◌, nat_lt, List, [], ◌∷◌, ◌++◌, length, drop, length-append, append_assoc, Some, refl, ap, sym, ◌∙◌, subst, arith}
-use Rattle.std.proofs.lemmas.List.{map-append}
+use Rattle.std.proofs.lemmas.List.{drop-append-le}
 use borrow.Author.Tests.{lt-ltb}
 use Rattle.typst_lines.specs.Place.{Place, moved}
 use Rattle.typst_lines.specs.Classes.{CharClasses}
-use Rattle.typst_tree.specs.Tree.{Tree}
 use Rattle.typst_language.specs.declared.calls.Block.TheVariants as block
 use Rattle.typst_language.specs.Calls.Call.{MarkupExpr}
 use Rattle.typst_language.specs.declared.reading.Reading.{Reading}
-use Rattle.typst_language.specs.Ask.{Ask, shift, shift_one}
+use Rattle.typst_language.specs.Ask.{Ask, shift}
 use Rattle.typst_language.specs.Depth.{is_end}
 use Rattle.typst_language.specs.Hand.{hand_at}
 use Rattle.typst_language.specs.Point.{Trivia, Point, gap_of, pending, point_of}
@@ -16,7 +15,6 @@ use Rattle.typst_language.specs.Steps.{peek}
 use Rattle.typst_language.specs.Syntax.{Parser}
 use Rattle.typst_language.specs.Meaning.{Outcome, Meaning, Level, plain, less, joined, hand_of, run}
 use Rattle.typst_language.specs.Shape.{hinted}
-use Rattle.typst_language.specs.Sound.{Within}
 use Rattle.typst_language.proofs.Knot.{sane-run}
 use Rattle.typst_language.proofs.Places.{moved-sum, less-none}
 use Rattle.typst_grammar.specs.Markup.{ends, ends_block, markup_turn, markup_head}
@@ -38,7 +36,7 @@ use Rattle.typst_edits.proofs.Boundary.{KnownAt, first-of, made-add, looks_in, e
 use Rattle.typst_edits.proofs.Children.{tidy-together, gives-pieces}
 use Rattle.typst_edits.proofs.Edit.{before-same}
 use Rattle.typst_edits.proofs.Heads.{erring-call, headed, Erring}
-use Rattle.typst_edits.proofs.InnerJoint.{first-same, block-taking}
+use Rattle.typst_edits.proofs.InnerJoint.{block-taking}
 use Rattle.typst_edits.proofs.Joint.{text-taking}
 use Rattle.typst_edits.proofs.LeadingTrivia.{Leads, leads-pieces}
 use Rattle.typst_edits.proofs.Led.{drop-front, before_trivia, standing-led}
@@ -50,20 +48,14 @@ use Rattle.typst_edits.proofs.Root.{first-same as pieces-same}
 use Rattle.typst_edits.proofs.Seen.{Sees, end-first, end-second, end-shift, sees-plain, sees-run, sees-meaning, sees-level}
 use Rattle.typst_edits.proofs.Turns.{Taking}
 use Rattle.typst_edits.proofs.NoneBack.{text-minds, block-minds}
+use Rattle.typst_edits.proofs.Every.{not-less}
+use Rattle.typst_edits.proofs.BlockRuns.{first-same}
+use Rattle.typst_grammar.proofs.Pieces.{asks-append, made-sum}
+pub use Rattle.typst_grammar.proofs.Pieces.{go-append as go-both}
 
 -- ---- pieces in two parts
 
 module _ (m : Bool × ℕ → Meaning (Bool × (Bool × ℕ))) where
-  made-split : (i n : ℕ) (x : Bool × ℕ) (z : Place) (s : Point) → (let e = end_of x s (made m i x z s) in made m (i + n) x z s ≡ made m i x z s ++ made m n e.value (moved e.taken z) e.state)
-  made-split zero n x z s = let a : 0 + n ≡ n = omega arith in ap (λ j. made m j x z s) a
-  made-split (suc i) n x z s =
-      let o = m x z s in
-      let y = moved o.taken z in
-      let os = made m i o.value.1 y o.state in
-      let e = end_of o.value.1 o.state os in
-      let a : suc i + n ≡ suc (i + n) = omega arith in
-      ap (λ j. made m j x z s) a ∙ ap (λ us. o ∷ us) (made-split i n o.value.1 y o.state ∙ ap (λ w. os ++ made m n e.value w e.state) (sym (moved-sum o.taken e.taken z)))
-
   -- Pieces, with their trivia, end where their looks do, or before.
   made-seen : ((x : Bool × ℕ) → Sees (m x)) → (n : ℕ) (x : Bool × ℕ) (z : Place) (s : Point) (most : ℕ) → gap_of s.known ≤ most → AllEndBy most (asks_of (made m n x z s))
       → (let e = end_of x s (made m n x z s) in e.taken + gap_of e.state.known ≤ most)
@@ -83,24 +75,6 @@ module _ {A : Type 0} where
   pub go-second : (os ps : List (Outcome (Bool × A))) → AllGo (os ++ ps) → AllGo ps
   go-second [] ps g = g
   go-second (o ∷ os) ps g = go-second os ps g.1
-
-  pub go-both : (os ps : List (Outcome (Bool × A))) → AllGo os → AllGo ps → AllGo (os ++ ps)
-  go-both [] ps g h = h
-  go-both (o ∷ os) ps g h = (g.0, go-both os ps g.1 h)
-
-  -- what is asked in the first of them comes first
-  record AsksMore (os ps : List (Outcome (Bool × A))) : Type 0 where
-    more : List Ask
-    is : asks_of (os ++ ps) ≡ asks_of os ++ more
-
-  asks-more : (os ps : List (Outcome (Bool × A))) → AsksMore os ps
-  asks-more [] ps = record { more = asks_of ps; is = refl }
-  asks-more (o ∷ os) ps =
-      let later = asks-more os ps in
-      record {
-        more = shift o.taken later.more;
-        is = ap (λ ls. o.asks ++ shift o.taken ls) later.is ∙ ap (λ ls. o.asks ++ ls) (map-append (shift_one o.taken) (asks_of os) later.more) ∙ sym (append_assoc o.asks (shift o.taken (asks_of os)) (shift o.taken later.more));
-      }
 
   chain-append : (os ps : List (Outcome (Bool × A))) (q : Outcome (Unit {0})) → chain (os ++ ps) q ≡ chain os (chain ps q)
   chain-append [] ps q = refl
@@ -130,7 +104,7 @@ module _ {A : Type 0} where
 
 module _ (q : Sequence) where
   pub first-split : (a d : ℕ) → first_of (a + d) q ≡ first_of a q ++ then_of a d q
-  first-split a d = made-split (turn_of q) a d (true, 0) q.place q.point
+  first-split a d = made-sum (turn_of q) a d (true, 0) q.place q.point
 
   pub end-split-at : (a d : ℕ) → first_end (a + d) q ≡ record (then_end a d q) { taken = (first_end a q).taken + (then_end a d q).taken }
   end-split-at a d = made-add (turn_of q) (looks_in q) (each-ends q) a d (true, 0) q.place q.point
@@ -154,7 +128,7 @@ module _ (q : Sequence) where
   then-split : (a d m : ℕ) → then_of a (d + m) q ≡ then_of a d q ++ then_of (a + d) m q
   then-split a d m =
       let e = first_end a q in
-      made-split (turn_of q) d m e.value (first_place a q) e.state ∙ ap (λ us. then_of a d q ++ us) (sym (later-is a d m))
+      made-sum (turn_of q) d m e.value (first_place a q) e.state ∙ ap (λ us. then_of a d q ++ us) (sym (later-is a d m))
 
   then-end-split : (a d m : ℕ) → then_end a (d + m) q ≡ record (then_end (a + d) m q) { taken = (then_end a d q).taken + (then_end (a + d) m q).taken }
   then-end-split a d m =
@@ -170,9 +144,7 @@ module _ (q : Sequence) where
   first-taken : (i : ℕ) → (first_end (suc i) q).taken ≡ (first_end i q).taken + (let e = first_end i q in (turn_of q e.value (first_place i q) e.state).taken)
   first-taken i =
       let one : suc i ≡ i + 1 = omega arith in
-      let next = ap (λ j. (first_end j q).taken) one in
-      let sum = ap (λ (e : End (Bool × ℕ)). e.taken) (end-split-at i 1) in
-      omega (arith, next, sum)
+      omega (arith, ap (λ j. (first_end j q).taken) one, ap (λ (e : End (Bool × ℕ)). e.taken) (end-split-at i 1))
 
 -- what holds of a run's pieces
 pub record Facts (q : Sequence) : Type 0 where
@@ -194,9 +166,6 @@ fresh-known l w = record { trivia = _; is = refl }
 module _ (q : Sequence) (taking : Taking q.level q.stops)
     (wrong : (g h : Reading) (e : ℕ) (a : Bool) (z : Place) (t : Trivia) (x : Bool × ℕ) → minds (markup_head x.0 x.1 (hand_at q.level.classes h (Some t) z).kind) ≡ true → Erring t (q.level.deeper (MarkupExpr x.0 x.1) z (before_trivia g h e a t)))
     (known : KnownAt q.point) where
-  within : (x : Bool × ℕ) → Within (turn_of q x)
-  within x = (sane-run q.level taking.calls_sane taking.blocks_sane (markup_turn true q.stops x)).within
-
   there : (i : ℕ) → AllGo (first_of i q) → KnownAt (first_end i q).state
   there i g = known-made q.level q.stops i (true, 0) q.place q.point known g
 
@@ -209,8 +178,7 @@ module _ (q : Sequence) (taking : Taking q.level q.stops)
   none-back i n g h true m none =
       let e = first_end i q in
       let few = (tidy-together (turn_of q) (λ v. (sane-run q.level taking.calls_sane taking.blocks_sane (markup_turn true q.stops v)).backs) n e.value (first_place i q) e.state).back in
-      let no = none m in
-      omega (arith, few, no)
+      omega (arith, few, none m)
 
   goes-further : (i : ℕ) → AllGo (first_of (suc i) q) → (first_end i q).taken + gap_of (first_end i q).state.known < (first_end (suc i) q).taken
   goes-further i g =
@@ -218,18 +186,14 @@ module _ (q : Sequence) (taking : Taking q.level q.stops)
       let w = moved e.taken q.place in
       let go = go-next (turn_of q) i (true, 0) q.place q.point g in
       let at = there i (go-fewer (turn_of q) i (suc i) (true, 0) q.place q.point (omega arith) g) in
-      let more = takes-more q.level q.stops taking e.value w e.state at (first-of _ _ go) in
       let one : suc i ≡ i + 1 = omega arith in
-      let next = ap (λ n. (first_end n q).taken) one in
-      let sum = ap (λ (u : End (Bool × ℕ)). u.taken) (end-split-at q i 1) in
-      omega (arith, more, next, sum)
+      omega (arith, takes-more q.level q.stops taking e.value w e.state at (first-of _ _ go), ap (λ n. (first_end n q).taken) one, ap (λ (u : End (Bool × ℕ)). u.taken) (end-split-at q i 1))
 
   few-fresh : (x : Bool × ℕ) (w : Place) → goes (turn_of q x w (fresh q.level w)) ≡ true → (turn_of q x w (fresh q.level w)).state.empties < length (turn_of q x w (fresh q.level w)).nodes
   few-fresh x w g =
       let c = turn_of q x w (fresh q.level w) in
       let gives = (gives-pieces q.level q.stops taking 1 x w (fresh q.level w) (omega arith) (fresh-known q.level w) (g, tt)).few in
-      let is = ap length (standing-still (plain (tt {0}) c.state) c.nodes refl refl refl) in
-      omega (arith, gives, is)
+      omega (arith, gives, ap length (standing-still (plain (tt {0}) c.state) c.nodes refl refl refl))
 
   facts : Facts q
   facts = record {
@@ -243,8 +207,7 @@ module _ (q : Sequence) (taking : Taking q.level q.stops)
     few = few-fresh;
     not_over = λ i g.
         (let e = first_end i q in
-        let w = first_place i q in
-        going-on q.level q.stops e.value w e.state (first-of _ _ (go-next (turn_of q) i (true, 0) q.place q.point g)));
+        going-on q.level q.stops e.value (first_place i q) e.state (first-of _ _ (go-next (turn_of q) i (true, 0) q.place q.point g)));
     behind = λ i n g h mild. (headed q taking wrong known i n g h).behind_back (λ over. mild);
     tidy = λ n x w p. (tidy-together (turn_of q) (λ v. (sane-run q.level taking.calls_sane taking.blocks_sane (markup_turn true q.stops v)).backs) n x w p).back;
   }
@@ -268,16 +231,6 @@ record Starts (k : CharClasses) (front old new rest : List ℕ) (r : Run k (fron
 
 -- ---- counts and stretches
 
-not-less : (d m : ℕ) → (m < d → ⊥) → d ≤ m
-not-less zero m h = omega arith
-not-less (suc d) zero h = absurd (h (omega arith))
-not-less (suc d) (suc m) h = let l = not-less d m (λ l. h (omega (arith, l))) in omega (arith, l)
-
-drop-within : (n : ℕ) (xs ys : List Tree) → n ≤ length xs → drop n (xs ++ ys) ≡ drop n xs ++ ys
-drop-within zero xs ys l = refl
-drop-within (suc n) [] ys l = absurd (omega (arith, l))
-drop-within (suc n) (x ∷ xs) ys l = drop-within n xs ys (omega (arith, l))
-
 -- How many nodes of trivia, which belong to the piece before, stand before the pieces after the first a.
 abbrev pub leading : ℕ → End (Bool × ℕ) → ℕ
 leading a e = if a == 0 then 0 else length (pending e.state.known)
@@ -300,14 +253,11 @@ leading-is (suc a) e t some h = leading-some a e ∙ ap (λ o. length (pending o
 -- ---- the law, by what two runs share
 
 module _ (k : CharClasses) (front old new rest : List ℕ) (r : Run k (front ++ (old ++ rest))) (a d : ℕ) (go : AllGo (first_of (a + d) (read_as r (text_with front old rest)))) (s : Starts k front old new rest r a d) where
-  abbrev z : Place
-  z = text_with front old rest
-
   abbrev w : Place
   w = text_with front new rest
 
   abbrev was : Sequence
-  was = read_as r z
+  was = read_as r (text_with front old rest)
 
   abbrev now : Sequence
   now = read_as r w
@@ -334,9 +284,7 @@ module _ (k : CharClasses) (front old new rest : List ℕ) (r : Run k (front ++ 
 
   end-now : (m : ℕ) (u : Trivia) → end_by r a (d + m) u w ≡ end_by r (a + d) m u w
   end-now m u =
-      let one = ap (λ (e : End (Bool × ℕ)). e.taken) (then-end-split now a d m) in
-      let two = ap (λ (e : End (Bool × ℕ)). e.taken) (end-split-at now a d) in
-      omega (arith, one, two)
+      omega (arith, ap (λ (e : End (Bool × ℕ)). e.taken) (then-end-split now a d m), ap (λ (e : End (Bool × ℕ)). e.taken) (end-split-at now a d))
 
   known-is-now : (m : ℕ) → (then_end a (d + m) now).state.known ≡ (then_end (a + d) m now).state.known
   known-is-now m = ap (λ (e : End (Bool × ℕ)). e.state.known) (then-end-split now a d m)
@@ -375,17 +323,13 @@ module _ (k : CharClasses) (front old new rest : List ℕ) (r : Run k (front ++ 
       let some : 0 < a + d = omega (arith, l) in
       let up : suc (a + m) ≤ a + d = omega (arith, l) in
       let more = s.facts_now.further (a + m) (go-fewer (turn_of now) (suc (a + m)) (a + d) (true, 0) now.place now.point up go_now) in
-      let most = least-taken (turn_of now) (suc (a + m)) (a + d) (true, 0) now.place now.point up in
       let same = ap (λ (e : End (Bool × ℕ)). e.taken) (begins some) in
       let sum = ap (λ (e : End (Bool × ℕ)). e.taken) (end-split-at now a m) in
       let gap : gap_of (first_end (a + m) now).state.known ≡ u.gap = ap (λ (e : End (Bool × ℕ)). gap_of e.state.known) (end-split-at now a m) ∙ ap gap_of h.known_now in
-      let room = s.room some in
-      let opens = s.opens in
-      let shifted = h.shifted in
-      absurd (omega (arith, more, most, same, sum, gap, room, opens, shifted))
+      absurd (omega (arith, more, least-taken (turn_of now) (suc (a + m)) (a + d) (true, 0) now.place now.point up, same, sum, gap, s.room some, s.opens, h.shifted))
 
   nodes-are : (m : ℕ) (t u : Trivia) → 0 < a + d → TakesNone (a + d) was → (first_end (a + d) was).state.known ≡ Some t → AllGo (then_of (a + d) m now) → (then_end (a + d) m now).state.known ≡ Some u
-      → nodes_now r a (d + m) u w ≡ nodes_now r a d t z ++ nodes_now r (a + d) m u w
+      → nodes_now r a (d + m) u w ≡ nodes_now r a d t (text_with front old rest) ++ nodes_now r (a + d) m u w
   nodes-are m t u some none known go_m known_now =
       let p = read_by (a + d) m now in
       let olds = (read_by a d was).nodes in
@@ -397,13 +341,12 @@ module _ (k : CharClasses) (front old new rest : List ℕ) (r : Run k (front ++ 
       let later = subst (λ o. Leads (pending o) (p.nodes ++ u.nodes)) there (s.facts_now.leads (a + d) m u go_now go_m known_now) in
       let early = s.facts_was.leads a d t go_fewer go_between (ap (λ (e : End (Bool × ℕ)). e.state.known) (sym (end-split-at was a d)) ∙ known) in
       let cut = leading a (first_end a was) in
-      let most = leading-most a (first_end a was) in
       let long = ap length early.is ∙ length-append (pending (first_end a was).state.known) early.rest in
       let same : leading a (first_end a now) ≡ cut = leading-same a (first_end a now) (first_end a was) (λ l. end-by-pieces a now was l s.first_fewer) in
       let mine : nodes_now r (a + d) m u w ≡ later.rest = ap (λ j. drop j (p.nodes ++ u.nodes)) (leading-is (a + d) (first_end (a + d) now) t some there) ∙ ap (drop (length t.nodes)) later.is ∙ drop-front t.nodes later.rest (length t.nodes) refl in
       let all : (olds ++ p.nodes) ++ u.nodes ≡ (olds ++ t.nodes) ++ later.rest = append_assoc olds p.nodes u.nodes ∙ ap (λ ts. olds ++ ts) later.is ∙ sym (append_assoc olds t.nodes later.rest) in
       ap (λ ts. drop (leading a (first_end a now)) (ts ++ u.nodes)) whole ∙ ap (λ j. drop j ((olds ++ p.nodes) ++ u.nodes)) same ∙ ap (drop cut) all
-      ∙ drop-within cut (olds ++ t.nodes) later.rest (omega (arith, most, long)) ∙ ap (λ ts. drop cut (olds ++ t.nodes) ++ ts) (sym mine)
+      ∙ drop-append-le cut (olds ++ t.nodes) later.rest (omega (arith, leading-most a (first_end a was), long)) ∙ ap (λ ts. drop cut (olds ++ t.nodes) ++ ts) (sym mine)
 
   serves : ServesMore k front old new rest r a d
   serves = record {
@@ -423,9 +366,9 @@ module _ (k : CharClasses) (front old new rest : List ℕ) (r : Run k (front ++ 
 fewer-looks : (q : Sequence) (a d most at : ℕ) (ls : List Ask) → AllEndBy most (shift at (ls ++ asks_of (first_of (a + d) q))) → AllEndBy most (shift at (ls ++ asks_of (first_of a q)))
 fewer-looks q a d most at ls h =
     let first = asks_of (first_of a q) in
-    let m = asks-more (first_of a q) (then_of a d q) in
-    let is : ls ++ asks_of (first_of (a + d) q) ≡ (ls ++ first) ++ m.more = ap (λ ks. ls ++ ks) (ap (λ os. asks_of os) (first-split q a d) ∙ m.is) ∙ sym (append_assoc ls first m.more) in
-    (end-split most at (ls ++ first) m.more (subst (λ ks. AllEndBy most (shift at ks)) is h)).0
+    let later = shift (first_end a q).taken (asks_of (then_of a d q)) in
+    let is : ls ++ asks_of (first_of (a + d) q) ≡ (ls ++ first) ++ later = ap (λ ks. ls ++ ks) (ap (λ os. asks_of os) (first-split q a d) ∙ asks-append (true, 0) q.point (first_of a q) (then_of a d q)) ∙ sym (append_assoc ls first later) in
+    (end-split most at (ls ++ first) later (subst (λ ks. AllEndBy most (shift at ks)) is h)).0
 
 minded-too : (i : ℕ) (q p : Sequence) → minds_at p (first_place i p) (first_end i p) ≡ minds_at q (first_place i q) (first_end i q) → first_end i p ≡ first_end i q → TakesNone i q → TakesNone i p
 minded-too i q p m e none h = ap (λ (x : End (Bool × ℕ)). x.state.empties) e ∙ none (sym m ∙ h)
@@ -439,8 +382,7 @@ module _ (k : CharClasses) (z : Place) where
   pub text-seen : (i most : ℕ) → AllEndBy most ((lead k z).asks ++ asks_of (pieces k i z)) → (end_at k i z).taken + gap_of (end_at k i z).state.known ≤ most
   text-seen i most h =
       let o = lead k z in
-      let first = (sees-level (rules k) k max_depth peek z start most (omega arith)).ends (end-first most o.asks (asks_of (pieces k i z)) h) in
-      let gap : gap_of o.state.known ≤ most = omega (arith, first) in
+      let gap : gap_of o.state.known ≤ most = omega (arith, (sees-level (rules k) k max_depth peek z start most (omega arith)).ends (end-first most o.asks (asks_of (pieces k i z)) h)) in
       made-seen (turn_of (text_run k z)) (λ x. sees-level (rules k) k max_depth (markup_turn true is_end x)) i (true, 0) z o.state most gap (end-second most o.asks (asks_of (pieces k i z)) h)
 
 module _ (k : CharClasses) (front old new rest : List ℕ) where
@@ -489,14 +431,10 @@ module _ (k : CharClasses) (levels : ℕ) (c : Spot (Unit {0})) (z : Place) wher
   block-seen i most h =
       let r = run_at k levels c z in
       let o = inner_lead k levels (moved c.at z) (point_of c.start) in
-      let none = bracket-gap in
-      let first = (block-sees peek r.place (bracket k levels (moved c.at z) (point_of c.start)).state most (omega (arith, none))).ends (end-first most o.asks (asks_of (first_of i r)) h) in
+      let first = (block-sees peek r.place (bracket k levels (moved c.at z) (point_of c.start)).state most (omega (arith, bracket-gap))).ends (end-first most o.asks (asks_of (first_of i r)) h) in
       let gap : gap_of o.state.known ≤ most = omega (arith, first) in
       let end = made-seen (turn_of r) (λ x. block-sees (markup_turn true ends_block x)) i (true, 0) r.place o.state most gap (end-second most o.asks (asks_of (first_of i r)) h) in
       omega (arith, end)
-
-taken-by : (taken gap most : ℕ) → taken + gap ≤ most → taken ≤ most
-taken-by taken gap most l = omega (arith, l)
 
 within-front : (opened taken most : ℕ) → taken ≤ most - opened → 0 < taken → opened + taken ≤ most
 within-front opened taken most l some = omega (arith, l, some)
@@ -505,11 +443,8 @@ module _ (k : CharClasses) (levels : ℕ) (front old new rest : List ℕ) (c : S
   abbrev run_was : Sequence
   run_was = run_at k levels c (text_with front old rest)
 
-  abbrev run_now : Sequence
-  run_now = run_at k levels c (text_with front new rest)
-
-  pub block-clear : (i : ℕ) → 0 < i → AllGo (first_of i run_was) → EndsBefore k levels front old rest c i → TakesNone i run_was → TakesNone i run_now
-  block-clear i some go looks = let m = block-minds k levels front old new rest c i some go looks in minded-too i run_was run_now m.minds m.ends
+  pub block-clear : (i : ℕ) → 0 < i → AllGo (first_of i run_was) → EndsBefore k levels front old rest c i → TakesNone i run_was → TakesNone i (run_at k levels c (text_with front new rest))
+  block-clear i some go looks = let m = block-minds k levels front old new rest c i some go looks in minded-too i run_was (run_at k levels c (text_with front new rest)) m.minds m.ends
 
   pub takes-some : (i : ℕ) → 0 < i → AllGo (first_of i run_was) → 0 < (first_end i run_was).taken
   takes-some zero some go = absurd (omega (arith, some))
@@ -519,7 +454,6 @@ module _ (k : CharClasses) (levels : ℕ) (front old new rest : List ℕ) (c : S
       → Starts k front old new rest (inner c levels chosen name left) a d
   block-starts chosen name left a d go before =
       let z = text_with front old rest in
-      let w = text_with front new rest in
       let opened = opened_at k levels c z in
       let o = inner_lead k levels (moved c.at z) (point_of c.start) in
       let fewer : EndsBefore k levels front old rest c a = record {
@@ -535,9 +469,9 @@ module _ (k : CharClasses) (levels : ℕ) (front old new rest : List ℕ) (c : S
         opens = ap (λ (b : Outcome (Unit {0})). c.at + b.taken) f.opened;
         clear = λ some. block-clear (a + d) some go before;
         room = λ some. within-front opened (first_end (a + d) run_was).taken (length front)
-            (taken-by (first_end (a + d) run_was).taken (gap_of (first_end (a + d) run_was).state.known) (length front - opened) (block-seen k levels c z (a + d) (length front - opened) (end-shift opened (length front - opened) (length front) (o.asks ++ asks_of (first_of (a + d) run_was)) (omega arith) (before.before_run some)))) (takes-some (a + d) some go);
+            (omega (arith, block-seen k levels c z (a + d) (length front - opened) (end-shift opened (length front - opened) (length front) (o.asks ++ asks_of (first_of (a + d) run_was)) (omega arith) (before.before_run some)))) (takes-some (a + d) some go);
         facts_was = block-facts k levels c z;
-        facts_now = block-facts k levels c w;
+        facts_now = block-facts k levels c (text_with front new rest);
       }
 
 pub one-reading-law : OneReadingLaw
@@ -568,11 +502,7 @@ module _ (k : CharClasses) (text : List ℕ) (r : Run k text) (z : Place) (f : F
       let same = resumes i (suc n) t g h known none in
       let one = same.0 in
       let ends : end_of o.value.1 o.state os ≡ end_of c.value.1 c.state cs = (λ j. end_of (one.value j).1 (one.state j) (same.1 j)) in
-      let further = f.further i (go-longer own i n g h) in
-      let first = first-taken own i in
-      let gap = ap gap_of known in
-      let took = one.taken in
-      let some_c : 0 < c.taken = omega (arith, further, first, gap, took) in
+      let some_c : 0 < c.taken = omega (arith, f.further i (go-longer own i n g h), first-taken own i, ap gap_of known, one.taken) in
       let go_c : goes c ≡ true = ap (λ b. b && nat_lt 0 c.taken) (sym (ap (λ (v : Bool × (Bool × ℕ)). v.0) one.value) ∙ first-of o.value.0 (nat_lt 0 o.taken) h.0) ∙ lt-ltb 0 c.taken some_c in
       let p = together (end_of o.value.1 o.state os).state os in
       let d = together (end_of c.value.1 c.state cs).state cs in
@@ -587,7 +517,7 @@ module _ (k : CharClasses) (text : List ℕ) (r : Run k text) (z : Place) (f : F
         go = (go_c, subst (λ us. AllGo us) same.1 h.1);
         value = ap (λ (x : End (Bool × ℕ)). x.value) ends;
         state = ap (λ (x : End (Bool × ℕ)). x.state) ends;
-        taken = omega (arith, taken, took);
+        taken = omega (arith, taken, one.taken);
         nodes = ap (λ j. drop j ((joined o p).nodes ++ u.nodes)) length_t ∙ ap (λ ts. drop (length t.nodes) (ts ++ u.nodes)) nodes
             ∙ ap (drop (length t.nodes)) (append_assoc t.nodes (joined c d).nodes u.nodes) ∙ drop-front t.nodes ((joined c d).nodes ++ u.nodes) (length t.nodes) refl;
       }

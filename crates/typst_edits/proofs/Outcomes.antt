@@ -70,8 +70,7 @@ less-skip k y ys h = let e : length (y ∷ ys) - k ≡ suc (length ys - k) = ome
 pub less-plug : (k : ℕ) (left : List Tree) (y : Tree) (right : List Tree) → k ≤ length right → less k (left ++ y ∷ right) ≡ left ++ y ∷ less k right
 less-plug k [] y right h = less-skip k y right h
 less-plug k (l ∷ left) y right h =
-    let e = length-append left (y ∷ right) in
-    less-skip k l (left ++ y ∷ right) (omega (arith, e)) ∙ ap (λ r. l ∷ r) (less-plug k left y right h)
+    less-skip k l (left ++ y ∷ right) (omega (arith, length-append left (y ∷ right))) ∙ ap (λ r. l ∷ r) (less-plug k left y right h)
 
 no-error : (hs : List (List ℕ)) (y : Tree) → is_error y.head.kind ≡ false → hinted_error hs y ≡ y
 no-error hs y h = rw h refl
@@ -123,8 +122,7 @@ pub then-around : {A B : Type 0} (c : Spot B) (b : Outcome (Unit {0})) (x : Tree
     → joined (around c b x) q ≡ around (then_spot c q) b x
 then-around c b x q h solid =
     let y = fill c.hole.deep x in
-    let e = length-append c.hole.left (y ∷ c.hole.right) in
-    let few : q.back < length (plug c.hole x) = omega (arith, e, h) in
+    let few : q.back < length (plug c.hole x) = omega (arith, length-append c.hole.left (y ∷ c.hole.right), h) in
     let ns : hinted q.hints (less q.back (c.hole.left ++ y ∷ c.hole.right)) ++ q.nodes ≡ c.hole.left ++ y ∷ (hinted q.hints (less q.back c.hole.right) ++ q.nodes) =
     ap (λ u. hinted q.hints u ++ q.nodes) (less-plug q.back c.hole.left y c.hole.right h) ∙ ap (λ u. u ++ q.nodes) (hinted-plug q.hints c.hole.left y (less q.back c.hole.right) solid)
     ∙ append_assoc c.hole.left (y ∷ hinted q.hints (less q.back c.hole.right)) q.nodes in

@@ -111,14 +111,10 @@ module _ (r : Sequence) (first : Point) (ls : List Ask) where
       let start = piece_mark 0 (true, 0) first in
       let is : ls ++ asks_of os ≡ before ++ p ∷ looks =
       ap (λ u. ls ++ u) (b.is ∙ sym (append_assoc b.early looks (p ∷ looks))) ∙ sym (append_assoc ls (b.early ++ looks) (p ∷ looks)) in
-      let none = count-none ls bare in
-      let quiet = next-none (suc j) bare in
-      let sum = ap notes_in is ∙ count-append before (p ∷ looks) in
-      let sum_own = count-append ls (asks_of os) in
       record {
         early = start ∷ before;
         is = ap (λ u. start ∷ u) is;
-        count = omega (arith, none, quiet, sum, sum_own);
+        count = omega (arith, count-none ls bare, next-none (suc j) bare, ap notes_in is ∙ count-append before (p ∷ looks), count-append ls (asks_of os));
         none = λ e. absurd (omega (arith, e));
         ends = λ n d h.
             (let one = end-split n d ls (asks_of os) (h (omega arith)) in
@@ -141,7 +137,6 @@ module _ (r : Sequence) (first : Point) (ls : List Ask) where
       let q = marked (e.taken + f.taken) (gap_of f.state.known) 0 (mark.Piece f.value.0 f.value.1) (state_of f.state) in
       let inner = shift f.taken hand in
       let late = shift e.taken inner in
-      let looks = looks_end i (suc n) in
       let early = shift e.taken b.early in
       let next = looks_next r ls i in
       let own_is : shift e.taken (asks_of (then_of i (suc n) r)) ≡ early ++ (late ++ q ∷ late) =
@@ -181,10 +176,9 @@ module _ (r : Sequence) (first : Point) (ls : List Ask) where
         (subst (λ u. AllMarks Never (lifted a f u)) (sym looks) (lifted-bare a f (looks_end (suc i) 0) (end-bare (suc i) 0)))
         (ap (λ u. lifted a f u ++ more) looks ∙ late) (token-at z (lifted_note a f (note_at r first (suc i))) end (omega (arith, here)))
     side-in i (suc n) g late here plain =
-        let e = first_end i r in
         let j = then_end i (suc n) r in
         let c = closed i n g in
-        let q : Noting = record { at = a + (e.taken + j.taken); gap = gap_of j.state.known; fewer = f + 0; mark = mark.Piece j.value.0 j.value.1; state = state_of j.state } in
+        let q : Noting = record { at = a + ((first_end i r).taken + j.taken); gap = gap_of j.state.known; fewer = f + 0; mark = mark.Piece j.value.0 j.value.1; state = state_of j.state } in
         let looks = looks_end i (suc n) in
         let own : own_in i (suc n) ≡ lifted a f c.second ++ noting q ∷ lifted a f looks = ap (lifted a f) c.is ∙ lifted-append a f c.second _ in
         side-closed lv z (lifted_note a f (note_at r first i)) q (own_in i (suc n)) (own_in i (suc n) ++ more) (lifted a f c.second) (lifted a f looks) end last own (lifted-bare a f looks (end-bare i (suc n)))

@@ -38,15 +38,12 @@ run-notes-law k text note i levels =
     let z = start_of text in
     let n = numbered-run-law k text in
     let a = number-of (SaysOf text (λ j. end_at k j z)) note max_depth 0 (listed (log k text).notes) i levels n.each in
-    let less = a.less in
-    let all = n.all in
-    record { count = a.number; go = go-fewer (piece_at k) a.number n.count (true, 0) z (lead k z).state (omega (arith, less, all)) n.go; says = a.holds.says }
+    record { count = a.number; go = go-fewer (piece_at k) a.number n.count (true, 0) z (lead k z).state (omega (arith, a.less, n.all)) n.go; says = a.holds.says }
 
 pub inner-notes-law : InnerNotesLaw
 inner-notes-law k levels text c chosen name left =
     let n = numbered-inner-law k levels text c chosen name left in
     let r = run_at k levels c (start_of text) in
-    let all = n.all in
     record {
       earlier = n.earlier;
       opens = n.opens;
@@ -60,10 +57,9 @@ inner-notes-law k levels text c chosen name left =
       name_end = n.name_end;
       each = λ note i own.
           (let a = number-of (SaysOf text (λ j. inner_end k levels j c (start_of text))) note (suc levels) 0 n.inner i own n.each in
-          let less = a.less in
           record {
             count = a.number;
-            go = go-fewer (turn_of r) a.number n.count (true, 0) r.place r.point (omega (arith, less, all)) n.go;
+            go = go-fewer (turn_of r) a.number n.count (true, 0) r.place r.point (omega (arith, a.less, n.all)) n.go;
             says = a.holds.says;
           });
     }

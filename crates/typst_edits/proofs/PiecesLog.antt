@@ -1,41 +1,38 @@
--- What is logged of pieces that are read again.
-use Rattle.std.proofs.Common.{◌≡◌, ℕ, zero, suc, ◌+◌, ◌-◌, Bool, false, List, [], ◌∷◌, ◌++◌, length, refl, ap, sym, ◌∙◌, subst, arith}
+-- What is logged of pieces that are read again: of any run.
+use Rattle.std.proofs.Common.{◌≡◌, ℕ, zero, suc, ◌+◌, Bool, false, List, [], ◌∷◌, ◌++◌, Some, refl, ap, sym, ◌∙◌, subst, arith}
 use Rattle.std.proofs.lemmas.List.{map-append}
 use Rattle.typst_kinds.specs.declared.mode.SyntaxMode.TheVariants as mode
-use Rattle.typst_lines.specs.Classes.{CharClasses}
 use Rattle.typst_lines.specs.Place.{Place, moved}
 use Rattle.typst_tokens.specs.Reader.{look}
-use Rattle.typst_tokens.specs.Sight.{hull_of}
 use Rattle.typst_language.specs.Tokens.{token}
 use Rattle.typst_language.specs.Ask.{Ask, shift, shift_one}
-use Rattle.typst_language.specs.Ask.Ask.{looked, marked}
-use Rattle.typst_language.specs.Hand.{at_trivia, column_look, column_asks, ahead, ahead_asks, hand_asks}
-use Rattle.typst_language.specs.Log.{Log, no_log, with_hull, with_note, logged}
-use Rattle.typst_language.specs.Meaning.{Outcome, hand_asks_of, run}
-use Rattle.typst_language.specs.Point.{Trivia}
+use Rattle.typst_language.specs.Ask.Ask.{looked}
+use Rattle.typst_language.specs.Hand.{at_trivia}
+use Rattle.typst_language.specs.Log.{no_log, logged}
+use Rattle.typst_language.specs.Meaning.{Outcome, hand_asks_of, start_point, run}
+use Rattle.typst_language.specs.Point.{Trivia, point_of}
+use Rattle.typst_language.specs.Steps.{peek}
 use Rattle.typst_language.proofs.Places.{moved-sum}
-use Rattle.typst_grammar.specs.Grammar.{level_at, max_depth}
+use Rattle.typst_language.proofs.Logs.{logged-shift}
+use Rattle.typst_grammar.specs.Grammar.{max_depth}
 use Rattle.typst_grammar.specs.Markup.{markup_reading}
-use Rattle.typst_edits.specs.PiecesLog.{token_place, asked_again, PiecesLogLaw}
+use Rattle.typst_edits.specs.BlockRuns.{inner_lead, run_at}
+use Rattle.typst_edits.specs.InnerPiecesLog.{asks_again, InnerPiecesLogLaw}
+use Rattle.typst_edits.specs.InnerSplice.{own_of}
+use Rattle.typst_edits.specs.PiecesLog.{PiecesLogLaw}
 use Rattle.typst_edits.specs.Joint.{text_run}
 use Rattle.typst_edits.specs.Resumed.{SamePieces, read_again}
-use Rattle.typst_edits.specs.RunSplice.{own_asks}
-use Rattle.typst_edits.specs.Runs.{asks_of, lead, end_at, pieces_from}
+use Rattle.typst_edits.specs.Runs.{End, asks_of, lead, end_at}
+use Rattle.typst_edits.specs.Sequence.{Sequence, first_end, then_of}
 use Rattle.typst_edits.proofs.EmptyRuns.{hand-asks}
+use Rattle.typst_edits.proofs.InnerJoint.{block-read}
+use Rattle.typst_edits.proofs.InnerSplice.{hand-direct}
 use Rattle.typst_edits.proofs.Joint.{known-is, text-read}
 use Rattle.typst_edits.proofs.Led.{before_trivia}
+use Rattle.typst_edits.proofs.Meeting.{ReadAs}
 use Rattle.typst_edits.proofs.Outcomes.{shift-twice}
 use Rattle.typst_edits.proofs.Reached.{Reached}
-use Rattle.typst_edits.proofs.Resumed.{text-reached, resume-law}
-use Rattle.typst_edits.proofs.InnerSplice.{asks-direct, column-none}
-
--- asks that are counted from a given number of characters further on
-pub logged-shifted : (lv d : ℕ) (z : Place) (asks : List Ask) (h : Log) → logged lv z h (shift d asks) ≡ logged lv (moved d z) h asks
-logged-shifted lv d z [] h = refl
-logged-shifted lv d z (looked at seen ∷ asks) h =
-    ap (λ p. logged lv z (with_hull (hull_of seen p) h) (shift d asks)) (moved-sum d at z) ∙ logged-shifted lv d z asks (with_hull (hull_of seen (moved at (moved d z))) h)
-logged-shifted lv d z (marked at gap fewer m s ∷ asks) h =
-    ap (λ p. logged lv z (with_note gap (lv - fewer) m s p h) (shift d asks)) (moved-sum d at z) ∙ logged-shifted lv d z asks (with_note gap (lv - fewer) m s (moved at (moved d z)) h)
+use Rattle.typst_edits.proofs.Resumed.{text-reached, block-reached, resume-law, inner-resume-law}
 
 -- pieces that are the same except for the trivia before the first
 pub same-asks : (t : Trivia) (os cs : List (Outcome (Bool × (Bool × ℕ)))) → SamePieces t os cs → asks_of os ≡ shift t.gap (asks_of cs)
@@ -46,32 +43,52 @@ same-asks t (o ∷ os) (c ∷ cs) h =
     ap (λ ls. ls ++ shift o.taken (asks_of os)) h.0.asks ∙ ap (λ n. shift t.gap c.asks ++ shift n (asks_of os)) h.0.taken ∙ ap (λ us. shift t.gap c.asks ++ shift (t.gap + c.taken) (asks_of us)) h.1
     ∙ ap (λ ls. shift t.gap c.asks ++ ls) (sym (shift-twice t.gap c.taken (asks_of cs))) ∙ sym (map-append (shift_one t.gap) c.asks (shift c.taken (asks_of cs)))
 
-lead-direct : (k : CharClasses) (z : Place) → at_trivia k mode.Markup z ≡ false → (lead k z).asks ≡ looked 0 (look (token k mode.Markup) z) ∷ []
-unfolding run hand_asks ahead_asks
-lead-direct k z clear =
-    let a = ahead k mode.Markup z in
-    ap (λ ls. ls ++ column_asks markup_reading a.newlines a.gap z) (asks-direct k (length z.ahead) z clear)
-    ∙ ap (λ ls. looked 0 (look (token k mode.Markup) z) ∷ ls) (column-none a.newlines.any (looked a.gap (column_look (moved a.gap z))))
+-- ---- any run
+
+module _ (r : Sequence) (ls : List Ask) (j m lv : ℕ) (t : Trivia) where
+  abbrev e : End (Bool × ℕ)
+  e = first_end (suc j) r
+
+  abbrev y : Place
+  y = moved e.taken r.place
+
+  abbrev here : Place
+  here = moved t.gap y
+
+  -- the look at a token where a run begins at it
+  first-look : at_trivia r.level.classes mode.Markup here ≡ false → (run r.level peek here (start_point markup_reading)).asks ≡ looked 0 (look (token r.level.classes mode.Markup) here) ∷ []
+  unfolding run
+  first-look clear = hand-direct r.level.classes here clear
+
+  again-log : SamePieces t (then_of (suc j) m r) (read_again (suc j) m t r) → ReadAs markup_reading e.state → e.state.known ≡ Some t → Reached r.level.classes y e.state
+      → logged lv r.place no_log (own_of r ls (suc j) m) ≡ logged lv here no_log (asks_again (suc j) m t r)
+  again-log pieces read known reached =
+      let l = r.level in
+      let s = e.state in
+      let os = then_of (suc j) m r in
+      let cs = read_again (suc j) m t r in
+      let is : s ≡ before_trivia markup_reading markup_reading s.empties s.is_after_error t = known-is l.classes s t known ∙ (λ v. before_trivia (read.reading v) (read.held v) s.empties s.is_after_error t) in
+      let clear : at_trivia l.classes mode.Markup here ≡ false = subst (λ p. Reached l.classes y p) is reached in
+      let lead = (run l peek here (start_point markup_reading)).asks in
+      let first : hand_asks_of l y s ≡ shift t.gap lead =
+      hand-asks l y t.gap s (record { held = read.held; trivia = t; known = known; gap = refl }) ∙ ap (λ n. looked n (look (token l.classes mode.Markup) here) ∷ []) (omega arith) ∙ ap (shift t.gap) (sym (first-look clear)) in
+      let asks : own_of r ls (suc j) m ≡ shift (e.taken + t.gap) (asks_again (suc j) m t r) =
+      ap (λ us. shift e.taken us ++ shift e.taken (asks_of os)) first ∙ ap (λ us. shift e.taken (shift t.gap lead) ++ shift e.taken us) (same-asks t os cs pieces)
+      ∙ sym (map-append (shift_one e.taken) (shift t.gap lead) (shift t.gap (asks_of cs))) ∙ ap (shift e.taken) (sym (map-append (shift_one t.gap) lead (asks_of cs)))
+      ∙ shift-twice e.taken t.gap (asks_again (suc j) m t r) in
+      ap (logged lv r.place no_log) asks ∙ logged-shift lv (e.taken + t.gap) r.place no_log (asks_again (suc j) m t r) ∙ ap (λ p. logged lv p no_log (asks_again (suc j) m t r)) (moved-sum e.taken t.gap r.place)
+
+-- ---- a text's run, and a content block's
 
 pub pieces-log-law : PiecesLogLaw
 pieces-log-law k z zero m t some g h known none = absurd (omega (arith, some))
 pieces-log-law k z (suc j) m t some g h known none =
-    let i = suc j in
-    let e = end_at k i z in
-    let s = e.state in
-    let y = moved e.taken z in
-    let cs = read_again i m t (text_run k z) in
-    let here = token_place k i t z in
-    let there : here ≡ moved t.gap y = moved-sum e.taken t.gap z in
-    let read = text-read k i 0 z in
-    let is : s ≡ before_trivia markup_reading markup_reading s.empties s.is_after_error t = known-is k s t known ∙ (λ v. before_trivia (read.reading v) (read.held v) s.empties s.is_after_error t) in
-    let clear : at_trivia k mode.Markup (moved t.gap y) ≡ false = subst (λ p. Reached k y p) is (text-reached k z i) in
-    let hand : hand_asks_of (level_at k max_depth) y s ≡ looked t.gap (look (token k mode.Markup) (moved t.gap y)) ∷ [] = hand-asks (level_at k max_depth) y t.gap s (record { held = read.held; trivia = t; known = known; gap = refl }) in
-    let first : hand_asks_of (level_at k max_depth) y s ≡ shift t.gap (lead k here).asks =
-    hand ∙ ap (λ n. looked n (look (token k mode.Markup) (moved t.gap y)) ∷ []) (omega arith) ∙ ap (shift t.gap) (sym (lead-direct k (moved t.gap y) clear)) ∙ ap (λ p. shift t.gap (lead k p).asks) (sym there) in
-    let same = same-asks t (pieces_from k i m z) cs (resume-law k z i m t g h known none) in
-    let asks : own_asks k i m z ≡ shift (e.taken + t.gap) (asked_again k i m t z) =
-    ap (λ ls. shift e.taken ls ++ shift e.taken (asks_of (pieces_from k i m z))) first ∙ ap (λ ls. shift e.taken (shift t.gap (lead k here).asks) ++ shift e.taken ls) same
-    ∙ sym (map-append (shift_one e.taken) (shift t.gap (lead k here).asks) (shift t.gap (asks_of cs))) ∙ ap (shift e.taken) (sym (map-append (shift_one t.gap) (lead k here).asks (asks_of cs)))
-    ∙ shift-twice e.taken t.gap (asked_again k i m t z) in
-    ap (logged max_depth z no_log) asks ∙ logged-shifted max_depth (e.taken + t.gap) z (asked_again k i m t z) no_log
+    again-log (text_run k z) (lead k z).asks j m max_depth t (resume-law k z (suc j) m t g h known none) (text-read k (suc j) 0 z) known (text-reached k z (suc j))
+    ∙ ap (λ p. logged max_depth p no_log ((lead k p).asks ++ asks_of (read_again (suc j) m t (text_run k z)))) (sym (moved-sum (end_at k (suc j) z).taken t.gap z))
+
+pub inner-pieces-log-law : InnerPiecesLogLaw
+inner-pieces-log-law k levels c z zero m t some g h known none = absurd (omega (arith, some))
+inner-pieces-log-law k levels c z (suc j) m t some g h known none =
+    let y = moved c.at z in
+    let s = point_of c.start in
+    again-log (run_at k levels c z) (inner_lead k levels y s).asks j m (suc levels) t (inner-resume-law k levels y s (suc j) m t g h known none) (block-read k levels (suc j) 0 y s) known (block-reached k levels y s (suc j))

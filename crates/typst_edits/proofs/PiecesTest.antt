@@ -10,7 +10,7 @@ use Rattle.typst_language.specs.declared.calls.Note.{Note}
 use Rattle.typst_candidates.specs.Entries.{units_of, spliced}
 use Rattle.typst_grammar.specs.Grammar.{max_depth, start_of, log}
 use Rattle.typst_edits.specs.Edit.{text_with}
-use Rattle.typst_edits.specs.Frame.{Run, top, inner, Gives, of_block, of_pieces, Before}
+use Rattle.typst_edits.specs.Frame.{top, inner, Gives, of_block, of_pieces, Before}
 use Rattle.typst_edits.specs.Hole.{path_of}
 use Rattle.typst_edits.specs.InOrder.{InOrderLaw}
 use Rattle.typst_edits.specs.NumberedNotes.{of_level, cut_behind}
@@ -23,12 +23,13 @@ use Rattle.typst_edits.specs.Sequence.{Sequence, first_of, first_end, then_of, t
 use Rattle.typst_edits.specs.Joint.{text_run}
 use Rattle.typst_edits.specs.RunSplice.{noted_point, end_note, pieces_log}
 use Rattle.typst_edits.specs.Splice.{notes_in, token_start, entries_from}
+use Rattle.typst_edits.proofs.Fitting.{tail-none}
 use Rattle.typst_edits.proofs.Boundary.{told-at, KnownAt, looks_in, each-ends, made-add, go-add}
 use Rattle.typst_edits.proofs.InnerPiecesTest.{numbers-of, behind-end, short}
 use Rattle.typst_edits.proofs.Children.{top-known}
 use Rattle.typst_edits.proofs.Cuts.{cuts-law}
 use Rattle.typst_edits.proofs.Edit.{before-same}
-use Rattle.typst_edits.proofs.JointBytes.{joint-decision-law}
+use Rattle.typst_edits.proofs.RunBytes.{joint-decision-law}
 use Rattle.typst_edits.proofs.NestedPieces.{head-same, tail-same}
 use Rattle.typst_edits.proofs.NoteNumbers.{neither, number-law}
 use Rattle.typst_edits.proofs.OneReading.{first-split, text-seen, text-clear}
@@ -46,15 +47,11 @@ use Rattle.typst_edits.proofs.Sides.{count-append, count-shift}
 same-number : (lv : ℕ) (ns ms us vs : List Note) (n m : Note) → ns ++ n ∷ us ≡ ms ++ m ∷ vs → (n.levels == lv) ≡ true → (m.levels == lv) ≡ true → length (of_level lv ns) ≡ length (of_level lv ms) → (length ns ≡ length ms) × (n ≡ m)
 same-number lv [] [] us vs n m e a b c = (refl, head-same n m us vs e)
 same-number lv [] (x ∷ ms) us vs n m e a b c =
-    let first = head-same n x us (ms ++ m ∷ vs) e in
-    let is : (x.levels == lv) ≡ true = ap (λ (y : Note). y.levels == lv) (sym first) ∙ a in
-    let more = ap (λ t. length (if t then x ∷ of_level lv ms else of_level lv ms)) is in
-    absurd (omega (arith, c, more))
+    let is : (x.levels == lv) ≡ true = ap (λ (y : Note). y.levels == lv) (sym (head-same n x us (ms ++ m ∷ vs) e)) ∙ a in
+    absurd (omega (arith, c, ap (λ t. length (if t then x ∷ of_level lv ms else of_level lv ms)) is))
 same-number lv (x ∷ ns) [] us vs n m e a b c =
-    let first = head-same x m (ns ++ n ∷ us) vs e in
-    let is : (x.levels == lv) ≡ true = ap (λ (y : Note). y.levels == lv) first ∙ b in
-    let more = ap (λ t. length (if t then x ∷ of_level lv ns else of_level lv ns)) is in
-    absurd (omega (arith, c, more))
+    let is : (x.levels == lv) ≡ true = ap (λ (y : Note). y.levels == lv) (head-same x m (ns ++ n ∷ us) vs e) ∙ b in
+    absurd (omega (arith, c, ap (λ t. length (if t then x ∷ of_level lv ns else of_level lv ns)) is))
 same-number lv (x ∷ ns) (y ∷ ms) us vs n m e a b c =
     let first = head-same x y (ns ++ n ∷ us) (ms ++ m ∷ vs) e in
     let more = same-number lv ns ms us vs n m (tail-same x y (ns ++ n ∷ us) (ms ++ m ∷ vs) e) a b (by-first (x.levels == lv) (y.levels == lv) x y (of_level lv ns) (of_level lv ms) (ap (λ (v : Note). v.levels == lv) first) c) in
@@ -94,12 +91,8 @@ counted k text i g p =
 pub count-pieces : (os ps : List (Outcome (Bool × (Bool × ℕ)))) → notes_in (asks_of (os ++ ps)) ≡ notes_in (asks_of os) + notes_in (asks_of ps)
 count-pieces [] ps = omega arith
 count-pieces (o ∷ os) ps =
-    let rest = count-pieces os ps in
-    let all = count-append o.asks (shift o.taken (asks_of (os ++ ps))) in
     let own = count-append o.asks (shift o.taken (asks_of os)) in
-    let one = count-shift o.taken (asks_of (os ++ ps)) in
-    let two = count-shift o.taken (asks_of os) in
-    omega (arith, rest, all, own, one, two)
+    omega (arith, count-pieces os ps, count-append o.asks (shift o.taken (asks_of (os ++ ps))), own, count-shift o.taken (asks_of (os ++ ps)), count-shift o.taken (asks_of os))
 
 -- ---- the entries at its ends
 
@@ -147,17 +140,8 @@ cut-once-law k text i j g h e = neither i j (λ l. (let c = cuts-law k text i j 
 -- ---- the pieces that are read
 
 module _ (k : CharClasses) (front old new rest : List ℕ) where
-  abbrev own : Run k (front ++ (old ++ rest))
-  own = root_run k (front ++ (old ++ rest))
-
-  abbrev z : Place
-  z = text_with front old rest
-
   abbrev w : Place
   w = text_with front new rest
-
-  abbrev p : Sequence
-  p = text_run k z
 
   abbrev q : Sequence
   q = text_run k w
@@ -168,15 +152,15 @@ module _ (k : CharClasses) (front old new rest : List ℕ) where
       let both : end_at k (i + m) w ≡ record (then_end i m q) { taken = (first_end i q).taken + (then_end i m q).taken } = made-add (piece_at k) (looks_in q) (each-ends q) i m (true, 0) w (lead k w).state in
       subst (λ (v : End (Bool × ℕ)). KnownAt v.state) both (top-known k (i + m) w (go-add (piece_at k) (looks_in q) (each-ends q) i m (true, 0) w (lead k w).state g h))
 
-  pub no-errors-before : p.point.empties ≡ 0
+  pub no-errors-before : (text_run k (text_with front old rest)).point.empties ≡ 0
   unfolding run
   no-errors-before = refl
 
-  pub rereads : Rereads k front old new rest own
+  pub rereads : Rereads k front old new rest (root_run k (front ++ (old ++ rest)))
   rereads = record {
     place = refl;
     opened = λ i looks. refl;
-    first = λ i looks. (pieces-same k i z w (λ l. before-same _ front old new rest (looks l))).pieces_same;
+    first = λ i looks. (pieces-same k i (text_with front old rest) w (λ l. before-same _ front old new rest (looks l))).pieces_same;
     none = λ i some g looks none. text-clear k front old new rest i some g (looks some) none;
     known = λ i g. top-known k i w g;
     then_known = then-known;
@@ -198,16 +182,12 @@ run-read-law k front old new rest i n m past t ts g h known sum none looks behin
 
 -- ---- a candidate of the run
 
-pub some-path : (ps : List ℕ) (n : ℕ) → ps ++ n ∷ [] ≡ [] → ⊥
-some-path [] n e = cc
-some-path (p ∷ ps) n e = cc
-
 pub run-gives-law : RunGivesLaw
 run-gives-law k front old new rest root c ts same among pieces at_root = (to, (λ g. of_pieces top g.i g.n g.m g.past g.t g.gives.behind pieces (sym at_root) g.start g.led g.end g.gives.passes g.gives.are))
   where
     to : Gives k front old new rest c ts → RunGives k front old new rest c ts
     to (of_block s past is a b h e) = absurd (let d : true ≡ false = sym is ∙ pieces in cc)
-    to (of_pieces (inner s levels a name left) i n m past t u is path start led end h e) = absurd (some-path (path_of s.hole) 1 (path ∙ at_root))
+    to (of_pieces (inner s levels a name left) i n m past t u is path start led end h e) = absurd (tail-none (path_of s.hole) 1 (path ∙ at_root))
     to (of_pieces top i n m past t u is path start led end h e) =
         let well = root-candidate-law k front old new rest root c i n m past t u same among pieces at_root start led end h in
         record {

@@ -115,15 +115,12 @@ texts-hinted hints ts = texts-same (hinted hints ts) ts (same-hinted hints ts)
 
 placed-after : {A B : Type 0} (z : Place) (s : Point) (o : Outcome B) (c : Spot A) → Holds z o → Tidy s o → Placed (moved o.taken z) o.state c → Placed z s (after_spot o c)
 placed-after z s o c h t p =
-    let few = p.back in
-    let back = t.back in
-    let left = t.left in
     let stood = less c.back o.nodes in
     record {
-      back = omega (arith, few, back, left);
+      back = omega (arith, p.back, t.back, t.left);
       left = ap (λ x. x ++ deep_text c.hole.deep) (texts-append (hinted c.hints stood) c.hole.left)
           ∙ append_assoc (texts (hinted c.hints stood)) (texts c.hole.left) (deep_text c.hole.deep)
-          ∙ ap (λ x. x ++ left_text c.hole) (texts-hinted c.hints stood ∙ h.blank c.back few ∙ h.text)
+          ∙ ap (λ x. x ++ left_text c.hole) (texts-hinted c.hints stood ∙ h.blank c.back p.back ∙ h.text)
           ∙ ap (λ x. utf8_ahead o.taken z ++ x) p.left
           ∙ sym (append_assoc (utf8_ahead o.taken z) (utf8_ahead c.at (moved o.taken z)) (texts c.front))
           ∙ ap (λ x. x ++ texts c.front) (text-add o.taken c.at z);

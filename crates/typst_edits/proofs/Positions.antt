@@ -1,6 +1,7 @@
 -- What holds where an inner node of a block's kind stands among several nodes.
 use Rattle.std.proofs.Common.{◌≡◌, ◌⊎◌, inl, inr, ℕ, zero, suc, ◌+◌, ◌-◌, ◌<◌, ◌≤◌, Bool, true, false, ◌&&◌, ◌||◌, nat_le, List, [], ◌∷◌, ◌++◌, length, take, drop, length-take, None, refl, ap, sym, ◌∙◌, subst, arith}
 use Rattle.std.proofs.lemmas.Bool.Decides.{nat_tests}
+use Rattle.std.proofs.lemmas.Bool.{and_left, or_from, or_left}
 use Rattle.typst_kinds.specs.Kinds.{is_error}
 use Rattle.typst_kinds.specs.Names.{name_of}
 use Rattle.typst_kinds.specs.Head.{Head, inner_head}
@@ -16,7 +17,7 @@ use Rattle.typst_language.specs.Shape.Change.{stays, turns_wrong, is_not, rename
 use Rattle.typst_language.specs.Shape.Shape.{keeps, holds, lacks, warns, fails}
 use Rattle.typst_language.proofs.Places.{drop-all}
 use Rattle.typst_language.proofs.Within.{on_both, on_if}
-use Rattle.typst_grammar.proofs.Fine.{is_ordinary, change_by, shape_by}
+use Rattle.typst_grammar.proofs.Fine.{is_ordinary, change_by, shape_by, and-left, and-right}
 use Rattle.typst_candidates.proofs.Found.{forest_trees as trees-forest}
 use Rattle.typst_edits.specs.Hole.{Deep, fill, path_in, Hole, plug, warned_head}
 use Rattle.typst_edits.specs.Hole.Deep.{bare, under}
@@ -143,23 +144,15 @@ error-no-block kind.Error true h e = cc
 error-no-block kind.Error false h e = cc
 error-no-block _ b h e = absurd (cc)
 
-or-first : (a b : Bool) → a ≡ true → (a || b) ≡ true
-or-first true b e = refl
-or-first false b e = absurd (cc)
-
 -- No block stands in an error.
 each-error : (P Q : ℕ → List ℕ → Type 0) (n : ℕ) (t : Tree) (r : Forest) → is_error t.head.kind ≡ true → Each P n (more t.head t.kids r) → Each Q (suc n) r → Each Q n (more t.head t.kids r)
 each-error P Q n t r e h k = (
   λ u. absurd (error-no-block t.head.kind t.head.is_inner e u),
-  (each-by _ _ 0 t.kids (λ i q. unless-true (is_hollow t.head) (P n (i ∷ q)) (Unless (is_hollow t.head) (Q n (i ∷ q))) (or-first (is_error t.head.kind) (has_text t.head.text) e)) h.1.0, k),
+  (each-by _ _ 0 t.kids (λ i q. unless-true (is_hollow t.head) (P n (i ∷ q)) (Unless (is_hollow t.head) (Q n (i ∷ q))) (or_left (is_error t.head.kind) (has_text t.head.text) e)) h.1.0, k),
 )
 
 pub each-leaf : (Q : ℕ → List ℕ → Type 0) (n : ℕ) (h : Head) (r : Forest) → h.is_inner ≡ false → Each Q (suc n) r → Each Q n (more h none r)
-each-leaf Q n h r e k = (λ u. absurd (by-test h.is_inner (is_block h.kind) e u), (tt, k))
-  where
-    by-test : (a b : Bool) → a ≡ false → (a && b) ≡ true → ⊥
-    by-test true b e u = cc
-    by-test false b e u = cc
+each-leaf Q n h r e k = (λ u. (let none : true ≡ false = sym u ∙ and_left h.is_inner (is_block h.kind) e in absurd (cc)), (tt, k))
 
 advised-leaf : (Q : ℕ → List ℕ → Type 0) (n : ℕ) (hints : List (List ℕ)) (message text : List ℕ) (r : Forest) → Each Q (suc n) r
     → Each Q n (more (all_advised hints (error_of message text)).head (all_advised hints (error_of message text)).kids r)
@@ -216,9 +209,8 @@ delimited-sound _ b h = absurd (cc)
 
 each-without : (P : ℕ → List ℕ → Type 0) (n : ℕ) (t : Tree) (r : Forest) → Each P n (more t.head t.kids r) → Each P n (more (without_parens t).head (without_parens t).kids r)
 each-without P n t r h =
-    let is = is_delimited t.head.kind && in_parens (trees t.kids) in
     let math : Head = record t.head { kind = kind.Math } in
-    on_if (λ (u : Tree). Each P n (more u.head u.kids r)) is (record { head = math; kids = forest (parens_renamed (trees t.kids)) }) t
+    on_if (λ (u : Tree). Each P n (more u.head u.kids r)) (is_delimited t.head.kind && in_parens (trees t.kids)) (record { head = math; kids = forest (parens_renamed (trees t.kids)) }) t
     (λ e.
     let j = each-topped P P n kind.Math t r refl (delimited-sound t.head.kind (in_parens (trees t.kids)) e) (λ i q p. p) h h.1.1 in
     (j.0, (each-parens (λ i q. Unless (is_hollow math) (P n (i ∷ q))) 0 (trees t.kids) (subst (λ f. Each (λ i q. Unless (is_hollow math) (P n (i ∷ q))) 0 f) (sym (trees-forest t.kids)) j.1.0), h.1.1)))
@@ -269,11 +261,7 @@ each-over : (Q : ℕ → List ℕ → Type 0) (n : ℕ) (k : SyntaxKind) (h : He
 each-over Q n k h f e t a b j = (b, (each-by _ _ 0 f (λ i q p. unless-false (is_hollow h) (Q n (i ∷ q)) sound p) j, tt))
   where
     sound : (is_error h.kind || has_text h.text) ≡ false
-    sound = ap (λ (i : SyntaxKind). is_error i || has_text h.text) e ∙ ap (λ u. is_error k || has_text u) t ∙ by-test (is_error k) a
-      where
-        by-test : (b : Bool) → b ≡ false → (b || false) ≡ false
-        by-test true e = absurd (cc)
-        by-test false e = refl
+    sound = ap (λ (i : SyntaxKind). is_error i || has_text h.text) e ∙ ap (λ u. is_error k || has_text u) t ∙ or_from (is_error k) false a refl
 
 pub each-inner : (Q : ℕ → List ℕ → Type 0) (n : ℕ) (k : SyntaxKind) (h : Head) (f : Forest) → h.kind ≡ k → h.text ≡ [] → is_ordinary k ≡ true → Each (λ i q. Q n (i ∷ q)) 0 f → Each Q n (more h f none)
 each-inner Q n k h f e t a j =
@@ -288,16 +276,8 @@ each-holds change k P Q m n ts a e b g h =
 pub each-shaped : (shape : Shape) (P Q : ℕ → List ℕ → Type 0) (m n : ℕ) (ts : List Tree) → shape_by is_ordinary shape ≡ true → Step shape P Q m n → Each P m (forest ts) → Each Q n (forest (shaped shape ts))
 each-shaped (keeps change) P Q m n ts a g h = each-move _ Q n m m n (forest (first_changed change ts)) (omega arith) (λ i j q e p. g i j q e p.0 p.1) (each-changed P change m ts a h)
 each-shaped (holds change k) P Q m n ts a g h =
-    let b = and-second (change_by is_ordinary change) (is_ordinary k) a in
-    each-holds change k P Q m n ts (and-first (change_by is_ordinary change) (is_ordinary k) a) (not-error k b) (λ u. absurd (not-block k true b u)) g h
-  where
-    and-first : (a b : Bool) → (a && b) ≡ true → a ≡ true
-    and-first true b h = refl
-    and-first false b h = absurd (cc)
-
-    and-second : (a b : Bool) → (a && b) ≡ true → b ≡ true
-    and-second true b h = h
-    and-second false b h = absurd (cc)
+    let b = and-right (change_by is_ordinary change) (is_ordinary k) a in
+    each-holds change k P Q m n ts (and-left (change_by is_ordinary change) (is_ordinary k) a) (not-error k b) (λ u. absurd (not-block k true b u)) g h
 each-shaped (lacks count message k) P Q m n ts a g h =
     each-inner Q n k (inner_head k) (forest (take count ts ++ error_of message [] ∷ drop count ts)) refl refl a
     (each-append (λ i q. Q n (i ∷ q)) 0 (length (take count ts)) (take count ts) (error_of message [] ∷ drop count ts) (omega arith)

@@ -21,13 +21,11 @@ use Rattle.typst_language.proofs.Looks.{token-same}
 use Rattle.typst_language.proofs.Places.{moved-sum, ahead-left}
 use Rattle.typst_language.proofs.Within.{and-second}
 use Rattle.typst_edits.proofs.Known.{Stays, Holds, Keeps, holds-joined, holds-grown, holds-run, holds-meaning}
+use Rattle.typst_language.proofs.Trivia.{none-left}
+pub use Rattle.typst_language.proofs.Trivia.{ahead-stop as ahead-direct}
 pub use Rattle.typst_edits.proofs.Known.{flushed-held, flushed-reading}
 
 -- ---- trivia are followed by no more of them
-
-bare-trivia : (k : CharClasses) (m : SyntaxMode) (z : Place) (b : Bool) → at_trivia k m z ≡ b → length z.ahead ≡ 0 → b ≡ false
-bare-trivia k m z false h e = refl
-bare-trivia k m z true h e = let some : 0 < len_at k m z = ltb-true 0 (len_at k m z) (and-second (is_trivia (token_at k m z).kind) (nat_lt 0 (len_at k m z)) h) in absurd (omega arith)
 
 -- what is found after a token that is trivia, or at one that is not
 abbrev Ends_in : CharClasses → SyntaxMode → Place → Ahead → Type 0
@@ -39,25 +37,12 @@ ends-step k m z true node rest e h = ap (at_trivia k m) (moved-sum (len_at k m z
 ends-step k m z false node rest e h = e
 
 ahead-ends : (k : CharClasses) (m : SyntaxMode) (n : ℕ) (z : Place) → length z.ahead ≤ n → Ends_in k m z (ahead_by k m n z)
-ahead-ends k m zero z h = bare-trivia k m z (at_trivia k m z) refl (omega arith)
+ahead-ends k m zero z h = none-left k m z (omega arith)
 ahead-ends k m (suc n) z h =
     let l = len_at k m z in
     ends-step k m z (at_trivia k m z) _ (ahead_by k m n (moved l z)) refl
     (λ t. (let some : 0 < l = ltb-true 0 l (and-second (is_trivia (token_at k m z).kind) (nat_lt 0 l) t) in
     ahead-ends k m n (moved l z) (omega (arith, ahead-left l z))))
-
--- No trivia are found at a token that is none.
-direct-step : (k : CharClasses) (m : SyntaxMode) (z : Place) (b : Bool) (a : Ahead) → b ≡ false → (if b then a else direct (token_at k m z) (len_at k m z)) ≡ direct (token_at k m z) (len_at k m z)
-direct-step k m z true a h = cc
-direct-step k m z false a h = refl
-
-direct-by : (k : CharClasses) (m : SyntaxMode) (n : ℕ) (z : Place) → at_trivia k m z ≡ false → ahead_by k m n z ≡ direct (token_at k m z) (len_at k m z)
-direct-by k m zero z h = refl
-direct-by k m (suc n) z h = direct-step k m z (at_trivia k m z) _ h
-
-pub ahead-direct : (k : CharClasses) (m : SyntaxMode) (z : Place) → at_trivia k m z ≡ false → ahead k m z ≡ direct (token_at k m z) (len_at k m z)
-unfolding ahead
-ahead-direct k m z h = direct-by k m (length z.ahead) z h
 
 -- ---- what is known of the trivia at hand is all of them
 
@@ -85,8 +70,7 @@ known-there k held t z w h same =
 pub hand-stops-there : (k : CharClasses) (held : Reading) (known : Option Trivia) (z w : Place) → Stops k held.mode known z → SameIn (hand_asks k held known z) z w
     → at_trivia k held.mode (moved (hand_at k held known z).gap w) ≡ false
 hand-stops-there k held None z w h same =
-    let e = (hand-frame k held None z w same).hand in
-    ap (λ (g : Hand). at_trivia k held.mode (moved g.gap w)) (sym e) ∙ hand-stops k held None w tt
+    ap (λ (g : Hand). at_trivia k held.mode (moved g.gap w)) (sym (hand-frame k held None z w same).hand) ∙ hand-stops k held None w tt
 hand-stops-there k held (Some t) z w h same = known-there k held t z w h same
 
 -- ---- the invariant

@@ -1,12 +1,12 @@
 -- Pieces of a run that are read by themselves on a new text are those that the run has there: for any run.
-use Rattle.std.proofs.Common.{◌≡◌, ℕ, zero, suc, ◌+◌, ◌-◌, ◌<◌, if◌then◌else◌, ne_eqb, Bool, true, List, [], ◌∷◌, ◌++◌, length, take, drop, Some, refl, ap, sym, ◌∙◌, subst, arith}
+use Rattle.std.proofs.Common.{◌≡◌, ℕ, zero, suc, ◌+◌, ◌<◌, if◌then◌else◌, ne_eqb, Bool, true, List, [], ◌∷◌, ◌++◌, length, drop, Some, refl, ap, sym, ◌∙◌, subst, arith}
 use Rattle.typst_lines.specs.Place.{Place, moved}
 use Rattle.typst_lines.specs.Classes.{CharClasses}
 use Rattle.typst_tree.specs.Tree.{Tree}
 use Rattle.typst_language.specs.Meaning.{Outcome, less}
 use Rattle.typst_language.specs.Point.{Trivia, Point, gap_of, pending}
 use Rattle.typst_language.specs.Shape.{hinted}
-use Rattle.typst_language.proofs.Places.{moved-sum}
+use Rattle.typst_language.proofs.Places.{moved-sum, drop-all}
 use Rattle.typst_grammar.specs.Pieces.{given}
 use Rattle.typst_edits.specs.Children.{together}
 use Rattle.typst_edits.specs.Edit.{text_with}
@@ -16,6 +16,7 @@ use Rattle.typst_edits.specs.OneReading.{TakesNone, again_end}
 use Rattle.typst_edits.specs.Resumed.{fresh, read_again}
 use Rattle.typst_edits.specs.Runs.{made, AllGo, End, end_of}
 use Rattle.typst_edits.specs.Sequence.{Sequence, turn_of, first_of, first_end, then_of, then_end}
+use Rattle.typst_edits.proofs.Led.{none-less}
 use Rattle.typst_edits.proofs.Boundary.{KnownAt}
 use Rattle.typst_edits.proofs.Children.{given-together}
 use Rattle.typst_edits.proofs.OneReading.{gives-again-law}
@@ -23,24 +24,15 @@ use Rattle.typst_edits.proofs.Resumed.{no_trivia}
 
 -- ---- the nodes of pieces
 
-take-nothing : {A : Type 0} (n : ℕ) → take {A = A} n [] ≡ []
-take-nothing zero = refl
-take-nothing (suc n) = refl
-
 hinted-empty : (hs : List (List ℕ)) → hinted hs [] ≡ []
 hinted-empty [] = refl
 hinted-empty (h ∷ hs) = refl
 
 hinted-nothing : (hs : List (List ℕ)) (n : ℕ) → hinted hs (less n []) ≡ []
-unfolding less
-hinted-nothing hs n = ap (hinted hs) (take-nothing (0 - n)) ∙ hinted-empty hs
+hinted-nothing hs n = ap (hinted hs) (none-less n) ∙ hinted-empty hs
 
 pub given-nodes : (s : Point) (os : List (Outcome (Bool × (Bool × ℕ)))) → (together s os).nodes ≡ given os []
 given-nodes s os = let o = together s os in sym (given-together s os [] ∙ ap (λ ts. ts ++ o.nodes) (hinted-nothing o.hints o.back))
-
-pub drop-all : (ts : List Tree) → drop (length ts) ts ≡ []
-drop-all [] = refl
-drop-all (t ∷ ts) = drop-all ts
 
 -- ---- a run in two texts
 
@@ -139,49 +131,37 @@ module _ (k : CharClasses) (front old new rest : List ℕ) (r : Run k (front ++ 
 
     pub alike : (i m : ℕ) (u : Trivia) → AllGo (first_of i p) → p.point.empties ≡ 0 → (0 < i → TakesNone i p) → Before k front old rest r i → AllGo (then_of i m q) → (then_end i m q).state.known ≡ Some u → Alike i m u
     alike zero zero u g clear none looks go known =
-        let opened = s.opened 0 looks in
         let behind : (fresh q.level (at_cut 0)).known ≡ Some u = ap (λ y. (fresh q.level y).known) (sym (start-place looks)) ∙ sym s.start_known ∙ known in
-        let gap = ap gap_of behind in
-        record { go = tt; sum = omega (arith, opened, gap); value = refl; nodes = sym (ap pending behind) }
+        record { go = tt; sum = omega (arith, s.opened 0 looks, ap gap_of behind); value = refl; nodes = sym (ap pending behind) }
     alike zero (suc n) u g clear none looks go known =
         let m = suc n in
         let x : Bool × ℕ = (true, 0) in
-        let opened = s.opened 0 looks in
         let place = start-place looks in
         let same = s.start_same clear looks m go in
         let os : then_of 0 m q ≡ made_at m x (at_cut 0) = same ∙ ap (made_at m x) place in
         let ends : then_end 0 m q ≡ ended_at m x (at_cut 0) = ap (end_of x q.point) same ∙ ap (ended_at m x) place in
         let taken = ap (λ (v : End (Bool × ℕ)). v.taken) ends in
         let behind : (ended_at m x (at_cut 0)).state.known ≡ Some u = ap (λ (v : End (Bool × ℕ)). v.state.known) (sym ends) ∙ known in
-        let gap = ap gap_of behind in
         record {
           go = subst (λ us. AllGo us) os go;
-          sum = omega (arith, opened, taken, gap);
+          sum = omega (arith, s.opened 0 looks, taken, ap gap_of behind);
           value = ap (λ (v : End (Bool × ℕ)). v.value) ends;
           nodes = ap (λ ts. ts ++ u.nodes) (given-nodes (then_end 0 m q).state (then_of 0 m q)) ∙ ap (λ us. given us [] ++ u.nodes) os ∙ ap (λ ts. given (made_at m x (at_cut 0)) [] ++ ts) (sym (ap pending behind));
         }
     alike (suc j) zero u g clear none looks go known =
         let i = suc j in
         let b = begun j g (none (omega arith)) looks in
-        let opened = b.opened in
-        let cut = b.cut in
-        let taken = ap (λ (v : End (Bool × ℕ)). v.taken) b.same in
-        let gap_was = ap (λ (v : End (Bool × ℕ)). gap_of v.state.known) b.same in
-        let gap = ap gap_of known in
         let new = ap (λ y. (fresh q.level y).known) (sym b.place) ∙ s.bare i b.trivia b.known in
-        let gap_now = ap gap_of new in
         record {
           go = tt;
-          sum = omega (arith, opened, cut, taken, gap_was, gap, gap_now);
+          sum = omega (arith, b.opened, b.cut, ap (λ (v : End (Bool × ℕ)). v.taken) b.same, ap (λ (v : End (Bool × ℕ)). gap_of v.state.known) b.same, ap gap_of known, ap gap_of new);
           value = ap (λ (v : End (Bool × ℕ)). v.value) b.same;
-          nodes = ap (λ v. drop (if v then 0 else length (pending (first_end i q).state.known)) u.nodes) (ne_eqb i 0 (omega arith)) ∙ ap (λ v. drop (length (pending v)) u.nodes) known ∙ drop-all u.nodes ∙ sym (ap pending new);
+          nodes = ap (λ v. drop (if v then 0 else length (pending (first_end i q).state.known)) u.nodes) (ne_eqb i 0 (omega arith)) ∙ ap (λ v. drop (length (pending v)) u.nodes) known ∙ drop-all (length u.nodes) u.nodes (omega arith) ∙ sym (ap pending new);
         }
     alike (suc j) (suc n) u g clear none looks go known =
         let i = suc j in
         let m = suc n in
         let b = begun j g (none (omega arith)) looks in
-        let opened = b.opened in
-        let cut = b.cut in
         let x = carried i in
         let y = moved b.trivia.gap (first_place i q) in
         let ga = gives-again-law k (front ++ (old ++ rest)) r w i m b.trivia u (omega arith) (omega arith) b.go go b.known b.none in
@@ -190,14 +170,11 @@ module _ (k : CharClasses) (front old new rest : List ℕ) (r : Run k (front ++ 
         let ends : again_end i m b.trivia q ≡ ended_at m x (at_cut i) = ap (λ v. ended_at m v y) value ∙ ap (ended_at m x) b.place in
         let taken = ap (λ (v : End (Bool × ℕ)). v.taken) b.same in
         let gap_was = ap (λ (v : End (Bool × ℕ)). gap_of v.state.known) b.same in
-        let gap_is = ap gap_of b.known in
-        let took = ga.taken in
         let taken_now = ap (λ (v : End (Bool × ℕ)). v.taken) ends in
         let behind : (ended_at m x (at_cut i)).state.known ≡ Some u = ap (λ (v : End (Bool × ℕ)). v.state.known) (sym ends) ∙ ap (λ (v : Point). v.known) (sym ga.state) ∙ known in
-        let gap = ap gap_of behind in
         record {
           go = subst (λ us. AllGo us) os ga.go;
-          sum = omega (arith, opened, cut, taken, gap_was, gap_is, took, taken_now, gap);
+          sum = omega (arith, b.opened, b.cut, taken, gap_was, ap gap_of b.known, ga.taken, taken_now, ap gap_of behind);
           value = ga.value ∙ ap (λ (v : End (Bool × ℕ)). v.value) ends;
           nodes = ga.nodes ∙ ap (λ ts. ts ++ u.nodes) (given-nodes (again_end i m b.trivia q).state (read_again i m b.trivia q)) ∙ ap (λ us. given us [] ++ u.nodes) os
               ∙ ap (λ ts. given (made_at m x (at_cut i)) [] ++ ts) (sym (ap pending behind));

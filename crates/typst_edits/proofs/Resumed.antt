@@ -76,9 +76,8 @@ module _ (l : Level) (stops : SyntaxKind → Bool) (taking : Taking l stops) whe
   unfolding hand_at
   led-fresh x z t e a go none =
       let g = markup_reading in
-      let s = before_trivia g g e a t in
       let alike = judged-alike g t no_trivia refl in
-      let some = hand-takes l.classes g (Some t) z (end-by stops taking.end_stops x.1 (told (hand_of l z s)).kind go) in
+      let some = hand-takes l.classes g (Some t) z (end-by stops taking.end_stops x.1 (told (hand_of l z (before_trivia g g e a t))).kind go) in
       takes-turn l taking.calls_sane taking.blocks_sane g z t no_trivia alike taking.level_left stops x _ (taking.takes g z t no_trivia alike x some) go g e 0 a false none
 
   resumed-known : (m : ℕ) (x : Bool × ℕ) (z : Place) (t : Trivia) (e : ℕ) (a : Bool) → Same m x z t (before_trivia markup_reading markup_reading e a t)
@@ -143,21 +142,16 @@ module _ (l : Level) (stops : SyntaxKind → Bool) (taking : Taking l stops) whe
   -- A piece takes more than the trivia before it.
   pub takes-more : (x : Bool × ℕ) (z : Place) (s : Point) → KnownAt s → (turn x z s).value.0 ≡ true → gap_of s.known < (turn x z s).taken
   takes-more x z s known g =
-      let t = known.trivia in
-      subst (λ p. (turn x z p).value.0 ≡ true → gap_of p.known < (turn x z p).taken) (sym (known-is l.classes s t known.is))
-      (λ h. (let led = turn-led l stops taking x z s.reading s.held s.empties s.is_after_error t (going-on l stops x z _ h) in
-      let taken = led.taken in
-      let some = led.some in
-      omega (arith, taken, some))) g
+      subst (λ p. (turn x z p).value.0 ≡ true → gap_of p.known < (turn x z p).taken) (sym (known-is l.classes s known.trivia known.is))
+      (λ h. (let led = turn-led l stops taking x z s.reading s.held s.empties s.is_after_error known.trivia (going-on l stops x z _ h) in
+      omega (arith, led.taken, led.some))) g
 
   pub counted : (m n : ℕ) (x : Bool × ℕ) (z : Place) (s : Point) → KnownAt s → AllGo (made turn m x z s) → AllGo (made turn n x z s) → place_behind x s (made turn m x z s) ≡ place_behind x s (made turn n x z s) → m ≡ n
   counted zero zero x z s known g h e = refl
   counted zero (suc n) x z s known g h e =
-      let more = takes-more x z s known (first-of _ _ h.0) in
-      absurd (omega (arith, e, more))
+      absurd (omega (arith, e, takes-more x z s known (first-of _ _ h.0)))
   counted (suc m) zero x z s known g h e =
-      let more = takes-more x z s known (first-of _ _ g.0) in
-      absurd (omega (arith, e, more))
+      absurd (omega (arith, e, takes-more x z s known (first-of _ _ g.0)))
   counted (suc m) (suc n) x z s known g h e =
       let o = turn x z s in
       let rest : place_behind o.value.1 o.state (made turn m o.value.1 (moved o.taken z) o.state) ≡ place_behind o.value.1 o.state (made turn n o.value.1 (moved o.taken z) o.state) = omega (arith, e) in
@@ -167,12 +161,10 @@ module _ (l : Level) (stops : SyntaxKind → Bool) (taking : Taking l stops) whe
   pub further : (m n : ℕ) (x : Bool × ℕ) (z : Place) (s : Point) → KnownAt s → m < n → AllGo (made turn n x z s) → place_behind x s (made turn m x z s) < place_behind x s (made turn n x z s)
   further m zero x z s known some g = absurd (omega (arith, some))
   further zero (suc n) x z s known some g =
-      let more = takes-more x z s known (first-of _ _ g.0) in
-      omega (arith, more)
+      omega (arith, takes-more x z s known (first-of _ _ g.0))
   further (suc m) (suc n) x z s known some g =
       let o = turn x z s in
-      let later = further m n o.value.1 (moved o.taken z) o.state (turn-known l stops x z s (first-of _ _ g.0)) (omega (arith, some)) g.1 in
-      omega (arith, later)
+      omega (arith, further m n o.value.1 (moved o.taken z) o.state (turn-known l stops x z s (first-of _ _ g.0)) (omega (arith, some)) g.1)
 
   -- ---- where a run begins
 
@@ -185,9 +177,7 @@ module _ (l : Level) (stops : SyntaxKind → Bool) (taking : Taking l stops) whe
       let c = turn x w (fresh l w) in
       let on = first-of o.value.0 (nat_lt 0 o.taken) g.0 in
       let more = takes-more x z s (record { trivia = t; is = known }) on in
-      let gap = ap gap_of known in
-      let took = same.0.taken in
-      let go : goes c ≡ true = ap (λ b. b && nat_lt 0 c.taken) (sym (ap (λ (v : Bool × (Bool × ℕ)). v.0) same.0.value) ∙ on) ∙ lt-ltb 0 c.taken (omega (arith, more, gap, took)) in
+      let go : goes c ≡ true = ap (λ b. b && nat_lt 0 c.taken) (sym (ap (λ (v : Bool × (Bool × ℕ)). v.0) same.0.value) ∙ on) ∙ lt-ltb 0 c.taken (omega (arith, more, ap gap_of known, same.0.taken)) in
       (go, subst (λ us. AllGo us) same.1 g.1)
 
   same-twice : (t : Trivia) (os us cs : List (Outcome (Bool × (Bool × ℕ)))) → SamePieces t os cs → SamePieces t us cs → os ≡ us
@@ -215,8 +205,7 @@ module _ (l : Level) (stops : SyntaxKind → Bool) (taking : Taking l stops) whe
       → (minds (markup_head x.0 x.1 (hand_of l z s).kind) ≡ true → s.empties ≡ 0) → f.empties ≡ 0 → AllGo (made turn m x z s) → made turn m x z s ≡ made turn m x z f
   as-fresh m x z t s f known known_too read read_too reach reach_too none none_too g =
       let one = resumed m x z t s known read reach g none in
-      let again = goes-again m x z t s known one g in
-      let g_too = goes-too m x z t f known_too read_too reach_too again (λ e. none_too) in
+      let g_too = goes-too m x z t f known_too read_too reach_too (goes-again m x z t s known one g) (λ e. none_too) in
       same-twice t (made turn m x z s) (made turn m x z f) (made turn m x (moved t.gap z) (fresh l (moved t.gap z))) one (resumed m x z t f known_too read_too reach_too g_too (λ e. none_too))
 
   pub goes-both : (m : ℕ) (x : Bool × ℕ) (z : Place) (t : Trivia) (s f : Point) → s.known ≡ Some t → f.known ≡ Some t → ReadAs markup_reading s → ReadAs markup_reading f → Reached l.classes z s → Reached l.classes z f
@@ -227,10 +216,7 @@ module _ (l : Level) (stops : SyntaxKind → Bool) (taking : Taking l stops) whe
 -- ---- a text's run, and a content block's
 
 module _ (k : CharClasses) (z : Place) (i : ℕ) where
-  abbrev text_end : End (Bool × ℕ)
-  text_end = first_end i (text_run k z)
-
-  pub text-reached : Reached k (moved text_end.taken z) text_end.state
+  pub text-reached : Reached k (moved (first_end i (text_run k z)).taken z) (first_end i (text_run k z)).state
   unfolding run
   text-reached =
       let l = level_at k max_depth in
@@ -342,8 +328,7 @@ module _ (k : CharClasses) (levels : ℕ) (z : Place) (s : Point) where
   unfolding run
   start-known =
       let p = (bracket k levels z s).state in
-      let read = start-read in
-      let held : p.held ≡ markup_reading = read.held in
+      let held : p.held ≡ markup_reading = start-read.held in
       ap (λ h. (run (inner k levels) peek first_place_of (record { reading = p.reading; held = h; empties = p.empties; is_after_error = p.is_after_error; known = None })).state.known) held
 
   -- The same is looked at there.
@@ -351,8 +336,7 @@ module _ (k : CharClasses) (levels : ℕ) (z : Place) (s : Point) where
   unfolding run
   start-asks =
       let p = (bracket k levels z s).state in
-      let read = start-read in
-      let held : p.held ≡ markup_reading = read.held in
+      let held : p.held ≡ markup_reading = start-read.held in
       ap (λ h. (run (inner k levels) peek first_place_of (record { reading = p.reading; held = h; empties = p.empties; is_after_error = p.is_after_error; known = None })).asks) held
 
   -- No trivia are known after its bracket.

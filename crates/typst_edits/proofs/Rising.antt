@@ -1,5 +1,5 @@
 -- Marks don't go back and lie within what is taken, and after one where a block begins the next lies further on.
-use Rattle.std.proofs.Common.{◌≡◌, ℕ, zero, suc, ◌+◌, ◌-◌, ◌≤◌, Bool, true, false, nat_lt, List, [], ◌∷◌, ◌++◌, length, take, append_assoc, append-nil, Option, Some, None, refl, ap, sym, ◌∙◌, subst, arith}
+use Rattle.std.proofs.Common.{◌≡◌, ℕ, zero, suc, ◌+◌, ◌-◌, ◌≤◌, Bool, true, false, List, [], ◌∷◌, ◌++◌, length, take, append_assoc, append-nil, Option, Some, None, refl, ap, sym, ◌∙◌, subst, arith}
 use Rattle.typst_lines.specs.Place.{Place, moved}
 use Rattle.typst_lines.specs.Classes.{CharClasses}
 use Rattle.typst_tokens.specs.Sight.{width, position, hull_of}
@@ -14,41 +14,38 @@ use Rattle.typst_language.specs.Ask.{Ask}
 use Rattle.typst_language.specs.Ask.Ask.{looked, marked}
 use Rattle.typst_language.specs.Knot.{meaning_of, level_of, blocks_of}
 use Rattle.typst_language.specs.Log.{Log, no_log, with_hull, with_note, logged}
-use Rattle.typst_language.specs.Point.{Point, forgot, state_of, Trivia, gap_of}
+use Rattle.typst_language.specs.Point.{Point, forgot, Trivia, gap_of}
 use Rattle.typst_language.specs.Shape.{Shape}
 use Rattle.typst_language.specs.Steps.{peek, node, eat, eat_making}
-use Rattle.typst_language.specs.Syntax.{Op, Parser, ◌>>◌, ◌>>=◌}
-use Rattle.typst_language.specs.Syntax.Op.{hand, so, further, column, erred, takes, takes_so, flushes, complains, advises, marks, is_deepest}
-use Rattle.typst_language.specs.Syntax.Parser.{gives, does, next, pick, repeat, wraps, grows, nests, scoped, either, calls, block}
-use Rattle.typst_language.specs.Meaning.{wrapped, Outcome, Meaning, Level, plain, joined, bound, repeated, before, growing, nesting, given_up, bounded, blockless, entered, hand_asks_of, start_point, done, run, hand_of, asked}
+use Rattle.typst_language.specs.Syntax.{Parser, ◌>>◌, ◌>>=◌}
+use Rattle.typst_language.specs.Syntax.Op.{hand, takes, flushes}
+use Rattle.typst_language.specs.Syntax.Parser.{gives, does, next, scoped, block}
+use Rattle.typst_language.specs.Meaning.{wrapped, Outcome, Meaning, Level, plain, joined, before, bounded, blockless, entered, start_point, done, run, hand_of, asked}
 use Rattle.typst_language.proofs.Places.{ahead-left, moved-sum}
-use Rattle.typst_language.proofs.Within.{on_both, on_if}
 use Rattle.typst_grammar.specs.Grammar.{rules, production, max_depth, start_of, whole, parsed, log, block_production}
 use Rattle.typst_grammar.specs.Markup.{markup_reading, content_block}
 use Rattle.typst_edits.specs.PieceNotes.{listed}
 use Rattle.typst_edits.specs.Rising.{Rising, RisingLaw}
-use Rattle.std.specs.Prelude.{not, ◌<◌}
+use Rattle.std.specs.Prelude.{◌<◌}
 use Rattle.typst_lines.proofs.LineTable.{width-positive}
 use Rattle.typst_language.specs.declared.calls.Block.TheVariants as block
 use Rattle.typst_language.specs.Depth.{is_end}
-use Rattle.typst_language.specs.Hand.{Hand, Ahead, token_at, len_at, at_trivia, ahead_by, ahead, hand_at}
+use Rattle.typst_language.specs.Hand.{Hand, token_at, len_at, ahead, hand_at}
 use Rattle.typst_language.specs.Shape.Making.{itself}
 use Rattle.typst_language.proofs.Ends.{hand-takes, hand-again, token-ends, token-takes}
 use Rattle.typst_language.proofs.Knot.{Sane, sane-run, sane-at, sane-meaning, sane-block, sane-plain}
 use Rattle.typst_grammar.specs.Sequences.{code_block, code_reading}
 use Rattle.typst_grammar.proofs.Guarded.{sees, Guarded, guarded-inside-content}
 use Rattle.typst_grammar.proofs.GuardedCode.{guarded-production, guarded-whole, guarded-inside-code}
-use Rattle.std.proofs.lemmas.Bool.Decides.{nat_tests}
-use Rattle.typst_kinds.specs.Kinds.{is_trivia}
 use Rattle.typst_kinds.specs.declared.mode.SyntaxMode.{SyntaxMode}
-use Rattle.typst_grammar.proofs.Fine.{and-right}
 use Rattle.typst_language.specs.Syntax.Begin.{at_token}
 use Rattle.typst_edits.specs.Lost.{is_opening}
 use Rattle.typst_edits.proofs.Bytes.{noted-more}
-use Rattle.typst_edits.proofs.Marks.{none-hand}
-use Rattle.typst_edits.proofs.Upward.{Upward, AllUp, UpFrom, up-low, up-ends, up-append, up-sunk, up-looks, up-none, up-joined, up-after, ups-turns, up-growths, ups-nestings, Unmarked, unmarked-joined}
+use Rattle.typst_edits.proofs.Upward.{Joins, Upward, AllUp, UpFrom, ups, up-low, up-ends, up-append, up-sunk, up-after, Unmarked, unmarked-joined, unmarked-hand, from-joined, from-run}
 use Rattle.typst_edits.proofs.Widths.{width-moved, width-none}
 use Rattle.typst_edits.proofs.Splice.{take-width as take-all}
+use Rattle.std.proofs.lemmas.Bool.{not-true}
+use Rattle.typst_grammar.proofs.CodeMoves.{some-ahead}
 
 -- ---- marks in a list of asks
 
@@ -66,6 +63,9 @@ direct gap m = is_opening m ≡ true → gap ≡ 0
 
 abbrev Rise : ℕ → ℕ → List Ask → Type 0
 Rise lo hi ls = Upward step direct lo hi ls
+
+rise : Joins Rise
+rise = ups step direct
 
 -- ---- whatever the language can say
 
@@ -97,86 +97,28 @@ module _ (l : Level) (d : (call : Call) → Sane (l.deeper call)) (e : (b : Bloc
   there-by : (z : Place) (s : Point) (known : Option Trivia) → s.known ≡ known → is_end (hand_of l z s).kind ≡ false → There l z s
   unfolding run hand_at
   there-by z s None same h =
-      let some = hand-takes l.classes s.held s.known z h in
-      let fits = (sane-run l d e (does (takes false itself))).within z s in
-      let left = ahead-left (hand_of l z s).gap z in
-      let known = ap gap_of same in
-      omega (arith, some, fits, left, known)
+      omega (arith, hand-takes l.classes s.held s.known z h, (sane-run l d e (does (takes false itself))).within z s, ahead-left (hand_of l z s).gap z, ap gap_of same)
   there-by z s (Some t) same h =
-      let some = hand-takes l.classes s.held s.known z h in
-      let fits = (sane-run l d e (does (takes false itself))).within z s in
-      let left = ahead-left (hand_of l z s).gap z in
-      let known = ap gap_of same in
       let gap : (hand_of l z s).gap ≡ t.gap = ap (λ k. (hand_at l.classes s.held k z).gap) same in
-      omega (arith, some, fits, left, known, gap)
+      omega (arith, hand-takes l.classes s.held s.known z h, (sane-run l d e (does (takes false itself))).within z s, ahead-left (hand_of l z s).gap z, ap gap_of same, gap)
 
   -- Where a parser saw that a token is at hand there is one.
   sees-there : {A : Type 0} (p : Parser A) (z : Place) (s : Point) → (let o = run l p z s in sees p o.value ≡ true → There l (moved o.taken z) o.state)
   unfolding run
   sees-there (does hand) z s h =
-      let here = there-by z s s.known refl (not-true (is_end (hand_of l z s).kind) h) in
-      subst (λ (x : Hand). 0 < length (moved x.gap z).ahead) (sym (hand-again l.classes s.held s.known z)) here
-    where
-      not-true : (b : Bool) → not b ≡ true → b ≡ false
-      not-true true h = absurd (cc)
-      not-true false h = refl
+      subst (λ (x : Hand). 0 < length (moved x.gap z).ahead) (sym (hand-again l.classes s.held s.known z)) (there-by z s s.known refl (not-true (is_end (hand_of l z s).kind) h))
   sees-there _ z s h = absurd (cc)
 
-  unmarked-hand : (z : Place) (s : Point) → Unmarked (hand_asks_of l z s)
-  unmarked-hand z s = none-hand (λ at fewer m t. ⊥) l.classes s.held s.known z
-
-  rise-hand : (z : Place) (s : Point) (hi : ℕ) → Rise 0 hi (hand_asks_of l z s)
-  rise-hand z s hi = up-none step direct 0 hi (hand_asks_of l z s) (omega arith) (unmarked-hand z s)
-
-  rise-more : (z : Place) (s : Point) (hi at : ℕ) (look : _) → Rise 0 hi (hand_asks_of l z s ++ looked at look ∷ [])
-  rise-more z s hi at look = up-append step direct 0 hi hi (hand_asks_of l z s) (looked at look ∷ []) (rise-hand z s hi) (omega arith)
-
   module _ (i : (call : Call) → Rises (l.deeper call)) (j : (b : Block) → l.has b ≡ true → (z : Place) (s : Point) → 0 < length z.ahead → RiseFrom 1 (l.blocks b z (forgot s))) where
-    rise-done : {A : Type 0} (seen : Bool) (o : Op A) → Guarded pieces seen (does o) → Rises (done l o)
-    rise-done seen hand q z s = rise-hand z s 0
-    rise-done seen (so way) q z s = rise-more z s 0 _ _
-    rise-done seen further q z s = rise-more z s 0 _ _
-    rise-done seen column q z s = rise-more z s 0 _ _
-    rise-done seen erred q z s = omega arith
-    rise-done seen (takes trims making) q z s = rise-hand z s _
-    rise-done seen (takes_so way making) q z s = rise-more z s _ _ _
-    rise-done seen flushes q z s = rise-hand z s _
-    rise-done seen (complains message) q z s = omega arith
-    rise-done seen (advises hint) q z s = omega arith
-    rise-done seen (marks m) q z s = rise-mark m (gap_of s.known) (state_of s) q
-    rise-done seen is_deepest q z s = omega arith
-
     rise-bounded : (b : Block) → l.has b ≡ true → (z : Place) (s : Point) → 0 < length z.ahead → RiseFrom 0 (bounded b (l.blocks b) z s)
     rise-bounded b has z s some =
         let o = l.blocks b z (forgot s) in
         (omega arith, λ _. refl, up-append step direct 1 o.taken o.taken o.asks _ (j b has z s some) (omega arith, λ _. refl, omega arith))
 
-    rise-run : {A : Type 0} (seen : Bool) (p : Parser A) → Guarded pieces seen p → (z : Place) (s : Point) → (seen ≡ true → There l z s) → RiseFrom 0 (run l p z s)
-    unfolding run repeated growing nesting
-    rise-run seen (gives a) q z s t = omega arith
-    rise-run seen (does o) q z s t = rise-done seen o q z s
-    rise-run seen (next p f) q z s t =
-        let o = run l p z s in
-        up-joined step direct 0 o (run l (f o.value) (moved o.taken z) o.state) (rise-run seen p q.0 z s t) (rise-run (sees p o.value) (f o.value) (q.1 o.value) (moved o.taken z) o.state (sees-there p z s))
-    rise-run seen (pick true p r) q z s t = rise-run seen p (q.0 refl) z s t
-    rise-run seen (pick false p r) q z s t = rise-run seen r (q.1 refl) z s t
-    rise-run seen (repeat p x) q z s t = ups-turns step direct (λ y. run l (p y)) (λ y z s. rise-run false (p y) (q y) z s (λ e. absurd (cc))) (suc (bound z s)) x z s
-    rise-run seen (wraps f begin p) q z s t = rise-run false p q z s (λ e. absurd (cc))
-    rise-run seen (grows begin p f) q z s t = up-growths step direct (λ y. run l (f y)) (λ y z s. rise-run false (f y) (q.1 y) z s (λ e. absurd (cc))) (before begin s) (suc (bound z s)) (run l p z s) z (rise-run false p q.0 z s (λ e. absurd (cc)))
-    rise-run seen (nests f begin p x) q z s t = ups-nestings step direct f begin (λ y. run l (p y)) (λ y z s. rise-run false (p y) (q y) z s (λ e. absurd (cc))) (suc (bound z s)) x z s
-    rise-run seen (scoped f p) q z s t = rise-run false p q z (entered (f s.reading) s) (λ e. absurd (cc))
-    rise-run seen (either p is_wrong r) q z s t =
-        let o = run l p z s in
-        let u = run l r z s in
-        on_both (RiseFrom 0) (is_wrong o.value) (given_up o u) o (up-looks step direct 0 u.taken (o.asks ++ u.asks) (omega arith)) (rise-run false p q.0 z s (λ e. absurd (cc)))
-    rise-run seen (calls call) q z s t = up-sunk step direct 0 (l.deeper call z s).taken (l.deeper call z s).asks (i call z s)
-    rise-run seen (block b) q z s t =
-        let o = done l flushes z s in
-        let p = bounded b (l.blocks b) (moved o.taken z) o.state in
-        on_if (RiseFrom 0) (l.has b) (joined o p) (plain tt s) (λ has. up-joined step direct 0 o p (rise-hand z s o.taken) (rise-bounded b has (moved o.taken z) o.state (t q))) (λ _. omega arith)
-
     rises : {A : Type 0} (p : Parser A) → Guarded pieces false p → Rises (run l p)
-    rises p q z s = rise-run false p q z s (λ e. absurd (cc))
+    rises p q z s =
+        from-run Rise rise l pieces rise-mark (There l) (λ B p. sees-there p) (λ call z s. up-sunk step direct 0 (l.deeper call z s).taken (l.deeper call z s).asks (i call z s))
+        (λ b has z s t. let o = done l flushes z s in rise-bounded b has (moved o.taken z) o.state t) false p q z s (λ e. absurd (cc))
 
     -- What a block reads begins with its token.
     module _ (f : Bool → Shape) (r : Reading) (p : Parser (Unit {0})) (q : Parser Bool) (takes_hand : (z : Place) (s : Point) → (let o = run l p z s in Unmarked o.asks × ((hand_of l z s).gap + (hand_of l z s).len ≤ o.taken))) (rest : Guarded pieces false q) where
@@ -186,8 +128,7 @@ module _ (l : Level) (d : (call : Call) → Sane (l.deeper call)) (e : (b : Bloc
           let o = run l p z s in
           let t = takes_hand z s in
           let u = joined o (run l q (moved o.taken z) o.state) in
-          let long = t.1 in
-          up-low step direct 1 (o.taken + 0) u.taken u.asks (omega (arith, some, long)) (up-after step direct 0 o (run l q (moved o.taken z) o.state) t.0 (rises q rest (moved o.taken z) o.state))
+          up-low step direct 1 (o.taken + 0) u.taken u.asks (omega (arith, some, t.1)) (up-after step direct 0 o (run l q (moved o.taken z) o.state) t.0 (rises q rest (moved o.taken z) o.state))
 
       node-stands : (z : Place) (s : Point) → 0 < (hand_of l z s).gap + (hand_of l z s).len → RiseFrom 1 (run l (node f (scoped (λ _. r) (next p (λ _. q)))) z s)
       unfolding run node
@@ -196,7 +137,7 @@ module _ (l : Level) (d : (call : Call) → Sane (l.deeper call)) (e : (b : Bloc
           let again = hand-again l.classes s.held s.known z in
           let o = run l (scoped (λ _. r) (next p (λ _. q))) z s1 in
           let v = wrapped f (before at_token s1) o in
-          up-after step direct 1 (run l peek z s) (joined v (plain o.value v.state)) (unmarked-hand z s) (up-joined step direct 1 v (plain o.value v.state) (first-stands z (entered r s1) (subst (λ (h : Hand). 0 < h.gap + h.len) (sym again) some)) (omega arith))
+          up-after step direct 1 (run l peek z s) (joined v (plain o.value v.state)) (unmarked-hand l z s) (from-joined Rise rise 1 v (plain o.value v.state) (first-stands z (entered r s1) (subst (λ (h : Hand). 0 < h.gap + h.len) (sym again) some)) (omega arith))
 
       pub block-stands : (z : Place) (s : Point) → 0 < (hand_of l z s).gap + (hand_of l z s).len → RiseFrom 1 (run l (peek >> (node f (scoped (λ _. r) (next p (λ _. q))) >>= λ _. gives (tt {0}))) z s)
       unfolding run
@@ -204,18 +145,18 @@ module _ (l : Level) (d : (call : Call) → Sane (l.deeper call)) (e : (b : Bloc
           let s1 = asked (hand_of l z s) s in
           let again = hand-again l.classes s.held s.known z in
           let o = run l (node f (scoped (λ _. r) (next p (λ _. q)))) z s1 in
-          up-after step direct 1 (run l peek z s) (joined o (plain (tt {0}) o.state)) (unmarked-hand z s) (up-joined step direct 1 o (plain (tt {0}) o.state) (node-stands z s1 (subst (λ (h : Hand). 0 < h.gap + h.len) (sym again) some)) (omega arith))
+          up-after step direct 1 (run l peek z s) (joined o (plain (tt {0}) o.state)) (unmarked-hand l z s) (from-joined Rise rise 1 o (plain (tt {0}) o.state) (node-stands z s1 (subst (λ (h : Hand). 0 < h.gap + h.len) (sym again) some)) (omega arith))
 
     takes-hand : (z : Place) (s : Point) → (let o = run l (does (takes false itself)) z s in Unmarked o.asks × ((hand_of l z s).gap + (hand_of l z s).len ≤ o.taken))
     unfolding run
-    takes-hand z s = (unmarked-hand z s, omega arith)
+    takes-hand z s = (unmarked-hand l z s, omega arith)
 
     eat-hand : (z : Place) (s : Point) → (let o = run l eat z s in Unmarked o.asks × ((hand_of l z s).gap + (hand_of l z s).len ≤ o.taken))
     unfolding run eat eat_making
     eat-hand z s =
         let o = done l (takes false itself) z s in
         let n = run l peek (moved o.taken z) o.state in
-        (unmarked-joined o (joined n (plain (tt {0}) n.state)) (unmarked-hand z s) (unmarked-joined n (plain (tt {0}) n.state) (unmarked-hand (moved o.taken z) o.state) tt), omega arith)
+        (unmarked-joined o (joined n (plain (tt {0}) n.state)) (unmarked-hand l z s) (unmarked-joined n (plain (tt {0}) n.state) (unmarked-hand l (moved o.taken z) o.state) tt), omega arith)
 
     -- Each kind of block does.
     pub begins-by-token : (b : Block) (z : Place) (s : Point) → 0 < (hand_of l z s).gap + (hand_of l z s).len → RiseFrom 1 (run l (peek >> block_production b) z s)
@@ -231,16 +172,9 @@ token-some k m z h = by_end (is_end (token_at k m z).kind) refl
     by_end false e = token-takes k m z e
 
 -- If something stands ahead, the trivia there or the token take something.
-ahead-some : (k : CharClasses) (m : SyntaxMode) (n : ℕ) (z : Place) → 0 < length z.ahead → 0 < (ahead_by k m n z).gap + (ahead_by k m n z).len
-ahead-some k m zero z h = let some = token-some k m z h in omega (arith, some)
-ahead-some k m (suc n) z h =
-    on_if (λ (a : Ahead). 0 < a.gap + a.len) (at_trivia k m z) _ _
-    (λ e. let some : 0 < len_at k m z = grind (arith, nat_tests, and-right (is_trivia (token_at k m z).kind) (nat_lt 0 (len_at k m z)) e) in omega (arith, some))
-    (λ e. let some = token-some k m z h in omega (arith, some))
-
 pub hand-some : (k : CharClasses) (held : Reading) (z : Place) → 0 < length z.ahead → 0 < (hand_at k held None z).gap + (hand_at k held None z).len
 unfolding hand_at ahead
-hand-some k held z h = ahead-some k held.mode (length z.ahead) z h
+hand-some k held z h = some-ahead k held.mode (length z.ahead) z (token-some k held.mode z h)
 
 -- ---- at every level
 
@@ -303,25 +237,20 @@ noted-rising lv text [] h ns lo hi fits e r = record { more = []; is = e ∙ ap 
 noted-rising lv text (looked at look ∷ asks) h ns lo hi fits e r = noted-rising lv text asks (with_hull (hull_of look (moved at (start_of text))) h) ns lo hi fits e r
 noted-rising lv text (marked at gap fewer m s ∷ asks) h ns lo hi fits e r =
     let z = start_of text in
-    let k = with_note gap (lv - fewer) m s (moved at z) h in
     let note : Note = record { mark = m; before = position (moved at z); start = position (moved gap (moved at z)); levels = lv - fewer; state = s; reach = h.reach; least = h.least } in
-    let i = noted-rising lv text asks k (ns ++ note ∷ []) (at + taken_behind m) hi fits (noted-more note h.notes ns e) r.2 in
+    let i = noted-rising lv text asks (with_note gap (lv - fewer) m s (moved at z) h) (ns ++ note ∷ []) (at + taken_behind m) hi fits (noted-more note h.notes ns e) r.2 in
     let before : note.before ≡ width (take at text) = width-moved at text in
     let start : note.start ≡ width (take (at + gap) text) = ap (λ (y : Place). width y.before) (sym (moved-sum at gap z)) ∙ width-moved (at + gap) text in
     let one = take-more lo at text r.0 in
     let two = take-more at (at + gap) text (omega arith) in
     let three = take-all (at + gap) text in
-    let ends = up-ends step direct (at + taken_behind m) hi asks r.2 in
-    let behind = take-behind at (at + taken_behind m) text (omega arith) (omega (arith, ends, fits)) in
+    let behind = take-behind at (at + taken_behind m) text (omega arith) (omega (arith, up-ends step direct (at + taken_behind m) hi asks r.2, fits)) in
     record {
       more = note ∷ i.more;
       is = i.is ∙ ap Some (append_assoc ns (note ∷ []) i.more);
       rising = (omega (arith, one, before), omega (arith, two, before, start), omega (arith, three, start), rising-low note.before (width (take (at + taken_behind m) text)) (width text) i.more (omega (arith, before, behind)) i.rising);
-      spread = (omega (arith, one, before), λ o. start ∙ ap (λ n. width (take n text)) (directly gap (r.1 o)) ∙ sym before, spread-low (note.before + taken_behind m) (width (take (at + taken_behind m) text)) i.more (omega (arith, before, behind)) i.spread);
+      spread = (omega (arith, one, before), λ o. (let same : at + gap ≡ at = omega (arith, r.1 o) in start ∙ ap (λ n. width (take n text)) same ∙ sym before), spread-low (note.before + taken_behind m) (width (take (at + taken_behind m) text)) i.more (omega (arith, before, behind)) i.spread);
     }
-  where
-    directly : (n : ℕ) → n ≡ 0 → at + n ≡ at
-    directly n e = omega (arith, e)
 
 text-rises : (k : CharClasses) (text : List ℕ) → NotedRising text (width (take 0 text)) [] (log k text)
 unfolding log

@@ -17,7 +17,8 @@ use Rattle.typst_grammar.specs.Markup.{markup_run, markup_turn}
 use Rattle.typst_grammar.specs.Grammar.{rules, max_depth, start_of, whole, parsed}
 use Rattle.typst_edits.specs.Edit.{text_with}
 use Rattle.typst_edits.specs.Runs.{made, AllGo, End, asks_of, chain, piece_at, start, lead, pieces, end_at, pieces_from, end_from, rest_from, tail, whole_of, RunLaw, behind_pieces, StartLaw}
-use Rattle.typst_edits.proofs.Edit.{before-same, after-same, same_in-to}
+use Rattle.typst_edits.proofs.Edit.{before-same, after-same}
+use Rattle.typst_edits.proofs.Inside.{same_in-at}
 use Rattle.typst_edits.proofs.Runs.{repeated-chain, made-same, chain-state, chain-taken}
 
 -- A text's reading is that of its pieces and the trivia after them.
@@ -46,9 +47,7 @@ module _ (k : CharClasses) where
   pub split-taken : (i n : ℕ) (z : Place) → (chain (pieces k i z) (chain (pieces_from k i n z) (rest_from k i n z))).taken ≡ ((end_at k i z).taken + (end_from k i n z).taken) + (rest_from k i n z).taken
   split-taken i n z =
       let e = end_at k i z in
-      let a = chain-taken (true, 0) (lead k z).state (pieces k i z) (chain (pieces_from k i n z) (rest_from k i n z)) in
-      let b = chain-taken e.value e.state (pieces_from k i n z) (rest_from k i n z) in
-      omega (arith, a, b)
+      omega (arith, chain-taken (true, 0) (lead k z).state (pieces k i z) (chain (pieces_from k i n z) (rest_from k i n z)), chain-taken e.value e.state (pieces_from k i n z) (rest_from k i n z))
 
   -- The pieces before are the same.
   pub record First (i : ℕ) (z w : Place) : Type 0 where
@@ -89,8 +88,6 @@ run-law k front old new rest i n m past h =
     let r = chain (pieces k i z) (chain (pieces_from k i n z) t) in
     let q = chain (pieces k i w) (chain (pieces_from k i m w) (rest_from k i m w)) in
     let new_first : AllGo (pieces k i w) = subst (λ os. AllGo os) (sym f.pieces_same) h.first_go in
-    let old_is = split-at k i n z h.first_go h.old_go in
-    let new_is = split-at k i m w new_first h.new_go in
     let old_end : (end_at k i z).taken + (end_from k i n z).taken ≡ (length front + length old) + past = h.ends in
     let new_end : (end_at k i w).taken + (end_from k i m w).taken ≡ (length front + length new) + past = h.shifted in
     let old_at = (length front + length old) + past in
@@ -98,10 +95,10 @@ run-law k front old new rest i n m past h =
     let all = after-same _ past old_at new_at front old new rest refl refl h.after in
     let z_end : moved g.taken (moved e.taken z) ≡ moved old_at z = sym (moved-sum e.taken g.taken z) ∙ ap (λ j. moved j z) old_end in
     let w_end : moved c.taken (moved d.taken w) ≡ moved new_at w = sym (moved-sum d.taken c.taken w) ∙ ap (λ j. moved j w) new_end in
-    let rest_is : rest_from k i m w ≡ t = rest-again k g c _ _ h.value h.state (same_in-to t.asks _ _ _ _ z_end w_end (same_in-first t.asks _ _ _ all)) in
+    let rest_is : rest_from k i m w ≡ t = rest-again k g c _ _ h.value h.state (same_in-at t.asks _ _ _ _ z_end w_end (same_in-first t.asks _ _ _ all)) in
     let behind = same_in-shift t.taken _ _ _ (same_in-second t.asks _ _ _ all) in
     let u = tail k (old_at + t.taken) t.state z in
-    let tail_is : tail k (new_at + t.taken) t.state w ≡ u = tail-same k (old_at + t.taken) (new_at + t.taken) t.state z w (same_in-to u.asks _ _ _ _ (moved-sum old_at t.taken z) (moved-sum new_at t.taken w) behind) in
+    let tail_is : tail k (new_at + t.taken) t.state w ≡ u = tail-same k (old_at + t.taken) (new_at + t.taken) t.state z w (same_in-at u.asks _ _ _ _ (moved-sum old_at t.taken z) (moved-sum new_at t.taken w) behind) in
     let r_taken : r.taken ≡ old_at + t.taken = split-taken k i n z ∙ ap (λ j. j + t.taken) old_end in
     let r_state : r.state ≡ t.state = chain-state (pieces k i z) _ ∙ chain-state (pieces_from k i n z) t in
     let q_taken : q.taken ≡ new_at + t.taken = split-taken k i m w ∙ ap (λ j. j + (rest_from k i m w).taken) new_end ∙ ap (λ (o : Outcome (Bool × ℕ)). new_at + o.taken) rest_is in
@@ -111,8 +108,8 @@ run-law k front old new rest i n m past h =
     record {
       first = f.pieces_same;
       lead_same = f.lead_same;
-      was = whole-is k (front ++ (old ++ rest)) ∙ ap (λ o. whole_of (lead k z) o (tail k o.taken o.state z)) old_is;
-      now = whole-is k (front ++ (new ++ rest)) ∙ ap (λ o. whole_of (lead k w) o (tail k o.taken o.state w)) new_is
+      was = whole-is k (front ++ (old ++ rest)) ∙ ap (λ o. whole_of (lead k z) o (tail k o.taken o.state z)) (split-at k i n z h.first_go h.old_go);
+      now = whole-is k (front ++ (new ++ rest)) ∙ ap (λ o. whole_of (lead k w) o (tail k o.taken o.state w)) (split-at k i m w new_first h.new_go)
           ∙ ap (λ b. whole_of (lead k w) q b) (new_tail ∙ sym old_tail)
           ∙ ap (λ os. whole_of (lead k w) (chain os (chain (pieces_from k i m w) (rest_from k i m w))) (tail k r.taken r.state z)) f.pieces_same
           ∙ ap (λ o. whole_of (lead k w) (chain (pieces k i z) (chain (pieces_from k i m w) o)) (tail k r.taken r.state z)) rest_is;
@@ -120,10 +117,8 @@ run-law k front old new rest i n m past h =
 
 pub start-law : StartLaw
 start-law k front old new rest i g before =
-    let z = text_with front old rest in
     let w = text_with front new rest in
-    let f = first-same k i z w (λ l. before-same _ front old new rest (before l)) in
-    let r = chain (pieces k i w) (behind_pieces k i w) in
+    let f = first-same k i (text_with front old rest) w (λ l. before-same _ front old new rest (before l)) in
     let e = repeated-chain (piece_at k) (within k) i (true, 0) w (lead k w).state (subst (λ os. AllGo os) (sym f.pieces_same) g) in
     record {
       first = f.pieces_same;

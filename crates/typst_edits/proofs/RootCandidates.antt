@@ -1,14 +1,13 @@
 -- A candidate among the children at the top of a text's tree begins well.
-use Rattle.std.proofs.Common.{◌≡◌, inl, inr, ℕ, zero, suc, ◌+◌, ◌<◌, ◌≤◌, ◌==◌, ne_eqb, Bool, true, false, ◌&&◌, nat_lt, List, [], ◌∷◌, ◌++◌, length, take, Some, refl, ap, sym, ◌∙◌, subst, arith}
+use Rattle.std.proofs.Common.{◌≡◌, inl, inr, ℕ, zero, suc, ◌+◌, ◌<◌, ◌≤◌, ◌==◌, ne_eqb, Bool, true, false, nat_lt, List, [], ◌++◌, length, take, Some, refl, ap, sym, ◌∙◌, subst, arith}
 use Rattle.typst_lines.specs.Place.{Place, moved}
 use Rattle.typst_lines.specs.Classes.{CharClasses}
 use Rattle.typst_tree.specs.Tree.{Tree, none, trees, bare}
 use Rattle.typst_tokens.specs.Sight.{width}
-use Rattle.typst_language.specs.declared.calls.Note.{Note}
 use Rattle.typst_language.specs.Depth.{is_end}
 use Rattle.typst_language.specs.Meaning.{Outcome}
 use Rattle.typst_language.specs.Point.{Trivia, gap_of, pending}
-use Rattle.typst_candidates.specs.Units.{is_piece, starts, behind_first, top_cuts}
+use Rattle.typst_candidates.specs.Units.{starts, behind_first, top_cuts}
 use Rattle.typst_candidates.specs.Candidates as candidate
 use Rattle.typst_candidates.specs.Candidates.{is_among, Candidate, begins, of_run}
 use Rattle.typst_grammar.specs.Grammar.{max_depth, level_at, start_of, tree, log}
@@ -18,7 +17,7 @@ use Rattle.typst_edits.specs.Edit.{Among, text_with}
 use Rattle.typst_edits.specs.Every.{Every}
 use Rattle.typst_edits.specs.Joint.{text_run, onwards_from}
 use Rattle.typst_edits.specs.Leading.{both, token_byte}
-use Rattle.typst_edits.specs.NumberedNotes.{of_level, Numbered, SaysOf, cut_behind}
+use Rattle.typst_edits.specs.NumberedNotes.{of_level, cut_behind}
 use Rattle.typst_edits.specs.Occurrences.{goes}
 use Rattle.typst_edits.specs.PieceNotes.{listed}
 use Rattle.typst_edits.specs.RootPieces.{StandsAt}
@@ -30,7 +29,7 @@ use Rattle.typst_edits.proofs.CandidateEnds.{Quiet, stretch, Parted, GivesAt, Gi
 use Rattle.typst_edits.proofs.Children.{back-law}
 use Rattle.typst_edits.proofs.Edit.{among}
 use Rattle.typst_edits.proofs.Heads.{text-lone}
-use Rattle.typst_edits.proofs.InnerCuts.{CutOf, starts_of, both-on, both-off, piece-is, behind-are, few-go}
+use Rattle.typst_edits.proofs.InnerCuts.{CutOf, starts-are, behind-are, few-go}
 use Rattle.typst_edits.proofs.Joint.{onwards-is}
 use Rattle.typst_edits.proofs.Leading.{leading-law}
 use Rattle.typst_edits.proofs.MarkupCandidates.{OfStretch, of-run, own-run}
@@ -41,27 +40,9 @@ use Rattle.typst_edits.proofs.QuietTrivia.{text-quiet}
 use Rattle.typst_edits.proofs.Root.{within}
 use Rattle.typst_edits.proofs.RootPieces.{take-past, behind-zero, cut-is}
 use Rattle.typst_edits.proofs.RunTrees.{tree-is}
-use Rattle.typst_edits.proofs.Spots.{if-true, if-false}
 use Rattle.typst_edits.proofs.Widths.{width-append}
 
 -- ---- the cuts of a text's run
-
-starts-are : (text : List ℕ) (e : ℕ → End (Bool × ℕ)) (levels i : ℕ) (ns : List Note) → Numbered (SaysOf text e) i (of_level levels ns) → starts levels ns ≡ starts_of (of_level levels ns)
-starts-are text e levels i [] h = refl
-starts-are text e levels i (n ∷ ns) h = by-level (n.levels == levels) refl (λ j g. starts-are text e levels j ns g)
-  where
-    by-level : (b : Bool) → (n.levels == levels) ≡ b → ((j : ℕ) → Numbered (SaysOf text e) j (of_level levels ns) → starts levels ns ≡ starts_of (of_level levels ns)) → starts levels (n ∷ ns) ≡ starts_of (of_level levels (n ∷ ns))
-    by-level true f next =
-        let own : of_level levels (n ∷ ns) ≡ n ∷ of_level levels ns = if-true (n.levels == levels) _ _ f in
-        let says = subst (Numbered (SaysOf text e) i) own h in
-        if-true (is_piece n.mark && n.levels == levels) _ _ (both-on (is_piece n.mark) (n.levels == levels) (piece-is n.mark _ _ says.0.says.mark) f)
-        ∙ ap (λ us. n.start ∷ us) (next (suc i) says.1)
-        ∙ sym (ap starts_of own)
-    by-level false f next =
-        let other : of_level levels (n ∷ ns) ≡ of_level levels ns = if-false (n.levels == levels) _ _ f in
-        if-false (is_piece n.mark && n.levels == levels) _ _ (both-off (is_piece n.mark) (n.levels == levels) f)
-        ∙ next i (subst (Numbered (SaysOf text e) i) other h)
-        ∙ sym (ap starts_of other)
 
 pub record TopCuts (k : CharClasses) (text : List ℕ) : Type 0 where
   pub count : ℕ
@@ -92,10 +73,7 @@ cuts-of-text k text =
 -- ---- what its pieces give
 
 settles : (k : CharClasses) (text : List ℕ) (i n : ℕ) → (0 < i → 0 < n) → Settles n (onwards_from k i n (start_of text))
-settles k text zero zero some = inr (none-left _ _ (back-law k text 0 0).behind_back (lead-empties k (start_of text)))
-  where
-    none-left : (a b : ℕ) → a ≤ b → b ≡ 0 → a ≡ 0
-    none-left a b h e = omega (arith, h, e)
+settles k text zero zero some = inr (omega (arith, (back-law k text 0 0).behind_back, lead-empties k (start_of text)))
 settles k text zero (suc n) some = inl (omega arith)
 settles k text (suc i) n some = inl (some (omega arith))
 
@@ -115,14 +93,13 @@ module _ (k : CharClasses) (text : List ℕ) (i : ℕ) (g : AllGo (pieces k i (s
   gives-at : (n : ℕ) (t : Trivia) → AllGo (pieces_from k i n z0) → (end_from k i n z0).state.known ≡ Some t → (0 < i → 0 < n) → GivesAt run0 0 kids i n t start0 (token_byte text (both k i n z0))
   gives-at n t h known some =
       let led = leading-law k text i n t g h known (settles k text i n some) in
-      let ends = led.ends in
       record {
         before = standing_before k i n z0;
         back = (onwards_from k i n z0).back;
         behind = led.behind;
         children = led.children;
         few = (back-law k text i n).behind_back;
-        ends = omega (arith, ends);
+        ends = omega (arith, led.ends);
         onwards = ap (λ (o : Outcome (Unit {0})). o.nodes) (sym (onwards-is k i n z0)) ∙ led.onwards;
         first = led.first;
         next = led.next;
@@ -175,8 +152,7 @@ of-the-root k text rs re root c cuts same chosen pieces path =
     let ts = trees was.kids in
     let there : Among c (candidate.candidates ns rs re was) = subst (λ cs. Among c cs) (bare-candidates-law ns rs re root was same) chosen in
     let own = among _ c _ there (own-run ns rs re [] (top_cuts ns) 0 was.head was.kids none) pieces path in
-    let zero_more = head-none k text in
-    let at : 0 + length was.head.text ≡ 0 = omega (arith, zero_more) in
+    let at : 0 + length was.head.text ≡ 0 = omega (arith, head-none k text) in
     of-run rs re [] 0 ts cuts.cuts c (subst (λ run. Among c (of_run rs re [] 0 ts run)) cuts.are (subst (λ b. Among c (of_run rs re [] b ts (top_cuts ns))) at own))
 
 pub root-candidate-law : RootCandidateLaw
@@ -188,8 +164,7 @@ root-candidate-law k front old new rest root c i n m past t u same chosen pieces
     let kids = trees (tree k text).kids in
     let cuts = cuts-of-text k text in
     let o = of-the-root k text rs re root c cuts same chosen pieces path in
-    let wider = width-append front old in
-    let order : rs ≤ re = omega (arith, wider) in
+    let order : rs ≤ re = omega (arith, width-append front old) in
     let s = stretch cuts.cuts 0 kids rs re o.more order in
     let from : c.from ≡ s.from = ap (λ (d : Candidate). d.from) o.is in
     let to : c.to ≡ s.to = ap (λ (d : Candidate). d.to) o.is in

@@ -81,10 +81,7 @@ pub end-place : (from : ℕ) (kids before own behind : List Tree) (to end byte :
     → (b ≡ true → to ≡ length kids) → (b ≡ true → behind ≡ []) → to ≡ length before + length own
 end-place from kids before own behind to end byte false is e stands leads all none = same-place from kids to byte _ (subst (λ x. StandsAt from kids to x) e (stands refl)) (leads refl)
 end-place from kids before own behind to end byte true is e stands leads all none =
-    let long = all refl ∙ ap length is ∙ ap (λ us. length (before ++ (own ++ us))) (none refl) in
-    let one = length-append before (own ++ []) in
-    let two = length-append own [] in
-    omega (arith, long, one, two)
+    omega (arith, all refl ∙ ap length is ∙ ap (λ us. length (before ++ (own ++ us))) (none refl), length-append before (own ++ []), length-append own [])
 
 -- What follows pieces and takes back nothing leaves their nodes.
 pub nodes-left : (o p : Outcome (Unit {0})) (ts : List Tree) → o.back ≡ 0 → less o.back p.nodes ++ ts ≡ p.nodes ++ ts
@@ -109,8 +106,7 @@ module _ (k : CharClasses) (front old new rest : List ℕ) (c : Candidate) (n m 
       let z = text_with front old rest in
       let f = both k i n z in
       let gap : gap_of f.state.known ≡ t.gap = ap gap_of h.known in
-      let ends = behind-zero f.taken t.gap _ h.ends in
-      let sum : f.taken + gap_of f.state.known ≡ (length front + length old) + past = ap (λ g. f.taken + g) gap ∙ ends in
+      let sum : f.taken + gap_of f.state.known ≡ (length front + length old) + past = ap (λ g. f.taken + g) gap ∙ behind-zero f.taken t.gap _ h.ends in
       let byte : c.end ≡ token_byte text f = end ∙ sym (ap width (take-past front old rest past (f.taken + gap_of f.state.known) sum)) in
       end-place 0 (trees (tree k text).kids) (standing_before k i n z) (nodes_with k i n t z) led.behind c.to c.end (token_byte text f) (is_over i n (text_run k z)) led.children byte well.next led.next well.last led.last
 
@@ -129,15 +125,11 @@ root-pieces-law k front old new rest c zero n m past t u path start led end h we
     let back = none-back-law k front old new rest 0 n m past t u joint well.starts in
     let behind = none-behind-law k front old new rest 0 n m past t u joint well.goes_on in
     let kept = children-law k front old new rest 0 n m past t u joint (inr behind.back) (inr behind.back_now) (back.back_now ∙ sym back.back) in
-    let leading = leading-law k text 0 n t h.first_go h.old_go h.known (inr behind.back) in
-    let to = last-place k front old new rest c n m past t u 0 end h well leading in
-    let none = nothing-left (read_from k 0 n z).back [] refl back.back in
-    let up = led.1 in
-    let from : c.from ≡ length (standing_before k 0 n z) = first-is c.from (length (standing_before k 0 n z)) up none in
+    let to = last-place k front old new rest c n m past t u 0 end h well (leading-law k text 0 n t h.first_go h.old_go h.known (inr behind.back)) in
+    let from : c.from ≡ length (standing_before k 0 n z) = first-is c.from (length (standing_before k 0 n z)) led.1 (nothing-left (read_from k 0 n z).back [] refl back.back) in
     let news : nodes_with k 0 m u w ≡ nodes_now (root_run k text) 0 m u w =
     nodes-left (onwards_from k 0 m w) (read_from k 0 m w) u.nodes behind.back_now ∙ sym (drop-none (0 == 0) (trivia_at k 0 w) ((read_from k 0 m w).nodes ++ u.nodes) refl) in
-    let was = tree k text in
-    put-there c [] (length (standing_before k 0 n z)) (length (standing_before k 0 n z) + length (nodes_with k 0 n t z)) _ _ was kept.tree_now news from to path
+    put-there c [] (length (standing_before k 0 n z)) (length (standing_before k 0 n z) + length (nodes_with k 0 n t z)) _ _ (tree k text) kept.tree_now news from to path
 root-pieces-law k front old new rest c (suc j) n m past t u path start led end h well =
     let z = text_with front old rest in
     let w = text_with front new rest in
@@ -159,5 +151,4 @@ root-pieces-law k front old new rest c (suc j) n m past t u path start led end h
     let from : c.from ≡ first + trivia_at k i z = same-place 0 kids c.from (token_byte text (end_at k i z)) (first + trivia_at k i z) there (leading.first (well.starts some).0) in
     let news : drop (trivia_at k i z) (nodes_with k i m u w) ≡ nodes_now (root_run k text) i m u w = ap (λ l. drop l (nodes_with k i m u w)) (sym kept.trivia_same) ∙ ap (drop (trivia_at k i w)) (nodes-left (onwards_from k i m w) (read_from k i m w) u.nodes behind.back_now)
     ∙ sym (drop-some (i == 0) (trivia_at k i w) ((read_from k i m w).nodes ++ u.nodes) more) in
-    let was = tree k text in
-    put-there c [] (first + trivia_at k i z) (first + length (nodes_with k i n t z)) _ _ was kept.tree_now news from to path
+    put-there c [] (first + trivia_at k i z) (first + length (nodes_with k i n t z)) _ _ (tree k text) kept.tree_now news from to path

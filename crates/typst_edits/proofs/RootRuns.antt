@@ -2,7 +2,7 @@
 use Rattle.std.proofs.Common.{◌≡◌, ℕ, ◌+◌, ◌-◌, ◌<◌, ◌≤◌, Bool, true, false, List, [], ◌++◌, length, length-append, append_assoc, take, ap, sym, ◌∙◌, arith}
 use Rattle.typst_lines.specs.Place.{Place, moved}
 use Rattle.typst_lines.specs.Classes.{CharClasses}
-use Rattle.typst_tree.specs.Tree.{Tree, trees, joined}
+use Rattle.typst_tree.specs.Tree.{trees, joined}
 use Rattle.typst_tokens.specs.Sight.{width}
 use Rattle.typst_language.specs.Point.{gap_of}
 use Rattle.typst_language.specs.Meaning.{run}
@@ -34,18 +34,14 @@ run-over : (k : CharClasses) (text : List ℕ) (n : ℕ) → AllGo (pieces k n (
 unfolding run
 run-over k text n g stopped =
     let z = start_of text in
-    let r = text_run k z in
     let e = end_at k n z in
-    turn-over r (text-leads k z) e.value (moved e.taken z) e.state (top-known k n z g) stopped
+    turn-over (text_run k z) (text-leads k z) e.value (moved e.taken z) e.state (top-known k n z g) stopped
 
 -- ---- the bytes of its tokens
 
 module _ (k : CharClasses) (text : List ℕ) (cuts : TopCuts k text) where
   abbrev z : Place
   z = start_of text
-
-  abbrev kids : List Tree
-  kids = trees (tree k text).kids
 
   abbrev byte : ℕ → ℕ
   byte i = token_byte text (end_at k i z)
@@ -58,20 +54,17 @@ module _ (k : CharClasses) (text : List ℕ) (cuts : TopCuts k text) where
 
   rises : (i j : ℕ) → i < j → j ≤ cuts.count → byte i < byte j
   rises i j less few =
-      let more = token-cuts k text i j less (goes-to j few) in
-      let there = ap (λ d. width (take d text)) (cut-token j (end_at k j z) (omega (arith, less))) in
-      omega (arith, more, there)
+      omega (arith, token-cuts k text i j less (goes-to j few), ap (λ d. width (take d text)) (cut-token j (end_at k j z) (omega (arith, less))))
 
   -- where pieces that follow others end
   both-end : (i n j : ℕ) → i + n ≡ j → token_byte text (both k i n z) ≡ byte j
   both-end i n j sum = sym (ap (λ (e : End (Bool × ℕ)). token_byte text e) (end-split-at (text_run k z) i n)) ∙ ap byte sum
 
   -- The last piece ends with the last child.
-  all-bytes : byte cuts.count ≡ 0 + bytes_of kids
+  all-bytes : byte cuts.count ≡ 0 + bytes_of (trees (tree k text).kids)
   all-bytes =
       let s = standing (text_run k z) cuts.count 0 cuts.count (omega arith) cuts.go (λ m g. top-known k m z g) in
-      let p = pieces-parted k text 0 tt cuts.count s.trivia cuts s.go_on s.known in
-      sym (both-end 0 cuts.count cuts.count (omega arith)) ∙ p.last (λ l. absurd (omega (arith, l))) over
+      sym (both-end 0 cuts.count cuts.count (omega arith)) ∙ (pieces-parted k text 0 tt cuts.count s.trivia cuts s.go_on s.known).last (λ l. absurd (omega (arith, l))) over
 
 -- ---- the ends of the children
 
@@ -79,12 +72,7 @@ module _ (k : CharClasses) (text : List ℕ) (cuts : TopCuts k text) where
 pub kids-bytes : (k : CharClasses) (text : List ℕ) → bytes_of (trees (tree k text).kids) ≡ width text
 kids-bytes k text =
     let t = tree k text in
-    let held = ap length (leaves k text) in
-    let long = width-encodes text in
-    let parts = length-append t.head.text (joined t.kids) in
-    let none_more = head-none k text in
-    let side_by_side = ap length (joined-trees t.kids) in
-    omega (arith, held, long, parts, none_more, side_by_side)
+    omega (arith, ap length (leaves k text), width-encodes text, length-append t.head.text (joined t.kids), head-none k text, ap length (joined-trees t.kids))
 
 behind-none : (text : List ℕ) (e : End (Bool × ℕ)) → token_byte text e ≡ width (take (0 + (e.taken + gap_of e.state.known)) text)
 behind-none text e = let same : e.taken + gap_of e.state.known ≡ 0 + (e.taken + gap_of e.state.known) = omega arith in ap (λ d. width (take d text)) same
@@ -102,14 +90,12 @@ root-pieces-of-law k front old rest root c same chosen no_block path =
     let bytes = λ (i : ℕ). token_byte text (end_at k i z) in
     let cuts = cuts-of-text k text in
     let o = of-the-root k text rs re root c cuts same chosen no_block path in
-    let wider = width-append front old in
-    let order : rs ≤ re = omega (arith, wider) in
+    let order : rs ≤ re = omega (arith, width-append front old) in
     let p = picked cuts.cuts 0 kids rs re o.more order bytes cuts.count (λ b h. is-cut text (λ i. end_at k i z) cuts.count b (cuts.each b h)) (rises k text cuts) (all-bytes k text cuts) in
     let i = p.i in
     let n = p.j - i in
     let up_to = p.order in
-    let few = p.few in
-    let s = standing q cuts.count i n (omega (arith, up_to, few)) cuts.go (λ m g. top-known k m z g) in
+    let s = standing q cuts.count i n (omega (arith, up_to, p.few)) cuts.go (λ m g. top-known k m z g) in
     let parted = pieces-parted k text i s.first_go n s.trivia cuts s.go_on s.known in
     let well = begun cuts.cuts 0 kids rs re o.more order q i n (bytes i) (token_byte text (both k i n z)) parted p.led.0 p.start (both-end k text cuts i n p.j (omega (arith, up_to)) ∙ p.end) in
     let held = kids-bytes k text in

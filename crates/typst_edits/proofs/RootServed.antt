@@ -40,14 +40,11 @@ module _ (in_order : InOrderLaw) (k : CharClasses) (front old new rest : List �
   abbrev z : Place
   z = text_with front old rest
 
-  abbrev w : Place
-  w = text_with front new rest
-
   abbrev q : Sequence
   q = text_run k z
 
   abbrev v : Sequence
-  v = text_run k w
+  v = text_run k (text_with front new rest)
 
   -- ---- a candidate
 
@@ -61,8 +58,6 @@ module _ (in_order : InOrderLaw) (k : CharClasses) (front old new rest : List �
         let all = joint-of k front old new rest i n (d + m) past t u h well.goes_on in
         let was = same-end q i n (i + d) left (omega (arith, sum)) in
         let now = same-end v i (d + m) (i + d) m (omega arith) in
-        let taken = now.taken in
-        let shifted = all.shifted in
         record {
           first_go = f.go;
           old_go = f.go_on;
@@ -70,7 +65,7 @@ module _ (in_order : InOrderLaw) (k : CharClasses) (front old new rest : List �
           before = looks;
           ends = behind-zero ((end_at k (i + d) z).taken + (end_from k (i + d) left z).taken) t.gap _ f.ends;
           after = behind;
-          shifted = omega (arith, taken, shifted);
+          shifted = omega (arith, now.taken, all.shifted);
           meets = meets-too q _ _ (then_end i n q) (then_end (i + d) left q) (then_end i (d + m) v) (then_end (i + d) m v) t u was.place was.value was.state now.value now.state all.meets;
         }
 
@@ -79,7 +74,6 @@ module _ (in_order : InOrderLaw) (k : CharClasses) (front old new rest : List �
         → units_of (log k (front ++ (new ++ rest))) ≡ spliced (number_of k text (i + d)) (number_of k text (i + n)) (entries_by first.start (notes_by k (read_from k front old new rest own of.Text max_depth (i + d)) m)) (units_of (log k text))
     units-of-part first d left m u some sum more f looks behind go known h =
         let mid = i + d in
-        let units = units_of (log k text) in
         let joint = joined d left m u first sum f looks behind go h in
         let e = notes in_order k front old new rest r big first mid left past t f in
         let at : mid + left ≡ i + n = omega (arith, sum) in
@@ -87,7 +81,7 @@ module _ (in_order : InOrderLaw) (k : CharClasses) (front old new rest : List �
         let there = read_from k front old new rest own of.Text max_depth mid in
         let part = part-is k front old new rest mid m f.go f.none looks go ∙ ap (λ a. entries_by a (notes_by k there m)) (begins-now k front old new rest own of.Text max_depth 0 (entered in_order k front old new rest r big) first mid left past t f) in
         run-part-law k front old new rest mid left m past t u joint (λ none. absurd (omega (arith, none, some))) (λ none. absurd (omega (arith, none, some))) big big_new e
-        ∙ (λ a. spliced (e.from a) (to a) (part a) units)
+        ∙ (λ a. spliced (e.from a) (to a) (part a) (units_of (log k text)))
 
     candidate-of : Chosen k front old new rest own of.Text max_depth 0 (entered in_order k front old new rest r big) c i n past t
     unfolding entered
@@ -117,7 +111,6 @@ root-served in_order numbers pieces k front old new rest root first c same among
     let r = numbers k (front ++ (old ++ rest)) in
     let p = pieces k front old rest root c same among whole at in
     let p0 = pieces k front old rest root first same among_first whole_first at_first in
-    let e = entered in_order k front old new rest r big in
-    served k front old new rest (root_run k (front ++ (old ++ rest))) of.Text max_depth 0 e root same first c p.i p.n p.past p0.n p0.past p.t p0.t
+    served k front old new rest (root_run k (front ++ (old ++ rest))) of.Text max_depth 0 (entered in_order k front old new rest r big) root same first c p.i p.n p.past p0.n p0.past p.t p0.t
     (candidate-of in_order k front old new rest r big root c same among whole at p.i p.n p.past p.t p.is big_new) f g begun p0.i
     (candidate-of in_order k front old new rest r big root first same among_first whole_first at_first p0.i p0.n p0.past p0.t p0.is big_new) l

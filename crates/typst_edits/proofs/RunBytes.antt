@@ -21,6 +21,8 @@ use Rattle.typst_edits.proofs.Outcomes.{shift-zero, shift-twice}
 use Rattle.typst_edits.proofs.Root.{whole-is, within}
 use Rattle.typst_edits.proofs.Runs.{repeated-chain, chain-state, chain-taken}
 use Rattle.typst_edits.proofs.Within.{AllAt, at-second}
+use Rattle.typst_edits.specs.JointBytes.{asked_past, JointDecisionLaw}
+use Rattle.typst_edits.proofs.Joint.{onwards-fronted}
 
 -- ---- a text
 
@@ -41,13 +43,12 @@ module _ (k : CharClasses) (text : List ℕ) where
       let os = pieces k j z0 in
       let e = end_at k j z0 in
       let r = behind_pieces k j z0 in
-      let q = repeated (piece_at k) (true, 0) z0 (lead k z0).state in
       let c = chain os r in
       let ls = (lead k z0).asks in
       let t = tail k c.taken c.state z0 in
       let taken : c.taken ≡ e.taken + r.taken = chain-taken (true, 0) (lead k z0).state os r in
       let state : c.state ≡ r.state = chain-state os r in
-      let split : q ≡ c = repeated-chain (piece_at k) (within k) j (true, 0) z0 (lead k z0).state g in
+      let split : repeated (piece_at k) (true, 0) z0 (lead k z0).state ≡ c = repeated-chain (piece_at k) (within k) j (true, 0) z0 (lead k z0).state g in
       let late : t ≡ tail k (e.taken + r.taken) r.state z0 = ap (λ n. tail k n c.state z0) taken ∙ ap (λ u. tail k (e.taken + r.taken) u z0) state in
       let last = (tail k (e.taken + r.taken) r.state z0).asks in
       let sum : 0 + (0 + (0 + (c.taken + 0))) ≡ c.taken = omega arith in
@@ -65,25 +66,24 @@ module _ (k : CharClasses) (text : List ℕ) where
       ∙ ap (λ u. first_mark ∷ u) (ap (λ u. u ++ shift (e.taken + r.taken) last) (sym (append_assoc ls (asks_of os) (shift e.taken r.asks))) ∙ append_assoc (ls ++ asks_of os) (shift e.taken r.asks) (shift (e.taken + r.taken) last))
       ∙ ap (λ u. first_mark ∷ ((ls ++ asks_of os) ++ u)) (sym behind)
 
-  -- the note where j pieces end, and what its numbers say
-  pub record NoteAt (j : ℕ) : Type 0 where
-    pub told : PieceNote (log k text) max_depth text (end_at k j z0)
-    pub start : 0 < j → told.note.start ≡ width (take ((end_at k j z0).taken + gap_of (end_at k j z0).state.known) text)
+  -- the note where j pieces end, and what its numbers say of what was asked before it and after it
+  pub record NoteAt (j : ℕ) (e : End (Bool × ℕ)) (behind : List Ask) : Type 0 where
+    pub told : PieceNote (log k text) max_depth text e
+    pub start : 0 < j → told.note.start ≡ width (take (e.taken + gap_of e.state.known) text)
     pub reached : (front more : List ℕ) → text ≡ front ++ more → 0 < j → highest told.earlier told.note.reach ≤ width front → AllEndBy (length front) ((lead k z0).asks ++ asks_of (pieces k j z0))
     pub reached_too : (front more : List ℕ) → text ≡ front ++ more → (0 < j → AllEndBy (length front) ((lead k z0).asks ++ asks_of (pieces k j z0))) → highest told.earlier told.note.reach ≤ width front
-    pub begun : (b : ℕ) → b < lowest told.later (log k text).least → AllFrom b z0 (shift (end_at k j z0).taken (asks_behind j))
-    pub begun_too : (b : ℕ) → 0 < j → b < 2 ^ 64 - 1 → AllFrom b z0 (shift (end_at k j z0).taken (asks_behind j)) → b < lowest told.later (log k text).least
-    pub placed : AllAt (length text) (shift (end_at k j z0).taken (asks_behind j))
+    pub begun : (b : ℕ) → b < lowest told.later (log k text).least → AllFrom b z0 behind
+    pub begun_too : (b : ℕ) → 0 < j → b < 2 ^ 64 - 1 → AllFrom b z0 behind → b < lowest told.later (log k text).least
+    pub placed : AllAt (length text) behind
 
-  pub note-at : (j : ℕ) → AllGo (pieces k j z0) → NoteAt j
+  pub note-at : (j : ℕ) → AllGo (pieces k j z0) → NoteAt j (end_at k j z0) (shift (end_at k j z0).taken (asks_behind j))
   unfolding run
   note-at j g =
       let r = text_run k z0 in
       let e = end_at k j z0 in
       let looks = (lead k z0).asks in
       let behind = shift e.taken (asks_behind j) in
-      let q = behind_pieces k j z0 in
-      let begins = begins-append (looks_in r (moved e.taken z0) e.state) q.asks _ (pieces-begin r e.value (moved e.taken z0) e.state) in
+      let begins = begins-append (looks_in r (moved e.taken z0) e.state) (behind_pieces k j z0).asks _ (pieces-begin r e.value (moved e.taken z0) e.state) in
       let c = boundary r start refl looks j (asks_behind j) g begins in
       let t = told-at k text c.early (c.late ++ behind) e.taken c.gap 0 (mark.Piece e.value.0 e.value.1) (state_of e.state) (whole-asks j g ∙ c.is) in
       let ended = λ (n : ℕ) (l : 0 < j) (h : AllEndBy n c.early).
@@ -106,41 +106,15 @@ module _ (k : CharClasses) (text : List ℕ) where
   abbrev pub both : ℕ → ℕ → End (Bool × ℕ)
   both i n = let f = end_from k i n z0 in record f { taken = (end_at k i z0).taken + f.taken }
 
-  pub record NoteBoth (i n : ℕ) : Type 0 where
-    pub told : PieceNote (log k text) max_depth text (both i n)
-    pub start : 0 < i + n → told.note.start ≡ width (take ((both i n).taken + gap_of (both i n).state.known) text)
-    pub begun : (b : ℕ) → b < lowest told.later (log k text).least → AllFrom b z0 (shift (both i n).taken (onwards_from k i n z0).asks)
-    pub begun_too : (b : ℕ) → 0 < i + n → b < 2 ^ 64 - 1 → AllFrom b z0 (shift (both i n).taken (onwards_from k i n z0).asks) → b < lowest told.later (log k text).least
-    pub placed : AllAt (length text) (shift (both i n).taken (onwards_from k i n z0).asks)
-
-  pub note-both : (i n : ℕ) → AllGo (pieces k i z0) → AllGo (pieces_from k i n z0) → NoteBoth i n
+  pub note-both : (i n : ℕ) → AllGo (pieces k i z0) → AllGo (pieces_from k i n z0) → NoteAt (i + n) (both i n) (shift (both i n).taken (onwards_from k i n z0).asks)
   note-both i n g h =
       let r = text_run k z0 in
-      let two = note-at (i + n) (go-add (piece_at k) (looks_in r) (each-ends r) i n (true, 0) z0 (lead k z0).state g h) in
-      let sum : end_at k (i + n) z0 ≡ both i n = made-add (piece_at k) (looks_in r) (each-ends r) i n (true, 0) z0 (lead k z0).state in
       let u = both i n in
       let rest_by = λ (v : End (Bool × ℕ)). repeated (piece_at k) v.value (moved v.taken z0) v.state in
-      let all_by = λ (v : End (Bool × ℕ)). (let q = rest_by v in shift v.taken (q.asks ++ shift q.taken (tail k (v.taken + q.taken) q.state z0).asks)) in
-      let rest_is : rest_by u ≡ rest_from k i n z0 = ap (λ w. repeated (piece_at k) u.value w u.state) (moved-sum (end_at k i z0).taken (end_from k i n z0).taken z0) in
-      let asks_is : shift (end_at k (i + n) z0).taken (asks_behind (i + n)) ≡ shift u.taken (onwards_from k i n z0).asks =
-      ap all_by sum ∙ ap (λ (q : Outcome (Bool × ℕ)). shift u.taken (q.asks ++ shift q.taken (tail k (u.taken + q.taken) q.state z0).asks)) rest_is in
-      let t = two.told in
-      record {
-        told = record {
-          earlier = t.earlier;
-          note = t.note;
-          later = t.later;
-          notes = t.notes;
-          mark = t.mark ∙ ap (λ (v : End (Bool × ℕ)). mark.Piece v.value.0 v.value.1) sum;
-          before = t.before ∙ ap (λ (v : End (Bool × ℕ)). width (take v.taken text)) sum;
-          levels = t.levels;
-          state = t.state ∙ ap (λ (v : End (Bool × ℕ)). state_of v.state) sum;
-        };
-        start = λ l. two.start l ∙ ap (λ (v : End (Bool × ℕ)). width (take (v.taken + gap_of v.state.known) text)) sum;
-        begun = λ b l. subst (λ ls. AllFrom b z0 ls) asks_is (two.begun b l);
-        begun_too = λ b l big f. two.begun_too b l big (subst (λ ls. AllFrom b z0 ls) (sym asks_is) f);
-        placed = subst (λ ls. AllAt (length text) ls) asks_is two.placed;
-      }
+      let all_by = λ (m : ℕ) (q : Outcome (Bool × ℕ)). shift m (q.asks ++ shift q.taken (tail k (m + q.taken) q.state z0).asks) in
+      subst (λ (q : Outcome (Bool × ℕ)). NoteAt (i + n) u (all_by u.taken q)) (ap (λ w. repeated (piece_at k) u.value w u.state) (moved-sum (end_at k i z0).taken (end_from k i n z0).taken z0))
+      (subst (λ (v : End (Bool × ℕ)). NoteAt (i + n) v (all_by v.taken (rest_by v))) (made-add (piece_at k) (looks_in r) (each-ends r) i n (true, 0) z0 (lead k z0).state)
+      (note-at (i + n) (go-add (piece_at k) (looks_in r) (each-ends r) i n (true, 0) z0 (lead k z0).state g h)))
 
 -- ---- the law
 
@@ -158,6 +132,28 @@ run-decision-law k front old rest i n past g h e =
     record {
       begins = one.told;
       ends = two.told;
+      before = λ l m. one.reached front (old ++ rest) refl l m;
+      before_too = λ m. one.reached_too front (old ++ rest) refl m;
+      after_too = λ l big m. two.begun_too b l big (subst (λ ls. AllFrom b z ls) (sym asks_is) (begin-to front old rest end past asks refl m));
+      after = λ l. begin-by front old rest end past asks refl (subst (λ ls. AllAt (length text) ls) asks_is two.placed) (subst (λ ls. AllFrom b z ls) asks_is (two.begun b l));
+    }
+
+pub joint-decision-law : JointDecisionLaw
+joint-decision-law k front old rest i n past t g h known e =
+    let text = front ++ (old ++ rest) in
+    let z = text_with front old rest in
+    let one = note-at k text i g in
+    let two = note-both k text i n g h in
+    let here = (both k text i n).taken in
+    let b = width (front ++ old) in
+    let end = (length front + length old) + past in
+    let asks = asked_past k i n t z in
+    let asks_is : shift here (onwards_from k i n z).asks ≡ shift end asks = ap (shift here) (onwards-fronted k i n z t known).asks ∙ shift-twice here t.gap asks ∙ ap (λ j. shift j asks) e in
+    record {
+      begins = one.told;
+      ends = two.told;
+      token = one.start;
+      trivia_end = λ l. two.start l ∙ ap (λ v. width (take (here + gap_of v) text)) known;
       before = λ l m. one.reached front (old ++ rest) refl l m;
       before_too = λ m. one.reached_too front (old ++ rest) refl m;
       after_too = λ l big m. two.begun_too b l big (subst (λ ls. AllFrom b z ls) (sym asks_is) (begin-to front old rest end past asks refl m));

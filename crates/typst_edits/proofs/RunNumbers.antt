@@ -1,16 +1,14 @@
 -- The entries of a text's run, by their numbers.
-use Rattle.std.proofs.Common.{◌≡◌, ℕ, zero, suc, ◌+◌, ◌<◌, ◌≤◌, ◌==◌, Bool, true, false, nat_lt, List, [], ◌∷◌, ◌++◌, length, length-append, append-nil, Option, Some, None, refl, ap, sym, ◌∙◌, subst, arith}
+use Rattle.std.proofs.Common.{◌≡◌, ℕ, suc, ◌+◌, ◌≤◌, ◌==◌, Bool, true, false, nat_lt, List, [], ◌∷◌, ◌++◌, length, length-append, append-nil, Option, Some, None, refl, ap, sym, ◌∙◌, subst, arith}
 use Rattle.std.proofs.lemmas.Bool.{eqb-true, eqb-false}
 use Rattle.typst_lines.specs.Place.{moved}
 use Rattle.typst_lines.specs.Classes.{CharClasses}
 use Rattle.typst_language.specs.declared.calls.Note.{Note}
 use Rattle.typst_language.specs.Meaning.{Meaning, hand_of, run}
-use Rattle.typst_language.specs.Sound.{Within}
-use Rattle.typst_language.proofs.Knot.{sane-run}
 use Rattle.typst_language.proofs.Places.{moved-sum}
 use Rattle.typst_candidates.specs.Entries.{entries_by}
 use Rattle.typst_candidates.specs.Records.{IsRising}
-use Rattle.typst_grammar.specs.Markup.{ends, markup_turn}
+use Rattle.typst_grammar.specs.Markup.{ends}
 use Rattle.typst_grammar.specs.Grammar.{max_depth, start_of, log}
 use Rattle.typst_edits.specs.BlockTest.{entries_in}
 use Rattle.typst_edits.specs.Frame.{is_over}
@@ -30,25 +28,16 @@ use Rattle.typst_edits.proofs.FoundPieces.{NoteAt, RunAmong, FoundPieces, says-b
 use Rattle.typst_edits.proofs.InnerCuts.{few-go}
 use Rattle.typst_edits.proofs.Leading.{Leads, text-leads, turn-over}
 use Rattle.typst_edits.proofs.Nested.{nested-law}
-use Rattle.typst_edits.proofs.NoteNumbers.{go-fewer, go-next}
+use Rattle.typst_edits.proofs.NoteNumbers.{less-than, go-fewer, go-next}
 use Rattle.typst_edits.proofs.NumberedNotes.{numbered-run-law}
 use Rattle.typst_edits.proofs.PiecesTest.{counted}
 use Rattle.typst_edits.proofs.Root.{within}
 
 -- ---- where a run is over
 
-pub less-than : (m n : ℕ) → m ≤ n → (m ≡ n → ⊥) → m < n
-less-than zero zero l f = absurd (f refl)
-less-than zero (suc n) l f = omega arith
-less-than (suc m) zero l f = absurd (omega (arith, l))
-less-than (suc m) (suc n) l f = let i = less-than m n (omega (arith, l)) (λ e. f (ap suc e)) in omega (arith, i)
-
 module _ (r : Sequence) (leads : Leads r) where
   abbrev turn : Bool × ℕ → Meaning (Bool × (Bool × ℕ))
   turn x = turn_of r x
-
-  turn-within : (x : Bool × ℕ) → Within (turn x)
-  turn-within x = (sane-run r.level leads.deeper leads.blocks (markup_turn true r.stops x)).within
 
   -- The token after a given number of pieces ends it.
   abbrev ended : ℕ → Bool
@@ -67,12 +56,10 @@ module _ (r : Sequence) (leads : Leads r) where
       by-test : (b : Bool) → (m == count) ≡ b → ended m ≡ b
       by-test true t =
           let e = first_end count r in
-          let there = known-made r.level r.stops count (true, 0) r.place r.point leads.known g in
-          ap ended (eqb-true m count t) ∙ turn-over r leads e.value (moved e.taken r.place) e.state there over
+          ap ended (eqb-true m count t) ∙ turn-over r leads e.value (moved e.taken r.place) e.state (known-made r.level r.stops count (true, 0) r.place r.point leads.known g) over
       by-test false t =
           let e = first_end m r in
-          let less = less-than m count l (eqb-false m count t) in
-          let go = go-next turn m (true, 0) r.place r.point (go-fewer turn (suc m) count (true, 0) r.place r.point (omega (arith, less)) g) in
+          let go = go-next turn m (true, 0) r.place r.point (go-fewer turn (suc m) count (true, 0) r.place r.point (omega (arith, less-than m count l (eqb-false m count t))) g) in
           going-on r.level r.stops e.value (moved e.taken r.place) e.state (first-of _ _ go)
 
   pub over-at : (count i n : ℕ) → AllGo (first_of count r) → (let e = first_end count r in goes (turn e.value (moved e.taken r.place) e.state) ≡ false) → i + n ≤ count → is_over i n r ≡ (i + n == count)
@@ -97,8 +84,7 @@ module _ (ordered : InOrderLaw) (k : CharClasses) (text : List ℕ) where
   -- the note where a given number of pieces end
   note-at : (i : ℕ) → i ≤ n.count → NoteAt max_depth 0 ns i (number_of k text i)
   note-at i l =
-      let all = n.all in
-      let h = nth-note max_depth ns i (omega (arith, l, all)) in
+      let h = nth-note max_depth ns i (omega (arith, l, n.all)) in
       let says = (says-by max_depth ns text (λ j. end_at k j (start_of text)) h.earlier h.note h.later i n.each h.is h.own h.index).says in
       let p : PieceNote (log k text) max_depth text (end_at k i (start_of text)) = record {
         earlier = h.earlier;
@@ -110,8 +96,7 @@ module _ (ordered : InOrderLaw) (k : CharClasses) (text : List ℕ) where
         levels = h.own;
         state = says.state;
       } in
-      let many = (counted k text i (goes-up-to i l) p).0 in
-      record { earlier = h.earlier; note = h.note; later = h.later; is = h.is; own = h.own; index = h.index; all = omega (arith, many) }
+      record { earlier = h.earlier; note = h.note; later = h.later; is = h.is; own = h.own; index = h.index; all = omega (arith, (counted k text i (goes-up-to i l) p).0) }
 
   among : RunAmong max_depth [] ns [] text (λ i. end_at k i (start_of text)) n.count (number_of k text)
   among = record {

@@ -1,5 +1,5 @@
 -- Where a run that is read by itself ends, no more pieces go on.
-use Rattle.std.proofs.Common.{◌≡◌, ℕ, zero, suc, ◌+◌, ◌<◌, ◌≤◌, Bool, true, false, nat_lt, length, sym, ◌∙◌, arith}
+use Rattle.std.proofs.Common.{◌≡◌, ℕ, suc, ◌+◌, ◌<◌, ◌≤◌, Bool, true, false, nat_lt, length, sym, ◌∙◌, arith}
 use Rattle.typst_lines.specs.Place.{moved}
 use Rattle.typst_lines.specs.Classes.{CharClasses}
 use Rattle.typst_language.specs.declared.calls.Block.{Block}
@@ -17,11 +17,7 @@ use Rattle.typst_grammar.specs.Part.{IsOver}
 use Rattle.typst_edits.specs.RunTest.{Reading, read_by, OverLaw}
 use Rattle.typst_edits.proofs.Boundary.{first-of, stopped-is}
 use Rattle.typst_edits.proofs.NoteNumbers.{go-fewer, go-next, turns-within}
-
-no-more : (m j : ℕ) → (m < j → ⊥) → j ≤ m
-no-more m zero f = omega arith
-no-more zero (suc j) f = absurd (f (omega arith))
-no-more (suc m) (suc j) f = let i = no-more m j (λ l. f (omega (arith, l))) in omega (arith, i)
+use Rattle.typst_edits.proofs.Every.{not-less}
 
 sane-in : (k : CharClasses) (levels : ℕ) (which : RunKind) (b : Block) → Sane (blocks_in k levels which b)
 sane-in k levels of.Text b = sane-block (rules k) k levels b
@@ -45,17 +41,15 @@ module _ (k : CharClasses) (r : Reading) where
   pub ends-in : (m : ℕ) → (let e = end_on level (stops_of r.which) r.carried m r.place in e.taken + gap_of e.state.known ≤ length r.place.ahead)
   ends-in m =
       let room = (sane-run level (sane-meaning (rules k) k r.levels) (sane-in k r.levels r.which) peek).within r.place (start_point markup_reading) in
-      let most = turns-within turn within m r.carried r.place (first_look level r.place).state in
-      omega (arith, room, most)
+      omega (arith, room, turns-within turn within m r.carried r.place (first_look level r.place).state)
 
   none-behind : (m j : ℕ) → IsOver k r.levels r.which r.carried r.place m → AllGo (read_by k r j) → m < j → ⊥
   none-behind m j over go l =
-      let s = (first_look level r.place).state in
       let e = end_on level (stops_of r.which) r.carried m r.place in
       let o = turn e.value (moved e.taken r.place) e.state in
-      let on = first-of o.value.0 (nat_lt 0 o.taken) (go-next turn m r.carried r.place s (fewer-go (suc m) j l go)) in
+      let on = first-of o.value.0 (nat_lt 0 o.taken) (go-next turn m r.carried r.place (first_look level r.place).state (fewer-go (suc m) j l go)) in
       let stopped : o.value.0 ≡ false = stopped-is level (stops_of r.which) e.value (moved e.taken r.place) e.state over in
       let no : true ≡ false = sym on ∙ stopped in cc
 
 pub over-law : OverLaw
-over-law k r m j over go = no-more m j (none-behind k r m j over go)
+over-law k r m j over go = not-less j m (none-behind k r m j over go)

@@ -1,5 +1,5 @@
 -- The units of a text with an edit inside some pieces of its run.
-use Rattle.std.proofs.Common.{◌≡◌, ◌==◌, ◌&&◌, if◌then◌else◌, inl, inr, ◌⊎◌, ℕ, zero, suc, ◌+◌, ◌-◌, ◌<◌, ◌≤◌, ◌^◌, Bool, true, List, [], ◌∷◌, ◌++◌, length, map, append_assoc, Some, refl, ap, sym, ◌∙◌, subst, arith}
+use Rattle.std.proofs.Common.{◌≡◌, ◌==◌, inl, inr, ◌⊎◌, ℕ, zero, suc, ◌+◌, ◌-◌, ◌<◌, ◌≤◌, ◌^◌, Bool, true, List, [], ◌∷◌, ◌++◌, length, map, append_assoc, Some, refl, ap, sym, ◌∙◌, subst, arith}
 use Rattle.std.proofs.lemmas.List.{map-append}
 use Rattle.typst_kinds.specs.Kinds.{same}
 use Rattle.typst_kinds.specs.declared.kind.SyntaxKind.TheVariants as kind
@@ -48,6 +48,7 @@ use Rattle.typst_edits.proofs.Splice.{take-width}
 use Rattle.typst_edits.proofs.Widths.{width-moved}
 use Rattle.typst_edits.proofs.PieceAsks.{lifted, lifted_note, lifted-none, Cut as AnyCut, cut as cut-any, next-none as next-none-any, side-in, again}
 use Rattle.typst_edits.specs.InnerSplice.{note_at, looks_next, own_of}
+use Rattle.typst_edits.proofs.Bytes.{both-end}
 
 -- ---- lists of asks
 
@@ -85,9 +86,7 @@ noted-first n (looked at seen ∷ ls) ks h = noted-first n ls ks h
 noted-first n (marked at gap fewer m s ∷ ls) ks h = (h.0, noted-first n ls ks h.1)
 
 pub end-marked : (n : ℕ) (ls : List Ask) (p : Noting) → AllEndBy n ls → AllEndBy n (ls ++ noting p ∷ [])
-end-marked n [] p h = tt
-end-marked n (looked at seen ∷ ls) p h = (h.0, end-marked n ls p h.1)
-end-marked n (marked at gap fewer m s ∷ ls) p h = end-marked n ls p h
+end-marked n ls p h = both-end n ls (noting p ∷ []) h tt
 
 bare-second : (ls ks : List Ask) → AllMarks Never (ls ++ ks) → AllMarks Never ks
 bare-second [] ks h = h
@@ -143,12 +142,11 @@ module _ (k : CharClasses) where
 
   abbrev cut_by : (i : ℕ) (z : Place) → AnyCut (text_run k z) start (lead k z).asks i → Cut i z
   cut_by i z c =
-      let ls = (lead k z).asks ++ asks_of (pieces k i z) in
       record {
         first = c.early;
         is = c.is ∙ (λ v. c.early ++ noting (note-is i z v) ∷ looks-are i z v);
         count = c.count;
-        early = λ n h. subst (λ u. AllEndBy n u) (shift-zero c.early) (c.ends n 0 (λ l. subst (λ u. AllEndBy n u) (sym (shift-zero ls)) (h l)));
+        early = λ n h. subst (λ u. AllEndBy n u) (shift-zero c.early) (c.ends n 0 (λ l. subst (λ u. AllEndBy n u) (sym (shift-zero ((lead k z).asks ++ asks_of (pieces k i z)))) (h l)));
       }
 
   pub cut : (i : ℕ) (z : Place) → AllGo (pieces k i z) → Cut i z
@@ -184,14 +182,13 @@ module _ (k : CharClasses) where
       let over : shift e.taken (shift f.taken on) ≡ shift both on = shift-twice e.taken f.taken on in
       let late : lifted 0 0 (shift both looks) ++ shift both on ≡ shift end last =
       ap (λ u. u ++ shift both on) (lifted-none (shift both looks)) ∙ sym (map-append (shift_one both) looks on) ∙ ap (shift both) a.asks ∙ shift-twice both t.gap last ∙ ap (λ d. shift d last) a.ends in
-      let gap = ap gap_of a.known in
       let note : lifted_note 0 0 (note_at r start i) ≡ end_note k i z = (let at : 0 + e.taken ≡ e.taken = omega arith in ap (λ d. record (note_at r start i) { at = d }) at) ∙ note-is i z in
       let own : lifted 0 0 (own_of r ls i n) ≡ own_asks k i n z = lifted-none (own_of r ls i n) ∙ ap (λ u. u ++ shift e.taken (asks_of (pieces_from k i n z))) (looks-are i z) in
       let all : lifted 0 0 (own_of r ls i n) ++ shift both on ≡ all_asks i n z =
       ap (λ u. u ++ shift both on) own ∙ ap (λ u. own_asks k i n z ++ u) (sym over) ∙ append_assoc (next_looks k i z) (shift e.taken (asks_of (pieces_from k i n z))) (shift e.taken (shift f.taken on))
       ∙ ap (λ u. next_looks k i z ++ u) (sym (map-append (shift_one e.taken) (asks_of (pieces_from k i n z)) (shift f.taken on))) in
       subst (λ (x : Noting × List Ask × List Ask). Side max_depth z x.0 x.1 x.2 (entries_at max_depth z end last) (back_at max_depth z end last)) (λ v. (note v, own v, all v))
-      (side-in r start ls max_depth 0 0 z (shift both on) end last i n g late (omega (arith, a.ends, gap)) (λ none. absurd (omega (arith, none, some))))
+      (side-in r start ls max_depth 0 0 z (shift both on) end last i n g late (omega (arith, a.ends, ap gap_of a.known)) (λ none. absurd (omega (arith, none, some))))
 
   -- At the text's start no note follows the first if no piece is read and the run ends.
   side-start : (text : List ℕ) (t : Trivia) (end : ℕ) (last : List Ask) → (let z = start_of text in Tail 0 0 z t end last → AllMarks Never last → AllFrom 0 z (lead k z).asks → AllFrom 0 z (shift end last)

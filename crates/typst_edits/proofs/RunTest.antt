@@ -41,6 +41,7 @@ use Rattle.typst_edits.specs.RunTest.LooksFrom.{nothing}
 use Rattle.typst_edits.specs.Runs.{made, AllGo, End, asks_of, start, lead, piece_at, pieces, end_at, pieces_from, end_from}
 use Rattle.typst_edits.specs.Sequence.{Sequence, turn_of, first_of, first_end, then_of, then_end}
 use Rattle.typst_edits.specs.Splice.{notes_in, token_start, entries_from}
+use Rattle.typst_edits.proofs.Fitting.{tail-none}
 use Rattle.typst_edits.proofs.AnyRun.{entries-listed, AreWithin, found-by, room-by, ReadsFrom, Entered, passes-too, Read, UnitsBy, given-by, begins-now, found}
 use Rattle.typst_edits.proofs.Children.{top-known}
 use Rattle.typst_edits.proofs.Cuts.{cuts-law}
@@ -49,7 +50,7 @@ use Rattle.typst_edits.proofs.NoteNumbers.{turns-within}
 use Rattle.typst_edits.proofs.OneReading.{first-split}
 use Rattle.typst_edits.proofs.Outcomes.{shift-zero}
 use Rattle.typst_edits.proofs.PiecesLog.{pieces-log-law}
-use Rattle.typst_edits.proofs.PiecesTest.{count-pieces, run-entries-law, run-part-law, no-errors-before, rereads, some-path}
+use Rattle.typst_edits.proofs.PiecesTest.{count-pieces, run-entries-law, run-part-law, no-errors-before, rereads}
 use Rattle.typst_edits.proofs.ReadAlone.{first-goes, begun, alike, goes-there}
 use Rattle.typst_edits.proofs.Resumed.{count-law, further}
 use Rattle.typst_edits.proofs.Root.{within}
@@ -65,9 +66,7 @@ ends-within : (k : CharClasses) (text : List ℕ) (i : ℕ) → (let e = end_at 
 unfolding run
 ends-within k text i =
     let z = start_of text in
-    let first = (sane-at (rules k) k max_depth peek).within z start in
-    let most = turns-within (piece_at k) (within k) i (true, 0) z (lead k z).state in
-    omega (arith, first, most)
+    omega (arith, (sane-at (rules k) k max_depth peek).within z start, turns-within (piece_at k) (within k) i (true, 0) z (lead k z).state)
 
 -- More pieces that are read by themselves end further on.
 pub text-further : (k : CharClasses) (m n : ℕ) (x : Bool × ℕ) (y : Place) → m < n → AllGo (read_alone k x n y) → (let e = end_alone k x m y in let f = end_alone k x n y in e.taken + gap_of e.state.known < f.taken + gap_of f.state.known)
@@ -105,16 +104,14 @@ module _ (k : CharClasses) (front old new rest : List ℕ) where
   part-is (suc j) m g alone looks go =
       let i = suc j in
       let b = begun k front old new rest own (rereads k front old new rest) j g (alone (omega arith)) looks in
-      let t = b.trivia in
       let x = (first_end i now).value in
-      let y = moved t.gap (first_place i now) in
       let cut = moved (cut_at own i z) w in
-      let place = moved-sum (first_end i now).taken t.gap w ∙ b.place in
+      let place = moved-sum (first_end i now).taken b.trivia.gap w ∙ b.place in
       entries-listed (token_start w (end_note k i w)) (pieces_log k i m w).notes
       ∙ ap (λ n. entries_by (position (moved n (first_place i now))) (listed (pieces_log k i m w).notes)) (ap gap_of b.known)
       ∙ ap (λ v. entries_by (position v) (listed (pieces_log k i m w).notes)) b.place
-      ∙ ap (λ h. entries_by (position cut) (listed h.notes)) (pieces-log-law k w i m t (omega arith) b.go go b.known b.none)
-      ∙ ap (λ v. entries_by (position cut) (log_at m x y v)) place
+      ∙ ap (λ h. entries_by (position cut) (listed h.notes)) (pieces-log-law k w i m b.trivia (omega arith) b.go go b.known b.none)
+      ∙ ap (λ v. entries_by (position cut) (log_at m x (moved b.trivia.gap (first_place i now)) v)) place
       ∙ ap (λ v. entries_by (position cut) (log_at m x v cut)) b.place
       ∙ ap (λ v. entries_by (position cut) (log_at m v cut cut)) (ap (λ (e : End (Bool × ℕ)). e.value) b.same)
 
@@ -225,13 +222,10 @@ module _ (in_order : InOrderLaw) (k : CharClasses) (front old new rest : List �
     abbrev was_at : Place
     was_at = text_with front old rest
 
-    abbrev now_at : Place
-    now_at = text_with front new rest
-
     -- However it passes, its pieces are these.
-    pub own-pieces : (ts : List Tree) → Gives k front old new rest c ts → ((m : ℕ) × (u : Trivia) × PassesPieces k front old new rest top_run i n m past t u × (ts ≡ nodes_now top_run i m u now_at))
+    pub own-pieces : (ts : List Tree) → Gives k front old new rest c ts → ((m : ℕ) × (u : Trivia) × PassesPieces k front old new rest top_run i n m past t u × (ts ≡ nodes_now top_run i m u (text_with front new rest)))
     own-pieces ts (of_block q far whole too at passes made) = absurd (let no = sym no_block ∙ whole in cc)
-    own-pieces ts (of_pieces (inner q levels a name left) j d m far b u plain at start led end h made) = absurd (some-path (path_of q.hole) 1 (at ∙ at_root))
+    own-pieces ts (of_pieces (inner q levels a name left) j d m far b u plain at start led end h made) = absurd (tail-none (path_of q.hole) 1 (at ∙ at_root))
     own-pieces ts (of_pieces top j d m far b u plain at start led end h made) =
         passes-too k front old new rest top_run of.Text max_depth 0 entered c i n past t (found-by k front old new rest top_run of.Text max_depth c i n past t p) j d far b
         (record { go = h.first_go; go_on = h.old_go; known = h.known; ends = h.ends; start = start; end = end }) (omega arith) m u ts h made
@@ -245,7 +239,7 @@ module _ (in_order : InOrderLaw) (k : CharClasses) (front old new rest : List �
         let well = root-candidate-law k front old new rest root c i n m past t u same among no_block at_root p.start p.led p.end g.passes in
         let joint = joint-of k front old new rest i n m past t u g.passes well.goes_on in
         let over : n ≡ 0 → OverAt k i n was_at = λ none. (let alone = p.empty none in subst (λ j. is_over i j whole ≡ true) (sym none) (subst (λ j. is_over j 0 whole ≡ true) (sym alone.0) alone.1)) in
-        let there = reading_on of.Text max_depth (end_at k i was_at).value (moved (cut_at top_run i was_at) now_at) in
+        let there = reading_on of.Text max_depth (end_at k i was_at).value (moved (cut_at top_run i was_at) (text_with front new rest)) in
         let part = part-is k front old new rest i m p.go p.none g.passes.before g.passes.new_go ∙ ap (λ a. entries_by a (notes_by k there m)) (begins-now k front old new rest top_run of.Text max_depth 0 entered c i n past t p) in
         run-part-law k front old new rest i n m past t u joint (λ none. over (omega (arith, none))) (λ none. stops (is_over i n whole) refl (omega (arith, none)) _ g.passes.agrees) big big_new e
         ∙ (λ a. spliced (e.from a) (to-is c i n past t p a) (part a) (units_of (log k text)))

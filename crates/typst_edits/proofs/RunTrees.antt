@@ -25,10 +25,6 @@ use Rattle.typst_edits.proofs.Runs.{chain-state, chain-taken}
 
 -- ---- nodes
 
-pub hinted-none : (hs : List (List ℕ)) → ◌≡◌ {A = List Tree} (hinted hs []) []
-hinted-none [] = refl
-hinted-none (h ∷ hs) = refl
-
 -- what gives nothing and takes nothing back
 pub standing-still : {A : Type 0} (o : Outcome A) (ts : List Tree) → o.hints ≡ [] → o.back ≡ 0 → o.nodes ≡ [] → standing o ts ≡ ts
 standing-still o ts e f g =

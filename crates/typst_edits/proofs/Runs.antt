@@ -34,8 +34,7 @@ module _ {A : Type 0} (m : A → Meaning (Bool × A)) where
   made-same f zero x z w s h = refl
   made-same f (suc n) x z w s h =
       let o = m x z s in
-      let e = f x z w s (same_in-first o.asks _ z w h) in
-      ap (λ u. u ∷ made m n u.value.1 (moved u.taken w) u.state) e
+      ap (λ u. u ∷ made m n u.value.1 (moved u.taken w) u.state) (f x z w s (same_in-first o.asks _ z w h))
       ∙ ap (λ u. o ∷ u) (made-same f n o.value.1 (moved o.taken z) (moved o.taken w) o.state (same_in-shift o.taken _ z w (same_in-second o.asks _ z w h)))
 
 -- ---- chains

@@ -15,17 +15,10 @@ use Rattle.typst_edits.specs.PieceNotes.{listed}
 use Rattle.typst_edits.specs.RunNumbers.{InnerNumbers}
 use Rattle.typst_edits.specs.Splice.{notes_in}
 use Rattle.typst_edits.specs.Spot.{Spot, unit_at}
-use Rattle.typst_edits.proofs.BlockPlaces.{hole-same, take-same, first_or, but_first}
+use Rattle.typst_edits.proofs.BlockPlaces.{hole-same, split-same, take-same}
 use Rattle.typst_edits.proofs.Bytes.{decision-law}
 use Rattle.typst_edits.proofs.EntryNumbers.{some-number}
 use Rattle.typst_edits.proofs.SpotPlaces.{spot-place}
-
--- what stands after as many nodes
-same-there : {X : Type 0} (xs ys us vs : List X) (a b : X) → length xs ≡ length us → xs ++ a ∷ ys ≡ us ++ b ∷ vs → a ≡ b
-same-there [] ys [] vs a b l e = ap (first_or a) e
-same-there [] ys (u ∷ us) vs a b l e = absurd (omega (arith, l))
-same-there (x ∷ xs) ys [] vs a b l e = absurd (omega (arith, l))
-same-there (x ∷ xs) ys (u ∷ us) vs a b l e = same-there xs ys us vs a b (omega (arith, l)) (ap but_first e)
 
 -- where the bytes of a block's node begin
 pub same-byte : (k : CharClasses) (text : List ℕ) (s r : Spot (Unit {0})) → Among s (blocks_of_text k text) → Among r (blocks_of_text k text) → 0 < (unit_at s (start_of text)).taken → 0 < (unit_at r (start_of text)).taken
@@ -55,12 +48,10 @@ same-home k text s r levels more there too level level_too room room_too v w byt
     let d = decision-law k [] [] text s ((unit_at s (start_of text)).taken + s.at) there (omega (arith, none)) in
     let f = decision-law k [] [] text r ((unit_at r (start_of text)).taken + r.at) too (omega (arith, none)) in
     let opens : v.opens ≡ w.opens = some-number v.opens w.opens (sym v.opening ∙ ap (λ b. opening_of b 0 0 (entries_in k text)) byte ∙ w.opening) in
-    let one = v.before in
-    let two = w.before in
-    let number : notes_in s.before ≡ notes_in r.before = omega (arith, opens, one, two) in
+    let number : notes_in s.before ≡ notes_in r.before = omega (arith, opens, v.before, w.before) in
     let first = d.number in
     let second = f.number in
-    let note : d.opens ≡ f.opens = same-there d.earlier (d.inner ++ d.closes ∷ d.later) f.earlier (f.inner ++ f.closes ∷ f.later) d.opens f.opens (omega (arith, number, first, second)) (ap listed (sym d.notes ∙ f.notes)) in
+    let note : d.opens ≡ f.opens = (split-same d.earlier (d.inner ++ d.closes ∷ d.later) f.earlier (f.inner ++ f.closes ∷ f.later) d.opens f.opens (omega (arith, number, first, second)) (ap listed (sym d.notes ∙ f.notes))).1 in
     let left : suc levels ≡ suc more = sym level ∙ sym d.levels ∙ ap (λ (n : Note). n.levels) note ∙ f.levels ∙ level_too in
     let levels_is : levels ≡ more = omega (arith, left) in
     let at_is : s.at ≡ r.at = take-same s.at r.at text room room_too byte in

@@ -1,6 +1,6 @@
 -- A block's spot at a position among the nodes of an outcome.
 use Rattle.std.proofs.Common.{◌≡◌, ◌⊎◌, inl, inr, ℕ, suc, ◌+◌, ◌-◌, ◌<◌, ◌≤◌, Bool, true, false, ◌&&◌, if◌then◌else◌, nat_le, nat_lt, List, [], ◌∷◌, ◌++◌, length, map, take, drop, length-append, length-take, length-drop, append_assoc, refl, ap, sym, ◌∙◌, subst, arith}
-use Rattle.std.proofs.lemmas.Bool.Decides.{nat_tests}
+use Rattle.std.proofs.lemmas.Bool.{and_left, and_right, le-leb, lt-leb}
 use Rattle.std.specs.List.{flat_map}
 use Rattle.typst_kinds.specs.Kinds.{is_error}
 use Rattle.typst_kinds.specs.Head.{Head, inner_head}
@@ -9,7 +9,7 @@ use Rattle.typst_tree.specs.Tree.{Tree, forest, error_of}
 use Rattle.typst_language.specs.declared.calls.Block.{Block}
 use Rattle.typst_language.specs.declared.calls.Block.TheVariants as block
 use Rattle.typst_language.specs.Meaning.{Outcome, answered, joined, less, plain, reshaped}
-use Rattle.typst_language.specs.Shape.{hinted, Change, is_delimited, is_sign, ends_with, in_parens, on_first, Shape, shaped, after_shape}
+use Rattle.typst_language.specs.Shape.{hinted, Change, is_delimited, is_sign, ends_with, in_parens, Shape, shaped, after_shape}
 use Rattle.typst_language.specs.Shape.Change.{stays, turns_wrong, is_not, renamed, unparened}
 use Rattle.typst_language.specs.Shape.Shape.{keeps, holds, lacks, warns, fails}
 use Rattle.typst_language.proofs.Within.{on_if}
@@ -73,16 +73,8 @@ less-not : (n : ℕ) → n < n → ⊥
 less-not n h = omega (arith, h)
 
 only-between : (head : Head) (b : Block) (left : List Tree) (d : Deep) (right : List Tree) → Open d → has_text head.text ≡ false → in_parens (left ++ stub d (block_head b) ∷ right) ≡ true → OnlyDeep (between_parens head left d right) (length left ∷ path_in d)
-only-between head b [] d right o t e = let f = sign-none 40 _ (stub d (block_head b)) refl (top-bare d b o) in absurd (by-test (is_sign 40 (stub d (block_head b))) f e)
-  where
-    by-test : (a : Bool) → a ≡ false → (a && ends_with 41 right) ≡ true → ⊥
-    by-test true f e = cc
-    by-test false f e = cc
-only-between head b (u ∷ left) d [] o t e = let f = ends-none 41 left (stub d (block_head b)) (sign-none 41 _ (stub d (block_head b)) refl (top-bare d b o)) in absurd (by-test (is_sign 40 u) (ends_with 41 (left ++ stub d (block_head b) ∷ [])) f e)
-  where
-    by-test : (a c : Bool) → c ≡ false → (a && c) ≡ true → ⊥
-    by-test true c f e = cc
-    by-test false c f e = cc
+only-between head b [] d right o t e = let f : true ≡ false = sym e ∙ and_left (is_sign 40 (stub d (block_head b))) (ends_with 41 right) (sign-none 40 _ (stub d (block_head b)) refl (top-bare d b o)) in absurd (cc)
+only-between head b (u ∷ left) d [] o t e = let f : true ≡ false = sym e ∙ and_right (is_sign 40 u) (ends_with 41 (left ++ stub d (block_head b) ∷ [])) (ends-none 41 left (stub d (block_head b)) (sign-none 41 _ (stub d (block_head b)) refl (top-bare d b o))) in absurd (cc)
 only-between head b (u ∷ left) d (v ∷ right) o t e = record { one = _; is = refl; path = refl; passes = (t, o) }
 
 only-deep : (change : Change) (b : Block) (d : Deep) (n : ℕ) → change_by is_ordinary change ≡ true → Stays change n n (path_in d) → Open d → OnlyDeep (changed_deep change (block_head b) d) (path_in d)
@@ -104,10 +96,6 @@ only-deep unparened b (under head left d right) n a s o =
     on_if (λ ds. OnlyDeep ds (length left ∷ path_in d)) t (between_parens head left d right) (under head left d right ∷ [])
     (λ e. only-between head b left d right o.1 (or-second (is_error head.kind) (has_text head.text) o.0) (and-second (is_delimited head.kind) (in_parens (left ++ stub d (block_head b) ∷ right)) e))
     (λ e. record { one = under head left d right; is = refl; path = refl; passes = o })
-
-length-first : (f : Tree → Tree) (ts : List Tree) → length (on_first f ts) ≡ length ts
-length-first f [] = refl
-length-first f (t ∷ ts) = refl
 
 only-change : (change : Change) (b : Block) (left : List Tree) (d : Deep) (right : List Tree) (n i : ℕ) → change_by is_ordinary change ≡ true → i ≡ length left + n → Stays change n i (path_in d) → Open d → Only (change_hole change (block_head b) left d right) (length left) (path_in d)
 only-change change b (t ∷ left) d right n i a e s o = record { one = _; is = refl; first = length-changed change (t ∷ left); path = refl; passes = o }
@@ -145,16 +133,7 @@ sound-kind k a = or-both (is_error k) false a refl
 
 lack-left : (count : ℕ) (error : Tree) (left : List Tree) → count ≤ length left → length (take count left ++ error ∷ drop count left) ≡ suc (length left)
 lack-left count error left l =
-    let e = length-append (take count left) (error ∷ drop count left) in
-    let f = length-take count left in
-    let g = length-drop count left in
-    omega (arith, l, e, f, g)
-
-le-is : (m n : ℕ) → m ≤ n → nat_le m n ≡ true
-le-is m n h = grind (arith, nat_tests)
-
-le-not : (m n : ℕ) → n < m → nat_le m n ≡ false
-le-not m n h = grind (arith, nat_tests)
+    omega (arith, l, length-append (take count left) (error ∷ drop count left), length-take count left, length-drop count left)
 
 only-lack-behind : (count : ℕ) (error : Tree) (head : Head) (kept left : List Tree) (d : Deep) (right : List Tree) → is_hollow head ≡ false → Open d → count ≤ length left
     → Only (in_node head kept (lack_hole count error left d right)) (length kept) (suc (length left) ∷ path_in d)
@@ -162,7 +141,7 @@ only-lack-behind count error head kept left d right e o l =
     let g : Hole = record { left = take count left ++ error ∷ drop count left; deep = d; right = right } in
     let other : Hole = record { left = left; deep = d; right = take (count - suc (length left)) right ++ error ∷ drop (count - suc (length left)) right } in
     only-as (in_node head kept g) (in_node head kept (lack_hole count error left d right)) (length kept) (length kept) (length g.left ∷ path_in d) (suc (length left) ∷ path_in d)
-    (ap (λ (b : Bool). in_node head kept (if b then g else other)) (le-is count (length left) l)) refl (ap (λ n. n ∷ path_in d) (lack-left count error left l)) (only-in head kept g (path_in d) e o refl)
+    (ap (λ (b : Bool). in_node head kept (if b then g else other)) (le-leb count (length left) l)) refl (ap (λ n. n ∷ path_in d) (lack-left count error left l)) (only-in head kept g (path_in d) e o refl)
 
 only-lack-before : (count : ℕ) (error : Tree) (head : Head) (kept left : List Tree) (d : Deep) (right : List Tree) → is_hollow head ≡ false → Open d → length left < count
     → Only (in_node head kept (lack_hole count error left d right)) (length kept) (length left ∷ path_in d)
@@ -170,7 +149,7 @@ only-lack-before count error head kept left d right e o l =
     let g : Hole = record { left = take count left ++ error ∷ drop count left; deep = d; right = right } in
     let other : Hole = record { left = left; deep = d; right = take (count - suc (length left)) right ++ error ∷ drop (count - suc (length left)) right } in
     only-as (in_node head kept other) (in_node head kept (lack_hole count error left d right)) (length kept) (length kept) (length left ∷ path_in d) (length left ∷ path_in d)
-    (ap (λ (b : Bool). in_node head kept (if b then g else other)) (le-not count (length left) l)) refl refl (only-in head kept other (path_in d) e o refl)
+    (ap (λ (b : Bool). in_node head kept (if b then g else other)) (lt-leb count (length left) l)) refl refl (only-in head kept other (path_in d) e o refl)
 
 -- ---- a spot at a position
 
@@ -219,11 +198,9 @@ pub after-sits : {A B : Type 0} (o : Outcome B) (p : Outcome A) (i j : ℕ) (q :
 after-sits o p i j q c e s =
     let before = hinted p.hints (less p.back o.nodes) in
     let same : hinted c.hints (less c.back o.nodes) ≡ before = ap (λ u. hinted u (less c.back o.nodes)) s.hints ∙ ap (λ n. hinted p.hints (less n o.nodes)) s.back in
-    let l = length-append before c.hole.left in
-    let f = s.first in
-    let at : length before + length c.hole.left ≡ j = omega (arith, e, f) in
+    let at : length before + length c.hole.left ≡ j = omega (arith, e, s.first) in
     record {
-      first = ap (λ u. length (u ++ c.hole.left)) same ∙ l ∙ at;
+      first = ap (λ u. length (u ++ c.hole.left)) same ∙ length-append before c.hole.left ∙ at;
       path = s.path;
       value = s.value;
       back = ap (λ n. o.back + (n - length o.nodes)) s.back;
@@ -284,7 +261,7 @@ module _ {A : Type 0} (n : ℕ) (o : Outcome A) where
       let past = wrap_past shape (k - suc (length c.hole.left)) c.hole in
       record {
         one = past;
-        is = ap (λ (b : Bool). if b then wrap_in shape (block_head c.name) (take k c.hole.left) (drop k c.hole.left) c.hole.deep c.hole.right else past ∷ []) (le-not k (length c.hole.left) (omega (arith, l, f, e)));
+        is = ap (λ (b : Bool). if b then wrap_in shape (block_head c.name) (take k c.hole.left) (drop k c.hole.left) c.hole.deep c.hole.right else past ∷ []) (lt-leb k (length c.hole.left) (omega (arith, l, f, e)));
         first = f;
         path = s.path;
         passes = s.passes;
@@ -299,16 +276,12 @@ module _ {A : Type 0} (n : ℕ) (o : Outcome A) where
 
   behind-of : (i : ℕ) (q : List ℕ) (c : Spot A) → n + o.back ≤ i → Sits o i q c → Behind i c
   behind-of i q c l s =
-      let f = s.first in
-      let e = s.back in
       let w = sits-long o i q c s in
-      let x = length-take (n + c.back) c.hole.left in
       let y = length-take (n + o.back) o.nodes in
-      let v = length-drop (n + c.back) c.hole.left in
       record {
-        is = le-is (n + c.back) (length c.hole.left) (omega (arith, l, f, e));
-        kept = omega (arith, l, f, e, w, x, y);
-        left = omega (arith, l, f, e, v);
+        is = le-leb (n + c.back) (length c.hole.left) (omega (arith, l, s.first, s.back));
+        kept = omega (arith, l, s.first, s.back, w, length-take (n + c.back) c.hole.left, y);
+        left = omega (arith, l, s.first, s.back, length-drop (n + c.back) c.hole.left);
         all = omega (arith, l, w, y);
       }
 
@@ -327,41 +300,35 @@ module _ {A : Type 0} (n : ℕ) (o : Outcome A) where
   goes-keeps : (change : Change) (i j : ℕ) (q : List ℕ) → change_by is_ordinary change ≡ true → n + o.back ≤ i → i + length (take (n + o.back) o.nodes) ≡ j + (n + o.back) → Stays change (n + o.back) i q → Goes (keeps change) n o i j q q
   goes-keeps change i j q a l e st c s =
       let b = behind-of i q c l s in
-      let x = b.kept in
-      let y = b.left in
-      goes-in (keeps change) i j q c b _ (path_in c.hole.deep) (omega (arith, e, x, y)) s.path
+      goes-in (keeps change) i j q c b _ (path_in c.hole.deep) (omega (arith, e, b.kept, b.left)) s.path
       (only-behind (take (n + c.back) c.hole.left) _ (length (drop (n + c.back) c.hole.left)) (path_in c.hole.deep) (changed-hole change i q c a l st s))
 
   goes-holds : (change : Change) (k : SyntaxKind) (i j : ℕ) (q : List ℕ) → change_by is_ordinary change ≡ true → is_error k ≡ false → n + o.back ≤ i → i ≡ j + (n + o.back) → Stays change (n + o.back) i q
       → Goes (holds change k) n o i (length (take (n + o.back) o.nodes)) q (j ∷ q)
   goes-holds change k i j q a ak l e st c s =
       let b = behind-of i q c l s in
-      let y = b.left in
-      let at : length (drop (n + c.back) c.hole.left) ≡ j = omega (arith, e, y) in
+      let at : length (drop (n + c.back) c.hole.left) ≡ j = omega (arith, e, b.left) in
       goes-in (holds change k) i _ (j ∷ q) c b _ (length (drop (n + c.back) c.hole.left) ∷ path_in c.hole.deep) b.kept (ap (λ m. m ∷ path_in c.hole.deep) at ∙ ap (λ r. j ∷ r) s.path)
       (only-nodes (inner_head k) (take (n + c.back) c.hole.left) _ (length (drop (n + c.back) c.hole.left)) (path_in c.hole.deep) (sound-kind k ak) (changed-hole change i q c a l st s))
 
   goes-before : (count : ℕ) (message : List ℕ) (k : SyntaxKind) (i j : ℕ) (q : List ℕ) → is_error k ≡ false → n + o.back ≤ i → i ≡ j + (n + o.back) → j < count → Goes (lacks count message k) n o i (length (take (n + o.back) o.nodes)) q (j ∷ q)
   goes-before count message k i j q ak l e few c s =
       let b = behind-of i q c l s in
-      let y = b.left in
-      let at : length (drop (n + c.back) c.hole.left) ≡ j = omega (arith, e, y) in
+      let at : length (drop (n + c.back) c.hole.left) ≡ j = omega (arith, e, b.left) in
       goes-in (lacks count message k) i _ (j ∷ q) c b _ (length (drop (n + c.back) c.hole.left) ∷ path_in c.hole.deep) b.kept (ap (λ m. m ∷ path_in c.hole.deep) at ∙ ap (λ r. j ∷ r) s.path)
       (only-lack-before count (error_of message []) (inner_head k) (take (n + c.back) c.hole.left) (drop (n + c.back) c.hole.left) c.hole.deep c.hole.right (sound-kind k ak) s.passes (omega (arith, at, few)))
 
   goes-behind : (count : ℕ) (message : List ℕ) (k : SyntaxKind) (i j : ℕ) (q : List ℕ) → is_error k ≡ false → n + o.back ≤ i → suc i ≡ j + (n + o.back) → count < j → Goes (lacks count message k) n o i (length (take (n + o.back) o.nodes)) q (j ∷ q)
   goes-behind count message k i j q ak l e more c s =
       let b = behind-of i q c l s in
-      let y = b.left in
-      let at : suc (length (drop (n + c.back) c.hole.left)) ≡ j = omega (arith, e, y) in
+      let at : suc (length (drop (n + c.back) c.hole.left)) ≡ j = omega (arith, e, b.left) in
       goes-in (lacks count message k) i _ (j ∷ q) c b _ (suc (length (drop (n + c.back) c.hole.left)) ∷ path_in c.hole.deep) b.kept (ap (λ m. m ∷ path_in c.hole.deep) at ∙ ap (λ r. j ∷ r) s.path)
       (only-lack-behind count (error_of message []) (inner_head k) (take (n + c.back) c.hole.left) (drop (n + c.back) c.hole.left) c.hole.deep c.hole.right (sound-kind k ak) s.passes (omega (arith, at, more)))
 
   goes-warns : (k : SyntaxKind) (message hint : List ℕ) (i j : ℕ) (q : List ℕ) → is_error k ≡ false → n + o.back ≤ i → i ≡ j + (n + o.back) → Goes (warns k message hint) n o i (length (take (n + o.back) o.nodes)) q (j ∷ q)
   goes-warns k message hint i j q ak l e c s =
       let b = behind-of i q c l s in
-      let y = b.left in
-      let at : length (drop (n + c.back) c.hole.left) ≡ j = omega (arith, e, y) in
+      let at : length (drop (n + c.back) c.hole.left) ≡ j = omega (arith, e, b.left) in
       goes-in (warns k message hint) i _ (j ∷ q) c b _ (length (drop (n + c.back) c.hole.left) ∷ path_in c.hole.deep) b.kept (ap (λ m. m ∷ path_in c.hole.deep) at ∙ ap (λ r. j ∷ r) s.path)
       (only-in (warned_head k message hint) (take (n + c.back) c.hole.left) (record { left = drop (n + c.back) c.hole.left; deep = c.hole.deep; right = c.hole.right }) (path_in c.hole.deep) (sound-kind k ak) s.passes refl)
 

@@ -1,5 +1,6 @@
 -- Where a block within a reading that was given up stands: the nodes before its own hold the characters before it.
 use Rattle.std.proofs.Common.{◌≡◌, ℕ, zero, suc, ◌<◌, false, List, [], ◌∷◌, ◌++◌, length, append-nil, take, length-append, None, refl, ap, sym, ◌∙◌, subst, arith}
+use Rattle.std.proofs.lemmas.List.{nil_from_length}
 use Rattle.typst_lines.specs.Place.{Place, moved}
 use Rattle.typst_tree.specs.Tree.{Tree, text_of}
 use Rattle.typst_tokens.specs.Sight.{width}
@@ -70,16 +71,9 @@ last-empty : (ts : List Tree) → texts ts ≡ [] → length (text_of (last_node
 last-empty [] e = refl
 last-empty (t ∷ []) e = ap length (sym (texts-one t) ∙ e)
 last-empty (t ∷ u ∷ ts) e =
-    let a = ap length (texts-append (t ∷ []) (u ∷ ts)) in
-    let b = length-append (texts (t ∷ [])) (texts (u ∷ ts)) in
-    let f = ap length e in
     let nothing : List ℕ = [] in
     let g : length nothing ≡ 0 = omega arith in
-    last-empty (u ∷ ts) (none-by (texts (u ∷ ts)) (omega (arith, a, b, f, g)))
-  where
-    none-by : (xs : List ℕ) → length xs ≡ 0 → xs ≡ []
-    none-by [] e = refl
-    none-by (x ∷ xs) e = absurd (omega (arith, e))
+    last-empty (u ∷ ts) (nil_from_length (texts (u ∷ ts)) (omega (arith, ap length (texts-append (t ∷ []) (u ∷ ts)), length-append (texts (t ∷ [])) (texts (u ∷ ts)), ap length e, g)))
 
 module _ (k : CharClasses) where
   one-block : (levels : ℕ) (b : Block) → GivesOne k (block_at k levels b)

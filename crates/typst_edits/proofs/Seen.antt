@@ -1,10 +1,8 @@
 -- Whatever is taken was looked at, and the token of each note before the note: they end where the looks end, or before.
-use Rattle.std.proofs.Common.{◌≡◌, ℕ, zero, suc, ◌+◌, ◌-◌, ◌≤◌, Bool, true, false, ◌&&◌, if◌then◌else◌, nat_lt, List, [], ◌∷◌, ◌++◌, length, Option, Some, None, refl, arith}
+use Rattle.std.proofs.Common.{◌≡◌, ℕ, zero, suc, ◌+◌, ◌-◌, ◌≤◌, Bool, true, false, ◌&&◌, if◌then◌else◌, nat_lt, List, [], ◌∷◌, ◌++◌, length, Option, Some, None, ap, arith}
 use Rattle.typst_kinds.specs.declared.mode.SyntaxMode.{SyntaxMode}
-use Rattle.typst_kinds.specs.Kinds.{is_error}
 use Rattle.typst_lines.specs.Place.{Place, moved}
 use Rattle.typst_lines.specs.Classes.{CharClasses}
-use Rattle.typst_tree.specs.Tree.{Tree}
 use Rattle.typst_tokens.specs.Reader.{look}
 use Rattle.typst_language.specs.declared.calls.Block.{Block}
 use Rattle.typst_language.specs.Calls.{Call}
@@ -14,26 +12,22 @@ use Rattle.typst_language.specs.Ask.Ask.{looked, marked}
 use Rattle.typst_language.specs.Hand.{Ahead, len_at, len_by, at_trivia, ahead_by, asks_by, ahead_asks, ahead, hand_at, hand_asks}
 use Rattle.typst_language.specs.Knot.{Rules, meaning_of, level_of, blocks_of}
 use Rattle.typst_language.specs.Point.{Trivia, Point, gap_of, forgot}
-use Rattle.typst_language.specs.Shape.{Shape, after_node, after_shape}
-use Rattle.typst_language.specs.Shape.Shape.{keeps, holds, lacks, warns, fails}
+use Rattle.typst_language.specs.Shape.{Shape}
 use Rattle.typst_language.specs.Steps.{peek}
 use Rattle.typst_language.specs.Tokens.{token}
 use Rattle.typst_language.specs.Syntax.{Op, Begin, Parser, ◌>>◌}
 use Rattle.typst_language.specs.Syntax.Op.{hand, so, further, column, erred, takes, takes_so, flushes, complains, advises, marks, is_deepest}
 use Rattle.typst_language.specs.Syntax.Parser.{gives, does, next, pick, repeat, wraps, grows, nests, scoped, either, calls, block}
-use Rattle.typst_language.specs.Meaning.{Outcome, Meaning, Level, plain, joined, answered, turns, as_last, bound, repeated, before, inside, reshaped, grown, is_more, growths, growing, nestings, nesting, deeper_by_one, given_up, bounded, blockless, entered, left, left_to, same_mode, hand_of, hand_asks_of, reader_so, done, run}
+use Rattle.typst_language.specs.Meaning.{Outcome, Meaning, Level, plain, joined, answered, turns, as_last, bound, repeated, before, inside, reshaped, grown, is_more, growths, growing, nestings, nesting, deeper_by_one, given_up, bounded, blockless, entered, left_to, same_mode, hand_of, hand_asks_of, reader_so, done, run}
 use Rattle.typst_language.proofs.Looks.{len-covers}
 use Rattle.typst_language.proofs.Within.{on_both, grew}
+use Rattle.typst_language.proofs.Runs.{shape-known}
 use Rattle.typst_edits.specs.Edit.{AllEndBy}
 use Rattle.typst_edits.specs.Splice.{AllNotedBy}
 use Rattle.typst_edits.proofs.Marks.{AllMarks, none-hand}
+pub use Rattle.typst_edits.proofs.Bytes.{end-first}
 
 -- ---- lists of asks
-
-pub end-first : (n : ℕ) (ls ks : List Ask) → AllEndBy n (ls ++ ks) → AllEndBy n ls
-end-first n [] ks h = tt
-end-first n (looked at look ∷ ls) ks h = (h.0, end-first n ls ks h.1)
-end-first n (marked at gap fewer m s ∷ ls) ks h = end-first n ls ks h
 
 pub end-second : (n : ℕ) (ls ks : List Ask) → AllEndBy n (ls ++ ks) → AllEndBy n ks
 end-second n [] ks h = h
@@ -136,8 +130,7 @@ joined-notes n o p l k =
 joined-ends : {A B : Type 0} (n : ℕ) (o : Outcome B) (p : Outcome A) → o.taken + gap_of o.state.known ≤ n → ((m : ℕ) → gap_of o.state.known ≤ m → Seen m p) → AllEndBy n (shift o.taken p.asks) → (joined o p).taken + gap_of p.state.known ≤ n
 joined-ends n o p l k e =
     let m = n - o.taken in
-    let later = (k m (omega (arith, l))).ends (end-shift o.taken m n p.asks (omega arith) e) in
-    omega (arith, l, later)
+    omega (arith, l, (k m (omega (arith, l))).ends (end-shift o.taken m n p.asks (omega arith) e))
 
 seen-joined : {A B : Type 0} (n : ℕ) (o : Outcome B) (p : Outcome A) → Seen n o → ((m : ℕ) → gap_of o.state.known ≤ m → Seen m p) → Seen n (joined o p)
 seen-joined n o p a k = record {
@@ -155,28 +148,8 @@ sees-turns m h (suc i) x z s n g =
     let p = turns m i o.value.1 (moved o.taken z) o.state in
     on_both (Seen n) (o.value.0 && nat_lt 0 o.taken) (joined o p) (as_last o) (seen-joined n o p (h x z s n g) (sees-turns m h i o.value.1 (moved o.taken z) o.state)) (seen-last n o (h x z s n g))
 
-node-gap : (b : Bool) (text : List ℕ) (s : Point) → gap_of (after_node b text s).known ≡ gap_of s.known
-node-gap true text s = refl
-node-gap false text s = refl
-
-change-gap : (b : Bool) (c : Bool) (text : List ℕ) (s : Point) → gap_of (if b then s else after_node c text s).known ≡ gap_of s.known
-change-gap true c text s = refl
-change-gap false c text s = node-gap c text s
-
-shape-gap : (shape : Shape) (ts : List Tree) (s : Point) → gap_of (after_shape shape ts s).known ≡ gap_of s.known
-shape-gap (keeps change) [] s = refl
-shape-gap (keeps change) (t ∷ []) s = change-gap (is_error t.head.kind) _ _ s
-shape-gap (keeps change) (t ∷ u ∷ ts) s = refl
-shape-gap (holds change kind) ts s = refl
-shape-gap (lacks count message kind) ts s = refl
-shape-gap (warns kind message hint) ts s = refl
-shape-gap (fails message) ts s = refl
-
 seen-reshaped : {A : Type 0} (n : ℕ) (shape : Shape) (i : ℕ) (o : Outcome A) → Seen n o → Seen n (reshaped shape i o)
-seen-reshaped n shape i o a = record { noted = a.noted; ends = λ e. shape-ends (a.ends e) }
-  where
-    shape-ends : o.taken + gap_of o.state.known ≤ n → o.taken + gap_of (after_shape shape (inside i o) o.state).known ≤ n
-    shape-ends l = omega (arith, l, shape-gap shape (inside i o) o.state)
+seen-reshaped n shape i o a = record { noted = a.noted; ends = λ e. omega (arith, a.ends e, ap gap_of (shape-known shape (inside i o) o.state)) }
 
 seen-grown : {A : Type 0} (n i : ℕ) (shape : Option Shape) (o : Outcome A) → Seen n o → Seen n (grown i shape o)
 seen-grown n i None o h = h
@@ -202,10 +175,7 @@ sees-nestings f begin m h (suc i) x z s n g =
     (on_both (Seen n) b (joined o p) (as_last o) (seen-joined n o p (h x z s n g) (sees-nestings f begin m h i o.value.1 (moved o.taken z) o.state)) (seen-last n o (h x z s n g)))
 
 seen-left : {A : Type 0} (n : ℕ) (outer : Reading) (o : Outcome A) → Seen n o → Seen n (left_to outer o)
-seen-left n outer o a = record { noted = a.noted; ends = λ e. left-ends (a.ends e) }
-  where
-    left-ends : o.taken + gap_of o.state.known ≤ n → o.taken + gap_of (left outer o.state).known ≤ n
-    left-ends l = on_both (λ (t : Point). o.taken + gap_of t.known ≤ n) (same_mode o.state.reading.mode outer.mode) _ _ l (omega (arith, l))
+seen-left n outer o a = record { noted = a.noted; ends = λ e. (let l = a.ends e in on_both (λ (t : Point). o.taken + gap_of t.known ≤ n) (same_mode o.state.reading.mode outer.mode) _ _ l (omega (arith, l))) }
 
 seen-given-up : {A : Type 0} (n : ℕ) (o p : Outcome A) → Seen n p → Seen n (given_up o p)
 seen-given-up n o p a = record { noted = seen-only n (o.asks ++ p.asks); ends = λ e. a.ends (end-second n o.asks p.asks (end-only n (o.asks ++ p.asks) e)) }

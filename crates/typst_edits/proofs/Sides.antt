@@ -173,12 +173,10 @@ side-open lv z p own all at last none all_is begins =
 pub side-none : (lv : ℕ) (z : Place) (p : Noting) (own all : List Ask) → AllMarks Never own → AllMarks Never all → AllFrom 0 z all → token_start z p ≡ 0 → Side lv z p own all [] 0
 side-none lv z p own all bare none begun begins =
     let tp = token_start z p in
-    let own_notes = notes-none lv z own 0 none_yet bare in
     let all_notes = notes-none lv z all 0 none_yet none in
-    let least = least-over lv 0 z all none_yet (omega arith) (omega arith) begun in
-    let back : back_of 0 (least_from lv z none_yet all) ≡ 0 = omega (arith, least) in
+    let back : back_of 0 (least_from lv z none_yet all) ≡ 0 = omega (arith, least-over lv 0 z all none_yet (omega arith) (omega arith) begun) in
     record {
-      entries = ap (entries_by tp) all_notes ∙ ap (λ u. entries_by tp u ++ []) (sym own_notes);
+      entries = ap (entries_by tp) all_notes ∙ ap (λ u. entries_by tp u ++ []) (sym (notes-none lv z own 0 none_yet bare));
       ends = ap (λ u. back_of (last_start tp u) (least_from lv z none_yet all)) all_notes ∙ ap (λ n. back_of n (least_from lv z none_yet all)) begins ∙ back;
     }
 
@@ -248,8 +246,7 @@ pub last-at : (lv : ℕ) (z : Place) (at : ℕ) (look : Look) (last : List Ask) 
 last-at lv z at look last none each fits =
     let here = position (moved at z) in
     let notes = notes-none lv z (shift at last) 0 none_yet (bare-shift at last (each-bare look last each)) in
-    let least = least-over lv here z (shift at last) none_yet fits fits (each-from at look z last none each) in
-    let back : back_of here (least_from lv z none_yet (shift at last)) ≡ 0 = omega (arith, least) in
+    let back : back_of here (least_from lv z none_yet (shift at last)) ≡ 0 = omega (arith, least-over lv here z (shift at last) none_yet fits fits (each-from at look z last none each)) in
     record {
       entries = ap (entries_by here) notes;
       back = ap (λ ns. back_of (last_start here ns) (least_from lv z none_yet (shift at last))) notes ∙ back;

@@ -12,7 +12,7 @@ use Rattle.typst_language.specs.declared.reading.State.{State}
 use Rattle.typst_language.specs.Ask.{Ask, shift}
 use Rattle.typst_language.specs.Ask.Ask.{looked, marked}
 use Rattle.typst_language.specs.Log.{no_log, logged}
-use Rattle.typst_language.proofs.Places.{moved-sum}
+use Rattle.typst_language.proofs.Places.{moved-sum, moved-ahead}
 use Rattle.typst_edits.specs.Edit.{text_with, AllEndBy, AllBeginIn}
 use Rattle.typst_edits.specs.Splice.{Noting, noting, notes_in, AllNotedBy, token_start, entries_from, SpliceLaw}
 use Rattle.typst_edits.proofs.Edit.{onto, past-is}
@@ -139,11 +139,6 @@ front-same lv front xs ys (marked at gap fewer m s ∷ asks) p reach least h g e
 
 -- ---- after the stretch
 
-ahead-is : (d : ℕ) (b a : List ℕ) → (moved_from d b a).ahead ≡ drop d a
-ahead-is zero b a = refl
-ahead-is (suc d) b [] = refl
-ahead-is (suc d) b (c ∷ a) = ahead-is d (c ∷ b) a
-
 passed-is : (d : ℕ) (b a : List ℕ) → (moved_from d b a).before ≡ onto (take d a) b
 passed-is zero b a = refl
 passed-is (suc d) b [] = refl
@@ -170,20 +165,17 @@ position-behind d early rest = omega (arith, moved-width d early rest)
 
 far-behind : (n d : ℕ) (early rest : List ℕ) → far n (moved d (record { before = early; ahead = rest })) ≡ width early + (width (take d rest) + stretch n (drop d rest))
 unfolding far position
-far-behind n d early rest = let a = ap (stretch n) (ahead-is d early rest) in omega (arith, a, moved-width d early rest)
+far-behind n d early rest = let a = ap (stretch n) (moved-ahead d (record { before = early; ahead = rest })) in omega (arith, a, moved-width d early rest)
 
 near-behind : (n d : ℕ) (early rest : List ℕ) → n ≤ d → d ≤ length rest → near n (moved d (record { before = early; ahead = rest })) ≡ width early + (suc (width (take d rest)) - stretch n (onto (take d rest) []))
 unfolding near position
 near-behind n d early rest h k =
     let late = onto (take d rest) [] in
     let all : (moved_from d early rest).before ≡ late ++ early = passed-is d early rest ∙ onto-append (take d rest) early in
-    let long = onto-length d [] rest k in
-    let fits : n ≤ length late = omega (arith, h, long) in
+    let fits : n ≤ length late = omega (arith, h, onto-length d [] rest k) in
     let one : stretch n (moved_from d early rest).before ≡ stretch n late = ap (stretch n) all ∙ stretch-first n late early fits in
-    let least = stretch-to n late [] fits in
-    let two : stretch n late ≤ width late = subst (λ u. stretch n u ≤ width late) (append-nil late) least in
-    let three = width-onto (take d rest) [] in
-    omega (arith, one, two, three, width-none, moved-width d early rest)
+    let two : stretch n late ≤ width late = subst (λ u. stretch n u ≤ width late) (append-nil late) (stretch-to n late [] fits) in
+    omega (arith, one, two, width-onto (take d rest) [], width-none, moved-width d early rest)
 
 -- Looks end and begin as far after the one byte as after the other.
 abbrev pub SameReach : ℕ → ℕ → ℕ → ℕ → Type 0
@@ -195,14 +187,8 @@ SameLeast top e f a b = (x : ℕ) → x ≤ top → suc (e + x) - a ≡ suc (f +
 pub reach-none : (e f : ℕ) → SameReach e f 0 0
 reach-none e f x = omega arith
 
-reach-more : (e f a b n : ℕ) → SameReach e f a b → SameReach e f (max a (e + n)) (max b (f + n))
-reach-more e f a b n h x = let i = h x in omega (arith, i)
-
 pub least-none : (top e f big : ℕ) → e + top < big → f + top < big → SameLeast top e f big big
 least-none top e f big h k x l = omega (arith, h, k, l)
-
-least-more : (top e f a b n : ℕ) → SameLeast top e f a b → SameLeast top e f (min a (e + n)) (min b (f + n))
-least-more top e f a b n h x l = let i = h x l in omega (arith, i)
 
 abbrev entry_with : Tag → ℕ → ℕ → ℕ → ℕ → ℕ → Entry
 entry_with t count step gap forth back = record { tag = t; step = step; gap = gap; forth = forth; back = back; count = count }
@@ -347,18 +333,12 @@ module _ (lv : ℕ) (z : Place) (first second last : List Ask) (p q : Noting) wh
       ∙ ap (λ es. record { entries = es; back = back_of (last_start 0 (notes_first ++ (notes_second ++ notes_last))) (least_from lv z none_yet last) }) entries
       ∙ ap (λ n. record { entries = entries_by 0 notes_first ++ (entries_by tp notes_second ++ entries_by tq notes_last); back = back_of n (least_from lv z none_yet last) }) ending
 
-take-first : (n : ℕ) (xs ys : List Entry) → length xs ≡ n → take n (xs ++ ys) ≡ xs
-take-first n xs ys e = ap (λ k. take k (xs ++ ys)) (sym e) ∙ take-append_seam xs ys
-
-drop-first : (n : ℕ) (xs ys : List Entry) → length xs ≡ n → drop n (xs ++ ys) ≡ ys
-drop-first n xs ys e = ap (λ k. drop k (xs ++ ys)) (sym e) ∙ drop-append_seam xs ys
-
 -- entries of three parts, of which the second is exchanged
 pub spliced-is : (from to : ℕ) (es fs gs part : List Entry) (back : ℕ) → length es ≡ suc from → length (es ++ fs) ≡ suc to
     → spliced from to part (record { entries = es ++ (fs ++ gs); back = back }) ≡ record { entries = es ++ (part ++ gs); back = back }
 spliced-is from to es fs gs part back e f =
-    let dropped = ap (drop (suc to)) (sym (append_assoc es fs gs)) ∙ drop-first (suc to) (es ++ fs) gs f in
-    ap (λ u. record { entries = u ++ (part ++ drop (suc to) (es ++ (fs ++ gs))); back = back }) (take-first (suc from) es (fs ++ gs) e)
+    let dropped = ap (drop (suc to)) (sym (append_assoc es fs gs)) ∙ ap (λ k. drop k ((es ++ fs) ++ gs)) (sym f) ∙ drop-append_seam (es ++ fs) gs in
+    ap (λ u. record { entries = u ++ (part ++ drop (suc to) (es ++ (fs ++ gs))); back = back }) (ap (λ k. take k (es ++ (fs ++ gs))) (sym e) ∙ take-append_seam es (fs ++ gs))
     ∙ ap (λ u. record { entries = es ++ (part ++ u); back = back }) dropped
 
 pub whole-width : (front mid rest : List ℕ) → width (onto mid (onto front [])) + width rest ≡ width (front ++ (mid ++ rest))
@@ -377,8 +357,6 @@ splice-law lv front old new rest past gap first second third last p q r big big_
     let c = width (onto new (onto front [])) in
     let x = width (take (past + gap) rest) in
     let none_yet = 2 ^ 64 - 1 in
-    let was = units-split lv z first second (shift end last) p q in
-    let now = units-split lv w first third (shift stop last) p r in
     let fits : b + width rest < none_yet = subst (λ n. n < none_yet) (sym (whole-width front old rest)) big in
     let fits_new : c + width rest < none_yet = subst (λ n. n < none_yet) (sym (whole-width front new rest)) big_new in
     let behind = rear lv front old new rest past end stop refl refl last x 0 none_yet 0 none_yet (take-width (past + gap) rest) fits fits_new (reach-none b c) (least-none (width rest) b c none_yet fits fits_new) begins in
@@ -401,10 +379,10 @@ splice-law lv front old new rest past gap first second third last p q r big big_
     let longer : length fs ≡ suc (notes_in second) = entries-length (token_start z p) _ ∙ notes-length lv z second q 0 none_yet in
     let all : length (es ++ fs) ≡ suc to = omega (arith, length-append es fs, long, longer) in
     let part_is : entries_from (token_start w p) (logged lv w no_log (third ++ noting r ∷ [])).notes ≡ ps = ap (entries_from (token_start w p)) (logged-notes lv w (third ++ noting r ∷ []) 0 none_yet []) in
-    now
+    units-split lv w first third (shift stop last) p r
     ∙ ap (λ u. record { entries = u ++ (ps ++ entries_by (token_start w r) ms); back = back_of (last_start (token_start w r) ms) (least_from lv w none_yet (shift stop last)) }) front_is
     ∙ ap (λ u. record { entries = es ++ (ps ++ u); back = back_of (last_start (token_start w r) ms) (least_from lv w none_yet (shift stop last)) }) rest_is
     ∙ ap (λ u. record { entries = es ++ (ps ++ gs); back = u }) back_is
     ∙ sym (spliced-is from to es fs gs ps back long all)
     ∙ ap (λ part. spliced from to part (split_units lv z first second (shift end last) p q)) (sym part_is)
-    ∙ ap (spliced from to (entries_from (token_start w p) (logged lv w no_log (third ++ noting r ∷ [])).notes)) (sym was)
+    ∙ ap (spliced from to (entries_from (token_start w p) (logged lv w no_log (third ++ noting r ∷ [])).notes)) (sym (units-split lv z first second (shift end last) p q))

@@ -48,14 +48,13 @@ pub record SpotPlace (k : CharClasses) (text : List ℕ) (s : Spot (Unit {0})) :
 -- What takes nothing has an empty last node.
 some-taken : (n : ℕ) (z : Place) (ts : List Tree) (t : Tree) → texts (ts ++ t ∷ []) ≡ utf8_ahead n z → 0 < length (text_of t) → 0 < n
 some-taken zero z ts t e h =
-    let a = ap length (texts-append ts (t ∷ [])) in
-    let b = length-append (texts ts) (texts (t ∷ [])) in
-    let d = ap length (texts-one t) in
-    let f = ap length e in
     let nothing : List ℕ = [] in
     let g : length nothing ≡ 0 = omega arith in
-    absurd (omega (arith, a, b, d, f, g, h))
+    absurd (omega (arith, ap length (texts-append ts (t ∷ [])), length-append (texts ts) (texts (t ∷ [])), ap length (texts-one t), ap length e, g, h))
 some-taken (suc n) z ts t e h = omega arith
+
+pub within-is : (a b c : ℕ) → a + b ≤ c → a ≤ c
+within-is a b c h = omega (arith, h)
 
 pub spot-place : (k : CharClasses) (text : List ℕ) (s : Spot (Unit {0})) → Among s (blocks_of_text k text) → SpotPlace k text s
 unfolding blocks_of_text
@@ -80,17 +79,12 @@ spot-place k text c there =
     let left = λ (h : 0 < u.taken). ap length (placed.left ∙ ap (λ ts. utf8_ahead c.at z ++ texts ts) (none h) ∙ append-nil (utf8_ahead c.at z)) ∙ width-encodes (take c.at text) in
     let both : 0 < u.taken → width (take c.at text) + length (text_of c.node) ≡ width (take (c.at + u.taken) text) = λ h.
     (let held = sym (texts-one c.node) ∙ ap (λ ts. texts (ts ++ c.node ∷ [])) (sym (none h)) ∙ all in
-    let a = ap length held in
-    let b = width-encodes (take c.at text) in
-    let d = width-encodes (take (c.at + u.taken) text) in
-    let e = ap length (text-add c.at u.taken z) in
     let f = length-append (utf8_ahead c.at z) (utf8_ahead u.taken y) in
-    omega (arith, a, b, d, e, f)) in
+    omega (arith, ap length held, width-encodes (take c.at text), width-encodes (take (c.at + u.taken) text), ap length (text-add c.at u.taken z), f)) in
     let inside : u.taken ≤ max 0 (length y.ahead) = subst (λ (q : Outcome (Unit {0})). q.taken ≤ max 0 (length y.ahead)) (sym read) (within-is _ _ _ (laws.within levels y p)) in
-    let long = ahead-left c.at z in
     record {
       nodes = ap (λ (q : Outcome (Unit {0})). q.nodes) l.old;
-      room = omega (arith, inside, long);
+      room = omega (arith, inside, ahead-left c.at z);
       some = some;
       left = λ h. left (some h);
       left_taken = left;
@@ -99,6 +93,3 @@ spot-place k text c there =
       front = λ h. none (some h);
       head = l.fits.head;
     }
-  where
-    within-is : (a b c : ℕ) → a + b ≤ c → a ≤ c
-    within-is a b c h = omega (arith, h)

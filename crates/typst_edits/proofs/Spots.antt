@@ -1,6 +1,5 @@
 -- The law of an edit inside a block, for whatever the language can say.
 use Rattle.std.proofs.Common.{◌≡◌, ℕ, zero, suc, ◌+◌, ◌<◌, max, Bool, true, false, ◌&&◌, if◌then◌else◌, nat_lt, List, [], ◌∷◌, map, drop, refl, ap, sym, ◌∙◌, subst, arith}
-use Rattle.std.proofs.lemmas.Bool.Decides.{nat_tests}
 use Rattle.std.specs.List.{flat_map}
 use borrow.Author.Tests.{ltb-true}
 use Rattle.typst_tree.specs.Tree.{Tree}
@@ -22,6 +21,8 @@ use Rattle.typst_edits.proofs.Every.{Every, every-append, every-map, every-flat,
 use Rattle.typst_edits.proofs.Outcomes.{same-outcome, seen-plug}
 use Rattle.typst_edits.proofs.Wrap.{Wraps, wraps-hole}
 use Rattle.typst_edits.proofs.Inside.{Edits, Lawful, edits-then, lawful-then, lawful-after}
+use Rattle.std.proofs.lemmas.List.{drop-map}
+use Rattle.std.proofs.lemmas.Bool.{lt-ltb}
 
 -- What an edit inside each block of a reading gives.
 abbrev pub Inside : {A : Type 0} → Meaning A → Spots A → Type 0
@@ -53,14 +54,18 @@ joined-inside z w o n f cs ds frames tidy same i j =
 
 -- ---- another answer
 
-pub edits-last : {A B : Type 0} (z w : Place) (c : Spot (B × A)) (x : Tree) → Edits z w (last_spot c) x → Edits z w c x
-edits-last z w c x e = record {
+-- with another answer, state and hole
+pub edits-as : {A B : Type 0} (z w : Place) (v : B) (s : Point) (g : Hole) (c : Spot A) (x : Tree) → Edits z w (rehole s (valued v c) g) x → Edits z w c x
+edits-as z w v s g c x e = record {
   before = e.before;
   fits = record { state = e.fits.state; back = e.fits.back; hints = e.fits.hints; nodes = e.fits.nodes; head = e.fits.head };
   covers = e.covers;
   some = e.some;
   after = e.after;
 }
+
+pub edits-last : {A B : Type 0} (z w : Place) (c : Spot (B × A)) (x : Tree) → Edits z w (last_spot c) x → Edits z w c x
+edits-last z w c x e = edits-as z w c.value.1 c.state c.hole c x e
 
 abbrev pub second : {A B : Type 0} → Outcome (B × A) → Outcome A
 second o = answered o.value.1 o
@@ -76,15 +81,10 @@ lawful-last z w o n c l = record {
 
 -- ---- a loop
 
-some-is : (n : ℕ) → 0 < n → nat_lt 0 n ≡ true
-some-is n h = grind (arith, nat_tests)
-
 -- A part with a block in it takes something, before and after.
 pub took-same : {A : Type 0} (z w : Place) (o n : Outcome A) (c : Spot A) (x : Tree) → Lawful z w o n c → Edits z w c x → nat_lt 0 n.taken ≡ nat_lt 0 o.taken
 took-same z w o n c x l e =
-    let t = ap (λ u. u.taken) (l.swaps x e) in
-    let u = ap (λ u. u.taken) l.old in
-    some-is n.taken (omega (arith, t, e.some)) ∙ sym (some-is o.taken (omega (arith, u, e.covers)))
+    lt-ltb 0 n.taken (omega (arith, ap (λ u. u.taken) (l.swaps x e), e.some)) ∙ sym (lt-ltb 0 o.taken (omega (arith, ap (λ u. u.taken) l.old, e.covers)))
 
 pub value-same : {A : Type 0} (z w : Place) (o n : Outcome A) (c : Spot A) (x : Tree) → Lawful z w o n c → Edits z w c x → n.value ≡ o.value
 value-same z w o n c x l e = ap (λ u. u.value) (l.swaps x e) ∙ sym (ap (λ u. u.value) l.old)
@@ -143,13 +143,7 @@ inside-repeated m sp within framed backs inner x z w s =
 -- ---- nodes that become something else
 
 pub edits-rehole : {A : Type 0} (z w : Place) (s : Point) (c : Spot A) (g : Hole) (x : Tree) → Edits z w (rehole s c g) x → Edits z w c x
-edits-rehole z w s c g x e = record {
-  before = e.before;
-  fits = record { state = e.fits.state; back = e.fits.back; hints = e.fits.hints; nodes = e.fits.nodes; head = e.fits.head };
-  covers = e.covers;
-  some = e.some;
-  after = e.after;
-}
+edits-rehole z w s c g x e = edits-as z w c.value s g c x e
 
 -- the state after it
 abbrev wrap_state : {A : Type 0} → Shape → ℕ → Spot A → Point
@@ -177,26 +171,15 @@ every-reshaped shape other n z w o p c l f =
     (λ g h. lawful-same z w (reshaped shape n o) _ (reshaped shape n p) _ _ refl (lawful-reshaped shape n z w o p c g h l) (λ x e. ap (λ (q : Shape). reshaped q n p) (f x (edits-rehole z w _ c g x e)))) _
     (wraps-hole shape (block_head c.name) (n + c.back) c.hole l.solid)
 
-map-drop : {X Y : Type 0} (f : X → Y) (k : ℕ) (xs : List X) → map f (drop k xs) ≡ drop k (map f xs)
-map-drop f zero xs = refl
-map-drop f (suc k) [] = refl
-map-drop f (suc k) (x ∷ xs) = map-drop f k xs
-
 seen-inside : {A : Type 0} (k : ℕ) (c : Spot A) (x : Tree) → x.head ≡ block_head c.name → c.node.head ≡ block_head c.name → map seen (drop k (plug c.hole x)) ≡ map seen (drop k (plug c.hole c.node))
-seen-inside k c x e f = map-drop seen k (plug c.hole x) ∙ ap (drop k) (seen-plug c.hole x c.node (block_head c.name) e f) ∙ sym (map-drop seen k (plug c.hole c.node))
+seen-inside k c x e f = sym (drop-map seen k (plug c.hole x)) ∙ ap (drop k) (seen-plug c.hole x c.node (block_head c.name) e f) ∙ drop-map seen k (plug c.hole c.node)
 
 -- with what is seen of them
 abbrev wrapped_value : {A : Type 0} → ℕ → Spot A → A × List Seen
 wrapped_value n c = (c.value, map seen (drop (n + c.back) (plug c.hole c.node)))
 
 pub edits-valued : {A B : Type 0} (z w : Place) (v : B) (c : Spot A) (x : Tree) → Edits z w (valued v c) x → Edits z w c x
-edits-valued z w v c x e = record {
-  before = e.before;
-  fits = record { state = e.fits.state; back = e.fits.back; hints = e.fits.hints; nodes = e.fits.nodes; head = e.fits.head };
-  covers = e.covers;
-  some = e.some;
-  after = e.after;
-}
+edits-valued z w v c x e = edits-as z w v c.state c.hole c x e
 
 around-wrapped : {A : Type 0} (f : A → Shape) (n : ℕ) (c : Spot A) (g : Hole) (b : Outcome (Unit {0})) (x : Tree) → x.head ≡ block_head c.name → c.node.head ≡ block_head c.name → Wraps (f c.value) (n + c.back) c.hole (block_head c.name) g
     → wrapped f n (around c b x) ≡ around (valued (wrapped_value n c) (rehole (wrap_state (f c.value) (n + c.back) c) c g)) b x

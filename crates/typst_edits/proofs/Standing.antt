@@ -202,9 +202,7 @@ stand-bounded b m sp se z s e h = record { nodes = each-by _ _ 0 (forest o.nodes
     step i q (inl (inl x)) = inl (inr (any-map (Sits o i q) (Sits (closed b s o) i q) (closed_spot b s) (λ c t. closed-sits b s o i q c t) (sp z (forgot s)) x))
     step i q (inl (inr x)) = inr (any-map (Sits o i q) (Sits (closed b s o) i q) (closed_spot b s) (λ c t. closed-sits b s o i q c t) (se z (forgot s)) x)
     step i q (inr x) =
-        let l = length-less 1 o.nodes in
-        let n = x.0 in
-        inl (inl (record { first = l ∙ first n; path = sym x.1; value = refl; back = refl; hints = refl; nodes = sym e.nodes; head = e.head; passes = tt }))
+        inl (inl (record { first = length-less 1 o.nodes ∙ first x.0; path = sym x.1; value = refl; back = refl; hints = refl; nodes = sym e.nodes; head = e.head; passes = tt }))
       where
         first : suc i ≡ length o.nodes → length o.nodes - 1 ≡ i
         first n = omega (arith, n)
@@ -269,8 +267,7 @@ module _ (l : Level) where
       let taken = take x.len (moved x.gap z).ahead in
       stand-gave z s trims x.len (taken_node l.classes making x z) (hand_asks_of l z s) h (clean-made making (token_node l.classes x.token taken) e (clean-token l.classes x.token taken))
   stand-done (takes_so way making) e z s h =
-      let x = hand_of l z s in
-      let w = moved x.gap z in
+      let w = moved (hand_of l z s).gap z in
       let r = reader_so l way in
       let taken = take (len_by r w) w.ahead in
       stand-gave z s false (len_by r w) (node_by l.classes making (token_by r w) (len_by r w) w) _ h

@@ -1,9 +1,8 @@
 -- Each node of a block's kind in the tree of a text is that of a spot, or of a second reading.
-use Rattle.std.proofs.Common.{◌≡◌, ◌⊎◌, inl, inr, ℕ, zero, suc, ◌+◌, ◌-◌, ◌<◌, Bool, true, false, List, [], ◌∷◌, ◌++◌, length, take, drop, length-append, append-nil, refl, ap, sym, ◌∙◌, subst, arith}
+use Rattle.std.proofs.Common.{◌≡◌, ◌⊎◌, inl, inr, ℕ, zero, suc, ◌+◌, ◌-◌, ◌<◌, Bool, true, false, List, [], ◌∷◌, length, take, length-append, append-nil, refl, ap, sym, ◌∙◌, subst, arith}
 use Rattle.std.specs.List.{flat_map}
 use Rattle.typst_kinds.specs.Kinds.{is_error}
-use Rattle.typst_tree.specs.Tree.{Tree, forest, trees}
-use Rattle.typst_tree.proofs.SpansAside.{trees_forest}
+use Rattle.typst_tree.specs.Tree.{Tree, forest}
 use Rattle.typst_lines.specs.Classes.{CharClasses}
 use Rattle.typst_lines.specs.Place.{Place, moved}
 use Rattle.typst_language.specs.declared.calls.Block.{Block}
@@ -27,17 +26,15 @@ use Rattle.typst_grammar.proofs.FineRuns.{PlainBy}
 use Rattle.typst_grammar.proofs.Knot.{ordinary-whole, ordinary-production, ordinary-content, ordinary-code}
 use Rattle.typst_grammar.proofs.PlainParts.{inside_content}
 use Rattle.typst_grammar.proofs.PlainCode.{inside_code}
-use Rattle.typst_edits.specs.Edit.{Among}
-use Rattle.typst_edits.specs.Edit.Among.{this, that}
-use Rattle.typst_edits.specs.Hole.{Deep, fill, Hole, plug, path_in, path_of}
-use Rattle.typst_edits.specs.Hole.Deep.{bare, under}
+use Rattle.typst_edits.specs.Hole.{path_in}
 use Rattle.typst_edits.specs.Laws.{blocks_of_text}
 use Rattle.typst_edits.specs.Occurrences.{Spots, joined_spots, wrapped_spot, spots, call_spots, block_spots, level_spots}
 use Rattle.typst_edits.specs.Spot.{Spot, kind_of}
 use Rattle.typst_edits.specs.Standing.{seconds, call_seconds, block_seconds, level_seconds, seconds_of_text, IsOf, Stems, StandingLaw}
 use Rattle.typst_edits.specs.Standing.Stems.{from_unit, from_second}
+use Rattle.typst_edits.proofs.BlockPlaces.{hole-same}
 use Rattle.typst_edits.proofs.Blocks.{enclosing, ends}
-use Rattle.typst_edits.proofs.Complete.{Any}
+use Rattle.typst_edits.proofs.Complete.{chosen}
 use Rattle.typst_edits.proofs.Positions.{Nowhere, Clean, Each, each-plug}
 use Rattle.typst_edits.proofs.Seats.{Sits, Stood, Lift, each-enclosed, stood-flat}
 use Rattle.typst_edits.proofs.Standing.{Stand, Standing, each-joined, stood-then, stood-after, wrap-sits, clean-shaped, Own, Mostly, stand-done, stand-run}
@@ -50,9 +47,7 @@ mostly-after o p cs ds es fs h k = record { nodes = each-joined (Stood o cs ds) 
     second : (i j : ℕ) (q : List ℕ) → j ≡ i + length (hinted p.hints (less p.back o.nodes)) → Stood p es fs i q ⊎ Own p i q → Stood (joined o p) (joined_spots o cs p es) (joined_spots o ds p fs) j q ⊎ Own (joined o p) j q
     second i j q e (inl x) = inl (stood-after o p cs ds es fs i j q e x)
     second i j q e (inr x) =
-        let l = length-append (hinted p.hints (less p.back o.nodes)) p.nodes in
-        let n = x.0 in
-        inr (omega (arith, l, n, e), x.1)
+        inr (omega (arith, length-append (hinted p.hints (less p.back o.nodes)) p.nodes, x.0, e), x.1)
 
 mostly-plain : {A B : Type 0} (a : A) (o : Outcome B) (cs ds : List (Spot B)) → Mostly o cs ds → Mostly (joined o (plain a o.state)) (joined_spots o cs (plain a o.state) []) (joined_spots o ds (plain a o.state) [])
 mostly-plain a o cs ds h = record { nodes = each-joined _ Nowhere _ o (plain a o.state) first (λ i j q e x. elim x [ ]) h.nodes tt; known = h.known }
@@ -133,49 +128,7 @@ module _ (k : CharClasses) where
   stand-call zero c z s h = record { nodes = tt; known = h }
   stand-call (suc levels) c z s h = stand-level k levels (stand-call levels) (production k c) (ordinary-production k c) z s h
 
--- ---- the node at the end of a path
-
-nth-same : (ts us vs ws : List Tree) (t u : Tree) → length ts ≡ length us → ts ++ t ∷ vs ≡ us ++ u ∷ ws → t ≡ u
-nth-same [] [] vs ws t u l e = ap (λ xs. first_of xs) e
-  where
-    first_of : List Tree → Tree
-    first_of [] = t
-    first_of (x ∷ xs) = x
-nth-same [] (y ∷ us) vs ws t u l e = absurd (cc)
-nth-same (x ∷ ts) [] vs ws t u l e = absurd (cc)
-nth-same (x ∷ ts) (y ∷ us) vs ws t u l e = let f : length ts ≡ length us = omega (arith, l) in nth-same ts us vs ws t u f (ap (drop 1) e)
-
-same-filled : (d f : Deep) (x y : Tree) → path_in d ≡ path_in f → fill d x ≡ fill f y → x ≡ y
-same-filled bare bare x y p e = e
-same-filled bare (under head left f right) x y p e = absurd (cc)
-same-filled (under head left d right) bare x y p e = absurd (cc)
-same-filled (under head left d right) (under above before f after) x y p e =
-    let kids = sym (trees_forest (left ++ fill d x ∷ right)) ∙ ap (λ (t : Tree). trees t.kids) e ∙ trees_forest (before ++ fill f y ∷ after) in
-    same-filled d f x y (ap (drop 1) p) (nth-same left before right after (fill d x) (fill f y) (ap first_of p) kids)
-  where
-    first_of : List ℕ → ℕ
-    first_of [] = 0
-    first_of (n ∷ ns) = n
-
-same-plugged : (h g : Hole) (x y : Tree) → path_of h ≡ path_of g → plug h x ≡ plug g y → x ≡ y
-same-plugged h g x y p e = same-filled h.deep g.deep x y (ap (drop 1) p) (nth-same h.left g.left h.right g.right (fill h.deep x) (fill g.deep y) (ap first_of p) e)
-  where
-    first_of : List ℕ → ℕ
-    first_of [] = 0
-    first_of (n ∷ ns) = n
-
 -- ---- of a text
-
--- one of several that is so
-record Chosen (P : Spot (Unit {0}) → Type 0) (cs : List (Spot (Unit {0}))) : Type 0 where
-  spot : Spot (Unit {0})
-  among : Among spot cs
-  holds : P spot
-
-chosen : (P : Spot (Unit {0}) → Type 0) (cs : List (Spot (Unit {0}))) → Any P cs → Chosen P cs
-chosen P [] h = elim h [ ]
-chosen P (c ∷ cs) (inl h) = record { spot = c; among = this cs; holds = h }
-chosen P (c ∷ cs) (inr h) = let r = chosen P cs h in record { spot = r.spot; among = that c cs r.among; holds = r.holds }
 
 pub standing-law : StandingLaw
 unfolding blocks_of_text seconds_of_text
@@ -199,9 +152,9 @@ standing-law k text hole x e b = said (each-plug (Stood o cs ds) hole x b (subst
     is-of : (c : Spot (Unit {0})) → Sits o (length hole.left) (path_in hole.deep) c → IsOf hole x c
     is-of c t =
         let path = ap (λ n. n ∷ path_in c.hole.deep) t.first ∙ ap (λ q. length hole.left ∷ q) t.path in
-        let node = same-plugged c.hole hole c.node x path (t.nodes ∙ e) in
+        let node = (hole-same c.hole hole c.node x path (t.nodes ∙ e)).1 in
         record { path = path; node = node; nodes = t.nodes ∙ e; head = sym (ap (λ (u : Tree). u.head) node) ∙ t.head }
 
     said : Stood o cs ds (length hole.left) (path_in hole.deep) → Stems k text hole x
-    said (inl h) = let r = chosen _ cs h in from_unit r.spot r.among (is-of r.spot r.holds)
-    said (inr h) = let r = chosen _ ds h in from_second r.spot r.among (is-of r.spot r.holds)
+    said (inl h) = let r = chosen (Sits o (length hole.left) (path_in hole.deep)) cs h in from_unit r.one r.among (is-of r.one r.holds)
+    said (inr h) = let r = chosen (Sits o (length hole.left) (path_in hole.deep)) ds h in from_second r.one r.among (is-of r.one r.holds)

@@ -33,10 +33,9 @@ or-bare f h (Some t) = h t
 start-bare : (path : List ℕ) (i : ℕ) (t : Tree) → start_at path i (bare t) ≡ start_at path i t
 start-bare [] i t = ap (λ xs. length t.head.text + length xs) (taken-bare i t.kids)
 start-bare (j ∷ path) i t =
-    let a = taken-bare j t.kids in
     let b : or_none (start_at path i) (slice_get (trees (bare_forest t.kids)) j) ≡ or_none (start_at path i) (slice_get (trees t.kids) j) =
     ap (or_none (start_at path i)) (got-bare j t.kids) ∙ or-bare (start_at path i) (λ u. start-bare path i u) (slice_get (trees t.kids) j) in
-    (λ n. (length t.head.text + length (a n)) + b n)
+    (λ n. (length t.head.text + length (taken-bare j t.kids n)) + b n)
 
 pub start-same : (path : List ℕ) (i : ℕ) (t u : Tree) → bare t ≡ bare u → start_at path i t ≡ start_at path i u
 start-same path i t u e = sym (start-bare path i t) ∙ ap (start_at path i) e ∙ start-bare path i u
@@ -55,11 +54,7 @@ start-fill (under head left d right) x =
     ap (λ us. joined (forest (take (length left) us))) (trees-of ts) ∙ ap (λ us. joined (forest us)) (take-append_seam left (fill d x ∷ right)) ∙ joined-trees (forest left) ∙ ap texts (trees-of left) in
     let there : or_none (start_at (path_in d) 0) (slice_get (trees (forest ts)) (length left)) ≡ start_at (path_in d) 0 (fill d x) =
     ap (λ us. or_none (start_at (path_in d) 0) (slice_get us (length left))) (trees-of ts) ∙ ap (or_none (start_at (path_in d) 0)) (got-behind left (fill d x) right) in
-    let below = start-fill d x in
-    let long = ap length before in
-    let one = length-append head.text (texts left ++ deep_text d) in
-    let two = length-append (texts left) (deep_text d) in
-    omega (arith, there, below, long, one, two)
+    omega (arith, there, start-fill d x, ap length before, length-append head.text (texts left ++ deep_text d), length-append (texts left) (deep_text d))
 
 -- of a text's tree
 pub start-plug : (h : Hole) (x : Tree) → start_at (path_of h) 0 (inner_of kind.Markup (forest (plug h x))) ≡ length (left_text h) + length x.head.text

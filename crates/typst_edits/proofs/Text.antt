@@ -32,10 +32,9 @@ block-law k front old new rest c past i h =
     let laws = inside-level (rules k) k (ends k) max_depth whole z w s in
     let a = among (Lawful z w o n) c _ i laws in
     let named = among (Named (block_at k) max_depth) c _ i (named-level (rules k) k max_depth whole z s) in
-    let clear = among (Clear k z) c _ i (clear-level (rules k) k max_depth whole z s tt) in
     let some : 0 < (unit_at c z).taken = omega (arith, h.starts, h.ends) in
     let more : 0 < (unit_at c w).taken = omega (arith, h.starts, h.shifted) in
-    let f = fitting k max_depth c z w named clear a.fits (before-same c.before front old new rest h.before) some more in
+    let f = fitting k max_depth c z w named (among (Clear k z) c _ i (clear-level (rules k) k max_depth whole z s tt)) a.fits (before-same c.before front old new rest h.before) some more in
     let e = edited front old new rest o n _ laws c past _ i h f in
     record { fits = f; reading = e; tree = ap (λ ts. inner_of kind.Markup (forest ts)) e.nodes }
 

@@ -15,7 +15,7 @@ use Rattle.typst_language.specs.Depth.{anywhere, too_deep, deeper, is_end}
 use Rattle.typst_tree.specs.Tree.{Tree}
 use Rattle.typst_language.specs.Hand.{AtHand, told, len_at, hand_at, hand_asks}
 use Rattle.typst_language.specs.Point.{Trivia, Point}
-use Rattle.typst_language.specs.Shape.{Making, hinted, Shape, becomes, encloses}
+use Rattle.typst_language.specs.Shape.{Making, hinted, Shape, encloses}
 use Rattle.typst_language.specs.Shape.Making.{itself, of_kind, surprise}
 use Rattle.typst_language.specs.Steps.{peek, eat_making, eat, convert_and_eat, unexpected, flush_trivia, node, within}
 use Rattle.typst_language.specs.Syntax.{Parser, ◌>>=◌, ◌>>◌}
@@ -34,23 +34,11 @@ use Rattle.typst_grammar.specs.Embedded.{embedded}
 use Rattle.typst_grammar.specs.Equations.{between_dollars, equation}
 use Rattle.typst_edits.specs.Joint.{minds}
 use Rattle.typst_edits.specs.Occurrences.{goes}
-use Rattle.typst_edits.proofs.Led.{behind_trivia, SameJudged, before_trivia, none-less, none-of, Led, led-then, led-asked, Counts_less, Takes, asks-behind, takes-token, takes-next, takes-peek, takes-column, takes-scoped, takes-wraps, takes-calls, kind-behind, same-judged}
+use Rattle.typst_edits.proofs.Led.{behind_trivia, SameJudged, before_trivia, none-less, none-of, Led, led-then, led-asked, Takes, asks-behind, takes-token, takes-next, takes-peek, takes-column, takes-scoped, takes-wraps, takes-calls, kind-behind, same-judged, led-like}
 use Rattle.typst_edits.proofs.Runs.{repeated-chain}
 use Rattle.typst_edits.proofs.Outcomes.{shift-zero}
 use Rattle.typst_edits.proofs.Reached.{flushed-held}
 use Rattle.typst_edits.proofs.Spots.{if-true, if-false}
-
-becomes-counts : (k : SyntaxKind) → Counts_less (becomes k)
-becomes-counts k ts s = omega arith
-
-emphasized-counts : (k : SyntaxKind) (warning hint : List ℕ) (x : Bool × Bool) → Counts_less (emphasized k warning hint x)
-emphasized-counts k warning hint (true, true) ts s = omega arith
-emphasized-counts k warning hint (true, false) ts s = omega arith
-emphasized-counts k warning hint (false, b) ts s = omega arith
-
-dollars-counts : (closed : Bool) → Counts_less (encloses kind.Equation closed)
-dollars-counts true ts s = omega arith
-dollars-counts false ts s = omega arith
 
 -- a turn after its expression, and all of it by the kind of the token at hand
 abbrev pub turn_tail : ℕ → Parser (Bool × (Bool × ℕ))
@@ -75,9 +63,9 @@ module _ (l : Level) (sd : (c : Call) → Sane (l.deeper c)) (sb : (b : Block) �
   takes-pick trims true p q e k = cc
   takes-pick trims false p q e k = k
 
-  takes-node : {A : Type 0} (shape : A → Shape) (p : Parser A) → ((v : A) → Counts_less (shape v)) → Takes h z t u false (run l p) → Takes h z t u false (run l (node shape p))
+  takes-node : {A : Type 0} (shape : A → Shape) (p : Parser A) → Takes h z t u false (run l p) → Takes h z t u false (run l (node shape p))
   unfolding node
-  takes-node shape p shapes k = takes-peek l h z t u alike false (λ _. next (wraps shape at_token p) (λ a. gives a.0)) (goes-on false (wraps shape at_token p) _ (takes-wraps l h z t u alike shape p shapes k))
+  takes-node shape p k = takes-peek l h z t u alike false (λ _. next (wraps shape at_token p) (λ a. gives a.0)) (goes-on false (wraps shape at_token p) _ (takes-wraps l h z t u alike shape p k))
 
   takes-within : {A : Type 0} (f : Reading → Reading) (p : Parser A) → Takes h z t u false (run l p) → Takes h z t u false (run l (within f p))
   unfolding within
@@ -103,23 +91,23 @@ module _ (l : Level) (sd : (c : Call) → Sane (l.deeper c)) (sb : (b : Block) �
     takes-delimited : (k : SyntaxKind) (stops : SyntaxKind → Bool) (d : SyntaxKind) (warning hint : List ℕ) → Takes h z t u false (run l (delimited k stops d warning hint))
     unfolding delimited
     takes-delimited k stops d warning hint =
-        takes-within _ _ (goes-on false (node (emphasized k warning hint) _) _ (takes-node (emphasized k warning hint) _ (emphasized-counts k warning hint) (goes-on false eat _ takes-eat)))
+        takes-within _ _ (goes-on false (node (emphasized k warning hint) _) _ (takes-node (emphasized k warning hint) _ (goes-on false eat _ takes-eat)))
 
     takes-heading : Takes h z t u false (run l heading)
     unfolding heading
-    takes-heading = takes-within _ _ (takes-node _ _ (λ v. becomes-counts kind.Heading) (goes-on false eat _ takes-eat))
+    takes-heading = takes-within _ _ (takes-node _ _ (goes-on false eat _ takes-eat))
 
     takes-item : (k : SyntaxKind) → Takes h z t u false (run l (item k))
     unfolding item
-    takes-item k = takes-column l h z t u alike false _ (λ here. takes-within _ _ (takes-node _ _ (λ v. becomes-counts k) (goes-on false eat _ takes-eat)))
+    takes-item k = takes-column l h z t u alike false _ (λ here. takes-within _ _ (takes-node _ _ (goes-on false eat _ takes-eat)))
 
     takes-term : Takes h z t u false (run l term_item)
     unfolding term_item
-    takes-term = takes-column l h z t u alike false _ (λ here. takes-within _ _ (takes-node _ _ (λ v. becomes-counts kind.TermItem) (goes-on false _ _ (takes-within _ _ (goes-on false eat _ takes-eat)))))
+    takes-term = takes-column l h z t u alike false _ (λ here. takes-within _ _ (takes-node _ _ (goes-on false _ _ (takes-within _ _ (goes-on false eat _ takes-eat)))))
 
     takes-reference : Takes h z t u false (run l reference)
     unfolding reference
-    takes-reference = takes-node _ _ (λ v. becomes-counts kind.Ref) (goes-on false eat _ takes-eat)
+    takes-reference = takes-node _ _ (goes-on false eat _ takes-eat)
 
     takes-embedded : Takes h z t u false (run l embedded)
     unfolding embedded
@@ -127,7 +115,7 @@ module _ (l : Level) (sd : (c : Call) → Sane (l.deeper c)) (sb : (b : Block) �
 
     takes-equation : Takes h z t u false (run l equation)
     unfolding equation between_dollars
-    takes-equation = goes-on false (node (encloses kind.Equation) _) _ (takes-node (encloses kind.Equation) _ dollars-counts (takes-within _ _ (goes-on false eat _ takes-eat)))
+    takes-equation = goes-on false (node (encloses kind.Equation) _) _ (takes-node (encloses kind.Equation) _ (takes-within _ _ (goes-on false eat _ takes-eat)))
 
     takes-by : (nesting : ℕ) (x : MarkupHead) → Takes h z t u (minds x) (run l (markup_by nesting x))
     takes-by nesting head.Itself = goes-on false eat _ takes-eat
@@ -204,12 +192,10 @@ fronted-led t us trims o c h = record {
 fronted-asked : {A B : Type 0} (t : Trivia) (us : List Tree) (v : B) (s r : Point) (ls ks : List Ask) (o c : Outcome A) → ls ≡ shift t.gap ks → Fronted t us o c
     → Fronted t us (joined (record (plain v s) { asks = ls }) o) (joined (record (plain v r) { asks = ks }) c)
 fronted-asked t us v s r ls ks o c e h =
-    let taken = h.taken in
-    let back = h.back in
     record {
       value = h.value;
-      taken = omega (arith, taken);
-      back = omega (arith, back);
+      taken = omega (arith, h.taken);
+      back = omega (arith, h.back);
       hints = none-of (nat_lt o.back 0) (nat_lt 0 o.back) [] o.hints refl h.hints;
       hints_too = none-of (nat_lt c.back 0) (nat_lt 0 c.back) [] c.hints refl h.hints_too;
       rest = h.rest;
@@ -221,10 +207,8 @@ fronted-asked t us v s r ls ks o c e h =
 
 pub goes-same : {A : Type 0} (t : Trivia) (us : List Tree) (trims : Bool) (o c : Outcome (Bool × A)) → Led t us trims o c → goes o ≡ goes c
 goes-same t us trims o c h =
-    let some = h.some in
-    let taken = h.taken in
-    let more : 0 < o.taken = omega (arith, some, taken) in
-    ap (λ v. v.0 && nat_lt 0 o.taken) h.value ∙ ap (λ b. c.value.0 && b) (lt-ltb 0 o.taken more ∙ sym (lt-ltb 0 c.taken some))
+    let more : 0 < o.taken = omega (arith, h.some, h.taken) in
+    ap (λ v. v.0 && nat_lt 0 o.taken) h.value ∙ ap (λ b. c.value.0 && b) (lt-ltb 0 o.taken more ∙ sym (lt-ltb 0 c.taken h.some))
 
 module _ {A : Type 0} (m : A → Meaning (Bool × A)) (within : (x : A) → Within (m x)) where
   -- a turn that goes on, and one that doesn't
@@ -250,22 +234,7 @@ module _ {A : Type 0} (m : A → Meaning (Bool × A)) (within : (x : A) → With
       let w = moved t.gap z in
       let o = m x z s in
       let c = m x w r in
-      let last : Led t us trims (as_last o) (as_last c) = record {
-        value = ap (λ v. v.1) h.value;
-        taken = h.taken;
-        some = h.some;
-        state = h.state;
-        back = h.back;
-        none = h.none;
-        hints = h.hints;
-        hints_too = h.hints_too;
-        rest = h.rest;
-        nodes = h.nodes;
-        nodes_too = h.nodes_too;
-        few = h.few;
-        asks = h.asks;
-        met = h.met;
-      } in
+      let last = led-like t us trims o c o.value.1 c.value.1 o.state c.state o.asks c.asks h (ap (λ v. v.1) h.value) h.state h.few h.asks in
       subst (λ p. Led t us trims p (repeated m x w r)) (sym (last-turn x z s (goes-same t us trims o c h ∙ g))) (subst (λ p. Led t us trims (as_last o) p) (sym (last-turn x w r g)) last)
 
   led-repeated : (t : Trivia) (us : List Tree) (trims : Bool) (x : A) (z : Place) (s r : Point) → ((y : A) → Backs (repeated m y)) → Led t us trims (m x z s) (m x (moved t.gap z) r) → Led t us trims (repeated m x z s) (repeated m x (moved t.gap z) r)
@@ -287,14 +256,13 @@ module _ (l : Level) (stops : SyntaxKind → Bool) (taking : Taking l stops) whe
   behind x = run l (repeat (markup_turn true stops) x >>= λ _. flush_trivia)
 
   -- where no expression follows
-  stopped : (x : Bool × ℕ) (q : Place) (p : Point) → ends stops x.1 (told (hand_of l q p)).kind ≡ true → repeated (λ v. run l (markup_turn true stops v)) x q p ≡ record (plain x (asked (hand_of l q p) p)) { asks = hand_asks_of l q p ++ [] }
+  pub stopped : (x : Bool × ℕ) (q : Place) (p : Point) → ends stops x.1 (told (hand_of l q p)).kind ≡ true → repeated (λ v. run l (markup_turn true stops v)) x q p ≡ record (plain x (asked (hand_of l q p) p)) { asks = hand_asks_of l q p ++ [] }
   unfolding run markup_turn less
   stopped x q p f =
       let m : Bool × ℕ → Meaning (Bool × (Bool × ℕ)) = λ (v : Bool × ℕ). run l (markup_turn true stops v) in
       let v = told (hand_of l q p) in
       let first = record (plain v (asked (hand_of l q p) p)) { asks = hand_asks_of l q p } in
-      let end = plain (false, x) (asked (hand_of l q p) p) in
-      let turn : m x q p ≡ joined first end = ap (joined first) (if-true (ends stops x.1 v.kind) _ _ f) in
+      let turn : m x q p ≡ joined first (plain (false, x) (asked (hand_of l q p) p)) = ap (joined first) (if-true (ends stops x.1 v.kind) _ _ f) in
       last-turn m (λ n. (sane-run l taking.calls_sane taking.blocks_sane (markup_turn true stops n)).within) x q p (ap goes turn) ∙ ap as_last turn
 
   -- There nothing depends on what is carried.
@@ -416,6 +384,5 @@ module _ (l : Level) (stops : SyntaxKind → Bool) (taking : Taking l stops) whe
       → Led t t.nodes (minds (markup_head x.0 x.1 (hand_at l.classes h (Some t) z).kind)) (run l (markup_turn true stops x) z s) (run l (markup_turn true stops x) (moved t.gap z) (before_trivia r h e a (behind_trivia t))))
   unfolding hand_at
   turn-led x z r h e a t go =
-      let s = before_trivia r h e a t in
-      let some = hand-takes l.classes h (Some t) z (end-by stops taking.end_stops x.1 (told (hand_of l z s)).kind go) in
+      let some = hand-takes l.classes h (Some t) z (end-by stops taking.end_stops x.1 (told (hand_of l z (before_trivia r h e a t))).kind go) in
       takes-turn l taking.calls_sane taking.blocks_sane h z t t (same-judged h t) taking.level_left stops x _ (taking.takes h z t t (same-judged h t) x some) go r e e a a (λ p. refl)

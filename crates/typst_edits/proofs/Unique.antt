@@ -10,7 +10,7 @@ use Rattle.typst_tree.proofs.SpansAside.{trees_forest}
 use Rattle.typst_tokens.specs.Sight.{width}
 use Rattle.typst_candidates.specs.Candidates.{Candidate}
 use Rattle.typst_grammar.specs.Grammar.{tree}
-use Rattle.typst_edits.specs.Answer.{candidates, Refused}
+use Rattle.typst_edits.specs.Answer.{Refused}
 use Rattle.typst_edits.specs.Answer.IsAnswer.{part, whole}
 use Rattle.typst_edits.specs.Children.{with_children, exchanged}
 use Rattle.typst_edits.specs.Edit.{alter}
@@ -22,16 +22,9 @@ use Rattle.typst_edits.proofs.AnswerTree.{chosen-of, gives-tree-law, some-is}
 use Rattle.typst_edits.proofs.CandidateWorth.{in-order, reached}
 use Rattle.typst_edits.proofs.Edit.{among}
 use Rattle.typst_edits.proofs.Replaced.{put-law}
+use Rattle.typst_edits.proofs.Every.{first_or}
 
 -- ---- lists
-
-abbrev first_or : {X : Type 0} → X → List X → X
-first_or x [] = x
-first_or x (y ∷ ys) = y
-
-abbrev without_first : {X : Type 0} → List X → List X
-without_first [] = []
-without_first (y ∷ ys) = ys
 
 -- ---- the same tree by nodes in the same place
 
@@ -42,7 +35,7 @@ same-between from to ts us xs e = append_cancel_right ts us (drop to xs) (append
 same-there : (P : Tree → Type 0) (f g : Tree → Tree) (Q : Type 0) → ((t : Tree) → P t → f t ≡ g t → Q) → (n : ℕ) (ts : List Tree) → At P (slice_get ts n) → alter n f ts ≡ alter n g ts → Q
 same-there P f g Q h n [] a e = absurd a
 same-there P f g Q h zero (t ∷ ts) a e = h t a (ap (first_or t) e)
-same-there P f g Q h (suc n) (t ∷ ts) a e = same-there P f g Q h n ts a (ap without_first e)
+same-there P f g Q h (suc n) (t ∷ ts) a e = same-there P f g Q h n ts a (ap (drop 1) e)
 
 kids-same : (xs ys : List Tree) → forest xs ≡ forest ys → xs ≡ ys
 kids-same xs ys e = sym (trees_forest xs) ∙ ap trees e ∙ trees_forest ys
@@ -67,12 +60,9 @@ first-one : {X : Type 0} (P : X → Type 0) (es : List X) (c : X) (ls : List X) 
 first-one P [] c ls [] d ms e p q kept kept_other = ap (first_or c) e
 first-one P [] c ls (f ∷ fs) d ms e p q kept kept_other = absurd (kept (subst P (sym (ap (first_or c) e)) q.0))
 first-one P (x ∷ es) c ls [] d ms e p q kept kept_other = absurd (kept_other (subst P (ap (first_or x) e) p.0))
-first-one P (x ∷ es) c ls (f ∷ fs) d ms e p q kept kept_other = first-one P es c ls fs d ms (ap without_first e) p.1 q.1 kept kept_other
+first-one P (x ∷ es) c ls (f ∷ fs) d ms e p q kept kept_other = first-one P es c ls fs d ms (ap (drop 1) e) p.1 q.1 kept kept_other
 
 module _ (apart : OpensApartLaw) (k : CharClasses) (front old new rest : List ℕ) (root : Tree) where
-  abbrev cs : List Candidate
-  cs = candidates k (front ++ (old ++ rest)) (width front) (width (front ++ old)) root
-
   not-refused : (c : Candidate) (ts : List Tree) (now : Tree) → Gives k front old new rest c ts → replaced_at c.path c.from c.to ts root ≡ Some now → Refused k front old new rest root c → ⊥
   not-refused c ts now gives is refused = absurd (let no = sym is ∙ refused ts gives in cc)
 

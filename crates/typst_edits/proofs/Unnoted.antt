@@ -109,8 +109,7 @@ module _ (z : Place) (n m : ℕ) where
   differs-second : (i : ℕ) (ask : Ask) → Differs (moved n z) i ask → Differs z (n + i) (shift_one n ask)
   differs-second i ask f e =
       let g : place_of ask ≡ i = omega (arith, e, place-shift n ask) in
-      let l = f g in
-      omega (arith, l, ahead-left n z)
+      omega (arith, f g, ahead-left n z)
 
 split-joined : {A B : Type 0} (z : Place) (o : Outcome B) (p : Outcome A) (cs ds : List (Spot B)) (es fs : List (Spot A)) → Split z o cs ds → Split (moved o.taken z) p es fs → Split z (joined o p) (joined_spots o cs p es) (joined_spots o ds p fs)
 split-joined {A} {B} z o p cs ds es fs h k = record {

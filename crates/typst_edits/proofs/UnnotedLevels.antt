@@ -20,7 +20,7 @@ use Rattle.typst_language.specs.Syntax.{Parser, Begin, ◌>>◌}
 use Rattle.typst_language.specs.Syntax.Begin.{at_token}
 use Rattle.typst_language.specs.Syntax.Op.{hand, takes}
 use Rattle.typst_language.specs.Syntax.Parser.{does, next, scoped, wraps}
-use Rattle.typst_grammar.specs.Grammar.{rules, max_depth, start_of, whole, parsed, production, block_production}
+use Rattle.typst_grammar.specs.Grammar.{rules, max_depth, start_of, whole, production, block_production}
 use Rattle.typst_grammar.specs.Markup.{markup_reading, content_block}
 use Rattle.typst_grammar.specs.Sequences.{code_block}
 use Rattle.typst_grammar.proofs.CodeMoves.{moves-inside}
@@ -52,11 +52,10 @@ module _ (l : Level) (deep : (c : Call) → Spots (Answer c)) (in_block : Block 
   unfolding seconds
   later-next p f m h z s e =
       let o = run l p z s in
-      let some = m z s e in
       let ds = seconds l deep in_block deep_seconds seconds_inside (f o.value) (moved o.taken z) o.state in
       every-append _ (map (λ c. then_spot c (run l (f o.value) (moved o.taken z) o.state)) (seconds l deep in_block deep_seconds seconds_inside p z s)) (map (after_spot o) ds)
       (every-map (λ c. 0 < c.at) (λ c. 0 < c.at) (λ c. then_spot c (run l (f o.value) (moved o.taken z) o.state)) (λ c x. x) (seconds l deep in_block deep_seconds seconds_inside p z s) (h z s e))
-      (every-map (λ c. Unit {0}) (λ c. 0 < c.at) (after_spot o) (λ c x. omega (arith, some)) ds (every-any ds))
+      (every-map (λ c. Unit {0}) (λ c. 0 < c.at) (after_spot o) (λ c x. omega (arith, m z s e)) ds (every-any ds))
 
   later-peek : {A : Type 0} (f : AtHand → Parser A) → ((h : AtHand) → Later (f h)) → Later (next (does hand) f)
   unfolding seconds run
@@ -136,24 +135,21 @@ module _ (k : CharClasses) (levels : ℕ) (d : (c : Call) → AllSplit (meaning_
   within = blockless k levels (meaning_of (rules k) k levels)
 
   begins-block : (b : Block) (z : Place) (s : Point) → Begins z (block_at k levels b z (forgot s)) (block_spots (rules k) k levels b z (forgot s)) (block_seconds (rules k) k levels b z (forgot s))
-  begins-block b z s = by-length (length z.ahead) refl
+  begins-block b z s = record {
+    split = split-run within (call_spots (rules k) k levels) (λ c y t. []) (call_seconds (rules k) k levels) (λ c y t. []) d (λ c y t h. absurd (cc)) (peek >> block_production b) (any-block b) z (forgot s);
+    takes = takes-by (length z.ahead) refl;
+    behind = behind-by (length z.ahead) refl;
+  }
     where
-      by-length : (n : ℕ) → length z.ahead ≡ n → Begins z (block_at k levels b z (forgot s)) (block_spots (rules k) k levels b z (forgot s)) (block_seconds (rules k) k levels b z (forgot s))
-      by-length n e = record {
-        split = split-run within (call_spots (rules k) k levels) (λ c y t. []) (call_seconds (rules k) k levels) (λ c y t. []) d (λ c y t h. absurd (cc)) (peek >> block_production b) (any-block b) z (forgot s);
-        takes = takes-by n e;
-        behind = behind-by n e;
-      }
-        where
-          takes-by : (n : ℕ) → length z.ahead ≡ n → Early z (block_at k levels b z (forgot s)).taken 0
-          takes-by zero e = inr (omega (arith, e))
-          takes-by (suc n) e = inl (moves-inside k levels b z s (some-hand k s.held z (omega (arith, e))))
+      takes-by : (n : ℕ) → length z.ahead ≡ n → Early z (block_at k levels b z (forgot s)).taken 0
+      takes-by zero e = inr (omega (arith, e))
+      takes-by (suc n) e = inl (moves-inside k levels b z s (some-hand k s.held z (omega (arith, e))))
 
-          behind-by : (n : ℕ) → length z.ahead ≡ n → EveryAt (λ i. (0 < i) ⊎ (length z.ahead ≤ 0)) (block_seconds (rules k) k levels b z (forgot s))
-          behind-by zero e = every-by (λ c x. inr (omega (arith, e))) (block_seconds (rules k) k levels b z (forgot s)) (every-any (block_seconds (rules k) k levels b z (forgot s)))
-          behind-by (suc n) e =
-              every-by (λ c x. inl x) (block_seconds (rules k) k levels b z (forgot s))
-              (later-block within (call_spots (rules k) k levels) (λ c y t. []) (call_seconds (rules k) k levels) (λ c y t. []) b z (forgot s) (some-hand k s.held z (omega (arith, e))))
+      behind-by : (n : ℕ) → length z.ahead ≡ n → EveryAt (λ i. (0 < i) ⊎ (length z.ahead ≤ 0)) (block_seconds (rules k) k levels b z (forgot s))
+      behind-by zero e = every-by (λ c x. inr (omega (arith, e))) (block_seconds (rules k) k levels b z (forgot s)) (every-any (block_seconds (rules k) k levels b z (forgot s)))
+      behind-by (suc n) e =
+          every-by (λ c x. inl x) (block_seconds (rules k) k levels b z (forgot s))
+          (later-block within (call_spots (rules k) k levels) (λ c y t. []) (call_seconds (rules k) k levels) (λ c y t. []) b z (forgot s) (some-hand k s.held z (omega (arith, e))))
 
   split-level : {A : Type 0} (p : Parser A) → PlainBy is_ordinary p → AllSplit (run (level_of (rules k) k levels) p) (level_spots (rules k) k levels p) (level_seconds (rules k) k levels p)
   split-level p w =
@@ -172,5 +168,4 @@ unnoted-law k text c ask i j =
     let z = start_of text in
     let s = start_point markup_reading in
     let ds = level_seconds (rules k) k max_depth whole z s in
-    let asks = (parsed k max_depth text).asks in
     among (Differs z c.at) ask _ j (among (λ d. Every (Differs z d.at) _) c ds i (split-level k max_depth (split-call k max_depth) whole ordinary-whole z s).differ)

@@ -1,15 +1,21 @@
 -- Marks that stand in order, from one place up to another, in whatever the language can say.
-use Rattle.std.proofs.Common.{ℕ, zero, suc, ◌+◌, ◌≤◌, Bool, ◌&&◌, nat_lt, List, [], ◌∷◌, ◌++◌, Option, Some, None, arith}
+use Rattle.std.proofs.Common.{◌≡◌, ℕ, zero, suc, ◌+◌, ◌≤◌, Bool, true, false, ◌&&◌, nat_lt, List, [], ◌∷◌, ◌++◌, Option, Some, None, refl, arith}
 use Rattle.typst_lines.specs.Place.{Place, moved}
+use Rattle.typst_language.specs.declared.calls.Block.{Block}
+use Rattle.typst_language.specs.Calls.{Call}
 use Rattle.typst_language.specs.declared.calls.Mark.{Mark}
+use Rattle.typst_language.specs.declared.reading.State.{State}
 use Rattle.typst_language.specs.Ask.{Ask, shift, sunk, only_looks}
 use Rattle.typst_language.specs.Ask.Ask.{looked, marked}
-use Rattle.typst_language.specs.Point.{Point}
+use Rattle.typst_language.specs.Point.{Point, state_of, gap_of}
 use Rattle.typst_language.specs.Shape.{Shape}
-use Rattle.typst_language.specs.Syntax.{Begin}
-use Rattle.typst_language.specs.Meaning.{Outcome, Meaning, joined, answered, turns, as_last, grown, is_more, growths, nestings}
-use Rattle.typst_language.proofs.Within.{on_both, grew}
-use Rattle.typst_edits.proofs.Marks.{AllMarks, marks-append, marks-shift}
+use Rattle.typst_language.specs.Syntax.{Op, Begin, Parser}
+use Rattle.typst_language.specs.Syntax.Op.{hand, so, further, column, erred, takes, takes_so, flushes, complains, advises, marks, is_deepest}
+use Rattle.typst_language.specs.Syntax.Parser.{gives, does, next, pick, repeat, wraps, grows, nests, scoped, either, calls, block}
+use Rattle.typst_language.specs.Meaning.{Outcome, Meaning, Level, plain, joined, answered, turns, as_last, bound, repeated, before, grown, is_more, growths, growing, nestings, nesting, given_up, bounded, entered, hand_asks_of, done, run}
+use Rattle.typst_language.proofs.Within.{on_both, on_if, grew}
+use Rattle.typst_grammar.proofs.Guarded.{op_notes, sees, Guarded}
+use Rattle.typst_edits.proofs.Marks.{AllMarks, marks-append, marks-shift, none-hand}
 
 abbrev pub Unmarked : List Ask → Type 0
 Unmarked asks = AllMarks (λ at fewer m s. ⊥) asks
@@ -19,6 +25,20 @@ unmarked-shift d ls h = marks-shift (λ at fewer m s. ⊥) d ls h
 
 pub unmarked-joined : {A B : Type 0} (o : Outcome B) (p : Outcome A) → Unmarked o.asks → Unmarked p.asks → Unmarked (joined o p).asks
 unmarked-joined o p h k = marks-append (λ at fewer m s. ⊥) o.asks (shift o.taken p.asks) h (unmarked-shift o.taken p.asks k)
+
+pub unmarked-hand : (l : Level) (z : Place) (s : Point) → Unmarked (hand_asks_of l z s)
+unmarked-hand l z s = none-hand (λ at fewer m t. ⊥) l.classes s.held s.known z
+
+unmarked-looks : (ls : List Ask) → Unmarked (only_looks ls)
+unmarked-looks [] = tt
+unmarked-looks (looked at look ∷ ls) = unmarked-looks ls
+unmarked-looks (marked at gap fewer m s ∷ ls) = unmarked-looks ls
+
+-- A property of asks from one place up to another holds of parts together, and where nothing is noted.
+pub record Joins (Q : ℕ → ℕ → List Ask → Type 0) : Type 0 where
+  pub append : (lo mid hi : ℕ) (ls ks : List Ask) → Q lo mid ls → Q mid hi ks → Q lo hi (ls ++ ks)
+  pub shifted : (d hi : ℕ) (ls : List Ask) → Q 0 hi ls → Q d (d + hi) (shift d ls)
+  pub none : (lo hi : ℕ) (ls : List Ask) → lo ≤ hi → Unmarked ls → Q lo hi ls
 
 module _ (step : ℕ → Mark → ℕ) (P : ℕ → Mark → Type 0) where
   -- The marks stand in order, from one place up to another, each at a given distance after the one before, and a property holds of each.
@@ -57,12 +77,6 @@ module _ (step : ℕ → Mark → ℕ) (P : ℕ → Mark → Type 0) where
   up-sunk lo hi (looked at look ∷ ls) h = up-sunk lo hi ls h
   up-sunk lo hi (marked at gap fewer m s ∷ ls) h = (h.0, h.1, up-sunk (at + step gap m) hi ls h.2)
 
-  -- no marks at all
-  pub up-looks : (lo hi : ℕ) (ls : List Ask) → lo ≤ hi → Upward lo hi (only_looks ls)
-  up-looks lo hi [] h = h
-  up-looks lo hi (looked at look ∷ ls) h = up-looks lo hi ls h
-  up-looks lo hi (marked at gap fewer m s ∷ ls) h = up-looks lo hi ls h
-
   pub up-behind : (lo hi : ℕ) (ls ks : List Ask) → Unmarked ls → Upward lo hi ks → Upward lo hi (ls ++ ks)
   up-behind lo hi [] ks none h = h
   up-behind lo hi (looked at look ∷ ls) ks none h = up-behind lo hi ls ks none h
@@ -73,8 +87,6 @@ module _ (step : ℕ → Mark → ℕ) (P : ℕ → Mark → Type 0) where
   up-none lo hi (looked at look ∷ ls) h none = up-none lo hi ls h none
   up-none lo hi (marked at gap fewer m s ∷ ls) h none = absurd none.0
 
-  -- ---- whatever the language can say
-
   -- What is noted stands in order, within what is taken.
   abbrev pub AllUp : {A : Type 0} → Meaning A → Type 0
   AllUp m = (z : Place) (s : Point) → Upward 0 (m z s).taken (m z s).asks
@@ -83,34 +95,99 @@ module _ (step : ℕ → Mark → ℕ) (P : ℕ → Mark → Type 0) where
   abbrev pub UpFrom : {A : Type 0} → ℕ → Outcome A → Type 0
   UpFrom lo o = Upward lo o.taken o.asks
 
-  pub up-joined : {A B : Type 0} (lo : ℕ) (o : Outcome B) (p : Outcome A) → UpFrom lo o → UpFrom 0 p → UpFrom lo (joined o p)
-  up-joined lo o p h k = up-append lo o.taken (o.taken + p.taken) o.asks _ h (up-low o.taken (o.taken + 0) (o.taken + p.taken) (shift o.taken p.asks) (omega arith) (up-shift o.taken 0 p.taken p.asks k))
+  pub ups : Joins (λ lo hi ls. Upward lo hi ls)
+  ups = record { append = up-append; shifted = λ d hi ls h. up-low d (d + 0) (d + hi) (shift d ls) (omega arith) (up-shift d 0 hi ls h); none = up-none }
 
   -- after what notes nothing
   pub up-after : {A B : Type 0} (lo : ℕ) (o : Outcome B) (p : Outcome A) → Unmarked o.asks → UpFrom lo p → UpFrom (o.taken + lo) (joined o p)
   up-after lo o p none k = up-behind (o.taken + lo) (o.taken + p.taken) o.asks (shift o.taken p.asks) none (up-shift o.taken lo p.taken p.asks k)
 
-  pub ups-turns : {A : Type 0} (m : A → Meaning (Bool × A)) → ((x : A) → AllUp (m x)) → (n : ℕ) (x : A) → AllUp (turns m n x)
-  ups-turns m h zero x z s = omega arith
-  ups-turns m h (suc n) x z s =
+-- ---- whatever the language can say
+
+module _ (Q : ℕ → ℕ → List Ask → Type 0) (joins : Joins Q) where
+  abbrev From : {A : Type 0} → ℕ → Outcome A → Type 0
+  From lo o = Q lo o.taken o.asks
+
+  abbrev AllFrom : {A : Type 0} → Meaning A → Type 0
+  AllFrom m = (z : Place) (s : Point) → From 0 (m z s)
+
+  pub from-joined : {A B : Type 0} (lo : ℕ) (o : Outcome B) (p : Outcome A) → From lo o → From 0 p → From lo (joined o p)
+  from-joined lo o p h k = joins.append lo o.taken (o.taken + p.taken) o.asks _ h (joins.shifted o.taken p.taken p.asks k)
+
+  pub from-turns : {A : Type 0} (m : A → Meaning (Bool × A)) → ((x : A) → AllFrom (m x)) → (n : ℕ) (x : A) → AllFrom (turns m n x)
+  from-turns m h zero x z s = joins.none 0 0 [] (omega arith) tt
+  from-turns m h (suc n) x z s =
       let o = m x z s in
       let p = turns m n o.value.1 (moved o.taken z) o.state in
-      on_both (UpFrom 0) (o.value.0 && nat_lt 0 o.taken) (joined o p) (as_last o) (up-joined 0 o p (h x z s) (ups-turns m h n o.value.1 (moved o.taken z) o.state)) (h x z s)
+      on_both (From 0) (o.value.0 && nat_lt 0 o.taken) (joined o p) (as_last o) (from-joined 0 o p (h x z s) (from-turns m h n o.value.1 (moved o.taken z) o.state)) (h x z s)
 
-  pub up-grown : {A : Type 0} (i : ℕ) (shape : Option Shape) (o : Outcome A) → UpFrom 0 o → UpFrom 0 (grown i shape o)
-  up-grown i None o h = h
-  up-grown i (Some shape) o h = h
+  from-grown : {A : Type 0} (i : ℕ) (shape : Option Shape) (o : Outcome A) → From 0 o → From 0 (grown i shape o)
+  from-grown i None o h = h
+  from-grown i (Some shape) o h = h
 
-  pub up-growths : {A : Type 0} (m : A → Meaning (Option Shape × A)) → ((x : A) → AllUp (m x)) → (n i : ℕ) (o : Outcome A) (z : Place) → UpFrom 0 o → UpFrom 0 (growths m n i o z)
-  up-growths m h n zero o z k = k
-  up-growths m h n (suc i) o z k =
+  pub from-growths : {A : Type 0} (m : A → Meaning (Option Shape × A)) → ((x : A) → AllFrom (m x)) → (n i : ℕ) (o : Outcome A) (z : Place) → From 0 o → From 0 (growths m n i o z)
+  from-growths m h n zero o z k = k
+  from-growths m h n (suc i) o z k =
       let p = m o.value (moved o.taken z) o.state in
-      let all = up-grown n p.value.0 (answered p.value.1 (joined o p)) (up-joined 0 o p k (h o.value (moved o.taken z) o.state)) in
-      on_both (UpFrom 0) (is_more p.value.0 && nat_lt 0 p.taken) (growths m n i (grew n o p) z) (grew n o p) (up-growths m h n i (grew n o p) z all) all
+      let all = from-grown n p.value.0 (answered p.value.1 (joined o p)) (from-joined 0 o p k (h o.value (moved o.taken z) o.state)) in
+      on_both (From 0) (is_more p.value.0 && nat_lt 0 p.taken) (growths m n i (grew n o p) z) (grew n o p) (from-growths m h n i (grew n o p) z all) all
 
-  pub ups-nestings : {A : Type 0} (f : A → Shape) (begin : Begin) (m : A → Meaning (Bool × A)) → ((x : A) → AllUp (m x)) → (n : ℕ) (x : A) → AllUp (nestings f begin m n x)
-  ups-nestings f begin m h zero x z s = omega arith
-  ups-nestings f begin m h (suc n) x z s =
+  pub from-nestings : {A : Type 0} (f : A → Shape) (begin : Begin) (m : A → Meaning (Bool × A)) → ((x : A) → AllFrom (m x)) → (n : ℕ) (x : A) → AllFrom (nestings f begin m n x)
+  from-nestings f begin m h zero x z s = joins.none 0 0 [] (omega arith) tt
+  from-nestings f begin m h (suc n) x z s =
       let o = m x z s in
       let p = nestings f begin m n o.value.1 (moved o.taken z) o.state in
-      on_both (UpFrom 0) (o.value.0 && nat_lt 0 o.taken) (joined o p) (as_last o) (up-joined 0 o p (h x z s) (ups-nestings f begin m h n o.value.1 (moved o.taken z) o.state)) (h x z s)
+      on_both (From 0) (o.value.0 && nat_lt 0 o.taken) (joined o p) (as_last o) (from-joined 0 o p (h x z s) (from-nestings f begin m h n o.value.1 (moved o.taken z) o.state)) (h x z s)
+
+  pub from-looks : (hi : ℕ) (ls : List Ask) → Q 0 hi (only_looks ls)
+  from-looks hi ls = joins.none 0 hi (only_looks ls) (omega arith) (unmarked-looks ls)
+
+  module _ (l : Level) where
+    pub from-hand : (z : Place) (s : Point) (hi : ℕ) → Q 0 hi (hand_asks_of l z s)
+    from-hand z s hi = joins.none 0 hi (hand_asks_of l z s) (omega arith) (unmarked-hand l z s)
+
+    from-more : (z : Place) (s : Point) (hi at : ℕ) (look : _) → Q 0 hi (hand_asks_of l z s ++ looked at look ∷ [])
+    from-more z s hi at look = joins.append 0 hi hi (hand_asks_of l z s) (looked at look ∷ []) (from-hand z s hi) (joins.none hi hi (looked at look ∷ []) (omega arith) tt)
+
+    module _ (notes : Mark → Bool) (own : (m : Mark) (gap : ℕ) (s : State) → notes m ≡ true → Q 0 0 (marked 0 gap 0 m s ∷ [])) where
+      pub from-done : {A : Type 0} (o : Op A) → op_notes notes o ≡ true → AllFrom (done l o)
+      from-done hand q z s = from-hand z s 0
+      from-done (so way) q z s = from-more z s 0 _ _
+      from-done further q z s = from-more z s 0 _ _
+      from-done column q z s = from-more z s 0 _ _
+      from-done erred q z s = joins.none 0 0 [] (omega arith) tt
+      from-done (takes trims making) q z s = from-hand z s _
+      from-done (takes_so way making) q z s = from-more z s _ _ _
+      from-done flushes q z s = from-hand z s _
+      from-done (complains message) q z s = joins.none 0 0 [] (omega arith) tt
+      from-done (advises hint) q z s = joins.none 0 0 [] (omega arith) tt
+      from-done (marks m) q z s = own m (gap_of s.known) (state_of s) q
+      from-done is_deepest q z s = joins.none 0 0 [] (omega arith) tt
+
+      -- where a block is read, by what is known there
+      module _ (There : Place → Point → Type 0) (there : (B : Type 0) (p : Parser B) (z : Place) (s : Point) → (let o = run l p z s in sees p o.value ≡ true → There (moved o.taken z) o.state))
+          (deep : (call : Call) (z : Place) (s : Point) → (let o = l.deeper call z s in Q 0 o.taken (sunk o.asks)))
+          (held : (b : Block) → l.has b ≡ true → (z : Place) (s : Point) → There z s → (let o = done l flushes z s in From 0 (bounded b (l.blocks b) (moved o.taken z) o.state))) where
+        pub from-run : {A : Type 0} (seen : Bool) (p : Parser A) → Guarded notes seen p → (z : Place) (s : Point) → (seen ≡ true → There z s) → From 0 (run l p z s)
+        unfolding run repeated growing nesting
+        from-run seen (gives a) q z s t = joins.none 0 0 [] (omega arith) tt
+        from-run seen (does o) q z s t = from-done o q z s
+        from-run seen (next p f) q z s t =
+            let o = run l p z s in
+            from-joined 0 o (run l (f o.value) (moved o.taken z) o.state) (from-run seen p q.0 z s t) (from-run (sees p o.value) (f o.value) (q.1 o.value) (moved o.taken z) o.state (there _ p z s))
+        from-run seen (pick true p r) q z s t = from-run seen p (q.0 refl) z s t
+        from-run seen (pick false p r) q z s t = from-run seen r (q.1 refl) z s t
+        from-run seen (repeat p x) q z s t = from-turns (λ y. run l (p y)) (λ y z s. from-run false (p y) (q y) z s (λ e. absurd (cc))) (suc (bound z s)) x z s
+        from-run seen (wraps f begin p) q z s t = from-run false p q z s (λ e. absurd (cc))
+        from-run seen (grows begin p f) q z s t = from-growths (λ y. run l (f y)) (λ y z s. from-run false (f y) (q.1 y) z s (λ e. absurd (cc))) (before begin s) (suc (bound z s)) (run l p z s) z (from-run false p q.0 z s (λ e. absurd (cc)))
+        from-run seen (nests f begin p x) q z s t = from-nestings f begin (λ y. run l (p y)) (λ y z s. from-run false (p y) (q y) z s (λ e. absurd (cc))) (suc (bound z s)) x z s
+        from-run seen (scoped f p) q z s t = from-run false p q z (entered (f s.reading) s) (λ e. absurd (cc))
+        from-run seen (either p is_wrong r) q z s t =
+            let o = run l p z s in
+            let u = run l r z s in
+            on_both (From 0) (is_wrong o.value) (given_up o u) o (from-looks u.taken (o.asks ++ u.asks)) (from-run false p q.0 z s (λ e. absurd (cc)))
+        from-run seen (calls call) q z s t = deep call z s
+        from-run seen (block b) q z s t =
+            let o = done l flushes z s in
+            let p = bounded b (l.blocks b) (moved o.taken z) o.state in
+            on_if (From 0) (l.has b) (joined o p) (plain tt s) (λ has. from-joined 0 o p (from-hand z s o.taken) (held b has z s (t q))) (λ _. joins.none 0 0 [] (omega arith) tt)

@@ -1,6 +1,5 @@
 -- The steps by places lead to each block that covers the stretch strictly.
-use Rattle.std.proofs.Common.{◌≡◌, ℕ, zero, suc, ◌+◌, ◌<◌, ◌≤◌, Bool, true, false, ◌&&◌, if◌then◌else◌, nat_lt, List, [], ◌∷◌, ◌++◌, length, map, take, length-append, length-take, append_assoc, option_map, Some, None, refl, ap, sym, ◌∙◌, arith}
-use Rattle.std.proofs.lemmas.Bool.Decides.{nat_tests}
+use Rattle.std.proofs.Common.{◌≡◌, ℕ, zero, suc, ◌+◌, ◌<◌, ◌≤◌, Bool, true, ◌&&◌, if◌then◌else◌, nat_lt, List, [], ◌∷◌, ◌++◌, length, map, take, length-append, length-take, append_assoc, option_map, Some, None, refl, ap, sym, ◌∙◌, arith}
 use Rattle.typst_lines.specs.Place.{char_width}
 use Rattle.typst_lines.proofs.LineTable.{width-positive}
 use Rattle.typst_tree.specs.Tree.{Tree, trees, text_of}
@@ -15,24 +14,13 @@ use Rattle.typst_edits.proofs.Edit.{trees-of}
 use Rattle.typst_edits.proofs.Placed.{deep_text, left_text}
 use Rattle.typst_edits.proofs.SpotPlaces.{spot-place}
 use Rattle.typst_edits.proofs.Widths.{width-append}
+use Rattle.typst_edits.proofs.Spots.{if-true, if-false}
+use Rattle.std.proofs.lemmas.Bool.{and_from, and_right, lt-ltb, le-ltb}
 
 -- ---- among several nodes
 
-less-is : (a b : ℕ) → a < b → nat_lt a b ≡ true
-less-is a b h = grind (arith, nat_tests)
-
-less-not : (a b : ℕ) → b ≤ a → nat_lt a b ≡ false
-less-not a b h = grind (arith, nat_tests)
-
 pub first-if : {A : Type 0} (a b : Bool) (x y : A) → a ≡ true → b ≡ true → (if a && b then x else y) ≡ x
-first-if true true x y h k = refl
-first-if true false x y h k = cc
-first-if false b x y h k = cc
-
-second-if : {A : Type 0} (a b : Bool) (x y : A) → b ≡ false → (if a && b then x else y) ≡ y
-second-if true true x y h = cc
-second-if true false x y h = refl
-second-if false b x y h = refl
+first-if a b x y h k = if-true (a && b) x y (and_from a b h k)
 
 pub length-texts : (t : Tree) (ts : List Tree) → length (texts (t ∷ ts)) ≡ length (text_of t) + length (texts ts)
 length-texts t ts = ap length (texts-first t ts) ∙ length-append (text_of t) (texts ts)
@@ -42,15 +30,14 @@ module _ (from to : ℕ) (order : from ≤ to) where
       → over from to at (left ++ y ∷ right) ≡ Some (record { index = length left; start = at + length (texts left); node = y })
   over-at at [] y right h i =
       let e : at ≡ at + 0 = omega arith in
-      first-if (nat_lt at from) (nat_lt to (at + length (text_of y))) _ _ (less-is at from (omega (arith, h))) (less-is to (at + length (text_of y)) (omega (arith, i)))
+      first-if (nat_lt at from) (nat_lt to (at + length (text_of y))) _ _ (lt-ltb at from (omega (arith, h))) (lt-ltb to (at + length (text_of y)) (omega (arith, i)))
       ∙ ap (λ n. Some (record { index = 0; start = n; node = y })) e
   over-at at (t ∷ left) y right h i =
       let end = at + length (text_of t) in
       let l = length-texts t left in
       let e : end + length (texts left) ≡ at + length (texts (t ∷ left)) = omega (arith, l) in
-      let next = over-at end left y right (omega (arith, l, h)) (omega (arith, l, i)) in
-      second-if (nat_lt at from) (nat_lt to end) _ _ (less-not to end (omega (arith, l, h, order)))
-      ∙ ap (option_map (λ (s : Step). record s { index = suc s.index })) next
+      if-false (nat_lt at from && nat_lt to end) _ _ (and_right (nat_lt at from) (nat_lt to end) (le-ltb to end (omega (arith, l, h, order))))
+      ∙ ap (option_map (λ (s : Step). record s { index = suc s.index })) (over-at end left y right (omega (arith, l, h)) (omega (arith, l, i)))
       ∙ ap (λ n. Some (record { index = suc (length left); start = n; node = y })) e
 
   -- ---- down to a hole
@@ -64,14 +51,10 @@ module _ (from to : ℕ) (order : from ≤ to) where
   size-fill : (d : Deep) (x : Tree) → length (deep_text d) + length (text_of x) ≤ length (text_of (fill d x))
   size-fill bare x = omega arith
   size-fill (under head left d right) x =
-      let i = size-fill d x in
-      let a = length-append head.text (texts (left ++ fill d x ∷ right)) in
-      let b = ap length (texts-append left (fill d x ∷ right)) in
       let c = length-append (texts left) (texts (fill d x ∷ right)) in
       let e = length-texts (fill d x) right in
       let f = length-append head.text (texts left ++ deep_text d) in
-      let g = length-append (texts left) (deep_text d) in
-      omega (arith, i, a, b, c, e, f, g)
+      omega (arith, size-fill d x, length-append head.text (texts (left ++ fill d x ∷ right)), ap length (texts-append left (fill d x ∷ right)), c, e, f, length-append (texts left) (deep_text d))
 
   walk-over : (n at : ℕ) (left : List Tree) (y : Tree) (right : List Tree) → at + length (texts left) < from → to < (at + length (texts left)) + length (text_of y)
       → walk (suc n) from to at (left ++ y ∷ right) ≡ record { index = length left; start = at + length (texts left); node = y } ∷ walk n from to ((at + length (texts left)) + length y.head.text) (trees y.kids)
@@ -87,9 +70,8 @@ module _ (from to : ℕ) (order : from ≤ to) where
       let next = here + length (texts left) in
       let f = length-append head.text (texts left ++ deep_text d) in
       let g = length-append (texts left) (deep_text d) in
-      let s = size-fill d x in
       ap (walk (suc (length (path_in d))) from to here) (trees-of (left ++ y ∷ right))
-      ∙ walk-over (length (path_in d)) here left y right (omega (arith, h, f, g)) (omega (arith, i, f, g, s))
+      ∙ walk-over (length (path_in d)) here left y right (omega (arith, h, f, g)) (omega (arith, i, f, g, size-fill d x))
       ∙ ap (λ ss. record { index = length left; start = next; node = y } ∷ ss) (walk-in d x next (omega (arith, h, f, g)) (omega (arith, i, f, g)))
 
   abbrev steps_of : Hole → Tree → List Step
@@ -100,11 +82,10 @@ module _ (from to : ℕ) (order : from ≤ to) where
       let y = fill h.deep x in
       let next = length (texts h.left) in
       let g = length-append (texts h.left) (deep_text h.deep) in
-      let s = size-fill h.deep x in
       let long : length (path_of h) ≡ suc (length (path_in h.deep)) = omega arith in
       let zero_is : 0 + next ≡ next = omega arith in
       ap (λ n. walk n from to 0 (plug h x)) long
-      ∙ walk-over (length (path_in h.deep)) 0 h.left y h.right (omega (arith, i, g)) (omega (arith, j, g, s))
+      ∙ walk-over (length (path_in h.deep)) 0 h.left y h.right (omega (arith, i, g)) (omega (arith, j, g, size-fill h.deep x))
       ∙ ap (λ n. record { index = length h.left; start = n; node = y } ∷ walk (length (path_in h.deep)) from to (n + length y.head.text) (trees y.kids)) zero_is
       ∙ ap (λ ss. record { index = length h.left; start = next; node = y } ∷ ss) (walk-in h.deep x next (omega (arith, i, g)) (omega (arith, j, g)))
 
@@ -125,8 +106,7 @@ module _ (from to : ℕ) (order : from ≤ to) where
       let next = (at + length head.text) + length (texts left) in
       let r = last-in (length left) d x next in
       let f = length-append head.text (texts left ++ deep_text d) in
-      let g = length-append (texts left) (deep_text d) in
-      let e : next + length (deep_text d) ≡ at + length (head.text ++ (texts left ++ deep_text d)) = omega (arith, f, g) in
+      let e : next + length (deep_text d) ≡ at + length (head.text ++ (texts left ++ deep_text d)) = omega (arith, f, length-append (texts left) (deep_text d)) in
       let first : Step = record { index = i; start = at; node = fill (under head left d right) x } in
       record { earlier = first ∷ r.earlier; index = r.index; is = ap (λ ss. first ∷ ss) r.is ∙ ap (λ n. first ∷ (r.earlier ++ record { index = r.index; start = n; node = x } ∷ [])) e }
 
@@ -149,8 +129,7 @@ unfolding width
 width-over [] past more =
     let none : List ℕ = [] in
     let e : length none + past ≡ past = omega arith in
-    let i = ap (λ n. width (take n more)) e in
-    omega (arith, i)
+    omega (arith, ap (λ n. width (take n more)) e)
 width-over (c ∷ front) past more =
     let i = width-over front past more in
     let e : length (c ∷ front) + past ≡ suc (length front + past) = omega arith in
@@ -158,17 +137,12 @@ width-over (c ∷ front) past more =
 
 pub walk-law : WalkLaw
 walk-law k front old rest c past among_them starts ends_at goes_on =
-    let z = text_with front old rest in
     let text = front ++ (old ++ rest) in
-    let u = unit_at c z in
+    let u = unit_at c (text_with front old rest) in
     let place = spot-place k text c among_them in
     let some : 0 < u.taken = omega (arith, starts, ends_at) in
-    let room = place.room in
-    let one = length-append front (old ++ rest) in
-    let two = length-append old rest in
-    let three = length-append front old in
-    let all : past ≤ length rest = omega (arith, room, one, two, starts, ends_at) in
-    let end_at : c.at + u.taken ≡ length (front ++ old) + past = omega (arith, ends_at, three) in
+    let all : past ≤ length rest = omega (arith, place.room, length-append front (old ++ rest), length-append old rest, starts, ends_at) in
+    let end_at : c.at + u.taken ≡ length (front ++ old) + past = omega (arith, ends_at, length-append front old) in
     let same_text : (front ++ old) ++ rest ≡ text = append_assoc front old rest in
     let left_is = place.left_taken some in
     let both = place.both_taken some in

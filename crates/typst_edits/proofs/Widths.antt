@@ -22,11 +22,11 @@ stretch-by (suc n) [] [] h = absurd (omega (arith, h))
 stretch-by (suc n) [] (c ∷ more) h = absurd (omega (arith, h, width-positive c))
 stretch-by (suc n) (c ∷ front) more h = let i = stretch-by n front more (omega (arith, h)) in omega (arith, i)
 
-passed-most : (n : ℕ) (b a : List ℕ) → width b ≤ width (moved_from n b a).before
+pub moved-width : (n : ℕ) (b a : List ℕ) → width (moved_from n b a).before ≡ width (take n a) + width b
 unfolding width
-passed-most zero b a = omega arith
-passed-most (suc n) b [] = omega arith
-passed-most (suc n) b (c ∷ a) = let i = passed-most n (c ∷ b) a in omega (arith, i)
+moved-width zero b a = omega arith
+moved-width (suc n) b [] = omega arith
+moved-width (suc n) b (c ∷ a) = let i = moved-width n (c ∷ b) a in omega (arith, i)
 
 abbrev end_by : ℕ → ℕ → List ℕ → List ℕ → ℕ
 end_by at n b a = width (moved_from at b a).before + stretch n (moved_from at b a).ahead
@@ -35,7 +35,7 @@ ends-by : (at n : ℕ) (b front more : List ℕ) → at ≤ length (front ++ mor
 unfolding width
 ends-by zero n b front more l h = omega (arith, stretch-by n front more (omega (arith, h)))
 ends-by (suc at) n b [] [] l h = absurd (omega (arith, l))
-ends-by (suc at) n b [] (c ∷ more) l h = absurd (omega (arith, h, passed-most at (c ∷ b) more, width-positive c))
+ends-by (suc at) n b [] (c ∷ more) l h = absurd (omega (arith, h, moved-width at (c ∷ b) more, width-positive c))
 ends-by (suc at) n b (c ∷ front) more l h = let i = ends-by at n (c ∷ b) front more (omega (arith, l)) (omega (arith, h)) in omega (arith, i)
 
 -- A look that ends before a place in bytes, or at it, does so in characters.
@@ -76,11 +76,7 @@ since (suc n) b (c ∷ a) h =
     record { late = s.late ++ c ∷ []; is = s.is ∙ sym (append_assoc s.late (c ∷ []) b); long = omega (arith, length-append s.late (c ∷ []), s.long) }
 
 begins-by : (n : ℕ) (late early : List ℕ) → stretch n (late ++ early) + width early ≤ width (late ++ early) → n ≤ length late
-unfolding stretch width
-begins-by zero late early h = omega arith
-begins-by (suc n) [] [] h = absurd (omega (arith, h))
-begins-by (suc n) [] (c ∷ early) h = absurd (omega (arith, h, width-positive c))
-begins-by (suc n) (c ∷ late) early h = let i = begins-by n late early (omega (arith, h)) in omega (arith, i)
+begins-by n late early h = stretch-by n late early (omega (arith, h, width-append late early))
 
 pub width-onto : (xs b : List ℕ) → width (onto xs b) ≡ width xs + width b
 unfolding width
@@ -101,20 +97,12 @@ near-by n m early rest l h = begins-late n m early rest l (omega (arith, h))
 begins-early : (n m : ℕ) (early rest : List ℕ) → n ≤ m → m ≤ length rest → stretch n (moved_from m early rest).before + width early ≤ width (moved_from m early rest).before
 begins-early n m early rest h l =
     let s = since m early rest l in
-    let i = stretch-to n s.late early (omega (arith, h, s.long)) in
-    let w = width-append s.late early in
-    let both : stretch n (s.late ++ early) + width early ≤ width (s.late ++ early) = omega (arith, i, w) in
+    let both : stretch n (s.late ++ early) + width early ≤ width (s.late ++ early) = omega (arith, stretch-to n s.late early (omega (arith, h, s.long)), width-append s.late early) in
     subst (λ xs. stretch n xs + width early ≤ width xs) (sym s.is) both
 
 pub near-to : (n m : ℕ) (early rest : List ℕ) → n ≤ m → m ≤ length rest → width early < near n (moved m (record { before = early; ahead = rest }))
 unfolding near position
 near-to n m early rest h l = let i = begins-early n m early rest h l in omega (arith, i)
-
-pub moved-width : (n : ℕ) (b a : List ℕ) → width (moved_from n b a).before ≡ width (take n a) + width b
-unfolding width
-moved-width zero b a = omega arith
-moved-width (suc n) b [] = omega arith
-moved-width (suc n) b (c ∷ a) = let i = moved-width n (c ∷ b) a in omega (arith, i)
 
 -- the byte offset of a character of a text
 pub width-moved : (n : ℕ) (text : List ℕ) → width (moved n (record { before = []; ahead = text })).before ≡ width (take n text)

@@ -1,5 +1,5 @@
 -- Each look is at a place of the text, or at its end.
-use Rattle.std.proofs.Common.{ℕ, zero, suc, ◌+◌, ◌≤◌, max, Bool, true, false, ◌&&◌, if◌then◌else◌, nat_lt, List, [], ◌∷◌, ◌++◌, length, Option, Some, None, arith}
+use Rattle.std.proofs.Common.{ℕ, zero, suc, ◌+◌, ◌≤◌, max, Bool, false, ◌&&◌, nat_lt, List, [], ◌∷◌, ◌++◌, length, Option, Some, None, arith}
 use Rattle.typst_kinds.specs.declared.mode.SyntaxMode.{SyntaxMode}
 use Rattle.typst_lines.specs.Place.{Place, moved}
 use Rattle.typst_lines.specs.Classes.{CharClasses}
@@ -67,16 +67,12 @@ at-first n (marked at gap fewer mark s ∷ ls) ks h = at-first n ls ks h
 
 -- ---- the token at hand
 
-if-asks : (n : ℕ) (b : Bool) (ls : List Ask) → AllAt n ls → AllAt n (if b then ls else [])
-if-asks n true ls h = h
-if-asks n false ls h = tt
-
 trivia-within : (k : CharClasses) (m : SyntaxMode) (n : ℕ) (z : Place) → AllAt (length z.ahead) (asks_by k m n z)
 trivia-within k m zero z = (omega arith, tt)
 trivia-within k m (suc n) z =
     let l = len_at k m z in
     let left = ahead-left l z in
-    (omega arith, if-asks (length z.ahead) (at_trivia k m z) _ (at-shift l (length (moved l z).ahead) (length z.ahead) (asks_by k m n (moved l z)) (omega (arith, left)) (trivia-within k m n (moved l z))))
+    (omega arith, on_both (λ (us : List Ask). AllAt (length z.ahead) us) (at_trivia k m z) _ [] (at-shift l (length (moved l z).ahead) (length z.ahead) (asks_by k m n (moved l z)) (omega (arith, left)) (trivia-within k m n (moved l z))) tt)
 
 ahead-within : (k : CharClasses) (m : SyntaxMode) (known : Option Trivia) (z : Place) → AllAt (max (gap_of known) (length z.ahead)) (ahead_asks_of k m known z)
 unfolding ahead_asks
@@ -87,7 +83,7 @@ hand-within : (k : CharClasses) (held : Reading) (known : Option Trivia) (z : Pl
 unfolding hand_at hand_asks
 hand-within k held known z h =
     let a = ahead_of k held.mode known z in
-    at-append _ (ahead_asks_of k held.mode known z) _ (ahead-within k held.mode known z) (if-asks _ (asks_column held a.newlines) (looked a.gap (column_look (moved a.gap z)) ∷ []) (h, tt))
+    at-append _ (ahead_asks_of k held.mode known z) _ (ahead-within k held.mode known z) (on_both (λ (us : List Ask). AllAt (max (gap_of known) (length z.ahead)) us) (asks_column held a.newlines) (looked a.gap (column_look (moved a.gap z)) ∷ []) [] (h, tt) tt)
 
 -- ---- whatever the language can say
 
@@ -180,10 +176,7 @@ module _ (l : Level) (d : (c : Call) → Sane (l.deeper c)) (e : (b : Block) →
     in-run (block b) z s =
         let o = done l flushes z s in
         let p = bounded b (l.blocks b) (moved o.taken z) o.state in
-        on_both (λ u. AllAt (bound z s) u.asks) (l.has b) (joined o p) (plain tt s) (in-joined (bound z s) z o p (flush-within z s) (in-done flushes z s) (in-bounded b (moved o.taken z) o.state)) tt
-      where
-        flush-within : (z : Place) (s : Point) → (done l flushes z s).taken + bound (moved (done l flushes z s).taken z) (done l flushes z s).state ≤ bound z s
-        flush-within z s = w-run (does flushes) z s
+        on_both (λ u. AllAt (bound z s) u.asks) (l.has b) (joined o p) (plain tt s) (in-joined (bound z s) z o p (w-run (does flushes) z s) (in-done flushes z s) (in-bounded b (moved o.taken z) o.state)) tt
 
 -- ---- by any rules, at every level
 

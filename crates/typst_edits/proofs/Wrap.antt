@@ -1,8 +1,7 @@
 -- A hole in what several nodes become.
-use Rattle.std.proofs.Common.{◌≡◌, ℕ, suc, ◌+◌, ◌-◌, ◌<◌, ◌≤◌, inl, inr, Bool, true, false, ◌&&◌, if◌then◌else◌, nat_le, List, [], ◌∷◌, ◌++◌, length, take, drop, length-append, length-take, length-drop, append_assoc, refl, ap, sym, ◌∙◌, subst, arith}
+use Rattle.std.proofs.Common.{◌≡◌, ℕ, suc, ◌+◌, ◌-◌, ◌≤◌, inl, inr, Bool, true, false, ◌&&◌, if◌then◌else◌, nat_le, List, [], ◌∷◌, ◌++◌, length, take, drop, length-append, length-take, length-drop, append_assoc, refl, ap, sym, ◌∙◌, subst, arith}
 use Rattle.std.proofs.lemmas.List.{take-append-le, drop-append-le}
 use Rattle.std.proofs.Math.Seq.{take-append-add, drop-append-add}
-use Rattle.std.proofs.lemmas.Bool.Decides.{nat_tests}
 use Rattle.typst_kinds.specs.declared.kind.SyntaxKind.{SyntaxKind}
 use Rattle.typst_kinds.specs.declared.kind.SyntaxKind.TheVariants as kind
 use Rattle.typst_kinds.specs.Kinds.{is_error}
@@ -17,8 +16,10 @@ use Rattle.typst_language.proofs.Backs.{shape-counts}
 use Rattle.typst_tree.proofs.Stretches.{le_from as le-is}
 use Rattle.typst_edits.specs.Hole.Deep.{bare, under}
 use Rattle.typst_edits.specs.Hole.{Deep, fill, top, Hole, plug, stub, between_parens, changed_deep, first_hole, change_hole, in_node, in_nodes, behind_nodes, lack_hole, warned_head, wrap_in, wrap_past, wrap_hole}
-use Rattle.typst_edits.proofs.Every.{Every, every-map, every-if}
+use Rattle.typst_edits.proofs.Every.{Every, every-map, every-if, every-by}
 use Rattle.typst_edits.proofs.Outcomes.{head-fill}
+use Rattle.std.proofs.lemmas.Bool.{leb-false}
+use Rattle.typst_language.proofs.Parens.{other-stays}
 
 -- All except the first k nodes become something else.
 abbrev pub wrap_nodes : Shape → ℕ → List Tree → List Tree
@@ -94,9 +95,6 @@ changes-first change h d e right solid t = record {
 
 -- ---- parens in math
 
-not-delimited : (t : Tree) → is_delimited t.head.kind ≡ false → without_parens t ≡ t
-not-delimited t h = rw h refl
-
 -- Only the heads of the nodes say whether they are between parens.
 sign-head : (c : ℕ) (t u : Tree) → t.head ≡ u.head → is_sign c t ≡ is_sign c u
 sign-head c t u e = ap (λ (a : Head). is_sign c (record { head = a; kids = forest [] })) e
@@ -121,10 +119,9 @@ parens-off : (head : Head) (left : List Tree) (d : Deep) (right : List Tree) (h 
     → without_parens (fill (under head left d right) x) ≡ record { head = record head { kind = kind.Math }; kids = forest (parens_renamed (left ++ fill d x ∷ right)) }
 parens-off head left d right h x i e =
     let ts = left ++ fill d x ∷ right in
-    let t = fill (under head left d right) x in
     let is = trees_forest ts in
     let off : List Tree → Tree = λ us. record { head = record head { kind = kind.Math }; kids = forest (parens_renamed us) } in
-    ap (λ (b : Bool). if b then off (trees (forest ts)) else t)
+    ap (λ (b : Bool). if b then off (trees (forest ts)) else (fill (under head left d right) x))
     (ap (λ us. is_delimited head.kind && in_parens us) is ∙ ap (λ (b : Bool). is_delimited head.kind && b) (parens-head left (fill d x) (stub d h) right (head-fill d x h i)) ∙ e)
     ∙ ap off is
 
@@ -133,8 +130,7 @@ parens-on : (head : Head) (left : List Tree) (d : Deep) (right : List Tree) (h :
     → without_parens (fill (under head left d right) x) ≡ fill (under head left d right) x
 parens-on head left d right h x i e =
     let ts = left ++ fill d x ∷ right in
-    let t = fill (under head left d right) x in
-    ap (λ (b : Bool). if b then record { head = record head { kind = kind.Math }; kids = forest (parens_renamed (trees (forest ts))) } else t)
+    ap (λ (b : Bool). if b then record { head = record head { kind = kind.Math }; kids = forest (parens_renamed (trees (forest ts))) } else (fill (under head left d right) x))
     (ap (λ us. is_delimited head.kind && in_parens us) (trees_forest ts) ∙ ap (λ (b : Bool). is_delimited head.kind && b) (parens-head left (fill d x) (stub d h) right (head-fill d x h i)) ∙ e)
 
 turns-between : (h head : Head) (left : List Tree) (d : Deep) (right : List Tree) → (is_delimited head.kind && in_parens (left ++ stub d h ∷ right)) ≡ true → Every (Turns unparened h (under head left d right)) (between_parens head left d right)
@@ -161,7 +157,7 @@ every-turns (renamed kind) h (under head left d right) solid =
     (λ e. (record { node = λ x i. (let t = fill (under head left d right) x in ap (λ (b : Bool). if b then t else topped t (record head { kind = kind })) solid); solid = e }, tt))
 every-turns unparened h bare solid =
     every-if (Turns unparened h bare) (is_delimited h.kind) [] _ (λ e. tt)
-    (λ e. (record { node = λ x i. not-delimited x (ap (λ (a : Head). is_delimited a.kind) i ∙ e); solid = solid }, tt))
+    (λ e. (record { node = λ x i. sym (other-stays x (ap (λ (a : Head). is_delimited a.kind) i ∙ e)); solid = solid }, tt))
 every-turns unparened h (under head left d right) solid =
     every-if (Turns unparened h (under head left d right)) (is_delimited head.kind && in_parens (left ++ stub d h ∷ right)) (between_parens head left d right) _ (λ e. turns-between h head left d right e)
     (λ e. (record { node = λ x i. parens-on head left d right h x i e; solid = solid }, tt))
@@ -223,9 +219,6 @@ wraps-behind change kept left d right h (p ∷ ps) e = (
   tt,
 )
 
-le-not : (m n : ℕ) → nat_le m n ≡ false → n < m
-le-not m n h = grind (arith, nat_tests)
-
 -- after the node with the hole
 take-past : (left : List Tree) (j : ℕ) (y : Tree) (right : List Tree) → take (length left + suc j) (left ++ y ∷ right) ≡ left ++ y ∷ take j right
 take-past left j y right = take-append-add left (y ∷ right) (suc j)
@@ -242,7 +235,7 @@ lack-at true count error left d right x e =
     ∙ ap (λ u. take count left ++ error ∷ u) (drop-append-le count left (fill d x ∷ right) l)
     ∙ sym (append_assoc (take count left) (error ∷ drop count left) (fill d x ∷ right))
 lack-at false count error left d right x e =
-    let l = le-not count (length left) e in
+    let l = leb-false count (length left) e in
     let j = count - suc (length left) in
     let c : count ≡ length left + suc j = omega arith in
     ap (λ n. take n (left ++ fill d x ∷ right) ++ error ∷ drop n (left ++ fill d x ∷ right)) c
@@ -259,10 +252,6 @@ wraps-in (lacks count message kind) kept left d right h solid =
 wraps-in (warns kind message hint) kept left d right h solid =
     wraps-node (warns kind message hint) (warned_head kind message hint) kept left d right h (record { left = left; deep = d; right = right }) (λ x i. refl) (λ ts s. refl)
 wraps-in (fails message) kept left d right h solid = tt
-
-pub every-weaker : {X : Type 0} (P Q : X → Type 0) → ((x : X) → P x → Q x) → (xs : List X) → Every P xs → Every Q xs
-every-weaker P Q f [] h = tt
-every-weaker P Q f (x ∷ xs) h = (f x h.0, every-weaker P Q f xs h.1)
 
 -- the first nodes are apart
 wraps-apart : (shape : Shape) (k : ℕ) (hole : Hole) (h : Head) (g : Hole) → k ≤ length hole.left → WrapsIn shape (take k hole.left) (drop k hole.left) hole.deep hole.right h g → Wraps shape k hole h g
@@ -292,10 +281,8 @@ wraps-past shape hole h j solid =
     few-past : (s : Point) → s.empties ≤ length hole.right → (after_shape shape (drop j hole.right) s).empties ≤ length (take j hole.right ++ shaped shape (drop j hole.right))
     few-past s m =
         let one = length-append (take j hole.right) (shaped shape (drop j hole.right)) in
-        let two = length-take j hole.right in
-        let three = length-drop j hole.right in
         elim (shape-counts shape (drop j hole.right) s) [
-          | inl a ↦ omega (arith, a, one, two, three, m)
+          | inl a ↦ omega (arith, a, one, length-take j hole.right, length-drop j hole.right, m)
           | inr a ↦ omega (arith, a.0, a.1, one)
         ]
 
@@ -304,9 +291,9 @@ wraps-hole shape h k hole solid =
     every-if (Wraps shape k hole h) (nat_le k (length hole.left)) _ _
     (λ t.
     let l = le-is k (length hole.left) t in
-    every-weaker (WrapsIn shape (take k hole.left) (drop k hole.left) hole.deep hole.right h) (Wraps shape k hole h)
+    every-by {P = WrapsIn shape (take k hole.left) (drop k hole.left) hole.deep hole.right h} {Q = Wraps shape k hole h}
     (λ g e. wraps-apart shape k hole h g l e) _ (wraps-in shape (take k hole.left) (drop k hole.left) hole.deep hole.right h solid))
     (λ f.
-    let l = le-not k (length hole.left) f in
+    let l = leb-false k (length hole.left) f in
     let e : k ≡ length hole.left + suc (k - suc (length hole.left)) = omega arith in
     (subst (λ n. Wraps shape n hole h (wrap_past shape (k - suc (length hole.left)) hole)) (sym e) (wraps-past shape hole h (k - suc (length hole.left)) solid), tt))

@@ -34,7 +34,7 @@ numbered_in (Some file) t = numberized file 2 (2 ^ 47) t
 abbrev pub Refused : CharClasses → List ℕ → List ℕ → List ℕ → List ℕ → Tree → Candidate → Type 0
 Refused k front old new rest was c = (ts : List Tree) → Gives k front old new rest c ts → replaced_at c.path c.from c.to ts was ≡ None
 
--- THE ANSWER is the first candidate that passes and whose nodes find numbers, as its range in the new text; where there is none it is the whole new text, numbered anew.
+-- THE ANSWER is the first candidate that passes and whose nodes find numbers, as its range in the new text; where there is none it is the whole new text, numbered again.
 pub data IsAnswer (k : CharClasses) (front old new rest : List ℕ) (cs : List Candidate) (was now : Tree) (range : Range ℕ) : Type 0 where
   part : (earlier : List Candidate) (c : Candidate) (later : List Candidate) (ts : List Tree) → cs ≡ earlier ++ c ∷ later → Every (Refused k front old new rest was) earlier
       → Gives k front old new rest c ts → replaced_at c.path c.from c.to ts was ≡ Some now → range.start ≡ c.start → range.end + width old ≡ c.end + width new → IsAnswer k front old new rest cs was now range

@@ -27,13 +27,14 @@ ranges cs = map (λ (c : Candidate). bytes c.start c.end) cs
 abbrev pub tilde : Tree
 tilde = leaf_of kind.Shorthand (codes "~")
 
--- of `abc~def~gh~` the `e` becomes a plus: the first four children are to go
+-- of `abc~def~gh~` the `e` becomes a plus: the first four children are replaced
 abbrev pub first_four : Candidate
 first_four = record { is_block = false; path = []; from = 0; to = 4; start = 0; end = 8 }
 
 abbrev pub new_four : List Tree
 new_four = text (codes "abc") ∷ tilde ∷ text (codes "d+f") ∷ tilde ∷ []
 
+-- what is computed
 pub record Answered (beyond : CharClasses) : Type 0 where
   -- `abc~def~gh~`, 5..6 by a plus: the candidates, and the first of them passes
   pub words : ranges (candidates (by_law beyond) (codes "abc~def~gh~") 5 6 (tree (by_law beyond) (codes "abc~def~gh~"))) ≡ bytes 0 8 ∷ bytes 0 10 ∷ bytes 0 11 ∷ []
@@ -46,13 +47,13 @@ pub record Answered (beyond : CharClasses) : Type 0 where
 abbrev pub ends_in : CharClasses → List ℕ → List ℕ → List ℕ
 ends_in k old new = map (λ c. c.at + (unit_at c (start_of new)).taken) (blocks_of_text k old)
 
--- how many brackets stand open behind two pieces of a content block, and how much they take, read of another text
+-- how many brackets stand open after two pieces of a content block, and how much they take, read of another text
 abbrev pub open_in : CharClasses → List ℕ → List ℕ → List (ℕ × ℕ)
 open_in k old new = map (λ c. (let e = then_end 0 2 (run_at k (max_depth - c.fewer - 1) c (start_of new)) in (e.value.1, e.taken))) (blocks_of_text k old)
 
--- conditions that alone refuse a candidate; a reading that was given up, and a look behind, stand beside the other laws
+-- conditions that alone refuse a candidate; RareConditions.antt has a reading that was given up, and a look back from after a block
 pub record Decided (beyond : CharClasses) : Type 0 where
-  -- looks: behind a link with six quotes four pieces stand before 14, and what was looked at in them ends at 18, behind 17
+  -- looks: after a link with six quotes four pieces stand before 14, and what was looked at in them ends at 18, after 17
   pub looks_before : most ((lead (by_law beyond) (start_of (codes "https://a.b''''''"))).asks ++ asks_of (pieces (by_law beyond) 4 (start_of (codes "https://a.b''''''")))) ≡ 18
   -- the end: with a comment in place of the `b` the block of `@a[b] c` goes on to the text's end, and not to 6
   pub end_old : ends_in (by_law beyond) (codes "@a[b] c") (codes "@a[b] c") ≡ 5 ∷ []

@@ -9,7 +9,7 @@ use Rattle.typst_language.specs.Meaning.{Outcome}
 use Rattle.typst_language.specs.Point.{point_of}
 use Rattle.typst_edits.specs.Laws.{block_at}
 
--- Two readings are the same but for the states that they leave.
+-- Two readings are the same except for the states that they leave.
 pub record SameRead (o p : Outcome (Unit {0})) : Type 0 where
   pub taken : o.taken ≡ p.taken
   pub back : o.back ≡ p.back

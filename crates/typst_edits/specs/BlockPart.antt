@@ -17,7 +17,7 @@ use Rattle.typst_edits.specs.Spot.{Spot}
 abbrev pub own_log : Spot (Unit {0}) → Outcome (Unit {0}) → Place → Log
 own_log c u z = logged (max_depth - c.fewer) (moved c.at z) no_log u.asks
 
--- The law of a block's part: what takes the place of a block's entries, behind the one where it begins, is the entries of what is noted in reading it by itself, and that of its end.
+-- The law of a block's part: what takes the place of a block's entries, after the one where it begins, is the entries of what is noted in reading it by itself, and that of its end.
 abbrev pub BlockPartLaw : Type 0
 BlockPartLaw = (text : List ℕ) (c : Spot (Unit {0})) (u : Outcome (Unit {0})) (ns : List Note) → (own_log c u (start_of text)).notes ≡ Some ns
     → (let z = start_of text in

@@ -69,8 +69,10 @@ run_of s first r behind =
 abbrev pub body_of : Outcome (Unit {0}) → Outcome Bool
 body_of o = let w = wrapped (λ _. becomes kind.Markup) 0 o in joined (joined w (plain w.value.1 w.state)) (plain (is_nil w.value.1) w.state)
 
--- a content block, put together from its parts: the two looks at its bracket, the bracket, its run
--- as one node, and the bracket at its end. In `[a ]` these are `[`, the markup `a ` and `]`
+-- a content block, put together from its parts: two looks at its bracket, since the block and its
+-- node each begin with one; the bracket; its run as one node; and the bracket at its end. In `[a ]`
+-- the parts after the looks are `[`, the markup `a ` and `]`. That the grammar reads a block so is
+-- proved (`content-is` in proofs/BlockRuns.antt); with a look less that equation fails
 abbrev pub content_of : Outcome AtHand → Outcome AtHand → Outcome (Unit {0}) → Outcome Bool → Outcome Bool → Outcome (Unit {0})
 content_of first second opening body close =
     let s = second.state in

@@ -19,7 +19,7 @@ use Rattle.typst_edits.specs.Spot.{Spot, unit_at, lowered}
 abbrev pub closing : {A : Type 0} → Spot A → ℕ → Noting
 closing c taken = record { at = c.at + taken; gap = 0; fewer = c.fewer; mark = mark.Closes; state = state_of c.reached }
 
--- what is logged of a block that gives this outcome, behind the note where it begins
+-- what is logged of a block that gives this outcome, after the note where it begins
 abbrev pub block_log : {A : Type 0} → List ℕ → Spot A → Outcome (Unit {0}) → Log
 block_log text c u = logged max_depth (record { before = []; ahead = text }) no_log (shift c.at (lowered c.fewer u.asks) ++ noting (closing c u.taken) ∷ [])
 

@@ -1,4 +1,4 @@
--- What the records find of a block that an edit may read anew.
+-- What the records find of a block that an edit may read again.
 use Rattle.std.specs.Prelude.{◌≡◌, ◌↔◌, ℕ, suc, ◌+◌, ◌-◌, ◌<◌, ◌≤◌, ◌^◌, true, List, [], ◌∷◌, ◌++◌, take, drop, Some, None}
 use Rattle.std.specs.List.{slice_get}
 use Rattle.typst_kinds.specs.declared.mode.SyntaxMode.{SyntaxMode}
@@ -42,7 +42,7 @@ entries_in k text = (units_of (log k text)).entries
 abbrev pub front_in : CharClasses → List ℕ → List ℕ → List ℕ → ℕ
 front_in k front old rest = front_of (width front) 0 (entries_in k (front ++ (old ++ rest)))
 
--- from which entry on all looks behind begin behind it
+-- from which entry on all later looks begin after the stretch
 abbrev pub rear_in : CharClasses → List ℕ → List ℕ → List ℕ → ℕ
 rear_in k front old rest = let u = units_of (log k (front ++ (old ++ rest))) in rear_of (width (front ++ old)) 0 0 u.entries u.back
 
@@ -56,15 +56,15 @@ pub record SaysBlock (es : List Entry) (from to levels : ℕ) (b : Block) (mode 
 
 -- ---- the test
 
--- The block of these entries passes: its first is among those before the stretch, its last among those behind which all looks begin behind the stretch,
+-- The block of these entries passes: its first is among those before the stretch, its last among those after which all looks begin after the stretch,
 -- and by itself, on the new text, it ends at the shifted end.
 pub record PassesAlone (k : CharClasses) (front old new rest : List ℕ) (c : Candidate) (from to levels : ℕ) (b : Block) (mode : SyntaxMode) (at : ℕ) : Type 0 where
   pub before : from < front_in k front old rest
   pub behind : rear_in k front old rest ≤ to
   pub shifted : (let z = moved at (text_with front new rest) in position (moved (block_alone k levels b mode z).taken z) + width old ≡ c.end + width new)
 
--- What is found of a block candidate whose block begins at an entry: by what the entries say of it, it passes exactly where its block does by itself,
--- and then that block's one node takes its place, and its entries take the place of those behind the first, up to the last.
+-- What is found of a block candidate whose block begins at an entry: by what the entries say of it, it passes exactly if its block does by itself,
+-- and then that block's one node takes its place, and its entries take the place of those after the first, up to the last.
 pub record FoundBlock (k : CharClasses) (front old new rest : List ℕ) (c : Candidate) (from : ℕ) : Type 0 where
   pub to : ℕ
   pub levels : ℕ

@@ -22,7 +22,7 @@ lowest [] last = last
 lowest (n ∷ ns) last = min n.least (lowest ns last)
 
 -- The two notes of a block that covers a stretch of a text, and what the numbers of all notes decide: where the stretch begins in
--- bytes with `reach` of those up to the first, and where it ends with `least` of those behind the second.
+-- bytes with `reach` of those up to the first, and where it ends with `least` of those after the second.
 pub record Decided {A : Type 0} (h : Log) (front old rest : List ℕ) (c : Spot A) (past : ℕ) : Type 0 where
   pub earlier : List Note
   pub opens : Note
@@ -48,7 +48,7 @@ pub record Decided {A : Type 0} (h : Log) (front old rest : List ℕ) (c : Spot 
   pub before_too : AllEndBy (length front) c.before → highest earlier opens.reach ≤ width front
   pub after_too : width (front ++ old) < 2 ^ 64 - 1 → AllBeginIn past rest c.after → width (front ++ old) < lowest later h.least
 
--- The law of the decision: each block of a text has two notes, whose numbers say exactly whether what was looked at before it and behind it passes the test.
+-- The law of the decision: each block of a text has two notes, whose numbers say exactly whether what was looked at before it and after it passes the test.
 abbrev pub DecisionLaw : Type 0
 DecisionLaw = (k : CharClasses) (front old rest : List ℕ) (c : Spot (Unit {0})) (past : ℕ) → Among c (blocks_of_text k (front ++ (old ++ rest)))
     → (unit_at c (text_with front old rest)).taken + c.at ≡ (length front + length old) + past → Decided (log k (front ++ (old ++ rest))) front old rest c past

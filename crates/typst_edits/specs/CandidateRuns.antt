@@ -20,7 +20,7 @@ use Rattle.typst_edits.specs.Runs.{AllGo}
 use Rattle.typst_edits.specs.Sequence.{first_of, then_of, then_end}
 use Rattle.typst_edits.specs.Spot.{Spot}
 
--- A candidate is n pieces behind i of a run, with the trivia behind them: it begins and ends where they do, so many characters past the stretch. The first of them takes back no errors, and only in a run without an expression there is none.
+-- A candidate is the n pieces after the first i of a run, with the trivia after them: it begins and ends where they do, so many characters past the stretch. The first of them takes back no errors, and only in a run without an expression there is none.
 pub record IsPieces (k : CharClasses) (front old rest : List ℕ) (r : Run k (front ++ (old ++ rest))) (c : Candidate) (i n past : ℕ) (t : Trivia) : Type 0 where
   pub go : AllGo (first_of i (read_as r (text_with front old rest)))
   pub go_on : AllGo (then_of i n (read_as r (text_with front old rest)))

@@ -21,6 +21,7 @@ use Rattle.typst_edits.specs.Walk.{Step, walk_to}
 abbrev pub kinds : CharClasses → List ℕ → List SyntaxKind
 kinds k s = map (λ (t : Tree). t.head.kind) (trees (tree k s).kids)
 
+-- what is computed
 pub record Conditions (beyond : CharClasses) : Type 0 where
   -- a content block within a code block: where they begin, their paths, and the levels fewer
   pub code_places : map (λ c. c.at) (blocks_of_text (by_law beyond) (codes "#{[a]}")) ≡ 1 ∷ 2 ∷ []
@@ -31,7 +32,7 @@ pub record Conditions (beyond : CharClasses) : Type 0 where
   -- the steps to the block of `@a[b] c` that covers its `b`
   pub step_indices : map (λ (s : Step). s.index) (walk_to 2 (by_law beyond) (codes "@a[") (codes "b") (codes "] c")) ≡ 0 ∷ 1 ∷ []
   pub step_starts : map (λ (s : Step). s.start) (walk_to 2 (by_law beyond) (codes "@a[") (codes "b") (codes "] c")) ≡ 0 ∷ 2 ∷ []
-  -- a look before: `a~b`, and an `x` put in behind the first piece, which looked at the tilde; nothing is read in its place
+  -- a look before: `a~b`, and an `x` put in after the first piece, which looked at the tilde; nothing is read in its place
   pub ahead_seen : most ((lead (by_law beyond) (start_of (codes "a~b"))).asks ++ asks_of (pieces (by_law beyond) 1 (start_of (codes "a~b")))) ≡ 2
   pub ahead_behind : least (onwards_from (by_law beyond) 1 0 (start_of (codes "a~b"))).asks ≡ 0
   pub ahead_ends : map (λ s. (end_at (by_law beyond) 1 (start_of s)).taken) (codes "a~b" ∷ codes "ax~b" ∷ []) ≡ 1 ∷ 2 ∷ []

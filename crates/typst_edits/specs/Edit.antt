@@ -23,7 +23,7 @@ AllEndBy n [] = Unit {0}
 AllEndBy n (looked at look ∷ asks) = (at + look.front ≤ n) × AllEndBy n asks
 AllEndBy n (marked at gap fewer mark s ∷ asks) = AllEndBy n asks
 
--- every look begins at the start of the rest, or behind it, where the place that it is counted from stands so many characters behind that
+-- every look begins at the start of the rest or after it; the asks are counted from the place so many characters into the rest
 abbrev pub AllBeginIn : ℕ → List ℕ → List Ask → Type 0
 AllBeginIn past rest [] = Unit {0}
 AllBeginIn past rest (looked at look ∷ asks) = (look.back ≤ past + at) × (past + at ≤ length rest) × AllBeginIn past rest asks
@@ -37,7 +37,7 @@ pub record Passes {A : Type 0} (front old new rest : List ℕ) (c : Spot A) (pas
   pub goes_on : 0 < past
   -- what was looked at before the block ends at the stretch or before it
   pub before : AllEndBy (length front) c.before
-  -- what was looked at after the block begins at the stretch's end or behind it
+  -- what was looked at after the block begins at the stretch's end or after it
   pub after : AllBeginIn past rest c.after
   -- read on the new text from its state, the block ends at the shifted end
   pub shifted : (unit_at c (text_with front new rest)).taken + c.at ≡ (length front + length new) + past
@@ -53,6 +53,7 @@ abbrev pub put : List ℕ → Tree → Tree → Tree
 put [] x t = x
 put (i ∷ path) x t = record { head = t.head; kids = forest (alter i (put path x) (trees t.kids)) }
 
+-- the nodes with another one at the end of a path into them
 abbrev pub replaced : List ℕ → Tree → List Tree → List Tree
 replaced [] x ts = ts
 replaced (i ∷ path) x ts = alter i (put path x) ts
@@ -64,6 +65,6 @@ pub record Edited {A : Type 0} (old new : Outcome A) (c : Spot A) (a b : Outcome
   pub back : new.back ≡ old.back
   -- one node is replaced, at its path
   pub nodes : new.nodes ≡ replaced (path_of c.hole) x old.nodes
-  -- the log is the old one before the block, the block's own, and the old one behind it, moved
+  -- the log is the old one before the block, the block's own, and the old one after it, moved
   pub was : old.asks ≡ c.before ++ (shift c.at (lowered c.fewer a.asks) ++ shift (c.at + a.taken) c.after)
   pub log : new.asks ≡ c.before ++ (shift c.at (lowered c.fewer b.asks) ++ shift (c.at + b.taken) c.after)

@@ -28,11 +28,11 @@ use Rattle.typst_edits.specs.Spot.{Spot}
 abbrev pub IsEmpty : Sequence → Type 0
 IsEmpty r = ends r.stops 0 (hand_of r.level r.place r.point).kind ≡ true
 
--- what the token behind its trivia looks at, asked again
+-- what the token after its trivia looks at, asked again
 abbrev pub end_asks : CharClasses → Trivia → Place → List Ask
 end_asks k t z = looked 0 (look (token k mode.Markup) (moved t.gap z)) ∷ []
 
--- A text without an expression has one note, and the token at its end, asked again, says whether what is looked at behind the trivia begins at a stretch's end or behind it; that is so at each stretch of the text.
+-- A text without an expression has one note, and the token at its end, asked again, says whether what is looked at after the trivia begins at a stretch's end or after it; that is so at each stretch of the text.
 pub record EmptyText (k : CharClasses) (front old rest : List ℕ) (past : ℕ) (t : Trivia) : Type 0 where
   pub note : Note
   pub notes : (log k (front ++ (old ++ rest))).notes ≡ Some (note ∷ [])
@@ -47,7 +47,7 @@ abbrev pub EmptyTextLaw : Type 0
 EmptyTextLaw = (k : CharClasses) (front old rest : List ℕ) (past : ℕ) (t : Trivia) → IsEmpty (text_run k (text_with front old rest)) → (text_run k (text_with front old rest)).point.known ≡ Some t
     → EmptyText k front old rest past t
 
--- A content block without an expression has one note between its two, and the token behind its trivia, asked again, says with what is looked at behind the block whether what is looked at behind the trivia begins at a stretch's end or behind it.
+-- A content block without an expression has one note between its two, and the token after its trivia, asked again, says with what is looked at after the block whether what is looked at after the trivia begins at a stretch's end or after it.
 pub record EmptyBlock (k : CharClasses) (levels : ℕ) (front old rest : List ℕ) (c : Spot (Unit {0})) (past : ℕ) (t : Trivia) : Type 0 where
   pub earlier : List Note
   pub opens : Note

@@ -73,8 +73,10 @@ Agrees {k} {text} (inner c levels a n l) true m x y = y.1 ≡ x.1
 -- THE TEST OF PIECES: n pieces follow the first i of a run and end, with their trivia, so many
 -- characters past a stretch `old`, which becomes `new`, and m are read in their place. All other
 -- pieces were read without a look into the stretch, and the new pieces end where the old ones did,
--- with what is carried there agreeing. Without that, what stays could be read otherwise in the new
--- text.
+-- with what is carried there agreeing. Otherwise what stays could be read otherwise in the new text:
+-- where `[` replaces the `~` of `a~b]`, the kept `]` was an error and would be text. For each
+-- condition `conditions_of_texts` or `rare_conditions_of_texts` computes a text at which it alone
+-- fails and the nodes differ.
 pub record PassesPieces (k : CharClasses) (front old new rest : List ℕ) (r : Run k (front ++ (old ++ rest))) (i n m past : ℕ) (t u : Trivia) : Type 0 where
   pub first_go : AllGo (first_of i (read_as r (text_with front old rest)))
   pub old_go : AllGo (then_of i n (read_as r (text_with front old rest)))
@@ -94,7 +96,7 @@ cut_at r i z = let e = first_end i (read_as r z) in opened_by r z + (if i == 0 t
 
 -- The nodes of the new pieces, with the trivia after them. The trivia before the first of them
 -- belong to the piece before, if there is one: in `*a* *b*`, where `*b*` is read again, the space
--- stays with `*a*`.
+-- stays with `*a*`, otherwise it would be there twice.
 abbrev pub nodes_now : {k : CharClasses} {text : List ℕ} → Run k text → ℕ → ℕ → Trivia → Place → List Tree
 nodes_now r i m u w =
     let q = read_as r w in
@@ -102,7 +104,8 @@ nodes_now r i m u w =
 
 -- A CANDIDATE PASSES, and the nodes `ts` take its children's place: a block by the test of blocks,
 -- read again as a block of its kind, or pieces by the test of pieces, with the nodes of the new
--- ones.
+-- ones. In `@a[b]`, where `]` replaces `b`, the block doesn't pass: read again it is `[]` and ends too
+-- early, and the last `]` would be in no node.
 pub data Gives (k : CharClasses) (front old new rest : List ℕ) (c : Candidate) (ts : List Tree) : Type 0 where
   of_block : (s : Spot (Unit {0})) (past : ℕ) → c.is_block ≡ true → Among s (blocks_of_text k (front ++ (old ++ rest))) → path_of s.hole ≡ c.path ++ c.from ∷ []
       → Passes front old new rest s past → ts ≡ last_node (unit_at s (text_with front new rest)).nodes ∷ [] → Gives k front old new rest c ts

@@ -31,23 +31,24 @@ minds_at r z e = minds (markup_head e.value.0 e.value.1 (hand_of r.level z e.sta
 abbrev pub first_place : ℕ → Sequence → Place
 first_place i r = moved (first_end i r).taken r.place
 
--- n pieces behind i as one outcome, and all behind them
+-- the n pieces after the first i, as one outcome
 abbrev pub read_by : ℕ → ℕ → Sequence → Outcome (Unit {0})
 read_by i n r = together (then_end i n r).state (then_of i n r)
 
+-- everything after the n pieces that follow the first i, as one outcome
 abbrev pub onwards_by : ℕ → ℕ → Sequence → Outcome (Unit {0})
 onwards_by i n r = let e = then_end i n r in onwards r e.value (then_place i n r) e.state
 
--- the nodes behind the trivia that are known at a point
+-- the nodes after the trivia that are known at a point
 abbrev pub behind_known : Point → List Tree → List Tree
 behind_known s ts = drop (length (pending s.known)) ts
 
--- What the first node of pieces, and the first behind them, say of what is taken back.
+-- What the first node of pieces, and the first after them, say of what is taken back.
 pub record Headed (r : Sequence) (i n : ℕ) : Type 0 where
   -- pieces whose first node is no error begin with an expression that takes nothing back, and then they take nothing back
   pub first : 0 < n → begins_wrong (behind_known (first_end i r).state (read_by i n r).nodes) ≡ false → minds_at r (first_place i r) (first_end i r) ≡ false
   pub pieces_back : minds_at r (first_place i r) (first_end i r) ≡ false → (read_by i n r).back ≡ 0
-  -- and so with what is behind them
+  -- the same of what comes after them
   pub next : begins_wrong (behind_known (then_end i n r).state (onwards_by i n r).nodes) ≡ false → is_over_at r (then_place i n r) (then_end i n r) ≡ false → minds_at r (then_place i n r) (then_end i n r) ≡ false
   pub behind_back : (is_over_at r (then_place i n r) (then_end i n r) ≡ false → minds_at r (then_place i n r) (then_end i n r) ≡ false) → (onwards_by i n r).back ≡ 0
 
@@ -60,6 +61,7 @@ InnerHeadLaw = (k : CharClasses) (levels : ℕ) (z : Place) (s : Point) (i n : �
 
 -- ---- an edit
 
+-- neither outcome takes nodes back
 pub record NoneBack (o n : Outcome (Unit {0})) : Type 0 where
   pub back : o.back ≡ 0
   pub back_now : n.back ≡ 0
@@ -82,7 +84,7 @@ InnerNoneBackLaw = (k : CharClasses) (levels : ℕ) (front old new rest : List �
 abbrev pub GoesOnWell : ℕ → ℕ → Sequence → Type 0
 GoesOnWell i n r = is_over_at r (then_place i n r) (then_end i n r) ≡ false → begins_wrong (behind_known (then_end i n r).state (onwards_by i n r).nodes) ≡ false
 
--- The law of what is taken back behind pieces: where such an edit passes the test of the joint, nothing behind them is taken back in either text.
+-- The law of what is taken back after pieces: where such an edit passes the test of the joint, what comes after them takes nothing back in either text.
 abbrev pub NoneBehindLaw : Type 0
 NoneBehindLaw = (k : CharClasses) (front old new rest : List ℕ) (i n m past : ℕ) (t u : Trivia) → PassesJoint k front old new rest i n m past t u
     → GoesOnWell i n (text_run k (text_with front old rest)) → NoneBack (onwards_from k i n (text_with front old rest)) (onwards_from k i m (text_with front new rest))

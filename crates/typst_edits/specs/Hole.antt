@@ -1,5 +1,5 @@
 -- Nodes with a hole: a place for one node, among several or in one of them, at any depth.
-use Rattle.std.specs.Prelude.{ℕ, suc, ◌-◌, ◌&&◌, if◌then◌else◌, nat_le, List, [], ◌∷◌, ◌++◌, length, map, take, drop, None}
+use Rattle.std.specs.Prelude.{◌≡◌, ℕ, suc, ◌-◌, ◌&&◌, if◌then◌else◌, nat_le, List, [], ◌∷◌, ◌++◌, length, map, take, drop, None, refl}
 use Rattle.typst_kinds.specs.declared.kind.SyntaxKind.{SyntaxKind}
 use Rattle.typst_kinds.specs.declared.kind.SyntaxKind.TheVariants as kind
 use Rattle.typst_kinds.specs.Kinds.{is_error}
@@ -105,19 +105,31 @@ behind_nodes kept [] = []
 behind_nodes kept (h ∷ hs) = record h { left = kept ++ h.left } ∷ []
 
 -- the hole with an empty error put after the first `count` nodes, before or after the hole. In
--- `show a`, whose error comes after `show`, a hole for `a` has the error on its left
+-- `show [a]` the error comes after `show`: the index of `[a]` is 3; with 2 an edit would replace the
+-- space
 abbrev pub lack_hole : ℕ → Tree → List Tree → Deep → List Tree → Hole
 lack_hole count error left d right =
     if nat_le count (length left)
     then record { left = take count left ++ error ∷ drop count left; deep = d; right = right }
     else record { left = left; deep = d; right = take (count - suc (length left)) right ++ error ∷ drop (count - suc (length left)) right }
 
+-- Computed: the error is the second node, whether the hole is the second of the other nodes or the
+-- first. On the other side of the hole it would stand in the node's place, and the path would lead
+-- to it.
+lacks_before : (error a : Tree) → lack_hole 1 error (a ∷ []) bare [] ≡ record { left = a ∷ error ∷ []; deep = bare; right = [] }
+lacks_before error a = refl
+
+lacks_behind : (error a : Tree) → lack_hole 1 error [] bare (a ∷ []) ≡ record { left = []; deep = bare; right = error ∷ a ∷ [] }
+lacks_behind error a = refl
+
 -- the head of an inner node with a warning and its hint
 abbrev pub warned_head : SyntaxKind → List ℕ → List ℕ → Head
 warned_head kind message hint = (advised (hint_with None hint) (remarked (warning_with None message) (inner_of kind (forest [])))).head
 
 -- the hole after its nodes went into a shape, with `kept` before them; nothing if they became an
--- error of their text, or the change may make the hole's node another
+-- error of their text, or the change may make the hole's node another. In `*#[a]*` the hole for `[a]`
+-- comes to be in the Strong node; in `#f([a]: 1)` `[a]` becomes an error (`name_change` of
+-- Arguments.antt), and there is no node that an edit could replace
 abbrev pub wrap_in : Shape → Head → List Tree → List Tree → Deep → List Tree → List Hole
 wrap_in (keeps change) h kept left d right = behind_nodes kept (change_hole change h left d right)
 wrap_in (holds change kind) h kept left d right = in_nodes (inner_head kind) kept (change_hole change h left d right)
@@ -125,15 +137,35 @@ wrap_in (lacks count message kind) h kept left d right = in_node (inner_head kin
 wrap_in (warns kind message hint) h kept left d right = in_node (warned_head kind message hint) kept (record { left = left; deep = d; right = right })
 wrap_in (fails message) h kept left d right = []
 
+-- Computed: in a new node the hole stands where its node did, and what stood before the new node
+-- does still; in an error there is none, as it has a text and no children, so an edit in such a block
+-- is never read alone.
+wraps_in : (h : Head) (x a b : Tree) → wrap_in (holds stays kind.Equation) h (x ∷ []) (a ∷ []) bare (b ∷ []) ≡ record { left = x ∷ []; deep = under (inner_head kind.Equation) (a ∷ []) bare (b ∷ []); right = [] } ∷ []
+wraps_in h x a b = refl
+
+wraps_none : (h : Head) (message : List ℕ) (a b : Tree) → wrap_in (fails message) h [] (a ∷ []) bare (b ∷ []) ≡ []
+wraps_none h message a b = refl
+
 -- the hole after nodes to its right, all but the first j, went into a shape
 abbrev pub wrap_past : Shape → ℕ → Hole → Hole
 wrap_past shape j h = record h { right = take j h.right ++ shaped shape (drop j h.right) }
 
 -- the hole after all nodes but the first k went into a shape, where the hole's node has the head h:
 -- it is in the shape's node, or before it, or lost. For `[a](b)`, which becomes a call, the hole
--- for `[a]` comes to be the first child of the call
+-- for `[a]` comes to be the first child of the call; with its old path an edit would replace the call
 abbrev pub wrap_hole : Shape → Head → ℕ → Hole → List Hole
 wrap_hole shape h k hole =
     if nat_le k (length hole.left)
     then wrap_in shape h (take k hole.left) (drop k hole.left) hole.deep hole.right
     else wrap_past shape (k - suc (length hole.left)) hole ∷ []
+
+-- Computed: a call takes the hole into it as its first child, and one that begins after the hole
+-- leaves it outside, before the call. With the other place for either a path would lead past the
+-- block.
+wraps_around : (h : Head) (args : Tree) → wrap_hole (holds stays kind.FuncCall) h 0 (record { left = []; deep = bare; right = args ∷ [] })
+    ≡ record { left = []; deep = under (inner_head kind.FuncCall) [] bare (args ∷ []); right = [] } ∷ []
+wraps_around h args = refl
+
+wraps_past : (h : Head) (name args : Tree) → wrap_hole (holds stays kind.FuncCall) h 1 (record { left = []; deep = bare; right = name ∷ args ∷ [] })
+    ≡ record { left = []; deep = bare; right = inner_of kind.FuncCall (forest (name ∷ args ∷ [])) ∷ [] } ∷ []
+wraps_past h name args = refl

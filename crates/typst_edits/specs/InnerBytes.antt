@@ -17,22 +17,23 @@ use Rattle.typst_edits.specs.Sequence.{first_of, first_end, then_of, then_end}
 use Rattle.typst_edits.specs.Splice.{notes_in}
 use Rattle.typst_edits.specs.Spot.{Spot}
 
--- where i pieces of a block's run end, and n behind them, counted from the text's start
+-- where the first i pieces of a block's run end, counted from the text's start
 abbrev pub inner_end : {A : Type 0} → CharClasses → ℕ → ℕ → Spot A → Place → End (Bool × ℕ)
 inner_end k levels i c z = let e = first_end i (run_at k levels c z) in record e { taken = opened_at k levels c z + e.taken }
 
+-- where the n pieces after the first i end, counted from the text's start
 abbrev pub inner_both : {A : Type 0} → CharClasses → ℕ → ℕ → ℕ → Spot A → Place → End (Bool × ℕ)
 inner_both k levels i n c z = let r = run_at k levels c z in let e = then_end i n r in record e { taken = opened_at k levels c z + ((first_end i r).taken + e.taken) }
 
--- The notes where n pieces behind i of a content block's run begin and end, and what their numbers decide: where the stretch begins
+-- The notes where the n pieces after the first i of a content block's run begin and end, and what their numbers decide: where the stretch begins
 -- in bytes with `reach`, and where it ends with `least`.
 pub record DecidedInner (k : CharClasses) (levels : ℕ) (front old rest : List ℕ) (c : Spot (Unit {0})) (i n : ℕ) : Type 0 where
   pub begins : PieceNote (log k (front ++ (old ++ rest))) (suc levels) (front ++ (old ++ rest)) (inner_end k levels i c (text_with front old rest))
   pub ends : PieceNote (log k (front ++ (old ++ rest))) (suc levels) (front ++ (old ++ rest)) (inner_both k levels i n c (text_with front old rest))
-  -- the first says where the token behind i pieces begins, and without any where the run does
+  -- the first says where the token after the first i pieces begins, and without any where the run does
   pub token : (let e = inner_end k levels i c (text_with front old rest) in 0 < i → begins.note.start ≡ width (take (e.taken + gap_of e.state.known) (front ++ (old ++ rest))))
   pub token_first : i ≡ 0 → begins.note.start ≡ width (take (inner_end k levels i c (text_with front old rest)).taken (front ++ (old ++ rest)))
-  -- the second says where the trivia behind the pieces end
+  -- the second says where the trivia after the pieces end
   pub trivia_end : (let e = inner_both k levels i n c (text_with front old rest) in 0 < i + n → ends.note.start ≡ width (take (e.taken + gap_of e.state.known) (front ++ (old ++ rest))))
   -- so many notes stand before them
   pub number : length begins.earlier ≡ notes_in c.before + notes_in (asks_of (first_of i (run_at k levels c (text_with front old rest))))
@@ -40,18 +41,18 @@ pub record DecidedInner (k : CharClasses) (levels : ℕ) (front old rest : List 
   -- the test of looks before the pieces, in both directions
   pub before : highest begins.earlier begins.note.reach ≤ width front → EndsBefore k levels front old rest c i
   pub before_too : EndsBefore k levels front old rest c i → highest begins.earlier begins.note.reach ≤ width front
-  -- the test of looks behind pieces that go on past the stretch
+  -- the test of looks after pieces that go on past the stretch
   pub after : (past : ℕ) → (inner_both k levels i n c (text_with front old rest)).taken ≡ (length front + length old) + past
       → width (front ++ old) < lowest ends.later (log k (front ++ (old ++ rest))).least → BeginsBehind k levels front old rest c i n past
   pub after_too : (past : ℕ) → (inner_both k levels i n c (text_with front old rest)).taken ≡ (length front + length old) + past
       → 0 < i + n → width (front ++ old) < 2 ^ 64 - 1 → BeginsBehind k levels front old rest c i n past → width (front ++ old) < lowest ends.later (log k (front ++ (old ++ rest))).least
-  -- and of looks behind the trivia, where the pieces go on, with these, past the stretch
+  -- and of looks after the trivia, where the pieces go on, with these, past the stretch
   pub after_trivia : (past : ℕ) (t : Trivia) → (let e = inner_both k levels i n c (text_with front old rest) in e.state.known ≡ Some t → e.taken + t.gap ≡ (length front + length old) + past
       → width (front ++ old) < lowest ends.later (log k (front ++ (old ++ rest))).least → BeginsPast k levels front old rest c i n past t)
   pub after_trivia_too : (past : ℕ) (t : Trivia) → (let e = inner_both k levels i n c (text_with front old rest) in e.state.known ≡ Some t → e.taken + t.gap ≡ (length front + length old) + past
       → 0 < i + n → width (front ++ old) < 2 ^ 64 - 1 → BeginsPast k levels front old rest c i n past t → width (front ++ old) < lowest ends.later (log k (front ++ (old ++ rest))).least)
 
--- The law of the decision in a content block: where pieces of its run begin and end stand notes, whose numbers say exactly whether what was looked at before them and behind them, or behind the trivia there, passes the test.
+-- The law of the decision in a content block: where pieces of its run begin and end stand notes, whose numbers say exactly whether what was looked at before them and after them, or after the trivia there, passes the test.
 abbrev pub InnerDecisionLaw : Type 0
 InnerDecisionLaw = (k : CharClasses) (levels : ℕ) (front old rest : List ℕ) (c : Spot (Unit {0})) (i n : ℕ) → Among c (blocks_of_text k (front ++ (old ++ rest)))
     → c.name ≡ block.Content → max_depth - c.fewer ≡ suc levels → AllGo (first_of i (run_at k levels c (text_with front old rest))) → AllGo (then_of i n (run_at k levels c (text_with front old rest)))

@@ -17,19 +17,19 @@ use Rattle.typst_edits.specs.RunTrees.{given}
 use Rattle.typst_edits.specs.Sequence.{first_of, first_end, then_of, then_end}
 use Rattle.typst_edits.specs.Spot.{Spot, last_node, unit_at}
 
--- n pieces behind i of a block's run as one outcome
+-- the n pieces after the first i of a block's run, as one outcome
 abbrev pub read_in : {A : Type 0} → CharClasses → ℕ → ℕ → ℕ → Spot A → Place → Outcome (Unit {0})
 read_in k levels i n c z = let r = run_at k levels c z in together (then_end i n r).state (then_of i n r)
 
--- the nodes that stand before them in the run: those of the i pieces, but for the errors that they take back
+-- the nodes that stand before them in the run: those of the i pieces, without the errors that they take back
 abbrev pub standing_in : {A : Type 0} → CharClasses → ℕ → ℕ → ℕ → Spot A → Place → List Tree
 standing_in k levels i n c z = less (read_in k levels i n c z).back (given (first_of i (run_at k levels c z)) [])
 
--- their nodes, but for the errors that what is behind them takes back, and the trivia behind them
+-- their nodes, without the errors that what comes after them takes back, and the trivia after them
 abbrev pub nodes_in : {A : Type 0} → CharClasses → ℕ → ℕ → ℕ → Trivia → Spot A → Place → List Tree
 nodes_in k levels i n t c z = less (onwards_in k levels i n c z).back (read_in k levels i n c z).nodes ++ t.nodes
 
--- a content block, by its bracket, which is an error where the second is missing, by what stands in it, and what stands behind that
+-- a content block, by its bracket, which is an error where the second is missing, by what stands in it, and what stands after that
 abbrev pub block_with : Bool → Tree → List Tree → List Tree → Tree
 block_with closed bracket kids behind =
     inner_of kind.ContentBlock (forest ((if closed then bracket else made_error (codes "unclosed delimiter") bracket) ∷ inner_of kind.Markup (forest kids) ∷ behind))
@@ -48,14 +48,14 @@ pub record KeptInnerChildren (k : CharClasses) (levels : ℕ) (front old new res
       let first = length (standing_in k levels i n c z) in
       tree k (front ++ (new ++ rest)) ≡ with_children (path_of c.hole ++ 1 ∷ []) first (first + length (nodes_in k levels i n t c z)) (nodes_in k levels i m u c (text_with front new rest)) (tree k (front ++ (old ++ rest))))
 
--- The law of a content block's children: where an edit inside some pieces of its run passes the test of the joint, and the new pieces take back as many errors as the old ones, one stretch of the children of its markup is exchanged for the new pieces' nodes and the trivia behind them.
+-- The law of a content block's children: where an edit inside some pieces of its run passes the test of the joint, and the new pieces take back as many errors as the old ones, one stretch of the children of its markup is exchanged for the new pieces' nodes and the trivia after them.
 abbrev pub InnerChildrenLaw : Type 0
 InnerChildrenLaw = (k : CharClasses) (levels : ℕ) (front old new rest : List ℕ) (c : Spot (Unit {0})) (i n m past : ℕ) (t u : Trivia) → Among c (blocks_of_text k (front ++ (old ++ rest)))
     → PassesInnerJoint k levels front old new rest c i n m past t u
     → Settles n (onwards_in k levels i n c (text_with front old rest)) → Settles m (onwards_in k levels i m c (text_with front new rest))
     → (read_in k levels i m c (text_with front new rest)).back ≡ (read_in k levels i n c (text_with front old rest)).back → KeptInnerChildren k levels front old new rest c i n m t u
 
--- In a content block, too, pieces take back no more errors than stand before them, and what is behind them no more than stand at their end.
+-- In a content block, too, pieces take back no more errors than stand before them, and what comes after them no more than stand at their end.
 pub record TakesBackIn (k : CharClasses) (levels : ℕ) (text : List ℕ) (c : Spot (Unit {0})) (i n : ℕ) : Type 0 where
   pub pieces_back : (read_in k levels i n c (start_of text)).back ≤ (first_end i (run_at k levels c (start_of text))).state.empties
   pub behind_back : (onwards_in k levels i n c (start_of text)).back ≤ (then_end i n (run_at k levels c (start_of text))).state.empties

@@ -30,7 +30,7 @@ kids_in block = elim (slice_get (trees block.kids) 1) as (λ _. List Tree) [ Non
 abbrev pub markup_from : CharClasses → ℕ → List ℕ → Spot (Unit {0}) → ℕ
 markup_from k levels text s = width (take (inner_end k levels 0 s (start_of text)).taken text)
 
--- The block begins before a stretch and ends behind it.
+-- The block begins before a stretch and ends after it.
 pub record Around (front old rest : List ℕ) (s : Spot (Unit {0})) : Type 0 where
   pub starts : s.at < length front
   pub ends : length front + length old < s.at + (unit_at s (text_with front old rest)).taken

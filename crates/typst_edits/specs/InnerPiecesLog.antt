@@ -16,7 +16,7 @@ use Rattle.typst_edits.specs.Runs.{AllGo, asks_of}
 use Rattle.typst_edits.specs.Sequence.{Sequence, first_of, first_end, then_of}
 use Rattle.typst_edits.specs.Spot.{Spot}
 
--- what is asked where m pieces are read again from behind these trivia, as a run is from its start
+-- what is asked where m pieces are read again from after these trivia, as a run is from its start
 abbrev pub asks_again : ℕ → ℕ → Trivia → Sequence → List Ask
 asks_again i m t r = (run r.level peek (moved t.gap (first_place i r)) (start_point markup_reading)).asks ++ asks_of (read_again i m t r)
 

@@ -36,11 +36,11 @@ use Rattle.typst_edits.specs.Spot.{Spot}
 abbrev pub front_count : CharClasses → List ℕ → ℕ → ℕ
 front_count k text at = front_of at 0 (units_of (log k text)).entries
 
--- the number of the first entry of a text from which on all looks begin behind a byte
+-- the number of the first entry of a text after which all looks begin at a byte or after it
 abbrev pub rear_count : CharClasses → List ℕ → ℕ → ℕ
 rear_count k text at = let u = units_of (log k text) in rear_of at 0 0 u.entries u.back
 
--- The notes where n pieces behind i of a block's run begin and end: their tokens begin where the pieces and what is behind them do, and their numbers among all notes decide the test of looks.
+-- The notes where the n pieces after the first i of a block's run begin and end: their tokens begin where the pieces and what comes after them do, and their numbers among all notes decide the test of looks.
 pub record InnerEntries (k : CharClasses) (levels : ℕ) (front old rest : List ℕ) (s : Spot (Unit {0})) (i n past : ℕ) (t : Trivia) : Type 0 where
   pub begins : PieceNote (log k (front ++ (old ++ rest))) (suc levels) (front ++ (old ++ rest)) (inner_end k levels i s (text_with front old rest))
   pub ends : PieceNote (log k (front ++ (old ++ rest))) (suc levels) (front ++ (old ++ rest)) (inner_both k levels i n s (text_with front old rest))
@@ -50,14 +50,14 @@ pub record InnerEntries (k : CharClasses) (levels : ℕ) (front old rest : List 
   -- their numbers are those between which the splice of units exchanges entries
   pub number : length begins.earlier ≡ notes_in s.before + notes_in (asks_of (first_of i (run_at k levels s (text_with front old rest))))
   pub number_end : length ends.earlier ≡ (notes_in s.before + notes_in (asks_of (first_of i (run_at k levels s (text_with front old rest))))) + notes_in (asks_of (then_of i n (run_at k levels s (text_with front old rest))))
-  -- the first is one of those that stand before the stretch with all looks just where the looks before the pieces end there, if the block begins before it
+  -- the first is one of those that stand before the stretch with all looks exactly if the looks before the pieces end there, if the block begins before it
   pub before : length begins.earlier < front_count k (front ++ (old ++ rest)) (width front) → EndsBefore k levels front old rest s i
   pub before_too : s.at < length front → EndsBefore k levels front old rest s i → length begins.earlier < front_count k (front ++ (old ++ rest)) (width front)
-  -- the second is one of those from which on all looks begin behind the stretch just where the looks behind the pieces do
+  -- the second is one of those from which on all looks begin after the stretch exactly if the looks after the pieces do
   pub after : 0 < i + n → rear_count k (front ++ (old ++ rest)) (width (front ++ old)) ≤ length ends.earlier → BeginsPast k levels front old rest s i n past t
   pub after_too : 0 < i + n → BeginsPast k levels front old rest s i n past t → rear_count k (front ++ (old ++ rest)) (width (front ++ old)) ≤ length ends.earlier
 
--- The law of the entries of pieces in a content block: where they go on, with the trivia behind them, past the stretch, two notes by their numbers decide the test of looks, in a text that a machine word counts.
+-- The law of the entries of pieces in a content block: where they go on, with the trivia after them, past the stretch, two notes by their numbers decide the test of looks, in a text that a machine word counts.
 abbrev pub InnerEntriesLaw : Type 0
 InnerEntriesLaw = (k : CharClasses) (levels : ℕ) (front old rest : List ℕ) (s : Spot (Unit {0})) (i n past : ℕ) (t : Trivia) → Among s (blocks_of_text k (front ++ (old ++ rest)))
     → s.name ≡ block.Content → max_depth - s.fewer ≡ suc levels → AllGo (first_of i (run_at k levels s (text_with front old rest))) → AllGo (then_of i n (run_at k levels s (text_with front old rest)))
@@ -70,10 +70,11 @@ InnerEntriesLaw = (k : CharClasses) (levels : ℕ) (front old rest : List ℕ) (
 abbrev pub level_in : CharClasses → ℕ → Level
 level_in k levels = run_level k (suc levels) of.Block
 
--- m pieces of it from a place on, with what is carried there, and where they end
+-- m pieces of it from a place on, with what is carried there
 abbrev pub read_alone : CharClasses → ℕ → Bool × ℕ → ℕ → Place → List (Outcome (Bool × (Bool × ℕ)))
 read_alone k levels x m z = pieces_on (level_in k levels) (stops_of of.Block) x m z
 
+-- where they end
 abbrev pub end_alone : CharClasses → ℕ → Bool × ℕ → ℕ → Place → End (Bool × ℕ)
 end_alone k levels x m z = end_on (level_in k levels) (stops_of of.Block) x m z
 
@@ -96,7 +97,7 @@ pub record GivesInner (k : CharClasses) (levels : ℕ) (front old new rest : Lis
   pub passes : PassesPieces k front old new rest (block_run s levels among name level) i n m past t behind
   pub are : ts ≡ nodes_now (block_run s levels among name level) i m behind (text_with front new rest)
 
--- The law of a reading of pieces in a content block: where the block is around the stretch, the old ones go on past it and take back no errors, and the test of looks passes, pieces that are read by themselves pass just where they end and agree, and their nodes are what they give.
+-- The law of a reading of pieces in a content block: where the block is around the stretch, the old ones go on past it and take back no errors, and the test of looks passes, pieces that are read by themselves pass exactly if they end and agree, and their nodes are what they give.
 abbrev pub InnerReadLaw : Type 0
 InnerReadLaw = (k : CharClasses) (levels : ℕ) (front old new rest : List ℕ) (s : Spot (Unit {0})) (among : Among s (blocks_of_text k (front ++ (old ++ rest)))) (name : s.name ≡ block.Content) (level : max_depth - s.fewer ≡ suc levels)
     (i n m past : ℕ) (t : Trivia) (ts : List Tree) → AllGo (first_of i (run_at k levels s (text_with front old rest))) → AllGo (then_of i n (run_at k levels s (text_with front old rest)))
@@ -113,7 +114,7 @@ InnerOnceLaw = (k : CharClasses) (levels : ℕ) (front old new rest : List ℕ) 
 
 -- ---- a candidate
 
--- What code finds of a candidate that stands for n pieces behind i of a block's run, where it reads m.
+-- What code finds of a candidate that stands for the n pieces after the first i of a block's run, where it reads m.
 pub record InnerTest (k : CharClasses) (levels : ℕ) (front old new rest : List ℕ) (s : Spot (Unit {0})) (among : Among s (blocks_of_text k (front ++ (old ++ rest)))) (name : s.name ≡ block.Content) (level : max_depth - s.fewer ≡ suc levels)
     (c : Candidate) (i n m past : ℕ) (t : Trivia) (ts : List Tree) : Type 0 where
   pub entries : InnerEntries k levels front old rest s i n past t
@@ -137,19 +138,19 @@ InnerTestLaw = (k : CharClasses) (levels : ℕ) (front old new rest : List ℕ) 
 
 -- ---- the entries that are read
 
--- What is logged of pieces in a block behind others is what is logged of them where they are read by themselves, and the token of the note before them begins there.
+-- What is logged of pieces in a block after others is what is logged of them where they are read by themselves, and the token of the note before them begins there.
 pub record InnerPart (k : CharClasses) (levels : ℕ) (front old new rest : List ℕ) (s : Spot (Unit {0})) (a i m : ℕ) : Type 0 where
   pub log_is : (let y = moved a (text_with front new rest) in pieces_log_in k levels i m s (text_with front new rest)
       ≡ logged (suc levels) y no_log ((first_look (level_in k levels) y).asks ++ asks_of (read_alone k levels (first_end i (run_at k levels s (text_with front old rest))).value m y)))
   pub token : token_start (text_with front new rest) (end_note_in k levels i s (text_with front new rest)) ≡ position (moved a (text_with front new rest))
 
--- The law of a part: so it is of pieces in a content block that go on behind others, where the looks before them end before the stretch and they take back no errors.
+-- The law of a part: so it is of pieces in a content block that follow others and go on, where the looks before them end before the stretch and they take back no errors.
 abbrev pub InnerPartLaw : Type 0
 InnerPartLaw = (k : CharClasses) (levels : ℕ) (front old new rest : List ℕ) (s : Spot (Unit {0})) (among : Among s (blocks_of_text k (front ++ (old ++ rest)))) (name : s.name ≡ block.Content) (level : max_depth - s.fewer ≡ suc levels)
     (i m : ℕ) → 0 < i → AllGo (first_of i (run_at k levels s (text_with front old rest))) → TakesNone i (run_at k levels s (text_with front old rest)) → EndsBefore k levels front old rest s i
     → AllGo (then_of i m (run_at k levels s (text_with front new rest))) → InnerPart k levels front old new rest s (cut_at (block_run s levels among name level) i (text_with front old rest)) i m
 
--- The law of units by numbers: where pieces behind others in a content block pass the test, the entries between the two numbers are exchanged for those of the pieces that are read by themselves.
+-- The law of units by numbers: where pieces after others in a content block pass the test, the entries between the two numbers are exchanged for those of the pieces that are read by themselves.
 abbrev pub InnerUnitsLaw : Type 0
 InnerUnitsLaw = (k : CharClasses) (levels : ℕ) (front old new rest : List ℕ) (s : Spot (Unit {0})) (among : Among s (blocks_of_text k (front ++ (old ++ rest)))) (name : s.name ≡ block.Content) (level : max_depth - s.fewer ≡ suc levels)
     (i n m past : ℕ) (t u : Trivia) → 0 < i → PassesInnerJoint k levels front old new rest s i n m past t u → TakesNone i (run_at k levels s (text_with front old rest))

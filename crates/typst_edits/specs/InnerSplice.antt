@@ -20,7 +20,7 @@ use Rattle.typst_edits.specs.Sequence.{Sequence, first_of, first_end, then_of}
 use Rattle.typst_edits.specs.Splice.{Noting, notes_in, token_start, entries_from}
 use Rattle.typst_edits.specs.Spot.{Spot}
 
--- ---- the notes of any run
+-- ---- the notes of any run, as RunSplice.antt has those of a text's
 
 -- the point where i pieces are noted: where they end, and without any where the run begins
 abbrev pub noted_at : Sequence → Point → ℕ → Point
@@ -31,12 +31,12 @@ noted_at r first (suc i) = (first_end (suc i) r).state
 abbrev pub note_at : Sequence → Point → ℕ → Noting
 note_at r first i = let e = first_end i r in let s = noted_at r first i in record { at = e.taken; gap = gap_of s.known; fewer = 0; mark = mark.Piece e.value.0 e.value.1; state = state_of s }
 
--- what is looked at behind that note, before the next piece: the token at hand, and before the first piece what the run looks at first
+-- what is looked at after that note, before the next piece: the token at hand, and before the first piece what the run looks at first
 abbrev pub looks_next : Sequence → List Ask → ℕ → List Ask
 looks_next r lead zero = lead
 looks_next r lead (suc i) = let e = first_end (suc i) r in shift e.taken (hand_asks_of r.level (moved e.taken r.place) e.state)
 
--- what is asked behind that note up to the end of n more pieces
+-- what is asked after that note up to the end of n more pieces
 abbrev pub own_of : Sequence → List Ask → ℕ → ℕ → List Ask
 own_of r lead i n = looks_next r lead i ++ shift (first_end i r).taken (asks_of (then_of i n r))
 
@@ -48,13 +48,13 @@ end_note_in k levels i c z =
     let p = note_at (run_at k levels c z) (bracket k levels (moved c.at z) (point_of c.start)).state i in
     record p { at = opened_at k levels c z + p.at; fewer = c.fewer }
 
--- what is logged of n pieces behind i in their block, behind that note
+-- what is logged of the n pieces after the first i in their block, after that note
 abbrev pub pieces_log_in : CharClasses → ℕ → ℕ → ℕ → Spot (Unit {0}) → Place → Log
 pieces_log_in k levels i n c z =
     let r = run_at k levels c z in
     logged (suc levels) r.place no_log (own_of r (inner_lead k levels (moved c.at z) (point_of c.start)).asks i n)
 
--- The entries of the old pieces are exchanged for those of the new ones on the new text, behind the note where the pieces before them in the block end.
+-- The entries of the old pieces are exchanged for those of the new ones on the new text, after the note where the pieces before them in the block end.
 abbrev pub SplicedInner : CharClasses → ℕ → List ℕ → List ℕ → List ℕ → List ℕ → Spot (Unit {0}) → ℕ → ℕ → ℕ → Type 0
 SplicedInner k levels front old new rest c i n m =
     let z = text_with front old rest in

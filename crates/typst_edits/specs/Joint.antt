@@ -1,4 +1,4 @@
--- Pieces that are read again, and those behind them, where other trivia or other errors stand between them than before.
+-- Pieces that are read again, and those after them, where other trivia or other errors stand between them than before.
 use Rattle.std.specs.Prelude.{◌≡◌, ℕ, ◌+◌, ◌<◌, Bool, true, false, List, [], ◌++◌, length, Some}
 use Rattle.typst_kinds.specs.declared.kind.SyntaxKind.{SyntaxKind}
 use Rattle.typst_lines.specs.Place.{Place, moved}
@@ -25,15 +25,15 @@ minds head.Stray = true
 minds head.Unexpected = true
 minds _ = false
 
--- the expressions from a place on, and the trivia behind them
+-- the expressions from a place on, and the trivia after them
 abbrev pub onwards : Sequence → Bool × ℕ → Meaning (Unit {0})
 onwards r x = run r.level (repeat (markup_turn true r.stops) x >>= λ _. flush_trivia)
 
--- behind these trivia, of which stays known what is told of them
+-- the point after these trivia, whose nodes and newlines stay known; no gap is left
 abbrev pub passed : Trivia → Point → Point
 passed t s = record s { known = Some (record t { gap = 0 }) }
 
--- what is the same but for the trivia before it
+-- what is the same except for the trivia before it
 pub record Exchanged {A : Type 0} (t u : Trivia) (o n : Outcome A) : Type 0 where
   pub value : n.value ≡ o.value
   pub more : ℕ
@@ -54,7 +54,7 @@ pub record Exchanged {A : Type 0} (t u : Trivia) (o n : Outcome A) : Type 0 wher
 abbrev pub is_over_at : Sequence → Place → End (Bool × ℕ) → Bool
 is_over_at r z e = ends r.stops e.value.1 (hand_of r.level z e.state).kind
 
--- What has to agree where pieces end, before the expressions behind them: what is carried, unless the expressions end there in both texts; neither the trivia nor the errors before them.
+-- What has to agree where pieces end, before the expressions that follow: what is carried, unless the expressions end there in both texts; neither the trivia nor the errors before them.
 pub record Meets (r : Sequence) (z : Place) (e f : End (Bool × ℕ)) (t u : Trivia) : Type 0 where
   pub known : e.state.known ≡ Some t
   pub known_now : f.state.known ≡ Some u
@@ -65,14 +65,15 @@ pub record Meets (r : Sequence) (z : Place) (e f : End (Bool × ℕ)) (t u : Tri
 
 -- ---- the run of a text
 
+-- a text's run
 abbrev pub text_run : CharClasses → Place → Sequence
 text_run k z = record { level = level_at k max_depth; stops = is_end; place = z; point = (lead k z).state }
 
--- where n pieces behind i end
+-- where the n pieces after the first i end
 abbrev pub place_from : CharClasses → ℕ → ℕ → Place → Place
 place_from k i n z = moved (end_from k i n z).taken (moved (end_at k i z).taken z)
 
--- The test: behind i pieces stand n that go on, with the trivia behind them, so many characters past a stretch `old`, which becomes `new`, and m pieces are to take their place.
+-- The test: n pieces follow the first i and end, with the trivia after them, so many characters past a stretch `old`, which becomes `new`, and m pieces are to take their place.
 pub record PassesJoint (k : CharClasses) (front old new rest : List ℕ) (i n m past : ℕ) (t u : Trivia) : Type 0 where
   -- these are pieces of the run, in both texts
   pub first_go : AllGo (pieces k i (text_with front old rest))
@@ -80,15 +81,15 @@ pub record PassesJoint (k : CharClasses) (front old new rest : List ℕ) (i n m 
   pub new_go : AllGo (pieces_from k i m (text_with front new rest))
   -- what was looked at before them ends at the stretch or before it; the look at the first token belongs to the first piece
   pub before : 0 < i → AllEndBy (length front) ((lead k (text_with front old rest)).asks ++ asks_of (pieces k i (text_with front old rest)))
-  -- what is looked at from behind the trivia on begins at the stretch's end or behind it
+  -- what is looked at after the trivia begins at the stretch's end or after it
   pub ends : ((end_at k i (text_with front old rest)).taken + (end_from k i n (text_with front old rest)).taken) + t.gap ≡ (length front + length old) + past
   pub after : (let z = text_with front old rest in let e = end_from k i n z in
       AllBeginIn past rest (onwards (text_run k z) e.value (moved t.gap (place_from k i n z)) (passed t e.state)).asks)
-  -- the new ones end at the shifted end, with their trivia, and meet what is behind them
+  -- the new ones end at the shifted end, with their trivia, and meet what is after them
   pub shifted : ((end_at k i (text_with front new rest)).taken + (end_from k i m (text_with front new rest)).taken) + u.gap ≡ (length front + length new) + past
   pub meets : (let z = text_with front old rest in let w = text_with front new rest in Meets (text_run k z) (place_from k i n z) (end_from k i n z) (end_from k i m w) t u)
 
--- all behind n pieces behind i, with the trivia at the text's end
+-- everything after the n pieces that follow the first i, with the trivia at the text's end
 abbrev pub onwards_from : CharClasses → ℕ → ℕ → Place → Outcome (Unit {0})
 onwards_from k i n z =
     let r = rest_from k i n z in
@@ -99,7 +100,7 @@ pub record KeptJoint (k : CharClasses) (front old new rest : List ℕ) (i n m pa
   -- the pieces before them are the same, and so is the look at the first token where there are some
   pub first : pieces k i (text_with front new rest) ≡ pieces k i (text_with front old rest)
   pub lead_same : 0 < i → lead k (text_with front new rest) ≡ lead k (text_with front old rest)
-  -- each text is read as its pieces and all behind them
+  -- each text is read as its pieces and everything after them
   pub was : (let z = text_with front old rest in
       let r = chain (pieces k i z) (chain (pieces_from k i n z) (rest_from k i n z)) in
       parsed k max_depth (front ++ (old ++ rest)) ≡ whole_of (lead k z) r (tail k r.taken r.state z))
@@ -107,9 +108,9 @@ pub record KeptJoint (k : CharClasses) (front old new rest : List ℕ) (i n m pa
       let w = text_with front new rest in
       let r = chain (pieces k i z) (chain (pieces_from k i m w) (rest_from k i m w)) in
       parsed k max_depth (front ++ (new ++ rest)) ≡ whole_of (lead k w) r (tail k r.taken r.state w))
-  -- and all behind them is the same, but for the trivia before it
+  -- and everything after them is the same except for the trivia before it
   pub behind : Exchanged t u (onwards_from k i n (text_with front old rest)) (onwards_from k i m (text_with front new rest))
 
--- The law of the joint: where the new pieces end before other trivia or behind other errors, all behind them is what it was, behind those trivia.
+-- The law of the joint: where the new pieces end before other trivia or after other errors, everything after the trivia is as it was.
 abbrev pub JointLaw : Type 0
 JointLaw = (k : CharClasses) (front old new rest : List ℕ) (i n m past : ℕ) (t u : Trivia) → PassesJoint k front old new rest i n m past t u → KeptJoint k front old new rest i n m past t u

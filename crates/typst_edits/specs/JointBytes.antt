@@ -1,4 +1,4 @@
--- The test of an edit inside some pieces of a text's run and the trivia behind them in bytes, by the notes of a reading.
+-- The test of an edit inside some pieces of a text's run and the trivia after them in bytes, by the notes of a reading.
 use Rattle.std.specs.Prelude.{◌≡◌, ℕ, ◌+◌, ◌-◌, ◌<◌, ◌≤◌, ◌^◌, List, ◌++◌, length, take, Some}
 use Rattle.typst_lines.specs.Place.{Place, moved}
 use Rattle.typst_lines.specs.Classes.{CharClasses}
@@ -12,18 +12,18 @@ use Rattle.typst_edits.specs.Joint.{onwards, passed, text_run, place_from}
 use Rattle.typst_edits.specs.RunBytes.{PieceNote, both_end}
 use Rattle.typst_edits.specs.Runs.{AllGo, asks_of, lead, pieces, end_at, pieces_from, end_from}
 
--- what is asked from behind these trivia on, which stand behind n pieces behind i
+-- what is asked after the trivia that follow the n pieces after the first i
 abbrev pub asked_past : CharClasses → ℕ → ℕ → Trivia → Place → List Ask
 asked_past k i n t z = let e = end_from k i n z in (onwards (text_run k z) e.value (moved t.gap (place_from k i n z)) (passed t e.state)).asks
 
--- The notes where n pieces behind i begin and end, and what their numbers decide of these pieces and the trivia behind them: where
+-- The notes where the n pieces after the first i begin and end, and what their numbers decide of these pieces and the trivia after them: where
 -- the stretch begins in bytes with `reach`, and where it ends with `least`.
 pub record DecidedJoint (k : CharClasses) (front old rest : List ℕ) (i n past : ℕ) (t : Trivia) : Type 0 where
   pub begins : PieceNote (log k (front ++ (old ++ rest))) max_depth (front ++ (old ++ rest)) (end_at k i (text_with front old rest))
   pub ends : PieceNote (log k (front ++ (old ++ rest))) max_depth (front ++ (old ++ rest)) (both_end k i n front old rest)
-  -- the first says where the token behind the pieces before it begins
+  -- the first says where the token after the pieces before it begins
   pub token : (let e = end_at k i (text_with front old rest) in 0 < i → begins.note.start ≡ width (take (e.taken + gap_of e.state.known) (front ++ (old ++ rest))))
-  -- the second says where the trivia behind the pieces end
+  -- the second says where the trivia after the pieces end
   pub trivia_end : 0 < i + n → ends.note.start ≡ width (take ((both_end k i n front old rest).taken + t.gap) (front ++ (old ++ rest)))
   -- the two tests of looks
   pub before : 0 < i → highest begins.earlier begins.note.reach ≤ width front → AllEndBy (length front) ((lead k (text_with front old rest)).asks ++ asks_of (pieces k i (text_with front old rest)))
@@ -32,7 +32,7 @@ pub record DecidedJoint (k : CharClasses) (front old rest : List ℕ) (i n past 
   pub before_too : (0 < i → AllEndBy (length front) ((lead k (text_with front old rest)).asks ++ asks_of (pieces k i (text_with front old rest)))) → highest begins.earlier begins.note.reach ≤ width front
   pub after_too : 0 < i + n → width (front ++ old) < 2 ^ 64 - 1 → AllBeginIn past rest (asked_past k i n t (text_with front old rest)) → width (front ++ old) < lowest ends.later (log k (front ++ (old ++ rest))).least
 
--- The law of the decision for the joint: where pieces of a text's run go on, with the trivia behind them, past a stretch, the same two notes say exactly whether what was looked at before the pieces, and from behind the trivia on, passes the test.
+-- The law of the decision for the joint: where pieces of a text's run go on, with the trivia after them, past a stretch, the same two notes say exactly whether what was looked at before the pieces, and after the trivia, passes the test.
 abbrev pub JointDecisionLaw : Type 0
 JointDecisionLaw = (k : CharClasses) (front old rest : List ℕ) (i n past : ℕ) (t : Trivia) → AllGo (pieces k i (text_with front old rest)) → AllGo (pieces_from k i n (text_with front old rest))
     → (end_from k i n (text_with front old rest)).state.known ≡ Some t

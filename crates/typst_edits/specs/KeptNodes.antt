@@ -24,7 +24,7 @@ abbrev pub run_from : {k : CharClasses} {text : List ℕ} → Run k text → ℕ
 run_from {k} {text} top = 0
 run_from {k} {text} (inner c levels a n l) = markup_from k levels text c
 
--- Among these the child `from` begins with the piece behind a pieces, or is the first of all before the first piece, and the child `mid` with the one d pieces later.
+-- Among these the child `from` begins with the piece after the first a, or is the first of all before the first piece, and the child `mid` with the one d pieces later.
 pub record StandsBetween (k : CharClasses) (text : List ℕ) (r : Run k text) (a d from mid : ℕ) : Type 0 where
   pub first : a ≡ 0 → from ≡ 0
   pub starts : 0 < a → StandsAt (run_from r) (kids_of_run r) from (width (take (cut_at r a (start_of text)) text))
@@ -39,7 +39,7 @@ pub record KeptNodes (k : CharClasses) (text : List ℕ) (r : Run k text) (a d :
   pub there : from + length (nodes_now r a d t (start_of text)) ≡ mid
   pub replaced : (to : ℕ) (others : List Tree) → mid ≤ to → replaced_at (path_to r) from to (nodes_now r a d t (start_of text) ++ others) root ≡ replaced_at (path_to r) mid to others root
 
--- The law of kept nodes: where a piece stands behind some pieces of a run, and takes no errors back, their nodes stand in the old tree between the children where they begin and where it does, so a candidate that begins with them need not replace them.
+-- The law of kept nodes: where a piece stands after some pieces of a run, and takes no errors back, their nodes stand in the old tree between the children where they begin and where it does, so a candidate that begins with them need not replace them.
 abbrev pub KeptNodesLaw : Type 0
 KeptNodesLaw = (k : CharClasses) (text : List ℕ) (r : Run k text) (a d : ℕ) (t : Trivia) (from mid : ℕ) (root : Tree) → bare root ≡ bare (tree k text) → 0 < d
     → AllGo (first_of (suc (a + d)) (read_as r (start_of text))) → (first_end (a + d) (read_as r (start_of text))).state.known ≡ Some t → TakesNone (a + d) (read_as r (start_of text))

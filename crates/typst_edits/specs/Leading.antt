@@ -36,30 +36,30 @@ pub record LeadsAt (from : ℕ) (ts : List Tree) (at index : ℕ) : Type 0 where
   pub full : 0 < length (text_of node)
   pub alone : (before : List Tree) (x : Tree) (behind : List Tree) → ts ≡ before ++ x ∷ behind → from + bytes_of before ≡ at → 0 < length (text_of x) → length before ≡ index
 
--- where the token behind some pieces of a text begins, in bytes
+-- where the token after some pieces of a text begins, in bytes
 abbrev pub token_byte : List ℕ → End (Bool × ℕ) → ℕ
 token_byte text e = width (take (e.taken + gap_of e.state.known) text)
 
--- where n pieces behind i of a text's run end
+-- where the n pieces after the first i of a text's run end
 abbrev pub both : CharClasses → ℕ → ℕ → Place → End (Bool × ℕ)
 both k i n z = let f = end_from k i n z in record f { taken = (end_at k i z).taken + f.taken }
 
--- whether a run ends behind n pieces behind i
+-- whether a run ends after the n pieces that follow the first i, as in Frame.antt
 abbrev pub is_over : ℕ → ℕ → Sequence → Bool
 is_over i n r = ends r.stops (then_end i n r).value.1 (hand_of r.level (then_place i n r) (then_end i n r).state).kind
 
--- Where n pieces behind i of a text's run begin and end among the tree's children, with the trivia behind them: the one that leads at the cut where they begin stands behind the nodes of the i pieces and the trivia behind these, and so where they end.
+-- Where the n pieces after the first i of a text's run begin and end among the tree's children, with the trivia after them: the one that leads at the cut where they begin stands after the nodes of the i pieces and the trivia after these, and so where they end.
 pub record Leading (k : CharClasses) (text : List ℕ) (i n : ℕ) (t : Trivia) : Type 0 where
   pub behind : List Tree
   pub children : (let z = start_of text in trees (tree k text).kids ≡ standing_before k i n z ++ (nodes_with k i n t z ++ behind))
-  -- what is read behind them gives their trivia and what stands behind these
+  -- what is read after them gives their trivia and what stands after these
   pub onwards : (onwards_from k i n (start_of text)).nodes ≡ t.nodes ++ behind
-  -- with the trivia behind them they end where the token behind them begins
+  -- with the trivia after them they end where the token after them begins
   pub ends : (let z = start_of text in bytes_of (standing_before k i n z ++ nodes_with k i n t z) ≡ token_byte text (both k i n z))
   pub first : 0 < n → (let z = start_of text in LeadsAt 0 (trees (tree k text).kids) (token_byte text (end_at k i z)) (length (standing_before k i n z) + length (pending (end_at k i z).state.known)))
   pub next : is_over i n (text_run k (start_of text)) ≡ false
       → (let z = start_of text in LeadsAt 0 (trees (tree k text).kids) (token_byte text (both k i n z)) (length (standing_before k i n z) + length (nodes_with k i n t z)))
-  -- behind the last piece stands nothing
+  -- after the last piece stands nothing
   pub last : is_over i n (text_run k (start_of text)) ≡ true → behind ≡ []
 
 -- The law of the children that lead, at the top of a text's tree.
@@ -71,7 +71,7 @@ LeadingLaw = (k : CharClasses) (text : List ℕ) (i n : ℕ) (t : Trivia) → Al
 abbrev pub opening_child : Bool → Tree → Tree
 opening_child closed bracket = if closed then bracket else made_error (codes "unclosed delimiter") bracket
 
--- The same in the markup of a content block, whose first child begins behind the bracket.
+-- Where the n pieces after the first i of a content block's run begin and end among the children of its markup, the first of which begins after the bracket.
 pub record LeadingInner (k : CharClasses) (levels : ℕ) (text : List ℕ) (c : Spot (Unit {0})) (i n : ℕ) (t : Trivia) : Type 0 where
   pub closed : Bool
   pub bracket : Tree

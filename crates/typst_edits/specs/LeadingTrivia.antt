@@ -1,4 +1,4 @@
--- The same stretches of children without the trivia before their first piece, which belong to the piece before.
+-- What an edit leaves of a tree, as in Children.antt and InnerChildren.antt, without the trivia before the first piece, which belong to the piece before.
 use Rattle.std.specs.Prelude.{◌≡◌, ℕ, ◌+◌, ◌<◌, List, [], ◌∷◌, ◌++◌, length, drop}
 use Rattle.typst_lines.specs.Place.{Place}
 use Rattle.typst_lines.specs.Classes.{CharClasses}
@@ -16,14 +16,15 @@ use Rattle.typst_edits.specs.Runs.{end_at}
 use Rattle.typst_edits.specs.Sequence.{first_end}
 use Rattle.typst_edits.specs.Spot.{Spot}
 
--- how many nodes of trivia stand where i pieces of a text's run end, and of a block's
+-- how many nodes of trivia stand where i pieces of a text's run end
 abbrev pub trivia_at : CharClasses → ℕ → Place → ℕ
 trivia_at k i z = length (pending (end_at k i z).state.known)
 
+-- and where i pieces of a content block's run end
 abbrev pub trivia_in : {A : Type 0} → CharClasses → ℕ → ℕ → Spot A → Place → ℕ
 trivia_in k levels i c z = length (pending (first_end i (run_at k levels c z)).state.known)
 
--- What the tree of the new text is: the old one with the new nodes behind the leading trivia in place of the old ones behind them.
+-- What the tree of the new text is: the old one with the new nodes after the leading trivia in place of the old ones after them.
 pub record KeptBehind (k : CharClasses) (front old new rest : List ℕ) (i n m : ℕ) (t u : Trivia) : Type 0 where
   -- as many trivia lead in both texts
   pub trivia_same : trivia_at k i (text_with front new rest) ≡ trivia_at k i (text_with front old rest)
@@ -32,7 +33,7 @@ pub record KeptBehind (k : CharClasses) (front old new rest : List ℕ) (i n m :
       let trivia = trivia_at k i z in
       tree k (front ++ (new ++ rest)) ≡ with_children [] (first + trivia) (first + length (nodes_with k i n t z)) (drop trivia (nodes_with k i m u (text_with front new rest))) (tree k (front ++ (old ++ rest))))
 
--- The law of leading trivia: behind at least one piece the law of a run's children holds of the nodes behind the trivia, too.
+-- The law of leading trivia: after at least one piece the law of a run's children holds of the nodes after the trivia, too.
 abbrev pub LeadingTriviaLaw : Type 0
 LeadingTriviaLaw = (k : CharClasses) (front old new rest : List ℕ) (i n m past : ℕ) (t u : Trivia) → 0 < i → PassesJoint k front old new rest i n m past t u
     → Settles n (onwards_from k i n (text_with front old rest)) → Settles m (onwards_from k i m (text_with front new rest))

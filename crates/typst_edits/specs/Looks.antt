@@ -11,7 +11,7 @@ AllReach b z [] = Unit {0}
 AllReach b z (looked at look ∷ asks) = (far look.front (moved at z) ≤ b) × AllReach b z asks
 AllReach b z (marked at gap fewer m s ∷ asks) = AllReach b z asks
 
--- every look begins at a byte of the text or behind it
+-- every look begins at a byte of the text or after it
 abbrev pub AllFrom : ℕ → Place → List Ask → Type 0
 AllFrom b z [] = Unit {0}
 AllFrom b z (looked at look ∷ asks) = (b < near look.back (moved at z)) × AllFrom b z asks

@@ -1,4 +1,5 @@
 -- The blocks that a reading notes and that have no spot in its nodes: a shape made their node, or one that they stand in, an error, a part of one or a paren, or gave their own node another kind.
+-- The definitions here go through the same turns as those of spots (Occurrences.antt), and gather the notes of the blocks that lose theirs.
 use Rattle.std.specs.Prelude.{◌≡◌, ℕ, zero, suc, Bool, true, false, ◌&&◌, if◌then◌else◌, nat_lt, List, [], ◌∷◌, ◌++◌, map, Option, Some, None}
 use Rattle.std.specs.List.{flat_map}
 use Rattle.typst_lines.specs.Place.{Place, moved}
@@ -28,10 +29,12 @@ use Rattle.typst_edits.specs.Spot.{Spot}
 abbrev pub opening : {A : Type 0} → Spot A → Ask
 opening c = marked c.at 0 c.fewer (mark.Opens c.name) c.start
 
+-- whether a mark says that a block begins
 abbrev pub is_opening : Mark → Bool
 is_opening (mark.Opens b) = true
 is_opening _ = false
 
+-- the ask, if it notes that a block begins
 abbrev pub opens : Ask → List Ask
 opens (looked at look) = []
 opens (marked at gap fewer mark s) = if is_opening mark then marked at gap fewer mark s ∷ [] else []
@@ -40,6 +43,7 @@ opens (marked at gap fewer mark s) = if is_opening mark then marked at gap fewer
 abbrev pub opened : List Ask → List Ask
 opened = flat_map opens
 
+-- the ask, if there is nothing in the list
 abbrev pub unless_some : {X : Type 0} → Ask → List X → List Ask
 unless_some ask [] = ask ∷ []
 unless_some ask (x ∷ xs) = []
@@ -48,19 +52,23 @@ unless_some ask (x ∷ xs) = []
 abbrev pub lost_in : {A : Type 0} → Shape → ℕ → Spot A → List Ask
 lost_in shape n c = unless_some (opening c) (reshaped_spot shape n c)
 
+-- the notes of blocks that lose their spots, from each place and point
 abbrev pub Lost : Type 0
 Lost = Place → Point → List Ask
 
+-- those of turn after turn, as `turns_spots` goes through them
 abbrev pub turns_lost : {A : Type 0} → (A → Meaning (Bool × A)) → (A → Lost) → ℕ → A → Lost
 turns_lost m f zero x z s = []
 turns_lost m f (suc n) x z s =
     let o = m x z s in
     if goes o then f x z s ++ shift o.taken (turns_lost m f n o.value.1 (moved o.taken z) o.state) else f x z s
 
+-- the note of a block that loses its spot in a turn's shape, if the turn has one
 abbrev pub grown_lost : {A : Type 0} → ℕ → Option Shape → Spot A → List Ask
 grown_lost n None c = []
 grown_lost n (Some shape) c = lost_in shape n c
 
+-- those of what grows by turns, as `growths_spots` goes through them: of each turn, and those that its shape makes lost
 abbrev pub growths_lost : {A : Type 0} → (A → Meaning (Option Shape × A)) → (A → Spots (Option Shape × A)) → (A → Lost) → ℕ → ℕ → Outcome A → List (Spot A) → List Ask → Place → List Ask
 growths_lost m sp f n zero o cs ls z = ls
 growths_lost m sp f n (suc k) o cs ls z =
@@ -71,6 +79,7 @@ growths_lost m sp f n (suc k) o cs ls z =
     let ms = (ls ++ shift o.taken (f o.value w o.state)) ++ flat_map (λ c. grown_lost n p.value.0 (last_spot c)) ds in
     if is_more p.value.0 && nat_lt 0 p.taken then growths_lost m sp f n k next (flat_map (λ c. grown_spot n p.value.0 (last_spot c)) ds) ms z else ms
 
+-- those of what nests, as `nestings_spots` goes through it: of each turn, and those that its shape makes lost
 abbrev pub nestings_lost : {A : Type 0} → (A → Shape) → Begin → (A → Meaning (Bool × A)) → (A → Spots (Bool × A)) → (A → Lost) → ℕ → A → Lost
 nestings_lost f begin m sp g zero x z s = []
 nestings_lost f begin m sp g (suc n) x z s =
@@ -80,7 +89,8 @@ nestings_lost f begin m sp g (suc n) x z s =
     ++ flat_map (λ c. lost_in (f c.value) (before begin s) c)
     (if goes o then joined_spots o (sp x z s) (nestings f begin m n o.value.1 w o.state) (nestings_spots f begin m sp n o.value.1 w o.state) else map last_spot (sp x z s))
 
--- by what is lost in what is read one level deeper, and in each block
+-- the notes of blocks that lose their spots in what a parser reads: those of its parts, and, where nodes go into a shape, those that it makes lost;
+-- by those of what is read one level deeper, and of each block
 module _ (l : Level) (deep_spots : (c : Call) → Spots (Answer c)) (in_block : Block → Spots (Unit {0})) (deep_lost : Call → Lost) (lost_inside : Block → Lost) where
   unfoldable pub lost : {A : Type 0} → Parser A → Lost
   lost (gives a) z s = []
@@ -98,22 +108,22 @@ module _ (l : Level) (deep_spots : (c : Call) → Spots (Answer c)) (in_block : 
   lost (calls c) z s = sunk (deep_lost c z s)
   lost (block b) z s = let o = done l flushes z s in if l.has b then shift o.taken (lost_inside b (moved o.taken z) (forgot o.state)) else []
 
--- by these rules, in what is read of a call below so many levels
+-- those of a call by these rules, with so many levels left
 unfoldable pub call_lost : Rules → CharClasses → ℕ → Call → Lost
 call_lost r k zero call z s = []
 call_lost r k (suc levels) call z s =
     lost (level_of r k levels) (call_spots r k levels) (block_spots r k levels) (call_lost r k levels)
     (λ b. lost (blockless k levels (meaning_of r k levels)) (call_spots r k levels) (λ c y t. []) (call_lost r k levels) (λ c y t. []) (peek >> r.block_production b)) (r.production call) z s
 
--- in a block
+-- those of a block by these rules
 abbrev pub block_lost : Rules → CharClasses → ℕ → Block → Lost
 block_lost r k levels b = lost (blockless k levels (meaning_of r k levels)) (call_spots r k levels) (λ c y t. []) (call_lost r k levels) (λ c y t. []) (peek >> r.block_production b)
 
--- in what a parser reads
+-- those of what a parser reads by these rules
 abbrev pub level_lost : {A : Type 0} → Rules → CharClasses → ℕ → Parser A → Lost
 level_lost r k levels p = lost (level_of r k levels) (call_spots r k levels) (block_spots r k levels) (call_lost r k levels) (block_lost r k levels) p
 
--- in a text
+-- those of a text
 unfoldable pub lost_of_text : CharClasses → List ℕ → List Ask
 lost_of_text k text = level_lost (rules k) k max_depth whole (start_of text) (start_point markup_reading)
 

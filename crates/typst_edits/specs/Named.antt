@@ -15,6 +15,6 @@ pub record Named {A : Type 0} (meant : ℕ → Block → Meaning (Unit {0})) (le
   -- directly before it stands the mark where it begins, with its state
   pub earlier : List Ask
   pub opened : c.before ≡ earlier ++ marked c.at 0 c.fewer (mark.Opens c.name) c.start ∷ []
-  -- and directly behind it the mark where it ends
+  -- and directly after it the mark where it ends
   pub later : List Ask
   pub closed : c.after ≡ marked 0 0 c.fewer mark.Closes (state_of c.reached) ∷ later

@@ -29,12 +29,12 @@ abbrev pub Numbered : (ℕ → Note → Type 0) → ℕ → List Note → Type 0
 Numbered P i [] = Unit {0}
 Numbered P i (n ∷ ns) = P i n × Numbered P (suc i) ns
 
--- where the token behind so many pieces begins; before the first piece it is where the run begins
+-- where the token after so many pieces begins; before the first piece it is where the run begins
 abbrev pub cut_behind : ℕ → End (Bool × ℕ) → ℕ
 cut_behind zero e = e.taken
 cut_behind (suc i) e = e.taken + gap_of e.state.known
 
--- A note says that so many pieces of a run end so, and that the token behind them begins at its start.
+-- A note says that so many pieces of a run end so, and that the token after them begins at its start.
 pub record SaysOf (text : List ℕ) (e : ℕ → End (Bool × ℕ)) (i : ℕ) (note : Note) : Type 0 where
   pub says : Says text note (e i)
   pub start : note.start ≡ width (take (cut_behind i (e i)) text)
@@ -80,7 +80,7 @@ NumberedInnerLaw = (k : CharClasses) (levels : ℕ) (text : List ℕ) (c : Spot 
 abbrev pub NumberLaw : Type 0
 NumberLaw = (k : CharClasses) (text : List ℕ) (i : ℕ) → AllGo (pieces k i (start_of text)) → (p : PieceNote (log k text) max_depth text (end_at k i (start_of text))) → length (of_level max_depth p.earlier) ≡ i
 
--- The law of cuts: behind more pieces of a text's run the next token begins at a later byte.
+-- The law of cuts: after more pieces of a text's run the next token begins at a later byte.
 abbrev pub CutsLaw : Type 0
 CutsLaw = (k : CharClasses) (text : List ℕ) (i j : ℕ) → i < j → AllGo (pieces k j (start_of text))
     → (let z = start_of text in width (take (cut_behind i (end_at k i z)) text) < width (take (cut_behind j (end_at k j z)) text))

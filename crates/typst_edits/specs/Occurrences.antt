@@ -1,5 +1,7 @@
 -- The spots of a reading: its blocks, each with what is around it. There is none of a block in what
--- was given up, nor of one whose node is lost, as in an error of its text.
+-- was given up, nor of one whose node is lost, as in an error of its text. The definitions here go
+-- through the same turns as `turns`, `growths`, `nestings` and `run` (Meaning.antt of
+-- `typst_language`), which say what is read, and gather the spots.
 use Rattle.std.specs.Prelude.{ℕ, zero, suc, ◌+◌, Bool, ◌&&◌, if◌then◌else◌, nat_lt, List, [], ◌∷◌, ◌++◌, map, Option, Some, None}
 use Rattle.std.specs.List.{flat_map}
 use Rattle.typst_lines.specs.Place.{Place, moved}
@@ -65,7 +67,7 @@ grown_spot n (Some shape) c = reshaped_spot shape n c
 -- the spots of what grows by turns, at most so many: those of what was given so far, `cs`, and of
 -- each turn, and all of them go into the shape that the turn says. In `#[a](b)` the spot of `[a]`
 -- is first that of a block alone; the turn `(b)` makes a call of both, and from then on its hole is
--- in the call
+-- in the call. With the old path an edit of `a` would replace the call
 abbrev pub growths_spots : {A : Type 0} → (A → Meaning (Option Shape × A)) → (A → Spots (Option Shape × A)) → ℕ → ℕ → Outcome A → List (Spot A) → Place → List (Spot A)
 growths_spots m sp n zero o cs z = cs
 growths_spots m sp n (suc k) o cs z =
@@ -102,8 +104,9 @@ scoped_spot outer c = record c { state = left outer c.state }
 abbrev pub bounded_spots : Block → Meaning (Unit {0}) → Spots (Unit {0}) → Spots (Unit {0})
 bounded_spots b m sp z s = here_spot b m z s ∷ map (closed_spot b s) (sp z (forgot s))
 
--- the spots of what a parser reads, word by word of the language, by those of what is read one
--- level deeper and of each block
+-- the spots of what a parser reads, for each word of the language: those of its parts, moved to where
+-- they are in the whole. A reading that is given up has none: in `#((x: [b]) => x)` the node of `[b]`
+-- from the first reading is in no tree, and its path would lead an edit to another node, or to none
 module _ (l : Level) (deep_spots : (c : Call) → Spots (Answer c)) (block_spots : Block → Spots (Unit {0})) where
   unfoldable pub spots : {A : Type 0} → Parser A → Spots A
   spots (gives a) z s = []

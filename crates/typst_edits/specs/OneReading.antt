@@ -12,11 +12,11 @@ use Rattle.typst_edits.specs.Resumed.{fresh, read_again}
 use Rattle.typst_edits.specs.Runs.{AllGo, End, end_of}
 use Rattle.typst_edits.specs.Sequence.{Sequence, first_of, first_end, then_of, then_end}
 
--- The piece behind i pieces takes no errors back, or there are none before it.
+-- The piece after the first i takes no errors back, or there are none before it.
 abbrev pub TakesNone : ℕ → Sequence → Type 0
 TakesNone i q = minds_at q (first_place i q) (first_end i q) ≡ true → (first_end i q).state.empties ≡ 0
 
--- What the test says of the old text behind a pieces: n more end, with their trivia, so many characters past the stretch, and what is looked at behind them begins at its end or behind it.
+-- What the test says of the old text after the first a pieces: n more end, with their trivia, so many characters past the stretch, and what is looked at after them begins at its end or after it.
 pub record EndsOld (k : CharClasses) (front old rest : List ℕ) (r : Run k (front ++ (old ++ rest))) (a n past : ℕ) (t : Trivia) : Type 0 where
   pub old_go : AllGo (then_of a n (read_as r (text_with front old rest)))
   pub after : Behind k front old rest r a n past t
@@ -30,7 +30,7 @@ pub record EndsNew (k : CharClasses) (front old new rest : List ℕ) (r : Run k 
   pub shifted : end_by r (a + d) m u (text_with front new rest) ≡ (length front + length new) + past
   pub agrees : Agrees r (is_over a n (read_as r (text_with front old rest))) (d + m) (then_end a n (read_as r (text_with front old rest))).value (then_end (a + d) m (read_as r (text_with front new rest))).value
 
--- What a reading of the new text that begins behind a + d pieces says of pieces that begin behind a.
+-- What a reading of the new text that begins after the first a + d pieces says of pieces that begin after the first a.
 pub record ServesMore (k : CharClasses) (front old new rest : List ℕ) (r : Run k (front ++ (old ++ rest))) (a d : ℕ) : Type 0 where
   -- the looks before these pieces end before the stretch, too
   pub fewer : Before k front old rest r a
@@ -38,9 +38,9 @@ pub record ServesMore (k : CharClasses) (front old new rest : List ℕ) (r : Run
   pub opens : opened_by r (text_with front new rest) ≡ opened_by r (text_with front old rest)
   pub begins : 0 < a + d → first_end (a + d) (read_as r (text_with front new rest)) ≡ first_end (a + d) (read_as r (text_with front old rest))
   pub clear : 0 < a + d → TakesNone (a + d) (read_as r (text_with front old rest)) → TakesNone (a + d) (read_as r (text_with front new rest))
-  -- the pieces that begin behind a are d old ones, and those of the reading
+  -- the pieces that begin after the first a are d old ones, and those of the reading
   pub pieces : (m : ℕ) → then_of a (d + m) (read_as r (text_with front new rest)) ≡ then_of a d (read_as r (text_with front old rest)) ++ then_of (a + d) m (read_as r (text_with front new rest))
-  -- they pass the test just where the old text is as it says and the reading ends there
+  -- they pass the test exactly if the old text is as it says and the reading ends there
   pub passes : (n m past : ℕ) (t u : Trivia) → PassesPieces k front old new rest r a n (d + m) past t u ↔ (EndsOld k front old rest r a n past t × EndsNew k front old new rest r a n d m past u)
   -- and none pass that end before the reading begins
   pub least : (n m past : ℕ) (t u : Trivia) → PassesPieces k front old new rest r a n m past t u → d ≤ m
@@ -50,19 +50,20 @@ pub record ServesMore (k : CharClasses) (front old new rest : List ℕ) (r : Run
       → AllGo (then_of (a + d) m (read_as r (text_with front new rest))) → (then_end (a + d) m (read_as r (text_with front new rest))).state.known ≡ Some u
       → nodes_now r a (d + m) u (text_with front new rest) ≡ nodes_now r a d t (text_with front old rest) ++ nodes_now r (a + d) m u (text_with front new rest)
 
--- The law of one reading: where the looks before some pieces of a run end before the stretch, a reading of the new text that begins behind them serves all pieces of the run that begin there or earlier.
+-- The law of one reading: where the looks before some pieces of a run end before the stretch, a reading of the new text that begins after them serves all pieces of the run that begin there or earlier.
 abbrev pub OneReadingLaw : Type 0
 OneReadingLaw = (k : CharClasses) (front old new rest : List ℕ) (r : Run k (front ++ (old ++ rest))) (a d : ℕ)
     → AllGo (first_of (a + d) (read_as r (text_with front old rest))) → Before k front old rest r (a + d) → ServesMore k front old new rest r a d
 
--- where pieces end that are read again from the token behind i pieces, and they as one outcome
+-- where pieces end that are read again from the token after the first i
 abbrev pub again_end : ℕ → ℕ → Trivia → Sequence → End (Bool × ℕ)
 again_end i m t q = let e = first_end i q in end_of e.value (fresh q.level (moved t.gap (first_place i q))) (read_again i m t q)
 
+-- these pieces as one outcome
 abbrev pub again_by : ℕ → ℕ → Trivia → Sequence → Outcome (Unit {0})
 again_by i m t q = together (again_end i m t q).state (read_again i m t q)
 
--- What pieces give that are read again from their first token on, behind these trivia.
+-- What pieces give that are read again from their first token on, after these trivia.
 pub record GivesAgain (k : CharClasses) (text : List ℕ) (r : Run k text) (z : Place) (i m : ℕ) (t u : Trivia) : Type 0 where
   -- they go on, too
   pub go : AllGo (read_again i m t (read_as r z))
@@ -70,10 +71,10 @@ pub record GivesAgain (k : CharClasses) (text : List ℕ) (r : Run k text) (z : 
   pub value : (then_end i m (read_as r z)).value ≡ (again_end i m t (read_as r z)).value
   pub state : (then_end i m (read_as r z)).state ≡ (again_end i m t (read_as r z)).state
   pub taken : (then_end i m (read_as r z)).taken ≡ t.gap + (again_end i m t (read_as r z)).taken
-  -- and they give a candidate's nodes, with the trivia behind them
+  -- and they give a candidate's nodes, with the trivia after them
   pub nodes : nodes_now r i m u z ≡ (again_by i m t (read_as r z)).nodes ++ u.nodes
 
--- The law of a candidate's nodes: those of pieces of a run behind others are read again from their first token on, where that takes no errors back.
+-- The law of a candidate's nodes: those of pieces of a run after others are read again from their first token on, where that takes no errors back.
 abbrev pub GivesAgainLaw : Type 0
 GivesAgainLaw = (k : CharClasses) (text : List ℕ) (r : Run k text) (z : Place) (i m : ℕ) (t u : Trivia) → 0 < i → 0 < m
     → AllGo (first_of i (read_as r z)) → AllGo (then_of i m (read_as r z)) → (first_end i (read_as r z)).state.known ≡ Some t → TakesNone i (read_as r z) → GivesAgain k text r z i m t u

@@ -12,13 +12,14 @@ paths_of_units k text = map (λ c. path_of c.hole) (blocks_of_text k text)
 abbrev pub paths_of_seconds : CharClasses → List ℕ → List (List ℕ)
 paths_of_seconds k text = map (λ c. path_of c.hole) (seconds_of_text k text)
 
+-- what is computed
 pub record Origins (beyond : CharClasses) : Type 0 where
   -- the value of a pair stands in the only reading of its parens
   pub pair_units : paths_of_units (by_law beyond) (codes "#(x: [b])") ≡ (1 ∷ 1 ∷ 3 ∷ []) ∷ []
   pub pair_seconds : paths_of_seconds (by_law beyond) (codes "#(x: [b])") ≡ []
-  -- the default of a parameter stands in the second reading of its parens, behind which an arrow came
+  -- the default of a parameter stands in the second reading of its parens, after which an arrow came
   pub default_units : paths_of_units (by_law beyond) (codes "#((x: [b]) => x)") ≡ []
   pub default_seconds : paths_of_seconds (by_law beyond) (codes "#((x: [b]) => x)") ≡ (1 ∷ 1 ∷ 0 ∷ 1 ∷ 3 ∷ []) ∷ []
-  -- the closure's own block is behind both
+  -- the closure's own block is after both
   pub own_units : paths_of_units (by_law beyond) (codes "#((x) => [b])") ≡ (1 ∷ 1 ∷ 4 ∷ []) ∷ []
   pub own_seconds : paths_of_seconds (by_law beyond) (codes "#((x) => [b])") ≡ []

@@ -12,7 +12,7 @@ use Rattle.typst_edits.specs.Resumed.{read_again}
 use Rattle.typst_edits.specs.RunSplice.{pieces_log}
 use Rattle.typst_edits.specs.Runs.{AllGo, asks_of, lead, pieces, end_at, pieces_from}
 
--- the place behind these trivia, which stand behind i pieces
+-- the place after these trivia, which follow the first i pieces
 abbrev pub token_place : CharClasses → ℕ → Trivia → Place → Place
 token_place k i t z = moved ((end_at k i z).taken + t.gap) z
 

@@ -27,7 +27,7 @@ use Rattle.typst_edits.specs.Splice.{notes_in, token_start, entries_from}
 
 -- ---- the entries at its ends
 
--- The notes where n pieces behind i of a text's run begin and end: they are of these numbers in the run, their tokens begin where the pieces and what is behind them do, and their numbers among all notes decide the test of looks.
+-- The notes where the n pieces after the first i of a text's run begin and end: they are of these numbers in the run, their tokens begin where the pieces and what comes after them do, and their numbers among all notes decide the test of looks.
 pub record RunEntries (k : CharClasses) (front old rest : List ℕ) (i n past : ℕ) (t : Trivia) : Type 0 where
   pub begins : PieceNote (log k (front ++ (old ++ rest))) max_depth (front ++ (old ++ rest)) (end_at k i (text_with front old rest))
   pub ends : PieceNote (log k (front ++ (old ++ rest))) max_depth (front ++ (old ++ rest)) (both_end k i n front old rest)
@@ -38,14 +38,14 @@ pub record RunEntries (k : CharClasses) (front old rest : List ℕ) (i n past : 
   pub to : length ends.earlier ≡ length begins.earlier + notes_in (asks_of (pieces_from k i n (text_with front old rest)))
   pub start : begins.note.start ≡ width (take (cut_behind i (end_at k i (text_with front old rest))) (front ++ (old ++ rest)))
   pub end : 0 < i + n → ends.note.start ≡ width (front ++ (old ++ take past rest))
-  -- the first is one of those that stand before the stretch with all looks just where the looks before the pieces end there
+  -- the first is one of those that stand before the stretch with all looks exactly if the looks before the pieces end there
   pub before : length begins.earlier < front_count k (front ++ (old ++ rest)) (width front) → Before k front old rest (root_run k (front ++ (old ++ rest))) i
   pub before_too : Before k front old rest (root_run k (front ++ (old ++ rest))) i → length begins.earlier < front_count k (front ++ (old ++ rest)) (width front)
-  -- the second is one of those from which on all looks begin behind the stretch just where the looks behind the pieces do
+  -- the second is one of those from which on all looks begin after the stretch exactly if the looks after the pieces do
   pub after : 0 < i + n → rear_count k (front ++ (old ++ rest)) (width (front ++ old)) ≤ length ends.earlier → Behind k front old rest (root_run k (front ++ (old ++ rest))) i n past t
   pub after_too : 0 < i + n → Behind k front old rest (root_run k (front ++ (old ++ rest))) i n past t → rear_count k (front ++ (old ++ rest)) (width (front ++ old)) ≤ length ends.earlier
 
--- The law of the entries of pieces in a text's run: where they go on, with the trivia behind them, past the stretch, two notes by their numbers decide the test of looks, in a text that a machine word counts.
+-- The law of the entries of pieces in a text's run: where they go on, with the trivia after them, past the stretch, two notes by their numbers decide the test of looks, in a text that a machine word counts.
 abbrev pub RunEntriesLaw : Type 0
 RunEntriesLaw = (k : CharClasses) (front old rest : List ℕ) (i n past : ℕ) (t : Trivia) → AllGo (pieces k i (text_with front old rest)) → AllGo (pieces_from k i n (text_with front old rest))
     → (end_from k i n (text_with front old rest)).state.known ≡ Some t
@@ -63,10 +63,11 @@ CutOnceLaw = (k : CharClasses) (text : List ℕ) (i j : ℕ) → AllGo (pieces k
 abbrev pub level_of : CharClasses → Level
 level_of k = run_level k max_depth of.Text
 
--- m pieces of it from a place on, with what is carried there, and where they end
+-- m pieces of it from a place on, with what is carried there
 abbrev pub read_alone : CharClasses → Bool × ℕ → ℕ → Place → List (Outcome (Bool × (Bool × ℕ)))
 read_alone k x m z = pieces_on (level_of k) (stops_of of.Text) x m z
 
+-- where they end
 abbrev pub end_alone : CharClasses → Bool × ℕ → ℕ → Place → End (Bool × ℕ)
 end_alone k x m z = end_on (level_of k) (stops_of of.Text) x m z
 
@@ -87,7 +88,7 @@ pub record GivesPieces (k : CharClasses) (front old new rest : List ℕ) (i n m 
   pub passes : PassesPieces k front old new rest (root_run k (front ++ (old ++ rest))) i n m past t behind
   pub are : ts ≡ nodes_now (root_run k (front ++ (old ++ rest))) i m behind (text_with front new rest)
 
--- The law of a reading of pieces in a text's run: where the old ones go on past the stretch and take back no errors, and the test of looks passes, pieces that are read by themselves pass just where they end and agree, and their nodes are what they give.
+-- The law of a reading of pieces in a text's run: where the old ones go on past the stretch and take back no errors, and the test of looks passes, pieces that are read by themselves pass exactly if they end and agree, and their nodes are what they give.
 abbrev pub RunReadLaw : Type 0
 RunReadLaw = (k : CharClasses) (front old new rest : List ℕ) (i n m past : ℕ) (t : Trivia) (ts : List Tree) → AllGo (pieces k i (text_with front old rest)) → AllGo (pieces_from k i n (text_with front old rest))
     → (end_from k i n (text_with front old rest)).state.known ≡ Some t
@@ -110,7 +111,7 @@ pub record RunGives (k : CharClasses) (front old new rest : List ℕ) (c : Candi
   pub none : 0 < i → TakesNone i (text_run k (text_with front old rest))
   pub gives : GivesPieces k front old new rest i n m past t ts
 
--- The law of candidates of a text's run: one that is pieces at the root passes just where such pieces do.
+-- The law of candidates of a text's run: one that is pieces at the root passes exactly if such pieces do.
 abbrev pub RunGivesLaw : Type 0
 RunGivesLaw = (k : CharClasses) (front old new rest : List ℕ) (root : Tree) (c : Candidate) (ts : List Tree) → bare root ≡ bare (tree k (front ++ (old ++ rest)))
     → Among c (candidates k (front ++ (old ++ rest)) (width front) (width (front ++ old)) root) → c.is_block ≡ false → c.path ≡ []

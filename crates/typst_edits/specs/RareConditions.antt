@@ -33,7 +33,7 @@ abbrev pub newlines_in : Option Trivia → Newlines
 newlines_in None = no_newlines
 newlines_in (Some t) = t.newlines
 
--- what is asked from behind the trivia on that follow the first piece of a text
+-- what is asked after the trivia that follow the first piece of a text
 abbrev pub asked_behind : CharClasses → List ℕ → List Ask
 asked_behind k s = elim (end_from k 0 1 (start_of s)).state.known [ None ↦ [] | Some t ↦ asked_past k 0 1 t (start_of s) ]
 
@@ -45,17 +45,19 @@ in_brackets ts = branch kind.ContentBlock (leaf_of kind.LeftBracket (codes "[") 
 abbrev pub block_of : CharClasses → List ℕ → ℕ → Outcome (Unit {0})
 block_of k s levels = block_at k levels block.Content (start_of s) (start_point markup_reading)
 
--- a content block, and the same where that is given up, and the bracket is read as a token
+-- a content block
 abbrev pub first_reading : Parser Bool
 first_reading = reads block.Content >> gives true
 
+-- a content block whose reading is given up; then its bracket is read as a token
 abbrev pub both_readings : Parser Bool
 both_readings = either first_reading (λ is_wrong. is_wrong) (eat >> gives true)
 
--- the blocks that stand in what is read so, and the kinds of its nodes
+-- the blocks that stand in what is read so
 abbrev pub spots_in : CharClasses → Parser Bool → List ℕ → List (Spot Bool)
 spots_in k p s = level_spots (rules k) k max_depth p (start_of s) (start_point markup_reading)
 
+-- the kinds of the nodes of what is read so
 abbrev pub kinds_in : CharClasses → Parser Bool → List ℕ → List SyntaxKind
 kinds_in k p s = map (λ (t : Tree). t.head.kind) (run (level_at k max_depth) p (start_of s) (start_point markup_reading)).nodes
 
@@ -63,15 +65,16 @@ kinds_in k p s = map (λ (t : Tree). t.head.kind) (run (level_at k max_depth) p 
 abbrev pub unless : Bool → Parser Bool
 unless holds = pick holds (gives true) (does (complains (codes "no")) >> gives true)
 
+-- a token is text, as a letter is
 abbrev pub is_letter : SyntaxKind → Bool
 is_letter kind.Text = true
 is_letter _ = false
 
--- a content block, before which the token behind its bracket is asked for
+-- a content block, before which the token after its bracket is asked for
 abbrev pub peeking : Parser Bool
 peeking = does further >>= (λ k. reads block.Content >> unless (is_letter k))
 
--- a content block, behind which the column is asked for
+-- a content block, after which the column is asked for
 abbrev pub measuring : Parser Bool
 measuring = reads block.Content >> (does column >>= (λ n. unless (n == 3)))
 
@@ -79,27 +82,31 @@ measuring = reads block.Content >> (does column >>= (λ n. unless (n == 3)))
 abbrev pub unparening : Parser Bool
 unparening = node (λ _. keeps unparened) (node (λ _. becomes kind.MathDelimited) (eat >> (reads block.Content >> (eat >> gives true))))
 
--- a content block in a node that is given another kind, and one that is given another kind itself
+-- a content block in a node that is given another kind
 abbrev pub renaming_around : Parser Bool
 renaming_around = node (λ _. keeps (renamed kind.Strong)) (node (λ _. becomes kind.Emph) first_reading)
 
+-- a content block that is given another kind itself
 abbrev pub renaming : Parser Bool
 renaming = node (λ _. keeps (renamed kind.Strong)) first_reading
 
+-- an item in column 2, after a comment, and one in column 3, which is in it
 abbrev pub indented : List ℕ
 indented = codes "a\n/*\n*/- b\n   - c"
 
+-- with two letters more in the comment the first item is in column 4, and the second one is no longer in it
 abbrev pub less_indented : List ℕ
 less_indented = codes "a\n/*\nxx*/- b\n   - c"
 
+-- what is computed
 pub record RareConditions (beyond : CharClasses) : Type 0 where
-  -- a column: `xx` put in behind the second newline, within the comment behind the first piece, which is read again
+  -- a column: `xx` put in after the second newline, within the comment after the first piece, which is read again
   pub column_ends : map (λ s. (end_from (by_law beyond) 0 1 (start_of s)).taken) (indented ∷ less_indented ∷ []) ≡ 1 ∷ 1 ∷ []
   pub column_gaps : map (λ s. gap_of (end_from (by_law beyond) 0 1 (start_of s)).state.known) (indented ∷ less_indented ∷ []) ≡ 6 ∷ 8 ∷ []
   pub column_newlines : newlines_in (end_from (by_law beyond) 0 1 (start_of less_indented)).state.known ≡ newlines_in (end_from (by_law beyond) 0 1 (start_of indented)).state.known
   pub column_value : (end_from (by_law beyond) 0 1 (start_of less_indented)).value ≡ (end_from (by_law beyond) 0 1 (start_of indented)).value
   pub column_state : state_of (end_from (by_law beyond) 0 1 (start_of less_indented)).state ≡ state_of (end_from (by_law beyond) 0 1 (start_of indented)).state
-  -- but the item behind the comment, two behind the stretch, looks three back for its column
+  -- but the item after the comment, two characters past the stretch, looks three back for its column
   pub column_behind : least (asked_behind (by_law beyond) indented) ≡ 3
   -- and the second item is no longer in the first
   pub column_old : kinds (by_law beyond) indented ≡ kind.Text ∷ kind.Space ∷ kind.BlockComment ∷ kind.ListItem ∷ []
@@ -117,13 +124,13 @@ pub record RareConditions (beyond : CharClasses) : Type 0 where
   -- but it has no spot, and its node doesn't stand in the tree
   pub given_up_none : map (λ c. c.at) (spots_in (by_law beyond) both_readings (codes "[a]")) ≡ []
   pub given_up_tree : kinds_in (by_law beyond) both_readings (codes "[a]") ≡ kind.LeftBracket ∷ []
-  -- a look before the block into it: what stands behind its bracket is asked for before, and is no letter any more
+  -- a look from before the block into it: what stands after its bracket is asked for before, and is no longer a letter
   pub ahead_before : map (λ c. most c.before) (spots_in (by_law beyond) peeking (codes "[a]")) ≡ 3 ∷ []
   pub ahead_behind : map (λ c. least c.after) (spots_in (by_law beyond) peeking (codes "[a]")) ≡ 0 ∷ []
   pub ahead_ends : map (λ c. (unit_at c (start_of (codes "[~]"))).taken) (spots_in (by_law beyond) peeking (codes "[a]")) ≡ 3 ∷ []
   pub ahead_old : kinds_in (by_law beyond) peeking (codes "[a]") ≡ kind.ContentBlock ∷ []
   pub ahead_new : kinds_in (by_law beyond) peeking (codes "[~]") ≡ kind.ContentBlock ∷ kind.Error ∷ []
-  -- a look behind the block into it: the column of what stands behind is asked for, and is greater now
+  -- a look from after the block into it: the column of what stands after it is asked for, and is greater now
   pub back_before : map (λ c. most c.before) (spots_in (by_law beyond) measuring (codes "[a]b")) ≡ 1 ∷ []
   pub back_behind : map (λ c. least c.after) (spots_in (by_law beyond) measuring (codes "[a]b")) ≡ 4 ∷ []
   pub back_ends : map (λ c. (unit_at c (start_of (codes "[aa]b"))).taken) (spots_in (by_law beyond) measuring (codes "[a]b")) ≡ 4 ∷ []

@@ -17,11 +17,11 @@ use Rattle.typst_edits.specs.Sequence.{Sequence, turn_of, first_of, first_end, t
 abbrev pub fresh : Level → Place → Point
 fresh l z = (run l peek z (start_point markup_reading)).state
 
--- m pieces are read again from behind these trivia, which stand behind i pieces, as a run is from its start, with the line start and the brackets that are carried there.
+-- m pieces are read again from after these trivia, which follow the first i pieces, as a run is from its start, with the line start and the brackets that are carried there.
 abbrev pub read_again : ℕ → ℕ → Trivia → Sequence → List (Outcome (Bool × (Bool × ℕ)))
 read_again i m t r = let z = moved t.gap (first_place i r) in made (turn_of r) m (first_end i r).value z (fresh r.level z)
 
--- A piece is read the same but for the trivia before it.
+-- A piece is read the same except for the trivia before it.
 pub record SamePiece (t : Trivia) (o c : Outcome (Bool × (Bool × ℕ))) : Type 0 where
   pub value : o.value ≡ c.value
   pub taken : o.taken ≡ t.gap + c.taken
@@ -32,19 +32,19 @@ pub record SamePiece (t : Trivia) (o c : Outcome (Bool × (Bool × ℕ))) : Type
   pub asks : o.asks ≡ shift t.gap c.asks
   pub met : o.met ≡ c.met
 
--- Pieces are read the same but for the trivia before the first of them.
+-- Pieces are read the same except for the trivia before the first of them.
 abbrev pub SamePieces : Trivia → List (Outcome (Bool × (Bool × ℕ))) → List (Outcome (Bool × (Bool × ℕ))) → Type 0
 SamePieces t [] [] = Unit {0}
 SamePieces t [] (c ∷ cs) = ⊥
 SamePieces t (o ∷ os) [] = ⊥
 SamePieces t (o ∷ os) (c ∷ cs) = SamePiece t o c × (os ≡ cs)
 
--- The pieces of a run behind some of them are those that are read again from their first token on, where that takes back no errors.
+-- The pieces of a run after some of them are those that are read again from their first token on, where that takes back no errors.
 abbrev pub Resumes : Sequence → Type 0
 Resumes r = (i m : ℕ) (t : Trivia) → AllGo (first_of i r) → AllGo (then_of i m r) → (first_end i r).state.known ≡ Some t → (minds_at r (first_place i r) (first_end i r) ≡ true → (first_end i r).state.empties ≡ 0)
     → SamePieces t (then_of i m r) (read_again i m t r)
 
--- No two numbers of pieces behind i end at one place with their trivia.
+-- No two numbers of pieces after the first i end at one place with their trivia.
 abbrev pub CountsOnce : Sequence → Type 0
 CountsOnce r = (i m n : ℕ) → AllGo (first_of i r) → AllGo (then_of i m r) → AllGo (then_of i n r)
     → (then_end i m r).taken + gap_of (then_end i m r).state.known ≡ (then_end i n r).taken + gap_of (then_end i n r).state.known → m ≡ n

@@ -27,7 +27,7 @@ pub record StandsAt (from : ℕ) (ts : List Tree) (index at : ℕ) : Type 0 wher
   pub begins : from + bytes_of left ≡ at
   pub full : 0 < length (text_of node)
 
--- What a candidate's ends say of a run's pieces: where pieces stand before them, or behind them, the child there isn't empty and takes no errors back, and else they end with the last child.
+-- What a candidate's ends say of a run's pieces: where pieces stand before them, or after them, the child there isn't empty and takes no errors back, and else they end with the last child.
 pub record BeginsWell (k : CharClasses) (text : List ℕ) (c : Candidate) (i n : ℕ) : Type 0 where
   pub starts : StartsWell i n (text_run k (text_with [] [] text))
   pub goes_on : GoesOnWell i n (text_run k (text_with [] [] text))

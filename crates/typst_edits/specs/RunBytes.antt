@@ -24,11 +24,11 @@ pub record PieceNote (h : Log) (left : ℕ) (text : List ℕ) (e : End (Bool × 
   pub levels : note.levels ≡ left
   pub state : note.state ≡ state_of e.state
 
--- where n pieces behind i end
+-- where the n pieces after the first i end: `both` of Leading.antt, of a text that is given in three parts
 abbrev pub both_end : CharClasses → ℕ → ℕ → List ℕ → List ℕ → List ℕ → End (Bool × ℕ)
 both_end k i n front old rest = let z = text_with front old rest in record (end_from k i n z) { taken = (end_at k i z).taken + (end_from k i n z).taken }
 
--- The notes where n pieces behind i begin and end, and what their numbers decide: where the stretch begins in bytes with `reach`,
+-- The notes where the n pieces after the first i begin and end, and what their numbers decide: where the stretch begins in bytes with `reach`,
 -- and where it ends with `least`.
 pub record DecidedRun (k : CharClasses) (front old rest : List ℕ) (i n past : ℕ) : Type 0 where
   pub begins : PieceNote (log k (front ++ (old ++ rest))) max_depth (front ++ (old ++ rest)) (end_at k i (text_with front old rest))
@@ -45,7 +45,7 @@ pub record DecidedRun (k : CharClasses) (front old rest : List ℕ) (i n past : 
       AllBeginIn past rest (r.asks ++ shift r.taken (tail k (((length front + length old) + past) + r.taken) r.state (text_with front old rest)).asks))
       → width (front ++ old) < lowest ends.later (log k (front ++ (old ++ rest))).least
 
--- The law of the decision for runs: where pieces of a text's run begin and end stand notes, whose numbers say exactly whether what was looked at before them and behind them passes the test.
+-- The law of the decision for runs: where pieces of a text's run begin and end stand notes, whose numbers say exactly whether what was looked at before them and after them passes the test.
 abbrev pub RunDecisionLaw : Type 0
 RunDecisionLaw = (k : CharClasses) (front old rest : List ℕ) (i n past : ℕ) → AllGo (pieces k i (text_with front old rest)) → AllGo (pieces_from k i n (text_with front old rest))
     → (end_at k i (text_with front old rest)).taken + (end_from k i n (text_with front old rest)).taken ≡ (length front + length old) + past → DecidedRun k front old rest i n past

@@ -23,7 +23,7 @@ use Rattle.typst_edits.specs.Spot.{Spot}
 
 -- ---- a text's own run
 
--- the byte at which the token behind i pieces begins; before the first piece it is where the run begins
+-- the byte at which the token after the first i pieces begins; before the first piece it is where the run begins
 abbrev pub cut_of : CharClasses → List ℕ → ℕ → ℕ
 cut_of k text i = let z = start_of text in width (take (cut_behind i (end_at k i z)) text)
 
@@ -50,7 +50,7 @@ RunNumbersLaw = (k : CharClasses) (text : List ℕ) → RunNumbers k text
 
 -- ---- a content block's run
 
--- the byte at which the token behind i pieces of it begins; before the first piece it is where the run begins
+-- the byte at which the token after the first i pieces of it begins; before the first piece it is where the run begins
 abbrev pub cut_in : CharClasses → ℕ → List ℕ → Spot (Unit {0}) → ℕ → ℕ
 cut_in k levels text s i = width (take (cut_behind i (inner_end k levels i s (start_of text))) text)
 

@@ -24,24 +24,24 @@ noted_point k (suc i) z = (end_at k (suc i) z).state
 abbrev pub end_note : CharClasses → ℕ → Place → Noting
 end_note k i z = let e = end_at k i z in let s = noted_point k i z in record { at = e.taken; gap = gap_of s.known; fewer = 0; mark = mark.Piece e.value.0 e.value.1; state = state_of s }
 
--- what is looked at behind that note, before the next piece: the token at hand
+-- what is looked at after that note, before the next piece: the token at hand
 abbrev pub next_looks : CharClasses → ℕ → Place → List Ask
 next_looks k zero z = (lead k z).asks
 next_looks k (suc i) z = let e = end_at k (suc i) z in shift e.taken (hand_asks_of (level_at k max_depth) (moved e.taken z) e.state)
 
--- what is asked behind that note up to the end of n more pieces
+-- what is asked after that note up to the end of n more pieces
 abbrev pub own_asks : CharClasses → ℕ → ℕ → Place → List Ask
 own_asks k i n z = next_looks k i z ++ shift (end_at k i z).taken (asks_of (pieces_from k i n z))
 
--- what is logged of these pieces, behind that note
+-- what is logged of these pieces, after that note
 abbrev pub pieces_log : CharClasses → ℕ → ℕ → Place → Log
 pieces_log k i n z = logged max_depth z no_log (own_asks k i n z)
 
--- a run ends behind n pieces behind i
+-- a run ends after the first i pieces and n more
 abbrev pub OverAt : CharClasses → ℕ → ℕ → Place → Type 0
 OverAt k i n z = is_over_at (text_run k z) (place_from k i n z) (end_from k i n z) ≡ true
 
--- The entries of the old pieces are exchanged for those of the new ones on the new text, behind the note where the pieces before them end.
+-- The entries of the old pieces are exchanged for those of the new ones on the new text, after the note where the pieces before them end.
 abbrev pub SplicedRun : CharClasses → List ℕ → List ℕ → List ℕ → List ℕ → ℕ → ℕ → ℕ → Type 0
 SplicedRun k front old new rest i n m =
     let z = text_with front old rest in
@@ -50,7 +50,7 @@ SplicedRun k front old new rest i n m =
     let part = entries_from (token_start w (end_note k i w)) (pieces_log k i m w).notes in
     units_of (log k (front ++ (new ++ rest))) ≡ spliced from (from + notes_in (asks_of (pieces_from k i n z))) part (units_of (log k (front ++ (old ++ rest))))
 
--- The law of a splice of pieces: where an edit inside some pieces of a text's run passes the test, in texts that a machine word counts, the units of the new text are the old ones with the pieces' exchanged. Where at the text's start no piece was or none is read, the run has to end behind the pieces.
+-- The law of a splice of pieces: where an edit inside some pieces of a text's run passes the test, in texts that a machine word counts, the units of the new text are the old ones with the pieces' exchanged. Where at the text's start no piece was or none is read, the run has to end after the pieces.
 abbrev pub RunSpliceLaw : Type 0
 RunSpliceLaw = (k : CharClasses) (front old new rest : List ℕ) (i n m past : ℕ) (t u : Trivia) → PassesJoint k front old new rest i n m past t u
     → (i + n ≡ 0 → OverAt k i n (text_with front old rest)) → (i + m ≡ 0 → OverAt k i n (text_with front old rest))

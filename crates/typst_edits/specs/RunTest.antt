@@ -1,4 +1,4 @@
--- What the records find of pieces of a run that an edit may read anew.
+-- What the records find of pieces of a run that an edit may read again.
 use Rattle.std.specs.Prelude.{◌≡◌, ◌↔◌, ℕ, suc, ◌+◌, ◌-◌, ◌<◌, ◌≤◌, ◌^◌, Bool, false, List, [], ◌++◌, length, take, drop, Some, None}
 use Rattle.std.specs.List.{slice_get}
 use Rattle.typst_lines.specs.Place.{Place, moved}
@@ -41,21 +41,23 @@ pub record Reading : Type 0 where
   -- where it goes on
   pub place : Place
 
+-- a run read by itself from a place
 abbrev pub reading_on : RunKind → ℕ → Bool × ℕ → Place → Reading
 reading_on which levels x z = record { which = which; levels = levels; carried = x; place = z }
 
--- the first m pieces that it reads, and what they carry at their end
+-- the first m pieces that it reads
 abbrev pub read_by : CharClasses → Reading → ℕ → List (Outcome (Bool × (Bool × ℕ)))
 read_by k r m = pieces_on (run_level k r.levels r.which) (stops_of r.which) r.carried m r.place
 
+-- what the first m pieces carry at their end
 abbrev pub carried_by : CharClasses → Reading → ℕ → Bool × ℕ
 carried_by k r m = (end_on (run_level k r.levels r.which) (stops_of r.which) r.carried m r.place).value
 
--- the byte at which the token behind them begins
+-- the byte at which the token after them begins
 abbrev pub byte_behind : CharClasses → Reading → ℕ → ℕ
 byte_behind k r m = let e = end_on (run_level k r.levels r.which) (stops_of r.which) r.carried m r.place in position (moved (e.taken + gap_of e.state.known) r.place)
 
--- their nodes, with the trivia behind them
+-- their nodes, with the trivia after them
 abbrev pub nodes_by : CharClasses → Reading → ℕ → List Tree
 nodes_by k r m = given (read_by k r m) [] ++ pending (end_on (run_level k r.levels r.which) (stops_of r.which) r.carried m r.place).state.known
 
@@ -72,7 +74,7 @@ pub record SaysPiece (es : List Entry) (number : ℕ) (x : Bool × ℕ) : Type 0
   pub tag : entry.tag ≡ tag.Piece x.0
   pub count : entry.count ≡ x.1
 
--- no piece of the run stands behind an entry
+-- no piece of the run stands after an entry
 abbrev pub IsLast : List Entry → ℕ → Type 0
 IsLast es number = first_piece 0 (suc number) (drop (suc number) es) ≡ None
 
@@ -87,18 +89,18 @@ pub data Ends (es : List Entry) (first : ℕ) (c : Candidate) : ℕ → ℕ → 
   some : (from to : ℕ) → BeginsAt es first c.start from → (IsLast es from → ⊥) → BeginsAt es from c.end to → from < to → Ends es first c from to
   none : (from : ℕ) → BeginsAt es first c.start from → IsLast es from → Ends es first c from from
 
--- From which entry on all looks have to begin behind the stretch: the one behind the pieces; where a content block has no expression, the one where the block ends. At the end of a text nothing is looked at.
+-- From which entry on all looks have to begin after the stretch: the one after the pieces; where a content block has no expression, the one where the block ends. At the end of a text nothing is looked at.
 pub data LooksFrom (es : List Entry) (which : RunKind) (from to : ℕ) : ℕ → Type 0 where
   pieces : (IsLast es from → ⊥) → LooksFrom es which from to to
   closing : (number : ℕ) → IsLast es from → which ≡ of.Block → closing_of 0 (suc from) (drop (suc from) es) ≡ Some number → LooksFrom es which from to number
   nothing : (number : ℕ) → IsLast es from → which ≡ of.Text → length es ≤ number → LooksFrom es which from to number
 
--- With pieces behind them new pieces, at least one, end with the same line start and open brackets; at a block's end with the same open brackets; and at the text's end as they like.
+-- If pieces follow, there are new ones, which end with the same line start and open brackets; at a block's end they end with the same open brackets; at the text's end anyhow.
 pub record Meets (es : List Entry) (which : RunKind) (to m : ℕ) (x y : Bool × ℕ) : Type 0 where
   pub goes_on : (IsLast es to → ⊥) → (0 < m) × (y ≡ x)
   pub block_end : IsLast es to → which ≡ of.Block → y.1 ≡ x.1
 
--- m pieces by themselves pass: the entry where the old ones begin is among those before the stretch, all looks behind the old ones begin behind it, and the new ones end at the shifted end and meet what is there.
+-- m pieces by themselves pass: the entry where the old ones begin is among those before the stretch, all looks after the old ones begin after it, and the new ones end at the shifted end and meet what is there.
 pub record PassesRead (k : CharClasses) (front old new rest : List ℕ) (c : Candidate) (r : Reading) (from to looks : ℕ) (x : Bool × ℕ) (m : ℕ) : Type 0 where
   pub before : from < front_in k front old rest
   pub behind : rear_in k front old rest ≤ looks
@@ -123,7 +125,7 @@ pub record FoundRun (k : CharClasses) (front old new rest : List ℕ) (c : Candi
   pub start_now : from < front_in k front old rest → position (moved at (text_with front new rest)) ≡ c.start
   pub gives : (ts : List Tree) → (let r = reading_on which levels carried (moved at (text_with front new rest)) in
       Gives k front old new rest c ts ↔ ((m : ℕ) × PassesRead k front old new rest c r from to looks carried_end m × (ts ≡ nodes_by k r m)))
-  -- more pieces end at a later byte, and behind the end of the run there are none
+  -- more pieces end at a later byte, and after the end of the run there are none
   pub rises : from < front_in k front old rest → (m j : ℕ) → (let r = reading_on which levels carried (moved at (text_with front new rest)) in
       m < j → AllGo (read_by k r j) → byte_behind k r m < byte_behind k r j)
   -- its entries are exchanged for those of the pieces; so it is in a block where there are pieces in both texts
@@ -140,7 +142,7 @@ RunTestLaw = (k : CharClasses) (front old new rest : List ℕ) (root : Tree) (c 
     → width (front ++ (old ++ rest)) < 2 ^ 64 - 1 → width (front ++ (new ++ rest)) < 2 ^ 64 - 1
     → FoundRun k front old new rest c of.Text max_depth 0
 
--- What is found of a candidate that is pieces of a content block's run: its block begins at an entry, and its run at the one behind. However the pieces pass, the block's entries are exchanged for those of the block by itself on the new text, too.
+-- What is found of a candidate that is pieces of a content block's run: its block begins at an entry, and its run at the next one. However the pieces pass, the block's entries are exchanged for those of the block by itself on the new text, too.
 pub record FoundInner (k : CharClasses) (front old new rest : List ℕ) (root : Tree) (c : Candidate) : Type 0 where
   pub opens : ℕ
   pub is_opens : opening_of (start_at (take (length c.path - 1) c.path) 0 root) 0 0 (entries_in k (front ++ (old ++ rest))) ≡ Some opens

@@ -16,7 +16,7 @@ use Rattle.typst_edits.specs.Edit.{text_with}
 use Rattle.typst_edits.specs.Joint.{onwards_from}
 use Rattle.typst_edits.specs.Runs.{start, asks_of, lead, pieces, end_at, pieces_from, end_from, PassesRun}
 
--- a text's tree, by the nodes of its first pieces, the pieces behind them, and all behind these
+-- a text's tree, by the nodes of its first pieces, the pieces after them, and all after these
 abbrev pub tree_by : List (Outcome (Bool × (Bool × ℕ))) → List (Outcome (Bool × (Bool × ℕ))) → Outcome (Unit {0}) → Tree
 tree_by first second behind = inner_of kind.Markup (forest (standing behind (given second (given first []))))
 
@@ -24,16 +24,16 @@ tree_by first second behind = inner_of kind.Markup (forest (standing behind (giv
 abbrev pub run_mark : Ask
 run_mark = marked 0 (gap_of start.known) 0 (mark.Piece true 0) (state_of start)
 
--- what is asked in reading a text, by the look at its first token, its first pieces, and what is asked behind them
+-- what is asked in reading a text, by the look at its first token, its first pieces, and what is asked after them
 abbrev pub asks_by : CharClasses → ℕ → Place → List (Outcome (Bool × (Bool × ℕ))) → List Ask → List Ask
 asks_by k i z first behind = run_mark ∷ (((lead k z).asks ++ asks_of first) ++ shift (end_at k i z).taken behind)
 
 -- What the trees and the logs of both texts are, where an edit inside some pieces passes the test.
 pub record KeptTree (k : CharClasses) (front old new rest : List ℕ) (i n m : ℕ) : Type 0 where
-  -- the same nodes stand before the pieces, and the same is read behind them
+  -- the same nodes stand before the pieces, and the same is read after them
   pub tree_was : (let z = text_with front old rest in tree k (front ++ (old ++ rest)) ≡ tree_by (pieces k i z) (pieces_from k i n z) (onwards_from k i n z))
   pub tree_now : (let z = text_with front old rest in tree k (front ++ (new ++ rest)) ≡ tree_by (pieces k i z) (pieces_from k i m (text_with front new rest)) (onwards_from k i n z))
-  -- in the log the old pieces' part is exchanged for the new ones', and what is behind it is moved
+  -- in the log the old pieces' part is exchanged for the new ones', and what is after it is moved
   pub log_was : (let z = text_with front old rest in
       log k (front ++ (old ++ rest)) ≡ logged max_depth z no_log (asks_by k i z (pieces k i z) (asks_of (pieces_from k i n z) ++ shift (end_from k i n z).taken (onwards_from k i n z).asks)))
   pub log_now : (let z = text_with front old rest in

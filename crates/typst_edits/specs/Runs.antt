@@ -15,7 +15,7 @@ use Rattle.typst_grammar.specs.Grammar.{level_at, max_depth, parsed}
 pub use Rattle.typst_grammar.specs.Pieces.{made, AllGo, End, end_of, asks_of}
 use Rattle.typst_edits.specs.Edit.{text_with, AllEndBy, AllBeginIn}
 
--- turns, and what comes behind them
+-- turns, and what comes after them
 abbrev pub chain : {A B : Type 0} → List (Outcome (Bool × A)) → Outcome B → Outcome B
 chain [] q = q
 chain (o ∷ os) q = joined o (chain os q)
@@ -26,39 +26,44 @@ chain (o ∷ os) q = joined o (chain os q)
 abbrev pub piece_at : CharClasses → Bool × ℕ → Meaning (Bool × (Bool × ℕ))
 piece_at k x = run (level_at k max_depth) (markup_turn true is_end x)
 
+-- the point where a text's run begins
 abbrev pub start : Point
 start = start_point markup_reading
 
--- the look at the first token, and the point behind it
+-- the look at the first token, and the point after it
 abbrev pub lead : CharClasses → Place → Outcome AtHand
 lead k z = run (level_at k max_depth) peek z start
 
--- the first n pieces, those behind them, and all behind n pieces
+-- the first n pieces
 abbrev pub pieces : CharClasses → ℕ → Place → List (Outcome (Bool × (Bool × ℕ)))
 pieces k n z = made (piece_at k) n (true, 0) z (lead k z).state
 
+-- where they end
 abbrev pub end_at : CharClasses → ℕ → Place → End (Bool × ℕ)
 end_at k n z = end_of (true, 0) (lead k z).state (pieces k n z)
 
+-- the n pieces after the first i
 abbrev pub pieces_from : CharClasses → ℕ → ℕ → Place → List (Outcome (Bool × (Bool × ℕ)))
 pieces_from k i n z = let e = end_at k i z in made (piece_at k) n e.value (moved e.taken z) e.state
 
+-- where they end, counted from where the first i do
 abbrev pub end_from : CharClasses → ℕ → ℕ → Place → End (Bool × ℕ)
 end_from k i n z = let e = end_at k i z in end_of e.value e.state (pieces_from k i n z)
 
+-- everything after those
 abbrev pub rest_from : CharClasses → ℕ → ℕ → Place → Outcome (Bool × ℕ)
 rest_from k i n z = let e = end_at k i z in let f = end_from k i n z in repeated (piece_at k) f.value (moved f.taken (moved e.taken z)) f.state
 
--- the trivia behind the run, which end so many characters on
+-- the trivia after the run, which ends so many characters on
 abbrev pub tail : CharClasses → ℕ → Point → Place → Outcome (Unit {0})
 tail k n s z = run (level_at k max_depth) flush_trivia (moved n z) s
 
--- a text's reading, by the look at its first token, its pieces, and the trivia behind them
+-- a text's reading, by the look at its first token, its pieces, and the trivia after them
 abbrev pub whole_of : Outcome AtHand → Outcome (Bool × ℕ) → Outcome (Unit {0}) → Outcome (Unit {0})
 whole_of first r behind =
     joined (joined (plain false start) (joined (record (plain (tt {0}) start) { asks = marked 0 0 0 (mark.Piece true 0) (state_of start) ∷ [] }) (joined first (joined r (plain (tt {0}) r.state))))) behind
 
--- The test: behind i pieces stand n that go on so many characters past a stretch `old`, which becomes `new`, and m pieces are to take their place.
+-- The test: n pieces follow the first i and end so many characters past a stretch `old`, which becomes `new`, and m pieces are to take their place.
 pub record PassesRun (k : CharClasses) (front old new rest : List ℕ) (i n m past : ℕ) : Type 0 where
   -- these are pieces of the run, in both texts
   pub first_go : AllGo (pieces k i (text_with front old rest))
@@ -66,7 +71,7 @@ pub record PassesRun (k : CharClasses) (front old new rest : List ℕ) (i n m pa
   pub new_go : AllGo (pieces_from k i m (text_with front new rest))
   -- what was looked at before them ends at the stretch or before it; the look at the first token belongs to the first piece
   pub before : 0 < i → AllEndBy (length front) ((lead k (text_with front old rest)).asks ++ asks_of (pieces k i (text_with front old rest)))
-  -- what was looked at behind them begins at the stretch's end or behind it
+  -- what was looked at after them begins at the stretch's end or after it
   pub ends : (end_at k i (text_with front old rest)).taken + (end_from k i n (text_with front old rest)).taken ≡ (length front + length old) + past
   pub after : (let r = rest_from k i n (text_with front old rest) in
       AllBeginIn past rest (r.asks ++ shift r.taken (tail k (((length front + length old) + past) + r.taken) r.state (text_with front old rest)).asks))
@@ -80,7 +85,7 @@ pub record KeptRun (k : CharClasses) (front old new rest : List ℕ) (i n m past
   -- the pieces before them are the same, and so is the look at the first token where there are some
   pub first : pieces k i (text_with front new rest) ≡ pieces k i (text_with front old rest)
   pub lead_same : 0 < i → lead k (text_with front new rest) ≡ lead k (text_with front old rest)
-  -- in the old text all behind them comes behind the old pieces, and in the new text the same comes behind the new ones
+  -- in the old text everything after them comes after the old pieces, and in the new text the same comes after the new ones
   pub was : (let z = text_with front old rest in
       let r = chain (pieces k i z) (chain (pieces_from k i n z) (rest_from k i n z)) in
       parsed k max_depth (front ++ (old ++ rest)) ≡ whole_of (lead k z) r (tail k r.taken r.state z))
@@ -89,11 +94,11 @@ pub record KeptRun (k : CharClasses) (front old new rest : List ℕ) (i n m past
       let r = chain (pieces k i z) (chain (pieces_from k i n z) (rest_from k i n z)) in
       parsed k max_depth (front ++ (new ++ rest)) ≡ whole_of (lead k w) (chain (pieces k i z) (chain (pieces_from k i m w) (rest_from k i n z))) (tail k r.taken r.state z))
 
--- what is read behind the first n pieces
+-- what is read after the first n pieces
 abbrev pub behind_pieces : CharClasses → ℕ → Place → Outcome (Bool × ℕ)
 behind_pieces k n z = let e = end_at k n z in repeated (piece_at k) e.value (moved e.taken z) e.state
 
--- What the reading of the new text is where nothing is kept behind the first i pieces.
+-- What the reading of the new text is where nothing is kept after the first i pieces.
 pub record KeptStart (k : CharClasses) (front old new rest : List ℕ) (i : ℕ) : Type 0 where
   pub first : pieces k i (text_with front new rest) ≡ pieces k i (text_with front old rest)
   pub lead_same : 0 < i → lead k (text_with front new rest) ≡ lead k (text_with front old rest)
@@ -106,6 +111,6 @@ abbrev pub StartLaw : Type 0
 StartLaw = (k : CharClasses) (front old new rest : List ℕ) (i : ℕ) → AllGo (pieces k i (text_with front old rest))
     → (0 < i → AllEndBy (length front) ((lead k (text_with front old rest)).asks ++ asks_of (pieces k i (text_with front old rest)))) → KeptStart k front old new rest i
 
--- The run law: where an edit inside some pieces of a text's run passes the test, the reading of the new text has the new pieces in their place, and is the same before and behind them.
+-- The run law: where an edit inside some pieces of a text's run passes the test, the reading of the new text has the new pieces in their place, and is the same before and after them.
 abbrev pub RunLaw : Type 0
 RunLaw = (k : CharClasses) (front old new rest : List ℕ) (i n m past : ℕ) → PassesRun k front old new rest i n m past → KeptRun k front old new rest i n m past

@@ -1,4 +1,4 @@
--- The pieces of any run.
+-- The pieces of any run, as Runs.antt has those of a text's.
 use Rattle.std.specs.Prelude.{ℕ, Bool, true, List}
 use Rattle.typst_kinds.specs.declared.kind.SyntaxKind.{SyntaxKind}
 use Rattle.typst_lines.specs.Place.{Place, moved}
@@ -18,22 +18,26 @@ pub record Sequence : Type 0 where
 abbrev pub turn_of : Sequence → Bool × ℕ → Meaning (Bool × (Bool × ℕ))
 turn_of r x = run r.level (markup_turn true r.stops x)
 
--- the first n, those behind them, and all behind these
+-- the first n pieces
 abbrev pub first_of : ℕ → Sequence → List (Outcome (Bool × (Bool × ℕ)))
 first_of n r = made (turn_of r) n (true, 0) r.place r.point
 
+-- where they end
 abbrev pub first_end : ℕ → Sequence → End (Bool × ℕ)
 first_end n r = end_of (true, 0) r.point (first_of n r)
 
+-- the n pieces after the first i
 abbrev pub then_of : ℕ → ℕ → Sequence → List (Outcome (Bool × (Bool × ℕ)))
 then_of i n r = let e = first_end i r in made (turn_of r) n e.value (moved e.taken r.place) e.state
 
+-- where they end, counted from where the first i do
 abbrev pub then_end : ℕ → ℕ → Sequence → End (Bool × ℕ)
 then_end i n r = let e = first_end i r in end_of e.value e.state (then_of i n r)
 
--- where those end
+-- the place where they end
 abbrev pub then_place : ℕ → ℕ → Sequence → Place
 then_place i n r = moved (then_end i n r).taken (moved (first_end i r).taken r.place)
 
+-- everything after those
 abbrev pub rest_of : ℕ → ℕ → Sequence → Outcome (Bool × ℕ)
 rest_of i n r = let f = then_end i n r in repeated (turn_of r) f.value (then_place i n r) f.state

@@ -22,12 +22,12 @@ use Rattle.typst_edits.specs.Edit.{Among, text_with}
 use Rattle.typst_edits.specs.Frame.{Gives}
 use Rattle.typst_edits.specs.RunTest.{Reading, reading_on, read_by, carried_by, byte_behind, nodes_by, notes_by, IsLast, FoundRun}
 
--- With pieces behind them pieces that go on behind old ones, at least one with these, end with the same line start and open brackets; at a block's end with the same open brackets.
+-- If pieces follow, the pieces that go on after old ones, at least one with these, end with the same line start and open brackets; at a block's end with the same open brackets.
 pub record MeetsOn (es : List Entry) (which : RunKind) (to : ℕ) (led : Type 0) (m : ℕ) (x y : Bool × ℕ) : Type 0 where
   pub goes_on : (IsLast es to → ⊥) → (led ⊎ (0 < m)) × (y ≡ x)
   pub block_end : IsLast es to → which ≡ of.Block → y.1 ≡ x.1
 
--- m pieces of a reading that begins where the candidate does, or behind old pieces of it, pass for it: all looks behind the candidate's old pieces begin behind the stretch, and the new ones end at the shifted end and meet what is there.
+-- m pieces of a reading that begins where the candidate does, or after old pieces of it, pass for it: all looks after the candidate's old pieces begin after the stretch, and the new ones end at the shifted end and meet what is there.
 pub record PassesOn (k : CharClasses) (front old new rest : List ℕ) (first c : Candidate) (r : Reading) (to looks : ℕ) (x : Bool × ℕ) (m : ℕ) : Type 0 where
   pub behind : rear_in k front old rest ≤ looks
   pub go : AllGo (read_by k r m)

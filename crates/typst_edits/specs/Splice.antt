@@ -20,6 +20,7 @@ pub record Noting : Type 0 where
   pub mark : Mark
   pub state : State
 
+-- a note as an ask
 abbrev pub noting : Noting → Ask
 noting p = marked p.at p.gap p.fewer p.mark p.state
 
@@ -39,13 +40,13 @@ AllNotedBy n (marked at gap fewer m s ∷ asks) = (at + gap ≤ n) × AllNotedBy
 abbrev pub token_start : Place → Noting → ℕ
 token_start z p = position (moved p.gap (moved p.at z))
 
--- the entries of some notes behind a token that begins at a byte
+-- the entries of some notes after a token that begins at a byte
 abbrev pub entries_from : ℕ → Option (List Note) → List Entry
 entries_from start None = []
 entries_from start (Some ns) = entries_by start ns
 
 -- THE LAW OF THE SPLICE: where what is asked of two texts up to a note is the same and lies before the stretch, and what is asked of them
--- behind another note is the same and lies behind the stretch, the units of the new text are those of the old one with those between the notes exchanged.
+-- after another note is the same and lies after the stretch, the units of the new text are those of the old one with those between the notes exchanged.
 abbrev pub SpliceLaw : Type 0
 SpliceLaw = (levels : ℕ) (front old new rest : List ℕ) (past gap : ℕ) (first second third last : List Ask) (p q r : Noting)
     → width (front ++ (old ++ rest)) < 2 ^ 64 - 1 → width (front ++ (new ++ rest)) < 2 ^ 64 - 1

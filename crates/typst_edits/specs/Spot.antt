@@ -82,7 +82,7 @@ around c b x = record {
   met = c.met_before || (b.met || c.met_after);
 }
 
--- an outcome of the block that may take the place of the one it had: the same but for what was
+-- an outcome of the block that may take the place of the one it had: the same except for what was
 -- taken, asked and met, and for its own node, whose head is a block's
 pub record Fits {A : Type 0} (c : Spot A) (b : Outcome (Unit {0})) (x : Tree) : Type 0 where
   pub state : b.state ≡ c.reached
@@ -133,7 +133,8 @@ then_spot c q = record (valued q.value c) {
   met_after = c.met_after || q.met;
 }
 
--- the spot in a whole that begins with this outcome
+-- the spot in a whole that begins with this outcome. How many nodes the whole takes back, and its
+-- hints for nodes before it, are what `joined` (Meaning.antt) makes of the two
 abbrev pub after_spot : {A B : Type 0} → Outcome B → Spot A → Spot A
 after_spot o c = record c {
   at = o.taken + c.at;

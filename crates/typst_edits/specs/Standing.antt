@@ -27,7 +27,8 @@ use Rattle.typst_edits.specs.Lost.{opened}
 use Rattle.typst_edits.specs.Occurrences.{Spots, joined_spots, repeated_spots, wrapped_spot, growing_spots, nesting_spots, scoped_spot, spots, call_spots, block_spots}
 use Rattle.typst_edits.specs.Spot.{Spot, block_head, after_spot, sunk_spot, closed_spot}
 
--- the blocks in readings that came in place of those that were given up, by these within what is read one level deeper, and in each block
+-- the blocks in readings that came in place of those that were given up. It goes through the same turns as `spots` (Occurrences.antt); where a reading was given up, all blocks of the second one count;
+-- by these within what is read one level deeper, and in each block
 module _ (l : Level) (deep_spots : (c : Call) → Spots (Answer c)) (in_block : Block → Spots (Unit {0})) (deep_seconds : (c : Call) → Spots (Answer c)) (seconds_inside : Block → Spots (Unit {0})) where
   unfoldable pub seconds : {A : Type 0} → Parser A → Spots A
   seconds (gives a) z s = []
@@ -49,25 +50,26 @@ module _ (l : Level) (deep_spots : (c : Call) → Spots (Answer c)) (in_block : 
       let o = done l flushes z s in
       if l.has b then map (after_spot o) (map (closed_spot b o.state) (seconds_inside b (moved o.taken z) (forgot o.state))) else []
 
--- by these rules, in what is read of a call below so many levels
+-- the seconds of a call by these rules, with so many levels left
 unfoldable pub call_seconds : Rules → CharClasses → ℕ → (call : Call) → Spots (Answer call)
 call_seconds r k zero call z s = []
 call_seconds r k (suc levels) call z s =
     seconds (level_of r k levels) (call_spots r k levels) (block_spots r k levels) (call_seconds r k levels)
     (λ b. seconds (blockless k levels (meaning_of r k levels)) (call_spots r k levels) (λ c y t. []) (call_seconds r k levels) (λ c y t. []) (peek >> r.block_production b)) (r.production call) z s
 
--- in a block
+-- the seconds of a block by these rules
 abbrev pub block_seconds : Rules → CharClasses → ℕ → Block → Spots (Unit {0})
 block_seconds r k levels b = seconds (blockless k levels (meaning_of r k levels)) (call_spots r k levels) (λ c y t. []) (call_seconds r k levels) (λ c y t. []) (peek >> r.block_production b)
 
--- in what a parser reads
+-- the seconds of what a parser reads by these rules
 abbrev pub level_seconds : {A : Type 0} → Rules → CharClasses → ℕ → Parser A → Spots A
 level_seconds r k levels p = seconds (level_of r k levels) (call_spots r k levels) (block_spots r k levels) (call_seconds r k levels) (block_seconds r k levels) p
 
--- in a text
+-- the seconds of a text
 unfoldable pub seconds_of_text : CharClasses → List ℕ → List (Spot (Unit {0}))
 seconds_of_text k text = level_seconds (rules k) k max_depth whole (start_of text) (start_point markup_reading)
 
+-- the kinds of the nodes of blocks, as `is_block` of `typst_kinds`
 abbrev pub is_block : SyntaxKind → Bool
 is_block kind.CodeBlock = true
 is_block kind.ContentBlock = true
@@ -95,10 +97,11 @@ pub data Stems (k : CharClasses) (text : List ℕ) (hole : Hole) (x : Tree) : Ty
 abbrev pub StandingLaw : Type 0
 StandingLaw = (k : CharClasses) (text : List ℕ) (hole : Hole) (x : Tree) → (parsed k max_depth text).nodes ≡ plug hole x → is_block_head x.head ≡ true → Stems k text hole x
 
+-- the place of an ask
 abbrev pub place_of : Ask → ℕ
 place_of (looked at look) = at
 place_of (marked at gap fewer mark s) = at
 
--- Where a block begins that a reading that was given up covers, no block is noted, but at the text's end.
+-- Where a block begins that a reading that was given up covers, no block is noted, unless it is the text's end.
 abbrev pub UnnotedLaw : Type 0
 UnnotedLaw = (k : CharClasses) (text : List ℕ) (c : Spot (Unit {0})) (ask : Ask) → Among c (seconds_of_text k text) → Among ask (opened (parsed k max_depth text).asks) → place_of ask ≡ c.at → length text ≤ c.at

@@ -15,14 +15,14 @@ pub record Step : Type 0 where
   pub start : ℕ
   pub node : Tree
 
--- of several nodes, the first of which begins at a byte, the one that begins before a stretch and ends behind it
+-- of several nodes, the first of which begins at a byte, the one that begins before a stretch and ends after it
 abbrev pub over : ℕ → ℕ → ℕ → List Tree → Option Step
 over from to at [] = None
 over from to at (t ∷ ts) =
     let end = at + length (text_of t) in
     if nat_lt at from && nat_lt to end then Some (record { index = 0; start = at; node = t }) else option_map (λ (s : Step). record s { index = suc s.index }) (over from to end ts)
 
--- so many steps down, each to the child that begins before the stretch and ends behind it
+-- so many steps down, each to the child that begins before the stretch and ends after it
 abbrev pub walk : ℕ → ℕ → ℕ → ℕ → List Tree → List Step
 walk zero from to at ts = []
 walk (suc n) from to at ts = elim (over from to at ts) as (λ _. List Step) [ None ↦ [] | Some s ↦ s ∷ walk n from to (s.start + length s.node.head.text) (trees s.node.kids) ]

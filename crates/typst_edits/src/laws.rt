@@ -74,8 +74,8 @@ ghost use Rattle.typst_edits.specs.Unique.{OneAnswerLaw, UniqueLaw};
 ghost use Rattle.typst_edits.specs.Walk.{WalkLaw};
 
 /// An edit inside a block of a text: where all that was looked at before the block ends at the
-/// replaced stretch or before it, all that was looked at behind the block begins at the stretch's
-/// end or behind it, and the block, read on the new text from its state, ends at the shifted end,
+/// replaced stretch or before it, all that was looked at after the block begins at the stretch's
+/// end or after it, and the block, read on the new text from its state, ends at the shifted end,
 /// the block leaves the state that it left and gives one node of its kind, and the reading of the new text is the old one with the block's node and its part of the log
 /// exchanged. Each block is read as its name, its level and its state say, and its two marks
 /// stand in the log directly around what it asked.
@@ -92,18 +92,18 @@ pub fn complete_law()
 
 /// Each inner node of a block's kind in the tree of a text is that of a block of its reading, at the path of the
 /// block's spot; or it was read in place of a reading that was given up, and then it is no unit: where such a block
-/// begins no block is noted, but at the text's end.
+/// begins no block is noted, unless it is the text's end.
 pub fn standing_law()
     ensures blocks { StandingLaw }
     ensures unnoted { UnnotedLaw }
 {}
 
 /// An edit inside some pieces of a text's run: where all that was looked at before these pieces
-/// ends at the replaced stretch or before it, all that was looked at behind them begins at the
-/// stretch's end or behind it, and as many pieces as are read of the new text from where they began
+/// ends at the replaced stretch or before it, all that was looked at after them begins at the
+/// stretch's end or after it, and as many pieces as are read of the new text from where they began
 /// end at the shifted end, with what was carried there and in the same state, the reading of the
-/// new text has these in their place, and is the same before and behind them. Where nothing is kept
-/// behind them, as at the end of the run, the pieces before are kept by the first of these alone.
+/// new text has these in their place, and is the same before and after them. Where nothing is kept
+/// after them, as at the end of the run, the pieces before are kept by the first of these alone.
 /// The same holds of pieces of a content block's run, and then the edit passes the test of the block.
 /// In the tree and in the log of the text the new pieces' part stands in place of the old ones'.
 pub fn run_law()
@@ -113,10 +113,10 @@ pub fn run_law()
     ensures tree { RunTreeLaw }
 {}
 
-/// The same where the new pieces end before other trivia, or behind other errors: all behind the
-/// pieces is what it was, with the new trivia before it. The number of empty errors matters only
+/// Where the new pieces end before other trivia, or after other errors, everything after the pieces is
+/// as it was, after the new trivia. The number of empty errors matters only
 /// where the next expression wasn't expected and takes them back; and where the expressions end
-/// behind the pieces in both texts, what is carried there doesn't matter. The same holds in a content
+/// after the pieces in both texts, what is carried there doesn't matter. The same holds in a content
 /// block, up to its closing bracket, and then the edit passes the test of the block.
 pub fn joint_law()
     ensures pieces { JointLaw }
@@ -124,10 +124,10 @@ pub fn joint_law()
 {}
 
 /// Where an edit inside some pieces of a text's run passes the test of the joint, the new pieces take back as many
-/// errors as the old ones, and there are pieces or nothing is taken back behind them, one stretch of the tree's
-/// children is exchanged: for the nodes of the new pieces and the trivia behind them. So in a content block: there
+/// errors as the old ones, and there are pieces or nothing is taken back after them, one stretch of the tree's
+/// children is exchanged: for the nodes of the new pieces and the trivia after them. So in a content block: there
 /// they are children of the markup that is its second child. Pieces take back no more errors than the state where
-/// they begin counts, and what is behind them no more than the state where they end counts. Behind at least one piece
+/// they begin counts, and what is after them no more than the state where they end counts. After at least one piece
 /// the exchange is the same without the trivia before the first of the new pieces, which belong to the piece before.
 pub fn children_law()
     ensures pieces { ChildrenLaw }
@@ -139,10 +139,10 @@ pub fn children_law()
 {}
 
 /// An expression of a run that wasn't expected gives one error first, and only such a one takes back the empty errors
-/// before it: so pieces whose first node behind the trivia before them is no error take nothing back, and neither
-/// does what is behind pieces where the first node behind their trivia is none. Where an edit passes the test of the
+/// before it: so pieces whose first node after the trivia before them is no error take nothing back, and neither
+/// does what is after pieces where the first node after their trivia is none. Where an edit passes the test of the
 /// joint, the expression where its pieces begin is the same in both texts, so the new pieces take nothing back either,
-/// and neither does what is behind them.
+/// and neither does what is after them.
 /// And where no error follows pieces, nothing has to agree there but what is carried where an expression follows, and
 /// the open brackets at a content block's end.
 pub fn head_law()
@@ -157,11 +157,11 @@ pub fn head_law()
 {}
 
 /// Each block of a text has two notes in its log, where it begins and where it ends. The
-/// numbers of the notes up to the first, and of those behind the second, say exactly whether what the block
-/// law asks of looks holds: where all looks before the first end, and where those behind the second begin,
+/// numbers of the notes up to the first, and of those after the second, say exactly whether what the block
+/// law asks of looks holds: where all looks before the first end, and where those after the second begin,
 /// in bytes beside the ends of the replaced stretch. A note stands
 /// where each piece of a text's run begins, too, and says as exactly whether what the run law asks of looks holds,
-/// or the law of the joint, for a stretch that goes on into the trivia behind the pieces; and so in a content block.
+/// or the law of the joint, for a stretch that goes on into the trivia after the pieces; and so in a content block.
 pub fn decision_law()
     ensures blocks { DecisionLaw }
     ensures pieces { RunDecisionLaw }
@@ -179,7 +179,7 @@ pub fn notes_law()
 /// Of the notes of a text's log that say that all levels are left there is one more than its run has pieces, and the
 /// one of each number stands where so many pieces end; and so of those between the two notes of a content block that
 /// say as many levels as are left in it. So each note where pieces of a run end has that number.
-/// Behind more pieces the next token begins at a later byte.
+/// After more pieces the next token begins at a later byte.
 pub fn numbered_notes_law()
     ensures run { NumberedRunLaw }
     ensures number { NumberLaw }
@@ -189,8 +189,8 @@ pub fn numbered_notes_law()
     ensures inner_cuts { InnerCutsLaw }
 {}
 
-/// No note of a text's log goes back behind the one before it, the token of each begins where it stands or behind, and
-/// all lie within the text. Each stands at the token of the note before it or behind that. Of two notes at which blocks
+/// No note of a text's log begins before the one before it, its token begins there or later, and all lie within the
+/// text. Each stands at the token of the note before it or after that. Of two notes at which blocks
 /// begin the later one's token begins at a later byte. The notes are nested: each block ends, and in it stand pieces that
 /// say its level, and blocks that say fewer levels; and so are those between the two notes of a block.
 pub fn rising_law()
@@ -203,8 +203,8 @@ pub fn rising_law()
 {}
 
 /// Where pieces of a text's run begin, of the children at the top of its tree one begins at the byte of their first
-/// token and isn't empty. It stands behind the nodes of the pieces before them and the trivia behind these; and so
-/// does the one where they end, or no child stands behind them at the run's end. The same holds in a content block,
+/// token and isn't empty. It stands after the nodes of the pieces before them and the trivia after these; and so
+/// does the one where they end, or no child stands after them at the run's end. The same holds in a content block,
 /// of the children of its markup.
 pub fn leading_law()
     ensures run { LeadingLaw }
@@ -213,19 +213,19 @@ pub fn leading_law()
 
 /// What the records of a text find of a candidate that is a block: where no entry begins a block at the candidate's
 /// start, it doesn't pass. Where one does, that entry says how the block is read by itself; it passes exactly where that
-/// entry is among those before the stretch, the one where the block ends among those behind it, and the block by itself,
+/// entry is among those before the stretch, the one where the block ends among those after it, and the block by itself,
 /// on the new text, ends at the shifted end. Then its one node and its entries take the place of the old ones.
 pub fn block_test_law()
     ensures { BlockTestLaw }
 {}
 
-/// Where what is asked of two texts is the same and lies before a stretch up to a note, and is the same and lies behind
+/// Where what is asked of two texts is the same and lies before a stretch up to a note, and is the same and lies after
 /// the stretch from another note on, the units of the second text are those of the first with the ones between these
-/// notes exchanged for its own: no other entry changes, nor how far back is looked behind the last note. So it is where
+/// notes exchanged for its own: no other entry changes, nor how far back is looked after the last note. This holds if
 /// an edit inside a block passes the test: the entries between the block's two notes, with the second, are exchanged.
-/// And so it is where an edit inside some pieces of a text's run does: the entries of the old pieces are exchanged for
+/// The same holds if an edit inside some pieces of a text's run does: the entries of the old pieces are exchanged for
 /// those of the new ones. Where no piece stands before them and none is read, the run has to end there.
-/// And so it is in a content block, where no trivia may stand behind its bracket if no piece does; whatever stands
+/// The same holds in a content block, where no trivia may stand after its bracket if no piece does; whatever stands
 /// there, the block's entries are exchanged.
 pub fn splice_law()
     ensures units { SpliceLaw }
@@ -245,7 +245,7 @@ pub fn inner_splices_of_texts()
     ensures { (beyond : CharClasses) → InnerSplices beyond }
 {}
 
-/// From the top of a text's tree the steps to the child that begins before a stretch and ends behind
+/// From the top of a text's tree the steps to the child that begins before a stretch and ends after
 /// it lead to each block that covers the stretch strictly: as many steps as its path is long go
 /// along its path, and the last of them leads to its node, which begins and ends where the block does.
 pub fn path_law()
@@ -253,8 +253,8 @@ pub fn path_law()
 {}
 
 /// A text without an expression has one note, and the token at its end, asked again in that text, says whether
-/// what is looked at behind the trivia begins at a stretch's end or behind it. A content block without an
-/// expression has one note between its two, and the token behind its trivia says so with what is looked at behind
+/// what is looked at after the trivia begins at a stretch's end or after it. A content block without an
+/// expression has one note between its two, and the token after its trivia says so with what is looked at after
 /// the block.
 pub fn empty_run_law()
     ensures text { EmptyTextLaw }
@@ -272,7 +272,7 @@ pub fn candidates_law()
 
 /// New children that begin with those that stand there, spans aside, are put in their places, and are given
 /// their numbers, as without them. New children in a numbered tree are, spans aside, those exchanged in each tree
-/// that it is, spans aside: so a tree that is the text's tree but for its numbers stays so.
+/// that it is, spans aside: so a tree that is the text's tree except for its numbers stays so.
 pub fn replaced_law()
     ensures front { FrontLaw }
     ensures spans { ReplacedLaw }
@@ -286,7 +286,7 @@ pub fn block_worth_law()
     ensures { BlockWorthLaw }
 {}
 
-/// What takes the place of a block's entries, behind the one where it begins, is the entries of what is noted in
+/// What takes the place of a block's entries, after the one where it begins, is the entries of what is noted in
 /// reading it by itself, and that of its end. The token of each note that is made in reading a part of a text
 /// begins within the text.
 pub fn part_law()
@@ -309,7 +309,7 @@ pub fn runs_of_texts()
     ensures { (beyond : CharClasses) → Runs beyond }
 {}
 
-/// Edits that leave other trivia behind the pieces that are read again, or end a run otherwise, and pass the test.
+/// Edits that leave other trivia after the pieces that are read again, or end a run otherwise, and pass the test.
 pub fn joints_of_texts()
     ensures { (beyond : CharClasses) → Joints beyond }
 {}
@@ -332,7 +332,7 @@ pub fn mode_law()
 {}
 
 /// Pieces of a run that are read again from where the token of the first of them begins, with the line start and
-/// the brackets that are carried there and nothing else, are the pieces that stood there, behind the trivia before
+/// the brackets that are carried there and nothing else, are the pieces that stood there, after the trivia before
 /// them, where an expression that takes back errors has none before it. How many they are follows from where they
 /// end. So in a content block. And the same is logged of them.
 pub fn resume_law()
@@ -384,8 +384,8 @@ pub fn root_worth_law()
     ensures { RootWorthLaw }
 {}
 
-/// And so are pieces in a content block that stands around the stretch: the units are the old ones with the whole
-/// block's exchanged.
+/// Pieces in a content block that stands around the stretch are worth their new nodes, too: the units are the old ones
+/// with the whole block's exchanged.
 pub fn inner_worth_law()
     ensures { InnerWorthLaw }
 {}
@@ -407,7 +407,7 @@ pub fn answer_law()
     ensures one { OneAnswerLaw }
 {}
 
-/// A reading of the new text that begins behind some pieces of a run, whose looks end before the stretch, serves all
+/// A reading of the new text that begins after some pieces of a run, whose looks end before the stretch, serves all
 /// pieces of the run that begin there or earlier: these are the old pieces up to there and those of the reading, and
 /// pass the test where the reading ends as it says. So are their nodes. The reading begins at the first token of its
 /// first piece, and knows nothing of the trivia before it. The old nodes stand in the old tree, and need not be
@@ -421,7 +421,7 @@ pub fn one_reading_law()
 
 /// What code finds of a candidate that is pieces in a content block: the notes where they begin and end say by their
 /// numbers among all notes whether the test of looks passes. Pieces of the new text that are read by themselves
-/// from the first token on pass just where they end and agree as the test says, and give the candidate's nodes; only
+/// from the first token on pass exactly if they end and agree as the test says, and give the candidate's nodes; only
 /// one number of them does. What is logged of them is the part that takes the place of the old entries, between the
 /// two numbers.
 pub fn inner_pieces_test_law()
@@ -433,9 +433,9 @@ pub fn inner_pieces_test_law()
     ensures units { InnerUnitsLaw }
 {}
 
-/// And so of one that is pieces of a text's own run: its notes decide the test of looks by their numbers, and pieces
-/// that are read by themselves pass just where they end and agree as the test says, and give the candidate's nodes.
-/// A candidate passes just where such pieces do, and the entries between the numbers of its notes are exchanged.
+/// What code finds of pieces of a text's own run: the run's notes decide the test of looks by their numbers, and pieces
+/// that are read by themselves pass exactly if they end and agree as the test says, and give the candidate's nodes.
+/// A candidate passes exactly if such pieces do, and the entries between the numbers of its notes are exchanged.
 pub fn pieces_test_law()
     ensures entries { RunEntriesLaw }
     ensures once { CutOnceLaw }
@@ -445,7 +445,7 @@ pub fn pieces_test_law()
 {}
 
 /// What the records find of a candidate that is pieces of a text's own run: by what the entries say of it, it passes
-/// just where so many pieces do that are read by themselves, whose nodes take its place, and whose entries are
+/// exactly if so many pieces do that are read by themselves, whose nodes take its place, and whose entries are
 /// exchanged for its own. Where a run that is read by itself ends no more pieces go on.
 pub fn run_test_law()
     ensures root { RunTestLaw }
@@ -453,9 +453,9 @@ pub fn run_test_law()
 {}
 
 /// Where a text's entries say that pieces of its run begin: the first of them at which a piece begins whose token is at
-/// the byte behind so many pieces is the one of these, whichever of the run's earlier entries one begins at. The run's
-/// entries rise with the number of pieces, the last is behind all of them, and each says what is carried there. And so
-/// in a content block, whose entries are found by where it begins.
+/// the byte after so many pieces is the one of these, whichever of the run's earlier entries one begins at. The run's
+/// entries rise with the number of pieces, the last is after all of them, and each says what is carried there. The same
+/// holds in a content block, whose entries are found by where it begins.
 pub fn run_numbers_law()
     ensures run { RunNumbersLaw }
     ensures inner { InnerNumbersLaw }
@@ -463,16 +463,16 @@ pub fn run_numbers_law()
 
 /// What the records find of a candidate that is pieces of a content block's run: at which entries its block and the
 /// pieces begin and end, and what is carried there. It passes exactly where the first is among those before the
-/// stretch, all looks behind the last begin behind it, and pieces that are read by themselves on the new text end at the
+/// stretch, all looks after the last begin after it, and pieces that are read by themselves on the new text end at the
 /// shifted end and meet what is there; these are its nodes. The block's entries are exchanged for those of the block by
 /// itself, or those of the pieces for theirs, where there are some in both texts. A run without an expression is decided
-/// by the looks behind the block alone.
+/// by the looks after the block alone.
 pub fn inner_run_test_law()
     ensures { InnerRunTestLaw }
 {}
 
 /// A reading of the new text that begins with a candidate of a run, whose looks end before the stretch, serves each
-/// candidate of the run that begins there or earlier: this passes just where so many pieces of the reading end at its
+/// candidate of the run that begins there or earlier: this passes exactly if so many pieces of the reading end at its
 /// shifted end and meet what is there. The old pieces before the reading stay: its nodes are put from where the reading
 /// begins, and the entries are exchanged from there on.
 pub fn served_law()

@@ -1,11 +1,7 @@
-pub mod DataEditsMade
 pub mod SelectedNodes
-pub mod SoughtRows
-pub mod SoughtSteps
-pub mod TokenLines
-pub mod TokenOrder
-pub mod TokenTurns
-pub mod TokensByNode
-pub mod TokensTouching
 pub mod VisitedProblems
 pub mod ShownProblems
+pub mod LabelNames
+pub mod MentionsFound
+pub mod MentionsHeld
+pub mod NamedThere

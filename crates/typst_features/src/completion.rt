@@ -36,9 +36,9 @@ enum Mode {
     Plain,
 }
 
-/// What the word before a byte may become: behind `@` and `<` a label of the text, behind a hash and in code a
+/// What the word before a byte may become: after `@` and `<` a label of the text, after a hash and in code a
 /// name that is bound there, if it begins with the word. There is nothing in raw texts, comments and texts in
-/// quotes, and behind a dot.
+/// quotes, and after a dot.
 pub fn completions_at<'a>(
     alloc: Global,
     root: &'a SyntaxNode,
@@ -67,7 +67,7 @@ pub fn completions_at<'a>(
     }
 }
 
-/// What is written at a byte, by the innermost node that tells it.
+/// What is written at a byte, by the innermost node that decides it.
 fn mode_at(root: &SyntaxNode, byte: usize) -> Mode {
     let mut mode = Mode::Markup;
     let mut around = Placed::top(root).if_holds(byte);
@@ -104,7 +104,7 @@ fn mode_of(kind: SyntaxKind, around: Mode) -> Mode {
     }
 }
 
-/// The word at the end of a text that stands behind `@` or `<`.
+/// The word at the end of a text that stands after `@` or `<`.
 fn label_before(front: &str) -> Option<&str> {
     let before = front.trim_end_matches(|c: char| is_of_name(c) || c == ':' || c == '.');
     if before.ends_with('@') || before.ends_with('<') {
@@ -114,7 +114,7 @@ fn label_before(front: &str) -> Option<&str> {
     }
 }
 
-/// The word at the end of a text, where it stands behind a hash, or in code and not behind a dot.
+/// The word at the end of a text, where it stands after a hash, or in code and not after a dot.
 fn name_before(front: &str, mode: Mode) -> Option<&str> {
     let before = front.trim_end_matches(|c: char| is_of_name(c));
     if before.ends_with('#') || (mode == Mode::Code && !before.ends_with('.')) {

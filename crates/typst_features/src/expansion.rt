@@ -12,10 +12,10 @@ use typst_tree::SyntaxNode;
 /// it: the innermost 100 where there are more. At the text's end the last byte counts; an empty text has none.
 ///
 /// They are those of the nodes that hold the byte and, within these, of text and markup:
-/// - the word, between space and ASCII signs, but for `-` and `_`, of the leaf;
+/// - the word, between space and ASCII signs except `-` and `_`, of the leaf;
 /// - the line, between line ends of the row of markup;
 /// - the paragraph, between empty lines and headings of the row;
-/// - the sections, each from its heading to the next of the same or a smaller level in the row, but for the
+/// - the sections, each from its heading to the next of the same or a smaller level in the row, without the
 ///   space at its end.
 ///
 /// Goes through the children of each node around the byte.
@@ -114,7 +114,7 @@ impl Parts {
         }
     }
 
-    /// Goes behind the next node of the row.
+    /// Goes past the next node of the row.
     fn pass(&mut self, kid: Placed<'_>, byte: usize) -> Result<(), AllocError> {
         if let Some(level) = heading_level(kid.node) {
             self.end_sections(level)?;
@@ -159,7 +159,7 @@ impl Parts {
         }
     }
 
-    /// The same of a line alone.
+    /// A line ends. The next one counts, unless this one holds what is looked for.
     fn cut_line(&mut self) {
         if self.held.is_some() {
             self.in_line = false;

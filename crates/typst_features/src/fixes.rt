@@ -23,10 +23,12 @@ pub struct Fix<'a> {
     pub text: &'a str,
     pub space_before: bool,
     pub space_behind: bool,
+    /// Whether it closes a delimiter at the end of a line, while the next fix does so at the end of its node.
+    pub at_line_end: bool,
 }
 
-/// What of a text's errors and warnings an edit can take away that touch a range of bytes, those of a node before
-/// those of its children: the closing delimiter that lacks, and what a hint says. It goes through each node once.
+/// The edits that remove errors and warnings which touch a range of bytes, those of a node before those of its
+/// children: they add a missing closing delimiter, or do what a hint says. It goes through each node once.
 pub fn quick_fixes<'a>(
     alloc: Global,
     root: &'a SyntaxNode,
@@ -123,6 +125,7 @@ impl<'a> Fault<'a> {
             text: word,
             space_before: touch(before, first),
             space_behind: touch(last, behind),
+            at_line_end: false,
         }
     }
 
@@ -139,7 +142,10 @@ impl<'a> Fault<'a> {
         if let Some(at) = lines.end_from(self.problem.end)
             && at < end
         {
-            found.push(put(&self.problem, at..at, closer))?;
+            found.push(Fix {
+                at_line_end: true,
+                ..put(&self.problem, at..at, closer)
+            })?;
         }
         found.push(put(&self.problem, end..end, closer))?;
         Ok(())
@@ -154,6 +160,7 @@ fn put<'t>(problem: &Range<usize>, range: Range<usize>, text: &'t str) -> Fix<'t
         text,
         space_before: false,
         space_behind: false,
+        at_line_end: false,
     }
 }
 

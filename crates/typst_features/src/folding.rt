@@ -27,7 +27,7 @@ pub struct Fold {
 }
 
 /// What of a tree's text can be folded, in the order of the ends, what is within other things first:
-/// - the section of a heading, up to the next heading of the same or a smaller level in its row, but for the
+/// - the section of a heading, up to the next heading of the same or a smaller level in its row, without the
 ///   space at its end;
 /// - a code block, a content block, a raw text, an equation, a block comment;
 /// - the arguments of a call, an array, a dictionary, the parameters of a function and the items of an import,
@@ -64,7 +64,7 @@ struct Place {
 }
 
 impl Place {
-    /// The place behind a text that begins here.
+    /// The place after a text that begins here.
     fn behind(self, text: &str) -> Place {
         let mut line = self.line;
         for byte in text.as_bytes() {
@@ -142,7 +142,7 @@ impl Runs {
     }
 }
 
-/// A node that was come to and not yet gone behind: where it began, how many sections went on there, where
+/// A node that was come to and not yet left: where it began, how many sections went on there, where
 /// the last of its children ends that isn't space, and where the last opening paren among them stands.
 #[derive(Clone, Copy)]
 struct Level<'a> {
@@ -211,7 +211,7 @@ impl<'a> Folder<'a> {
         Ok(())
     }
 
-    /// Goes behind the nodes that are below so many others.
+    /// Leaves the nodes that are below so many others.
     fn leave_to(&mut self, depth: usize) -> Result<(), AllocError> {
         for _ in depth..self.levels.len() {
             self.end_row()?;
@@ -326,7 +326,7 @@ impl<'a> Folder<'a> {
     }
 }
 
-/// Whether the parens of a node of this kind stand round a list that is folded.
+/// Whether the parens of a node of this kind stand around a list that is folded.
 fn holds_list(kind: SyntaxKind) -> bool {
     matches!(
         kind,

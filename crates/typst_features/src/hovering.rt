@@ -1,4 +1,4 @@
-//! What is told of a place in a text.
+//! What is shown of a place in a text.
 
 use crate::naming::{label_name, mention_at};
 use std::alloc::{AllocError, Global};
@@ -7,10 +7,10 @@ use typst_kinds::SyntaxKind;
 use typst_names::{Placed, binding_of, name_at, names};
 use typst_tree::SyntaxNode;
 
-/// What is told.
+/// What is shown.
 #[derive(Debug, Clone, Copy, PartialEq, Eq)]
 pub enum HoverKind {
-    /// Of a label or a reference the first line of what the label stands behind.
+    /// Of a label or a reference the first line of what the label is attached to.
     Labelled,
     /// Of a name the line, up to its end, in which it is bound.
     Binding,
@@ -18,17 +18,17 @@ pub enum HoverKind {
     Language,
 }
 
-/// What is told of a stretch of a text: another stretch of it.
+/// What is shown of a stretch of a text: another stretch of it.
 #[derive(Debug, PartialEq, Eq, Drop)]
 pub struct Hover {
     pub kind: HoverKind,
     /// The bytes of what is asked about.
     pub range: Range<usize>,
-    /// The bytes that tell of it, on one line.
+    /// The bytes that are shown of it, on one line.
     pub shown: Range<usize>,
 }
 
-/// What is told of a byte of a text, if anything is known.
+/// What is shown of a byte of a text, if anything is known.
 pub fn hover_at(
     alloc: Global,
     root: &SyntaxNode,
@@ -49,7 +49,7 @@ pub fn hover_at(
     binding_at(alloc, root, text, byte)
 }
 
-/// The bytes of what the first label of a name stands behind: what is no space before it in its row.
+/// The bytes of what the first label of a name is attached to: what is no space before it in its row.
 fn labelled(
     alloc: Global,
     root: &SyntaxNode,
@@ -66,7 +66,7 @@ fn labelled(
     Ok(None)
 }
 
-/// The same in one row of markup.
+/// The bytes of what the first label of a name is attached to, in one row of markup.
 fn labelled_in(markup: Placed<'_>, name: &str) -> Option<Range<usize>> {
     let mut before = None;
     let mut start = markup.inner_start();

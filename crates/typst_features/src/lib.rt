@@ -1,13 +1,12 @@
 //! What a language server shows of a document, as functions on its syntax tree: an outline, foldings,
 //! selections, names with their bindings and uses, labels with their references, completions, fixes, links,
-//! semantic tokens, problems.
+//! problems.
 //!
 //! Positions are in bytes of the tree's text. Where nothing else is said each function goes through a tree at
 //! most once, and what makes a list takes the allocator and answers `AllocError` where memory is refused.
 #![tactic(auto)]
 
 mod completion;
-mod delta;
 mod expansion;
 mod fixes;
 mod folding;
@@ -20,14 +19,10 @@ mod parents;
 mod renaming;
 mod report;
 mod sections;
-mod seeking;
 mod selection;
-mod styles;
-mod tokens;
 mod typing;
 
 pub use completion::{CompletionKind, Completions, completions_at};
-pub use delta::{DataEdit, edit_between};
 pub use expansion::expansions;
 pub use fixes::{Fix, quick_fixes};
 pub use folding::{Fold, FoldKind, foldings};
@@ -39,8 +34,6 @@ pub use outline::{Symbol, SymbolKind, symbols};
 pub use renaming::{Named, Renamed, named_at};
 pub use report::{Problem, problems};
 pub use selection::{MOST_SELECTIONS, selections};
-pub use styles::{Style, TokenKind};
-pub use tokens::{Token, semantic_tokens};
 pub use typing::shown_problems;
 pub use typst_names::{
     Name, NameKind, Occurrence, OccurrenceKind, Role, binding_of, name_at, name_roles, names,

@@ -25,7 +25,7 @@ pub struct DocumentLink<'a> {
     pub target: &'a str,
 }
 
-/// The links of a text, in order: addresses in markup; texts behind `import` and `include`, but for packages; and
+/// The links of a text, in order: addresses in markup; texts after `import` and `include`, except packages; and
 /// texts that are the first argument of `link` or of a function that reads a file. A text with an escape counts
 /// for none. It goes through each node at most twice.
 pub fn document_links<'a>(

@@ -34,8 +34,8 @@ pub struct Symbol {
 }
 
 /// The outline of a tree in preorder: an entry stands before those below it, which are as many levels deeper
-/// as `depth` tells. A heading holds what follows it in its row, up to the next heading of the same or a
-/// smaller level, but for the space at its end; a `let` what its value holds. It goes through each node once.
+/// as `depth` says. A heading holds what follows it in its row, up to the next heading of the same or a
+/// smaller level, without the space at its end; a `let` what its value holds. It goes through each node once.
 pub fn symbols(alloc: Global, root: &SyntaxNode) -> Result<Vec<Symbol>, AllocError> {
     let mut outline = Outline {
         alloc,
@@ -83,7 +83,7 @@ struct Binding<'a> {
 }
 
 impl Outline {
-    /// Adds a node, behind which its children come.
+    /// Adds a node, after which its children come.
     fn enter(&mut self, visit: Visit<'_>, in_markup: bool) -> Result<(), AllocError> {
         let node = Placed::of(visit);
         let depth = match self.rows.last().copied() {
@@ -98,7 +98,7 @@ impl Outline {
         Ok(())
     }
 
-    /// Ends the rows behind the first ones.
+    /// Ends the rows after the first ones.
     fn leave_to(&mut self, depth: usize) {
         for _ in depth..self.rows.len() {
             if let Some(row) = self.rows.pop() {

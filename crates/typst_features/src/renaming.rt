@@ -1,12 +1,15 @@
 //! Definitions, uses and renames of labels and of names that are bound.
 
-ghost use Rattle.std.specs.Prelude.{◌≡◌, ◌++◌, OnOk, map};
+ghost use Rattle.std.specs.Prelude.{◌≡◌, ◌++◌, IfOk, OnOk, Some, map, option_map, slice_get};
+ghost use Rattle.typst_names.specs.Meanings as meanings;
+ghost use Rattle.typst_names.specs.Names as bound;
+ghost use Rattle.typst_features.specs.Labels as labels;
 ghost use Rattle.typst_features.specs.Renames as spec;
 
 use crate::naming::{Mention, MentionKind, mention_at, mentions};
 use std::alloc::{AllocError, Global};
 use std::ops::Range;
-use typst_names::{Occurrence, OccurrenceKind, binding_of, name_at, names, uses_of};
+use typst_names::{Name, Occurrence, OccurrenceKind, binding_of, name_at, names, uses_of};
 use typst_tree::SyntaxNode;
 
 /// A label or a name that stands at a byte, and where it is defined and used.
@@ -15,7 +18,7 @@ pub struct Named {
     /// The bytes of the name alone.
     pub range: Range<usize>,
     /// Where it is defined and used: of a label its labels in markup, and the references to it and its labels in
-    /// code, in order; of a name its binding, and behind it the uses that mean it, in order.
+    /// code, in order; of a name its binding, and after it the uses that mean it, in order.
     pub occurrences: Vec<Occurrence>,
 }
 
@@ -35,7 +38,9 @@ pub fn named_at(
     root: &SyntaxNode,
     text: &str,
     byte: usize,
-) -> Result<Option<Named>, AllocError> {
+) -> Result<Option<Named>, AllocError>
+    ensures { IfOk result (λ named. option_map spec.known named ≡ spec.named_at root.now text.now byte) }
+{
     match mention_at(root, byte) {
         Some(mention) => label_named(alloc, root, &mention),
         None => name_named(alloc, root, text, byte),
@@ -47,22 +52,42 @@ fn label_named(
     alloc: Global,
     root: &SyntaxNode,
     mention: &Mention<'_>,
-) -> Result<Option<Named>, AllocError> {
+) -> Result<Option<Named>, AllocError>
+    ensures { IfOk result (λ named. option_map spec.known named ≡ Some (spec.label_known (labels.mentions root.now) (labels.mentioned mention.now))) }
+{
+    let found = mentions(alloc, root, mention.name)?;
     let mut occurrences = Vec::new(alloc);
-    for other in &mentions(alloc, root, mention.name)? {
-        occurrences.push(Occurrence {
-            kind: kind_of(other),
-            range: other.name_range(),
-        })?;
-    }
+    add_mentions(&mut occurrences, found.as_slice())?;
     Ok(Some(Named {
         range: mention.name_range(),
         occurrences,
     }))
 }
 
-fn kind_of(mention: &Mention<'_>) -> OccurrenceKind {
-    match mention.kind {
+/// Adds labels and references, by their names alone.
+fn add_mentions(occurrences: &mut Vec<Occurrence>, found: &[Mention<'_>]) -> Result<(), AllocError>
+    ensures { OnOk result (occurrences.new.items ≡ occurrences.old.items ++ map (λ m. spec.occurrence (labels.mentioned m)) found.now) }
+{
+    for mention in found {
+        occurrences.push(occurrence_of(mention))?;
+    }
+    Ok(())
+}
+
+/// A label or a reference, by its name alone.
+fn occurrence_of(mention: &Mention<'_>) -> Occurrence
+    ensures { result ≡ spec.occurrence (labels.mentioned mention.now) }
+{
+    Occurrence {
+        kind: kind_of(mention.kind),
+        range: mention.name_range(),
+    }
+}
+
+fn kind_of(kind: MentionKind) -> OccurrenceKind
+    ensures { result ≡ spec.stands_as kind }
+{
+    match kind {
         MentionKind::Label => OccurrenceKind::Definition,
         MentionKind::Reference => OccurrenceKind::Use,
     }
@@ -74,22 +99,50 @@ fn name_named(
     root: &SyntaxNode,
     text: &str,
     byte: usize,
-) -> Result<Option<Named>, AllocError> {
-    let names = names(alloc, root)?;
-    let Some(index) = name_at(&names, byte) else {
-        return Ok(None);
-    };
-    let Some(binding) = binding_of(text, &names, index) else {
-        return Ok(None);
-    };
-    let occurrences = uses_of(alloc, text, &names, binding)?;
-    match names.get(index) {
-        Some(name) => Ok(Some(Named {
-            range: name.range.start..name.range.end,
-            occurrences,
-        })),
+) -> Result<Option<Named>, AllocError>
+    ensures { IfOk result (λ named. option_map spec.known named ≡ spec.name_known text.now (bound.names root.now) (meanings.name_at (bound.names root.now) byte)) }
+{
+    let found = names(alloc, root)?;
+    let names = found.as_slice();
+    match name_at(names, byte) {
+        Some(index) => bound_named(alloc, text, names, index),
         None => Ok(None),
     }
+}
+
+/// The same of a name by its place.
+fn bound_named(
+    alloc: Global,
+    text: &str,
+    names: &[Name],
+    index: usize,
+) -> Result<Option<Named>, AllocError>
+    ensures { IfOk result (λ named. option_map spec.known named ≡ spec.bound_known text.now names.now (slice_get names.now index) (meanings.binding_of text.now names.now index)) }
+{
+    match names.get(index) {
+        Some(name) => with_uses(alloc, text, names, name, binding_of(text, names, index)),
+        None => Ok(None),
+    }
+}
+
+/// A name with what binds it, if something does, and the uses that mean that.
+fn with_uses(
+    alloc: Global,
+    text: &str,
+    names: &[Name],
+    name: &Name,
+    binding: Option<usize>,
+) -> Result<Option<Named>, AllocError>
+    ensures { IfOk result (λ named. option_map spec.known named ≡ spec.bound_known text.now names.now (Some name.now) binding) }
+{
+    let Some(binding) = binding else {
+        return Ok(None);
+    };
+    let occurrences = uses_of(alloc, text, names, binding)?;
+    Ok(Some(Named {
+        range: name.range.start..name.range.end,
+        occurrences,
+    }))
 }
 
 impl Named {

@@ -35,9 +35,8 @@ struct Shown<'a> {
     next: usize,
 }
 
-/// The errors and warnings of a tree, without the errors that only follow from a delimiter that nothing closes:
-/// of those of the node that it stands in, behind it, the first one alone is shown. It goes through each node
-/// once.
+/// The errors and warnings of a tree. Of the errors after an unclosed delimiter, in the node around it, only the
+/// first is given. It goes through each node once.
 pub fn shown_problems<'a>(
     alloc: Global,
     root: &'a SyntaxNode,

@@ -37,7 +37,7 @@ pub record Stays (w : AllNodes) : Type 0 where
   pub counted : nodes w.root.now < 2 ^ 64 - 1
   pub ready : AreReady w.root.now w.number (w.here ∷ reverse w.above.items)
 
--- what is left of a walk's row behind its first node
+-- what is left of a walk's row after its first node
 pub record IsBehind (w : AllNodes) (t : Tree) (v : Row) : Type 0 where
   pub nodes : w.here.nodes.now ≡ t ∷ v.nodes.now
   pub start : v.start ≡ saturated (w.here.start + length (text_of t))

@@ -32,7 +32,7 @@ abbrev pub up_number : Option ℕ → ℕ
 up_number None = 0
 up_number (Some n) = n
 
--- the node n is at hand, a child of the node `above`, and the rows hold all nodes behind it and what is below it
+-- the node n is at hand, a child of the node `above`, and the rows hold all nodes after it and what is below it
 pub record IsAt (root : Tree) (n above : ℕ) (ws : List Row) : Type 0 where
   pub head : Head
   pub kids : Forest

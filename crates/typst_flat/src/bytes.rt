@@ -13,7 +13,7 @@ pub fn fill_text(text: &str, room: &mut [u8]) -> usize
     text.len()
 }
 
-/// Puts bytes into an array behind those that stand in it, as far as they fit.
+/// Puts bytes into an array after those that stand in it, as far as they fit.
 pub(crate) fn put(bytes: &[u8], at: usize, room: &mut [u8])
     ensures { (before : List ℕ) → (old : List ℕ) → at ≡ saturated (length before) → room.old ≡ filled before old → room.new ≡ filled (before ++ bytes.now) old }
 {

@@ -34,8 +34,8 @@ pub fn fill_nodes(alloc: Global, root: &SyntaxNode, room: &mut [Node]) -> Result
     Ok(count)
 }
 
-/// The same of the nodes that meet a stretch of bytes: all that have a byte of it, and those that end where it
-/// begins or begin where it ends.
+/// Puts the records of the nodes that meet a stretch of bytes into an array: all that have a byte of it, and those
+/// that end where it begins or begin where it ends.
 pub fn fill_nodes_in(
     alloc: Global,
     root: &SyntaxNode,
@@ -53,7 +53,8 @@ pub fn fill_nodes_in(
     fill_listed(alloc, root, stretch, room)
 }
 
-/// The same by a list of the tags of all nodes, and a walk through all of them up to the end of the stretch.
+/// Does what `fill_nodes_in` does, by a list of the tags of all nodes, and a walk through all of them up to the end
+/// of the stretch.
 fn fill_listed(
     alloc: Global,
     root: &SyntaxNode,
@@ -82,7 +83,8 @@ fn fill_listed(
     Ok(count)
 }
 
-/// The same by a walk that leaves out what doesn't meet the stretch, and asks each node for its tag.
+/// Does what `fill_nodes_in` does, by a walk that leaves out what doesn't meet the stretch, and asks each node for
+/// its tag.
 fn fill_asking(
     alloc: Global,
     root: &SyntaxNode,

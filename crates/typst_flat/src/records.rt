@@ -2,7 +2,7 @@
 
 /// A node of a tree, in 32 bytes.
 ///
-/// Its subtree is the node itself and as many nodes behind it as `nodes` says less one, so the next sibling,
+/// Its subtree is the node itself and as many nodes after it as `nodes` says less one, so the next sibling,
 /// if there is one, has the number `number + nodes`. Numbers and bytes from the largest `u32` on are that.
 #[repr(C)]
 #[derive(Debug, Clone, Copy, PartialEq, Eq)]
@@ -11,7 +11,7 @@ pub struct Node {
     pub span: u64,
     /// Its first byte.
     pub start: u32,
-    /// The byte behind it.
+    /// The byte after it.
     pub end: u32,
     /// Its place among all nodes of the tree in preorder, from 0 on.
     pub number: u32,
@@ -37,7 +37,7 @@ pub struct Remark {
     pub node: u32,
     /// The first byte that it is about.
     pub start: u32,
-    /// The byte behind these.
+    /// The byte after these.
     pub end: u32,
     /// Where its message begins among the messages.
     pub message: u32,

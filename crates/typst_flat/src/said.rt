@@ -35,7 +35,7 @@ struct About {
 }
 
 /// Puts the remarks of a tree into an array, and their messages into another one, as many as fit, and tells
-/// how many there are. They come node by node in preorder, each hint behind the error or warning that it is on.
+/// how many there are. They come node by node in preorder, each hint after the error or warning that it is on.
 /// Where memory is refused, the arrays may hold some of them.
 pub fn fill_remarks(
     alloc: Global,

@@ -97,7 +97,7 @@ impl<'t> Walk<'t> {
         self.come_below()
     }
 
-    /// The same behind the root.
+    /// The node of the next number after the root, taken out of its row, with its parent's number; none at the end.
     #[inline(always)]
     fn come_below(&mut self) -> Option<(LinkedNode<'t>, usize)>
         requires begun { 0 < self.old.number }

@@ -50,7 +50,7 @@ row_html root n (more h ks r) =
 abbrev pub html_of : Tree → List ℕ
 html_of root = codes "<code>" ++ (row_html root 0 (more root.head root.kids none) ++ codes "</code>")
 
--- how a reader stands in HTML: in text, in a tag, or behind the & of an entity and the bytes of its name so far
+-- how a reader stands in HTML: in text, in a tag, or after the & of an entity and the bytes of its name so far
 pub data Reading : Type 0 where
   plain : Reading
   tagged : Reading
@@ -65,7 +65,7 @@ entity_text name =
     if bytes_eq name (codes "#39") then 39 ∷ [] else
     if bytes_eq name (codes "quot") then 34 ∷ [] else []
 
--- how the reader stands behind a byte
+-- how the reader stands after a byte
 abbrev pub next_reading : Reading → ℕ → Reading
 next_reading plain b = if b == 60 then tagged else if b == 38 then entity [] else plain
 next_reading tagged b = if b == 62 then plain else tagged

@@ -1,4 +1,4 @@
--- The tag of a name, by what is round it.
+-- The tag of a name, by what is around it.
 use Rattle.std.specs.Prelude.{ℕ, ◌==◌, Bool, false, ◌&&◌, ◌||◌, Option, None, Some, if◌then◌else◌}
 use Rattle.typst_kinds.specs.declared.kind.SyntaxKind.{SyntaxKind}
 use Rattle.typst_highlight.specs.declared.tags.Tag.{Tag}
@@ -21,7 +21,7 @@ abbrev pub kind_ahead : Option Ahead → Option SyntaxKind
 kind_ahead None = None
 kind_ahead (Some leaf) = Some leaf.kind
 
--- a name of a show rule, directly before or behind its colon
+-- a name of a show rule, directly before or after its colon
 abbrev pub is_shown : Surroundings → Bool
 is_shown s = is_show_rule s.around && (is_colon (kind_ahead s.next) || is_colon s.before)
 

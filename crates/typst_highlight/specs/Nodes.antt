@@ -39,7 +39,7 @@ abbrev pub outermost : ℕ → At → At
 outermost zero a = a
 outermost (suc n) a = from_or a (outermost n) (access (parent a))
 
--- what is round a name
+-- what is around a name
 abbrev pub surroundings : At → Surroundings
 surroundings a =
     let outer : At = outermost a.number a in
@@ -77,7 +77,7 @@ leaf_of a = if is_hash_expr (kind_of a) then leftmost_leaf a else None
 abbrev pub expression_leaf : At → Option At
 expression_leaf a = option_and_then leaf_of (next_sibling a)
 
--- the tag of a node by its rule, and, where that asks for it, by the tag of the expression behind the node
+-- the tag of a node by its rule, and, where that asks for it, by the tag of the expression after the node
 abbrev pub tag_by : Rule → At → Option Tag → Option Tag
 tag_by (rule.Fixed t) a e = t
 tag_by rule.Paren a e = paren_tag (kind_if (parent a))

@@ -212,14 +212,14 @@ abbrev pub is_hash : Option SyntaxKind → Bool
 is_hash (Some kind.Hash) = true
 is_hash _ = false
 
--- the parents of a parenthesis behind a function's name
+-- the parents of a parenthesis after a function's name
 abbrev pub is_arguments : Option SyntaxKind → Bool
 is_arguments (Some kind.Args) = true
 is_arguments (Some kind.MathArgs) = true
 is_arguments (Some kind.Params) = true
 is_arguments _ = false
 
--- the parent of a bracket behind a function's name
+-- the parent of a bracket after a function's name
 abbrev pub is_content : Option SyntaxKind → Bool
 is_content (Some kind.ContentBlock) = true
 is_content _ = false

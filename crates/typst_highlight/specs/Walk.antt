@@ -55,19 +55,19 @@ lead c = outer_lead c.outer c.trail.before
 abbrev pub end : Context → Tree → ℕ
 end c t = saturated (c.offset + length (text_of t))
 
--- the first leaf behind a node that ends there and that the trees r follow
+-- the first leaf after a node that ends there and that the trees r follow
 abbrev pub leaf_from : Context → ℕ → Forest → Option Ahead
 leaf_from c e r = first_ahead (first_leaf c.parent e r) c.ahead
 
--- the first leaf behind a node that the trees r follow
+-- the first leaf after a node that the trees r follow
 abbrev pub next_leaf : Context → Tree → Forest → Option Ahead
 next_leaf c t r = leaf_from c (end c t) r
 
--- what is round the outermost of the field accesses above the children of a node of this kind
+-- what is around the outermost of the field accesses above the children of a node of this kind
 abbrev pub outer_within : Context → SyntaxKind → Option Outer
 outer_within c k = if is_field_access k then Some (record { around = around c; lead = lead c }) else None
 
--- what is round a node's first child
+-- what is around a node's first child
 abbrev pub within : Context → Tree → Forest → Context
 within c t r = record {
   parent = Some t.head.kind;
@@ -77,7 +77,7 @@ within c t r = record {
   ahead = next_leaf c t r;
 }
 
--- what is round the tree behind a tree
+-- what is around the tree that follows a tree
 abbrev pub past : Context → Tree → Trail → Context
 past c t trail = record c { offset = end c t; trail = trail }
 
@@ -88,7 +88,7 @@ dotted (Some k) t = if is_dot k then t else None
 abbrev pub behind_dot : Trail → Option Tag
 behind_dot t = dotted t.before t.earlier
 
--- what is round a node, as a name sees it
+-- what is around a node, as a name sees it
 abbrev pub seen : Context → Tree → Forest → Surroundings
 seen c t r = record {
   kind = t.head.kind;
@@ -102,7 +102,7 @@ seen c t r = record {
 abbrev pub name : Context → Tree → Forest → Option Tag
 name c t r = first_tag (name_alone (seen c t r)) (behind_dot c.trail)
 
--- the last leaves behind a leaf
+-- the last leaves before what follows a leaf
 abbrev pub step : Context → Tree → Forest → Trail
 step c t r = record {
   before = Some t.head.kind;
@@ -110,13 +110,13 @@ step c t r = record {
   earlier = c.trail.name;
 }
 
--- the last leaves behind trees that stand side by side
+-- the last leaves before what follows trees that stand side by side
 abbrev pub passed_row : Context → Forest → Trail
 passed_row c none = c.trail
 passed_row c (more h ks r) =
     passed_row (past c (tree_of h ks) (if is_leaf (tree_of h ks) then step c (tree_of h ks) r else passed_row (within c (tree_of h ks) r) ks)) r
 
--- the last leaves behind a node
+-- the last leaves before what follows a node
 abbrev pub passed : Context → Tree → Forest → Trail
 passed c t r = if is_leaf t then step c t r else passed_row (within c t r) t.kids
 
@@ -125,7 +125,7 @@ abbrev pub next_kind : Forest → Option SyntaxKind
 next_kind none = None
 next_kind (more h ks r) = if is_trivia h.kind then next_kind r else Some h.kind
 
--- the tag of a node by its rule and by the tag of the expression behind it
+-- the tag of a node by its rule and by the tag of the expression after it
 abbrev pub tag_here : Rule → Context → Tree → Forest → Option Tag → Option Tag
 tag_here (rule.Fixed tag) c t r e = tag
 tag_here rule.Paren c t r e = paren_tag c.parent
@@ -220,15 +220,15 @@ abbrev pub ahead_of : List Waiting → Option Ahead
 ahead_of [] = None
 ahead_of (w ∷ ws) = first_ahead (first_leaf w.level.parent w.start (forest w.nodes.now)) (ahead_of ws)
 
--- what is round the node that a walk comes to next
+-- what is around the node that a walk comes to next
 abbrev pub joined : Progress → Context
 joined p = record { parent = p.level.parent; outer = p.level.outer; offset = p.offset; trail = p.trail; ahead = ahead_of (waiting p) }
 
--- what is round the first of the nodes that a walk comes back to, before others and behind these last leaves
+-- what is around the first of the nodes that a walk comes back to, before others and after these leaves
 abbrev pub resumed : Waiting → List Waiting → Trail → Context
 resumed w ws trail = record { parent = w.level.parent; outer = w.level.outer; offset = w.start; trail = trail; ahead = ahead_of ws }
 
--- what is round the root of a tree
+-- what is around the root of a tree
 abbrev pub root_context : Context
 root_context = record { parent = None; outer = None; offset = 0; trail = record { before = None; name = None; earlier = None }; ahead = None }
 
@@ -279,7 +279,7 @@ steps p f = 2 * count f + returns (waiting p)
 abbrev pub tag_at : Place → Option Tag
 tag_at p = tag p.context p.node.now (forest p.later.now)
 
--- the tag of the expression behind a node
+-- the tag of the expression after a node
 abbrev pub expression_at : Place → Option Tag
 expression_at p =
     let r : Forest = forest p.later.now in
@@ -289,7 +289,7 @@ expression_at p =
 abbrev pub size : Place → ℕ
 size p = nodes p.node.now + count (forest p.later.now)
 
--- the last leaves behind rows of nodes, each behind what is below the one before it
+-- the last leaves before what follows rows of nodes, each of which follows what is below the one before it
 abbrev pub passed_rows : List Row → Trail → Trail
 passed_rows [] trail = trail
 passed_rows (w ∷ ws) trail = passed_rows ws (passed_row (record w.context { trail = trail }) (forest w.nodes.now))

@@ -22,7 +22,7 @@ pub struct Ahead {
     pub offset: usize,
 }
 
-/// What is round a name.
+/// What is around a name.
 #[derive(Clone, Copy)]
 pub struct Surroundings {
     /// The name's own kind.
@@ -50,7 +50,7 @@ pub struct Trail {
     pub earlier: Option<Tag>,
 }
 
-/// What is round the outermost of the field accesses above a node.
+/// What is around the outermost of the field accesses above a node.
 #[derive(Clone, Copy)]
 pub struct Outer {
     /// The kind of what it stands in.
@@ -59,18 +59,18 @@ pub struct Outer {
     pub lead: Option<SyntaxKind>,
 }
 
-/// What is round a node: what is behind it is known from the nodes that follow it under its parent.
+/// What is around a node: what is after it is known from the nodes that follow it under its parent.
 #[derive(Clone, Copy)]
 pub struct Context {
     /// The parent's kind.
     pub parent: Option<SyntaxKind>,
-    /// Where the parent is a field access, what is round the outermost one.
+    /// Where the parent is a field access, what is around the outermost one.
     pub outer: Option<Outer>,
     /// Where the node begins, in bytes.
     pub offset: usize,
     /// The leaves before the node.
     pub trail: Trail,
-    /// The first leaf behind the parent.
+    /// The first leaf after the parent.
     pub ahead: Option<Ahead>,
 }
 
@@ -92,7 +92,7 @@ pub fn is_leaf(node: &SyntaxNode) -> bool
 /// The first leaf of nodes that stand side by side from a byte on, under a parent of this kind.
 ///
 /// Calls `leaf_below` for a child of at most `share` nodes, and goes on with the children of a larger
-/// one, when it has looked behind that. As a node has at most one child of more than half of its nodes,
+/// one, when it has looked after that. As a node has at most one child of more than half of its nodes,
 /// calls nest no deeper than twice the logarithm of the number of nodes, however deep a tree is.
 #[cycle(leaves)]
 fn first_leaf(
@@ -209,7 +209,7 @@ impl Surroundings {
         }
     }
 
-    /// Whether the name stands in a show rule, directly before or behind its colon.
+    /// Whether the name stands in a show rule, directly before or after its colon.
     #[inline(always)]
     fn is_shown(self) -> bool
         ensures { result ≡ is_shown self }
@@ -271,7 +271,7 @@ impl Context {
         self.offset.saturating_add(node.len())
     }
 
-    /// The first leaf behind the node, which ends there.
+    /// The first leaf after the node, which ends there.
     #[inline(always)]
     pub fn next_leaf(&self, end: usize, later: &[SyntaxNode]) -> Option<Ahead>
         ensures { result ≡ walk.leaf_from self.now end (forest later.now) }
@@ -282,7 +282,7 @@ impl Context {
         }
     }
 
-    /// What is round the outermost of the field accesses above the children of a node of the kind.
+    /// What is around the outermost of the field accesses above the children of a node of the kind.
     #[inline(always)]
     pub fn outer_within(&self, kind: SyntaxKind) -> Option<Outer>
         ensures { result ≡ walk.outer_within self.now kind }
@@ -297,7 +297,7 @@ impl Context {
         }
     }
 
-    /// What is round the node's first child.
+    /// What is around the node's first child.
     #[inline(always)]
     pub fn within(&self, node: &SyntaxNode, later: &[SyntaxNode]) -> Context
         ensures { result ≡ walk.within self.now node.now (forest later.now) }
@@ -312,7 +312,7 @@ impl Context {
         }
     }
 
-    /// What is round the next sibling, where the last leaves before it are known.
+    /// What is around the next sibling, where the last leaves before it are known.
     pub fn past(&self, node: &SyntaxNode, trail: Trail) -> Context
         ensures { result ≡ walk.past self.now node.now trail }
     {
@@ -343,7 +343,7 @@ impl Context {
         }
     }
 
-    /// The last leaves before what is behind the node, which is a leaf.
+    /// The last leaves before what follows the node, which is a leaf.
     pub fn step(&self, node: &SyntaxNode, later: &[SyntaxNode]) -> Trail
         ensures { result ≡ walk.step self.now node.now (forest later.now) }
     {
@@ -366,7 +366,7 @@ impl Context {
     ghost use Rattle.typst_tree.specs.Walks.{is_childless};
     ghost use Rattle.typst_highlight.specs.Walk as walk;
 
-    /// The last leaves behind the node, which has no children.
+    /// The last leaves before what follows the node, which has no children.
     pub fn behind(&self, node: &SyntaxNode, later: &[SyntaxNode]) -> Trail
         requires { is_childless node.now.kids ≡ true }
         ensures { result ≡ walk.passed self.now node.now (forest later.now) }

@@ -30,7 +30,7 @@ pub fn is_plain(bytes: &[u8]) -> bool
     }
 }
 
-/// The same of few bytes.
+/// Whether none of few bytes has an entity.
 #[inline(always)]
 fn are_itself(bytes: &[u8]) -> bool
     ensures { IsTrue result → spec.escaped bytes.now ≡ bytes.now }
@@ -43,7 +43,7 @@ fn are_itself(bytes: &[u8]) -> bool
     true
 }
 
-/// The same of many bytes, all of which are looked at.
+/// Whether none of many bytes has an entity; it looks at all of them.
 #[inline(never)]
 fn are_unmarked(bytes: &[u8]) -> bool
     ensures { IsTrue result → spec.escaped bytes.now ≡ bytes.now }

@@ -20,8 +20,8 @@ use typst_tree::LinkedNode;
 /// The tag of a node, or `None` if it has none of its own.
 ///
 /// Takes no memory. Of most kinds the kind tells the tag, in a constant time. The others ask by
-/// steps of `LinkedNode`, each of which goes through the children of each node above, mostly but for
-/// the first long row:
+/// steps of `LinkedNode`, each of which goes through the children of each node above, except mostly
+/// those of the first long row:
 /// - a parenthesis, a star, an underscore, a slash and an equals sign for the parent, and markup
 ///   also for the next sibling;
 /// - a hash for the next sibling, and then for what the first leaf of that asks for;
@@ -42,7 +42,7 @@ pub fn highlight(node: &LinkedNode) -> Option<Tag>
     tag_by_rule(bearer)
 }
 
-/// The leaf whose tag a hash has: the first one of the expression behind it.
+/// The leaf whose tag a hash has: the first one of the expression after it.
 fn expression_leaf<'a>(hash: LinkedNode<'a>) -> Option<LinkedNode<'a>>
     ensures { option_map linked result ≡ spec.expression_leaf (linked hash.entry) }
 {
@@ -108,7 +108,7 @@ fn own_tag(name: LinkedNode) -> Option<Tag>
     None
 }
 
-/// Whether arguments or content begin where a name ends, by the leaf behind the name.
+/// Whether arguments or content begin where a name ends, by the leaf after the name.
 fn is_called<'a>(name: LinkedNode<'a>, next: Option<LinkedNode<'a>>) -> bool
     ensures { result ≡ is_called (end_of (linked name.entry)) (option_map spec.described (option_map linked next.entry)) }
 {
@@ -129,7 +129,7 @@ fn opens_arguments(leaf: LinkedNode) -> bool
     }
 }
 
-/// Whether a name stands directly before or behind the colon of a show rule, by the leaf behind the
+/// Whether a name stands directly before or after the colon of a show rule, by the leaf after the
 /// name and the outermost of the field accesses above it.
 fn is_shown<'a>(name: LinkedNode<'a>, next: Option<LinkedNode<'a>>, outer: LinkedNode<'a>) -> bool
     ensures { result ≡ (is_show_rule (spec.kind_if (parent (linked outer.entry))) && (is_colon (kind_ahead (option_map spec.described (option_map linked next.entry))) || is_colon (spec.kind_before (linked name.entry)))) }
@@ -137,7 +137,7 @@ fn is_shown<'a>(name: LinkedNode<'a>, next: Option<LinkedNode<'a>>, outer: Linke
     is_show_rule(outer.parent_kind()) && (is_colon(kind_ahead(next)) || is_colon(leaf_before(name)))
 }
 
-/// The kind of the leaf behind a name.
+/// The kind of the leaf after a name.
 fn kind_ahead(next: Option<LinkedNode>) -> Option<SyntaxKind>
     ensures { result ≡ kind_ahead (option_map spec.described (option_map linked next.entry)) }
 {

@@ -252,7 +252,7 @@ fn put_byte(page: &mut [u8; 2048], at: usize, tag: Option<Tag>, byte: u8) -> usi
 }
 
 /// Puts few bytes on a page from `at` on, and answers whether none has an entity. Where one has, what
-/// then stands behind `at` means nothing.
+/// then stands after `at` means nothing.
 #[inline(always)]
 fn put_few(page: &mut [u8; 2048], at: usize, bytes: &[u8]) -> bool
     requires { at + length bytes.now ≤ 2048 }

@@ -14,12 +14,12 @@ use std::alloc::{AllocError, Global};
 use typst_kinds::SyntaxKind;
 use typst_tree::SyntaxNode;
 
-/// What is round nodes that stand side by side.
+/// What is around nodes that stand side by side.
 #[derive(Clone, Copy)]
 pub struct Level {
     /// Their parent's kind.
     parent: Option<SyntaxKind>,
-    /// Where the parent is a field access, what is round the outermost one.
+    /// Where the parent is a field access, what is around the outermost one.
     outer: Option<Outer>,
 }
 
@@ -34,7 +34,7 @@ pub struct Waiting<'t> {
     pub kept: Option<Tag>,
 }
 
-/// How far a walk has come, and what is round the node that it comes to next. What is behind that
+/// How far a walk has come, and what is around the node that it comes to next. What is after that
 /// node's parent is looked for where the node asks for it.
 #[derive(Drop)]
 pub struct Progress<'t> {
@@ -81,14 +81,14 @@ impl<'t> Progress<'t> {
         }
     }
 
-    /// The first leaf behind the next node's parent.
+    /// The first leaf after the next node's parent.
     fn ahead(&self) -> Option<Ahead>
         ensures { result ≡ (walk.joined self.now).ahead }
     {
         first_ahead(&self.waiting)
     }
 
-    /// What is round the next node, with another first leaf behind the parent.
+    /// What is around the next node, with another first leaf after the parent.
     #[inline(always)]
     fn facing(&self, ahead: Option<Ahead>) -> Context
         ensures { result ≡ record (walk.joined self.now) { ahead = ahead } }
@@ -121,7 +121,7 @@ impl<'t> Progress<'t> {
         tag_here(alloc, node, later, &self.facing(self.ahead()))
     }
 
-    /// The first leaf behind the next node.
+    /// The first leaf after the next node.
     #[inline(always)]
     fn next_leaf(&self, node: &SyntaxNode, later: &[SyntaxNode]) -> Option<Ahead>
         ensures { result ≡ walk.next_leaf (walk.joined self.now) node.now (forest later.now) }
@@ -173,7 +173,7 @@ impl<'t> Progress<'t> {
         Ok(())
     }
 
-    /// What is round the outermost of the field accesses above the children of a node of the kind.
+    /// What is around the outermost of the field accesses above the children of a node of the kind.
     #[inline(never)]
     fn outer_below(&self, kind: SyntaxKind) -> Option<Outer>
         ensures { result ≡ walk.outer_within (walk.joined self.now) kind }

@@ -25,9 +25,9 @@ pub enum Rule {
     Equals,
     /// The kinds of the parent and of the next sibling, for markup.
     Term,
-    /// What is round a name.
+    /// What is around a name.
     Name,
-    /// The expression behind a hash.
+    /// The expression after a hash.
     Expression,
 }
 

@@ -114,7 +114,7 @@ fn give_leaf<S: Sink>(
     Ok(())
 }
 
-/// Gives a node without children whose tag depends on what is round it, and goes past it.
+/// Gives a node without children whose tag depends on what is around it, and goes past it.
 #[inline(never)]
 fn give_asking<S: Sink>(
     sink: &mut S,

@@ -38,7 +38,7 @@ pub fn span_of(
     }
 }
 
-/// The same of any node, apart from the common way.
+/// The tag of the span that any node stands in, apart from the common way.
 #[inline(never)]
 pub fn span_asked(
     node: &SyntaxNode,

@@ -18,7 +18,7 @@ use typst_tree::SyntaxNode;
 pub struct Tagged {
     /// Its bytes.
     pub range: Range<usize>,
-    /// The tag of the innermost node round it that has one, errors aside.
+    /// The tag of the innermost node around it that has one, errors aside.
     pub tag: Option<Tag>,
 }
 

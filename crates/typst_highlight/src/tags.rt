@@ -170,7 +170,7 @@ impl Tag {
         }
     }
 
-    /// What begins the tag's spans in HTML, with spaces behind it up to 32 bytes, and its length.
+    /// What begins the tag's spans in HTML, with spaces after it up to 32 bytes, and its length.
     #[inline(always)]
     pub(crate) fn opening_block(self) -> (&'static str, usize)
         ensures whole { length result.0.now ≡ 32 }

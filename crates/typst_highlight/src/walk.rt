@@ -15,7 +15,7 @@ use std::alloc::{AllocError, Global};
 use typst_kinds::SyntaxKind;
 use typst_tree::SyntaxNode;
 
-/// A node with what is round it, and the nodes that follow it under its parent.
+/// A node with what is around it, and the nodes that follow it under its parent.
 #[derive(Clone, Copy)]
 struct Place<'t> {
     node: &'t SyntaxNode,
@@ -23,14 +23,14 @@ struct Place<'t> {
     context: Context,
 }
 
-/// Nodes that stand side by side, with what is round the first of them.
+/// Nodes that stand side by side, with what is around the first of them.
 #[derive(Clone, Copy)]
 struct Row<'t> {
     nodes: &'t [SyntaxNode],
     context: Context,
 }
 
-/// The last leaves behind a node. Takes memory where the node has children.
+/// The last leaves before what follows a node. Takes memory where the node has children.
 fn passed(
     alloc: Global,
     node: &SyntaxNode,
@@ -45,7 +45,7 @@ fn passed(
     passed_row(alloc, node.children(), context.within(node, later))
 }
 
-/// The last leaves behind nodes that stand side by side. The rows to come back to stand in a list, so
+/// The last leaves before what follows nodes side by side. The rows to come back to stand in a list, so
 /// a deep tree takes no more of the stack than a flat one.
 fn passed_row(alloc: Global, nodes: &[SyntaxNode], context: Context) -> Result<Trail, AllocError>
     ensures { IfOk result (λ trail. trail ≡ walk.passed_row context (forest nodes.now)) }
@@ -163,7 +163,7 @@ fn tag_by_rule(place: Place) -> Option<Tag>
     }
 }
 
-/// The leaf whose tag a hash has: the first one of the expression behind it.
+/// The leaf whose tag a hash has: the first one of the expression after it.
 fn expression_leaf<'t>(alloc: Global, hash: Place<'t>) -> Result<Option<Place<'t>>, AllocError>
     ensures tag { IfOk result (λ leaf. option_and_then walk.tag_at leaf ≡ walk.expression_at hash.entry) }
     ensures smaller { IfOk result (λ leaf. IfSome leaf (λ place. walk.size place < walk.size hash.entry)) }
@@ -229,7 +229,7 @@ fn leaf_below<'t>(
 /// The first leaf of nodes that stand side by side.
 ///
 /// Calls `leaf_below` for a child of at most `share` nodes, and goes on with the children of a larger
-/// one. It keeps where to go on if they hold no leaf: behind the last such node that a leaf follows. As
+/// one. It keeps where to go on if they hold no leaf: after the last such node that a leaf follows. As
 /// a node has at most one child of more than half of its nodes, calls nest no deeper than the logarithm
 /// of the number of nodes, however deep a tree is.
 #[cycle(places)]

@@ -41,7 +41,7 @@ fn main(rt: HostRuntime) -> ExitCode {
     ExitCode::from(status)
 }
 
-/// What the words behind the program's name ask for: without any, for a session. This takes no memory.
+/// What the words after the program's name ask for: without any, for a session. This takes no memory.
 fn request_of(rt: &HostRuntime) -> Option<Request> {
     let mut room = [0; 16];
     let mut request = match word_at(rt, 1, &mut room) {

@@ -5,7 +5,7 @@ ghost use Rattle.typst_lsp.specs.Asked.{further, request_named, shown_by};
 
 use typst_server::ShownErrors;
 
-/// What the words behind the program's name ask for.
+/// What the words after the program's name ask for.
 #[derive(Debug, Clone, Copy, PartialEq, Eq)]
 pub enum Request {
     /// A session on standard input and output, which shows these errors.

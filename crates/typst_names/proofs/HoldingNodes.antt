@@ -1,9 +1,10 @@
 -- Which of trees that stand side by side hold a byte.
-use Rattle.std.proofs.Common.{◌≡◌, ℕ, ◌+◌, ◌^◌, ◌-◌, ◌<◌, ◌≤◌, [], ◌++◌, length, length-append, true, false, refl, arith, inl, inr}
+use Rattle.std.proofs.Common.{◌≡◌, ℕ, ◌+◌, ◌^◌, ◌-◌, ◌<◌, ◌≤◌, [], ◌++◌, length, length-append, Bool, true, false, Some, refl, ap, arith, inl, inr, if◌then◌else◌}
 use Rattle.std.proofs.lemmas.Bool.Decides.{nat_tests, leb_tells}
 use Rattle.std.proofs.lemmas.Grind.{common_steps}
 use Rattle.typst_kinds.specs.Head.{Head}
-use Rattle.typst_tree.specs.Tree.{Forest, none, more, joined, saturated}
+use Rattle.typst_tree.specs.Tree.{Forest, none, more, Tree, joined, saturated}
+use Rattle.typst_names.specs.Around.{Standing, kid_at}
 use Rattle.typst_names.specs.Bytes.{inner, behind, range}
 use Rattle.typst_names.specs.Selections.{around, holds}
 
@@ -41,7 +42,7 @@ around-behind b a (more h ks r) l =
     simp (fails, first, later)
 
 -- nothing within a tree holds the byte where it doesn't itself
-around-within : (b a : ℕ) (h : Head) (ks : Forest) → holds b (range a h ks) ≡ false → around b (inner a h) ks ≡ []
+pub around-within : (b a : ℕ) (h : Head) (ks : Forest) → holds b (range a h ks) ≡ false → around b (inner a h) ks ≡ []
 around-within b a h ks fails =
     let whole : length (h.text ++ joined ks) ≡ length h.text + length (joined ks) = length-append h.text (joined ks) in
     elim (leb_tells a b) [
@@ -61,3 +62,14 @@ around-held b a h ks r held =
     let before : b < behind a h ks = grind (arith, nat_tests, held) in
     let later : around b (behind a h ks) r ≡ [] = around-before b (behind a h ks) r before in
     simp later
+
+-- of trees of which the first holds the byte it is the first that does, and otherwise the first of the others
+pub kid-held : (b a : ℕ) (t : Tree) (r : Forest) → holds b (range a t.head t.kids) ≡ true → kid_at b a (more t.head t.kids r) ≡ Some (record { start = a; node = t })
+kid-held b a t r held =
+    let s : Standing = record { start = a; node = t } in
+    ap (λ (v : Bool). if v then Some s else kid_at b (behind a t.head t.kids) r) held
+
+pub kid-passed : (b a : ℕ) (t : Tree) (r : Forest) → holds b (range a t.head t.kids) ≡ false → kid_at b a (more t.head t.kids r) ≡ kid_at b (behind a t.head t.kids) r
+kid-passed b a t r fails =
+    let s : Standing = record { start = a; node = t } in
+    ap (λ (v : Bool). if v then Some s else kid_at b (behind a t.head t.kids) r) fails

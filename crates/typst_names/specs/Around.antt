@@ -1,8 +1,8 @@
--- A node with its place, and which nodes of it hold a byte (for private clauses).
-use Rattle.std.specs.Prelude.{◌≡◌, ℕ, ◌==◌, ◌&&◌, Bool, true, false, List, [], Option, None, Some}
+-- A node with its place, and which nodes of it hold a byte.
+use Rattle.std.specs.Prelude.{◌≡◌, ℕ, ◌==◌, ◌&&◌, Bool, true, false, List, [], Option, None, Some, if◌then◌else◌}
 use Rattle.std.specs.declared.ops.Range.{Range}
-use Rattle.typst_tree.specs.Tree.{none, more}
-use Rattle.typst_names.specs.Bytes.{range}
+use Rattle.typst_tree.specs.Tree.{Forest, none, more, Tree}
+use Rattle.typst_names.specs.Bytes.{behind, range}
 use Rattle.typst_names.specs.Selections.{around, holds}
 use Rattle.typst_names.specs.declared.places.Placed.{Placed}
 
@@ -24,3 +24,17 @@ HoldsIt b (Some p) = holds b (range_of p) ≡ true
 abbrev pub has_range : Option Placed → Range ℕ → Bool
 has_range None r = false
 has_range (Some p) r = (p.start == r.start) && ((range_of p).end == r.end)
+
+-- a node, and the byte at which it begins
+pub record Standing : Type 0 where
+  pub start : ℕ
+  pub node : Tree
+
+-- one of the code, by what it borrows
+abbrev pub standing : Placed → Standing
+standing p = record { start = p.start; node = p.node.now }
+
+-- the first of trees side by side from byte a on that holds byte b
+abbrev pub kid_at : ℕ → ℕ → Forest → Option Standing
+kid_at b a none = None
+kid_at b a (more h ks r) = if holds b (range a h ks) then Some (record { start = a; node = record { head = h; kids = ks } }) else kid_at b (behind a h ks) r

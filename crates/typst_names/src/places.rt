@@ -1,6 +1,6 @@
 //! Nodes with the bytes at which they begin.
 
-ghost use Rattle.std.specs.Prelude.{◌≡◌, ◌<◌, IfSome, Some};
+ghost use Rattle.std.specs.Prelude.{◌≡◌, ◌<◌, IfSome, Some, option_map};
 ghost use Rattle.typst_tree.specs.Tree.{nodes};
 ghost use Rattle.typst_names.specs.Bytes as spec;
 
@@ -16,7 +16,7 @@ pub struct Placed<'a> {
 
 impl<'a> Placed<'a> {
     ghost use Rattle.typst_names.specs.Selections.{around, holds};
-    ghost use Rattle.typst_names.specs.Around.{around_it, range_of, HoldsIt};
+    ghost use Rattle.typst_names.specs.Around.{around_it, kid_at, range_of, standing, HoldsIt};
 
     /// The root of a tree.
     pub fn top(root: &'a SyntaxNode) -> Placed<'a>
@@ -78,6 +78,7 @@ impl<'a> Placed<'a> {
 
     /// The child that holds a byte.
     pub fn child_at(self, byte: usize) -> Option<Placed<'a>>
+        ensures kid { option_map standing result ≡ kid_at byte (spec.inner self.entry.start self.entry.node.now.head) self.entry.node.now.kids }
         ensures around { around byte (spec.inner self.entry.start self.entry.node.now.head) self.entry.node.now.kids ≡ around_it byte result }
         ensures holds { HoldsIt byte result }
         ensures smaller { IfSome result (λ kid. nodes kid.node.now < nodes self.entry.node.now) }

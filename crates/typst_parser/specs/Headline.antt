@@ -14,7 +14,7 @@ use Rattle.typst_parser.specs.Held.{Held}
 abbrev pub edited : List ℕ → Range ℕ → List ℕ → List ℕ
 edited text range new = take range.start text ++ new ++ drop range.end text
 
--- the file in which a tree is numbered
+-- the file in which a tree is numbered, as in Answer.antt of `typst_edits`
 abbrev pub file_of : Tree → Option ℕ
 file_of t = option_map (λ place. place.0) t.head.span
 
@@ -35,7 +35,7 @@ AreOrdered None t = Unit {0}
 AreOrdered (Some file) t = AreInOrder (numbers_of t)
 
 -- the tree numbered over all numbers of the file, if they are enough; without numbers if there is
--- no file
+-- no file; as in Answer.antt of `typst_edits`
 abbrev pub numbered_in : Option ℕ → Tree → Option Tree
 numbered_in None t = Some (synthesized None t)
 numbered_in (Some file) t = numberized file 2 (2 ^ 47) t

@@ -1,4 +1,3 @@
-//! A text with its lines and its syntax tree, kept together from edit to edit.
 //! The parser layer of Typst, as programs use it.
 //!
 //! - [`parse`] makes the syntax tree of a text of markup. Any text has one; errors, warnings and hints

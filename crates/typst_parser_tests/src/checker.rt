@@ -131,7 +131,7 @@ fn prints_so_many_at_most(rt: HostRuntime) {
     assert!(rt; prints(rt.alloc(), STRICT, ""));
 }
 
-/// Whether a check of `TEXT` ends quietly where nobody reads what it prints behind so many bytes.
+/// Whether a check of `TEXT` ends quietly where nobody reads what it prints after so many bytes.
 fn is_quiet_behind(alloc: Global, bytes: usize) -> bool {
     match checked(alloc, PLAIN, TEXT, Room::of(bytes, Pace::Bytes)) {
         Ok((status, _, errors, tally)) => {

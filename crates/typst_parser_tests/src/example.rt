@@ -34,7 +34,7 @@ fn told(alloc: Global) -> Option<String> {
     tell_source(alloc, &source, parsed).ok()
 }
 
-/// Tells which bytes were parsed anew, where the heading is, and the leaves and errors.
+/// Tells which bytes were parsed again, where the heading is, and the leaves and errors.
 fn tell_source(
     alloc: Global,
     source: &Source<UnicodeClasses>,

@@ -112,7 +112,7 @@ type Case = (&'static str, Tree, &'static [Step]);
 const TEXT: &str = "abc~def~gh~";
 
 /// Without numbers no candidate can be numbered, so all is read; numbers of another file stay. A tree of another
-/// text is parsed anew, and so is one with a tag that is cut.
+/// text is parsed again, and so is one with a tag that is cut.
 const CASES: [Case; 4] = [
     (
         TEXT,

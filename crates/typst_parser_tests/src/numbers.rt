@@ -65,7 +65,7 @@ fn finds_parts(source: &Unicode) -> Option<bool> {
     Some(are_within(source, leaf, &OF_LEAF)? && are_within(source, root, &OF_ROOT)?)
 }
 
-/// The same of a source of the text.
+/// Whether bytes within nodes of a source of the text are found.
 fn finds_parts_of(alloc: Global) -> Option<bool> {
     finds_parts(&detached(alloc, TEXT).ok()?)
 }

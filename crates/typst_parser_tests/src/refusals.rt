@@ -60,7 +60,7 @@ fn changes_or_stays(alloc: Global, way: Way) -> Option<bool> {
     is_changed(alloc, &mut source, &mut copy, way)
 }
 
-/// The same of a source with a copy of it.
+/// Whether a change of a source is made, or refused for want of memory with nothing changed, as its copy shows.
 fn is_changed(alloc: Global, source: &mut Unicode, copy: &mut Unicode, way: Way) -> Option<bool> {
     let is_well = match change(source, way) {
         Ok(read) => read.is_some(),
@@ -126,7 +126,7 @@ fn is_star(star: LinkedNode<'_>) -> Option<bool> {
     Some(is_strong && star.next_sibling()?.kind() == SyntaxKind::Markup && !star.hash_expr())
 }
 
-/// Whether a leaf is the text behind that star.
+/// Whether a leaf is the text after that star.
 fn is_text(text: LinkedNode<'_>) -> Option<bool> {
     let is_behind = text.prev_leaf()?.offset() == 0;
     Some(is_behind && text.range() == (1..2) && text.leaf_text() == "b")

@@ -4,7 +4,7 @@ use crate::sources::Unicode;
 use std::alloc::Global;
 use typst_cli::{Lines, SyntaxNode, UnicodeClasses, parse};
 
-/// Whether the lines are those of the text, as they are made anew.
+/// Whether the lines are those of the text, as newly made.
 pub fn has_lines(alloc: Global, lines: &Lines<String>, text: &str) -> Option<bool> {
     let anew = Lines::new(alloc, text).ok()?;
     for i in 0..anew.len_lines() {

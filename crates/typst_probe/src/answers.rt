@@ -7,7 +7,7 @@ use typst_edited::{Edit, Made, Wanted, are_same, edit_of, fault};
 use typst_rows::with_line_feeds;
 
 /// What edits of a text answer that are made one after the other: they stand on the first lines, and the
-/// text comes behind an empty line. Each has a line with the bytes that it reads, and a line for each
+/// text comes after an empty line. Each has a line with the bytes that it reads, and a line for each
 /// thing that isn't as it has to be.
 pub fn answer(alloc: Global, text: &str) -> Result<String, AllocError> {
     let Some((edits, text)) = text.split_once("\n\n") else {
@@ -89,7 +89,7 @@ fn print_unlike(
     printed.push_str("copy: other spans\n")
 }
 
-/// Replaces the text of a copy, and prints what is other there than behind the edit.
+/// Replaces the text of a copy, and prints what differs there from what the edit left.
 fn print_replaced(
     printed: &mut String,
     other: &mut Source<UnicodeClasses>,

@@ -10,7 +10,7 @@ use typst_tests::Counting;
 
 /// Which bytes an edit reads, and whether classes are asked at least so often when the source is made,
 /// and at most so often for the edit. The first line has the two numbers and the edit's words, and the
-/// text comes behind that line.
+/// text comes after that line.
 pub fn answer(alloc: Global, text: &str) -> Result<String, AllocError> {
     let Some((line, text)) = text.split_once('\n') else {
         return String::from_str(alloc, "no text\n");

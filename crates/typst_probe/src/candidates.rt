@@ -4,7 +4,7 @@ use std::alloc::{AllocError, Global};
 use typst_candidates::{Candidate, Candidates, Records, find_candidates, fit};
 use typst_cli::{UnicodeClasses, parse_noted};
 
-/// What may be read anew where a range of bytes of the text is replaced, in order. Each candidate has
+/// What may be read again where a range of bytes of the text is replaced, in order. Each candidate has
 /// a line: `block`, the path to it and its bytes; or `run`, the path to the node whose children it is,
 /// their numbers, and their bytes.
 pub fn answer(alloc: Global, text: &str, start: usize, end: usize) -> Result<String, AllocError> {
@@ -41,7 +41,7 @@ fn printed(alloc: Global, found: &Candidates) -> Result<String, AllocError> {
 }
 
 /// What a row of the word is answered. Its first line has where the replaced bytes start and end, and
-/// the text comes behind that line.
+/// the text comes after that line.
 pub fn row_answer(alloc: Global, text: &str) -> Result<String, AllocError> {
     let Some((words, text)) = text.split_once('\n') else {
         return String::from_str(alloc, "no text\n");

@@ -6,7 +6,7 @@ use std::alloc::{AllocError, Global};
 use typst_cli::{Command, Source, UnicodeClasses};
 use typst_edited::{Edit, Wanted};
 
-/// The name of a chain, what stands before its links, a link, and what stands behind them.
+/// The name of a chain, what stands before its links, a link, and what stands after them.
 type Parts = (&'static str, &'static str, &'static str, &'static str);
 
 static CHAINS: [Parts; 13] = [
@@ -25,20 +25,20 @@ static CHAINS: [Parts; 13] = [
     ("math-field", "$aa", ".bb", "$"),
 ];
 
-/// Links of one kind, one behind the other.
+/// Links of one kind, one after the other.
 #[derive(Clone, Copy)]
 struct Chain {
     /// What stands before the links.
     front: &'static str,
     link: &'static str,
-    /// What stands behind them.
+    /// What stands after them.
     rear: &'static str,
     links: usize,
 }
 
 /// A chain of links, whose kind and number are the text: where its lines start, how many bytes its HTML has and
-/// its tree how many nodes; and whether a source is as it has to be behind a keystroke and behind what takes it
-/// back, before the first link, between two in the middle and behind the last.
+/// its tree how many nodes; and whether a source is as it has to be after a keystroke and after what takes it
+/// back, before the first link, between two in the middle and after the last.
 pub fn answer(alloc: Global, text: &str) -> Result<String, AllocError> {
     let Some(chain) = chain_of(text) else {
         return String::from_str(alloc, "no chain\n");
@@ -79,7 +79,7 @@ impl Chain {
         Ok(text)
     }
 
-    /// The byte behind so many links.
+    /// The byte after so many links.
     fn place(self, links: usize) -> usize {
         let before = links.saturating_mul(self.link.len());
         self.front.len().saturating_add(before)
@@ -126,7 +126,7 @@ fn print_keystrokes(
     Ok(())
 }
 
-/// Prints what isn't as it has to be behind a keystroke at a byte, and behind what takes it back.
+/// Prints what isn't as it has to be after a keystroke at a byte, and after what takes it back.
 fn print_keystroke(
     alloc: Global,
     printed: &mut String,
@@ -146,7 +146,7 @@ fn print_keystroke(
     writeln!(printed, "{name} {told}")
 }
 
-/// What isn't as it has to be behind a keystroke.
+/// What isn't as it has to be after a keystroke.
 fn fault_of_typed(
     alloc: Global,
     source: &mut Source<UnicodeClasses>,

@@ -6,7 +6,7 @@ use typst_edited::{Edit, edit_of};
 use typst_rows::with_line_feeds;
 
 /// The text after an edit of its lines, and below it where these start, as the word `lines` has it. The first
-/// line has the edit's words, and the text comes behind that line.
+/// line has the edit's words, and the text comes after that line.
 pub fn answer(alloc: Global, text: &str) -> Result<String, AllocError> {
     let Some((words, text)) = text.split_once('\n') else {
         return String::from_str(alloc, "no text\n");

@@ -1,5 +1,5 @@
 //! Edits of a source. The first line of a row's text is the edit's words, START END TEXT, and the text
-//! comes behind that line.
+//! comes after that line.
 
 use crate::spans;
 use std::alloc::{AllocError, Global};
@@ -49,7 +49,7 @@ fn printed_tree<C: Classes>(alloc: Global, source: &Source<C>) -> Result<String,
     Ok(printed)
 }
 
-/// What a row of the word `edit-spans` is answered: the range that was parsed anew, and the tree with
+/// What a row of the word `edit-spans` is answered: the range that was parsed again, and the tree with
 /// the number of each node.
 pub fn spans_row_answer(alloc: Global, text: &str) -> Result<String, AllocError> {
     let Some((words, text)) = text.split_once('\n') else {

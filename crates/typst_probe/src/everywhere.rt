@@ -28,16 +28,16 @@ pub fn answer(alloc: Global, text: &str) -> Result<String, AllocError> {
     tallied(alloc, text, all.as_slice(), others.as_slice(), false)
 }
 
-/// The same, where two of three places have three insertions, the next ones, and not all of them: for texts in
-/// which an edit takes long.
+/// What `answer` says where two of three places have three insertions, the next ones, and not all of them: for
+/// texts in which an edit takes long.
 pub fn answer_in_turn(alloc: Global, text: &str) -> Result<String, AllocError> {
     let all = edits_in_turn(alloc, text)?;
     let others = past_ascii(alloc, all.as_slice())?;
     tallied(alloc, text, all.as_slice(), others.as_slice(), false)
 }
 
-/// The same of all insertions at some places alone, also by edits in a row. The first line has the places,
-/// in bytes, and the text comes behind that line.
+/// What `answer` says of all insertions at some places alone, also by edits in a row. The first line has the
+/// places, in bytes, and the text comes after that line.
 pub fn answer_at(alloc: Global, text: &str) -> Result<String, AllocError> {
     let Some((places, text)) = text.split_once('\n') else {
         return String::from_str(alloc, "no text\n");
@@ -66,7 +66,7 @@ fn tallied(
     tally.printed(alloc)
 }
 
-/// The edits of a text: at each place each insertion, and the character behind it taken out.
+/// The edits of a text: at each place each insertion, and the character after it taken out.
 fn edits(alloc: Global, text: &str) -> Result<Vec<Edit<'static>>, AllocError> {
     let mut edits = Vec::new(alloc);
     for (start, character) in text.char_indices() {
@@ -101,7 +101,7 @@ fn insert(edits: &mut Vec<Edit<'static>>, at: usize) -> Result<(), AllocError> {
 }
 
 /// The edits of a text: at every third place each of the insertions, at the others the next three, and the
-/// character behind it taken out.
+/// character after it taken out.
 fn edits_in_turn(alloc: Global, text: &str) -> Result<Vec<Edit<'static>>, AllocError> {
     let mut edits = Vec::new(alloc);
     let mut place = 0usize;

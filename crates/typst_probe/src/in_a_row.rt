@@ -8,7 +8,7 @@ use typst_rows::with_line_feeds;
 
 /// How many edits agree that are drawn and made of one source, one after the other. The first line has
 /// their numbers (`Numbers`), the second one what they put in, with `|` between, and the text comes
-/// behind it. The first edit that doesn't agree has a line before that of the number.
+/// after it. The first edit that doesn't agree has a line before that of the number.
 pub fn answer(alloc: Global, text: &str) -> Result<String, AllocError> {
     let Some((numbers, rest)) = text.split_once('\n') else {
         return String::from_str(alloc, "no numbers\n");
@@ -103,14 +103,14 @@ impl Numbers {
     }
 }
 
-/// The number that a line begins with, and what stands behind the space behind it.
+/// The number that a line begins with, and what stands after the space that follows it.
 pub fn number_before(line: &str) -> Option<(usize, &str)> {
     let (number, rest) = line.split_once(' ')?;
     Some((number.parse().ok()?, rest))
 }
 
 /// What isn't as it has to be after an edit of a source with this text: what it answers is what a source
-/// that is made anew answers, and it holds what the new text asks for.
+/// that is newly made answers, and it holds what the new text asks for.
 fn fault_of_edit(
     alloc: Global,
     source: &mut Source<UnicodeClasses>,
@@ -124,7 +124,7 @@ fn fault_of_edit(
     }
 }
 
-/// The same, with the edited source that was made anew, and what it answered.
+/// What isn't as it has to be, by the edited source that was newly made, and what it answered.
 fn unlike_anew(
     alloc: Global,
     source: &mut Source<UnicodeClasses>,

@@ -9,7 +9,7 @@ use typst_lines::Scanner;
 use typst_tokens::{Hull, LineEnd};
 
 /// The tokens of the text as markup. Each has a line with its kind, its range in bytes, and the bytes that were
-/// looked at for it, where `front` and `rear` are the marks before and behind the text.
+/// looked at for it, where `front` and `rear` are the marks before and after the text.
 pub fn answer(alloc: Global, text: &str) -> Result<String, AllocError> {
     let mut printed = String::new(alloc);
     let mut at = 0;

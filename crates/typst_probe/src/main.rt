@@ -74,7 +74,7 @@ fn show_edit(rt: &HostRuntime, alloc: Global, edit: Edit<'_>) -> anyhow::Result<
     Ok(0)
 }
 
-/// Prints what may be read anew where a range of bytes of the text on standard input is replaced.
+/// Prints what may be read again where a range of bytes of the text on standard input is replaced.
 fn show_candidates(
     rt: &HostRuntime,
     alloc: Global,

@@ -1,5 +1,5 @@
 //! The words `depths`, `leaves`, `size`, `asked` and `again`. The first line of a row's text is the mode in which the
-//! text behind it is read: `markup`, `code` or `math`.
+//! text after it is read: `markup`, `code` or `math`.
 
 use std::alloc::{AllocError, Global};
 use std::cell::Cell;
@@ -17,7 +17,7 @@ struct Moded<'a> {
 }
 
 impl<'a> Moded<'a> {
-    /// The text behind the line that names its mode; markup where it names none.
+    /// The text after the line that names its mode; markup where it names none.
     fn of(text: &'a str) -> Moded<'a> {
         let (mode, text) = text.split_once('\n').unwrap_or((text, ""));
         let mode = match mode {
@@ -123,7 +123,7 @@ pub fn leaves(alloc: Global, text: &str) -> Result<String, AllocError> {
 struct Alike {
     /// The lines of the leaves before them.
     printed: String,
-    /// Their line, but for the count.
+    /// Their line, except for the count.
     line: String,
     count: usize,
 }
@@ -175,7 +175,7 @@ pub fn size(alloc: Global, text: &str) -> Result<String, AllocError> {
 }
 
 /// How many nodes the tree has, read with classes that count how often they are asked. The second line of the
-/// text has how often that is at least and at most, and the text comes behind it.
+/// text has how often that is at least and at most, and the text comes after it.
 pub fn asked(alloc: Global, text: &str) -> Result<String, AllocError> {
     let Moded { mode, text } = Moded::of(text);
     let Some((line, text)) = text.split_once('\n') else {

@@ -7,7 +7,7 @@ use typst_rows::with_line_feeds;
 
 /// What a run of the program `typst_syn` comes to: its status, and what it writes to its output and to its
 /// errors, where that is anything. The first line has the program's words with a space between two, and the
-/// text, which is its input, comes behind that line.
+/// text, which is its input, comes after that line.
 pub fn answer(alloc: Global, text: &str) -> Result<String, AllocError> {
     let (line, text) = text.split_once('\n').unwrap_or((text, ""));
     let line = with_line_feeds(alloc, line)?;

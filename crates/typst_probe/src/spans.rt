@@ -5,7 +5,7 @@ use typst_cli::tree::{print_errors, print_remarks, variant_name};
 use typst_cli::{LinkedNode, Source, SourceError, SyntaxNode, UnicodeClasses};
 
 /// The syntax tree of the text as markup, as a source holds it: printed as a tree, with `@` and the
-/// number of each node behind its range. Where no source can be made, nothing but the reason.
+/// number of each node after its range. Where no source can be made, nothing but the reason.
 pub fn answer(alloc: Global, text: &str) -> Result<String, AllocError> {
     match Source::detached(alloc, String::from_str(alloc, text)?, UnicodeClasses) {
         Ok(source) => tree(alloc, source.root()),

@@ -4,7 +4,7 @@ use std::alloc::{AllocError, Global};
 use typst_cli::SubRange;
 use typst_lexer::raw_node;
 
-/// A line for each warning of the raw text, and for each of its hints behind it: the bytes that it is
+/// A line for each warning of the raw text, and for each of its hints after it: the bytes that it is
 /// about, or `all` where it is about the whole text.
 pub fn answer(alloc: Global, text: &str) -> Result<String, AllocError> {
     let node = raw_node(alloc, text)?;

@@ -17,7 +17,7 @@ fn hash_of(lines: &Lines<String>) -> u64 {
     hasher.finish()
 }
 
-/// `LinesFrom`: whether the lines that are found in the text are those of the table, behind the first.
+/// `LinesFrom`: whether the lines that are found in the text are those of the table, after the first.
 pub fn are_found(lines: &Lines<String>) -> bool {
     let mut number = 1usize;
     for line in found(lines.text()) {
@@ -29,7 +29,7 @@ pub fn are_found(lines: &Lines<String>) -> bool {
     number == lines.len_lines()
 }
 
-/// The lines of a text behind the first.
+/// The lines of a text after the first.
 fn found(text: &str) -> LinesFrom<'_> {
     LinesFrom::new(text, 0, 0)
 }

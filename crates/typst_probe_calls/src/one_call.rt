@@ -6,7 +6,7 @@ use std::alloc::{AllocError, Global};
 
 /// Whether a call is as it has to be. The text is its name and the number from which the edits are drawn that
 /// come before it; `start` makes no call. A call that is refused memory has to change nothing, and is made again;
-/// then it has to answer and leave what it does of a twin, and so does an edit behind it.
+/// then it has to answer and leave what it does of a twin, and so does an edit after it.
 pub fn answer(alloc: Global, text: &str) -> Result<String, AllocError> {
     let Some((call, first)) = call_of(text) else {
         return String::from_str(alloc, "no call\n");
@@ -65,7 +65,7 @@ fn print_refused(
     printed.push_str("changed\n")
 }
 
-/// How a subject stands beside its twin behind a call, and behind an edit more.
+/// How a subject stands beside its twin after a call, and after one more edit.
 fn standing(
     alloc: Global,
     subject: &mut Subject,

@@ -37,7 +37,7 @@ pub const WRONG: Range<usize> = 1..0;
 /// What calls are made of.
 #[derive(Drop)]
 pub struct Subject {
-    /// A source behind edits.
+    /// A source after edits.
     source: Source<UnicodeClasses>,
     /// Its lines.
     lines: Lines<String>,
@@ -122,7 +122,7 @@ fn detached(alloc: Global, text: &str) -> Result<Source<UnicodeClasses>, AllocEr
     unless_refused(Source::detached(alloc, text, UnicodeClasses))
 }
 
-/// A source behind edits that are drawn from a number.
+/// A source after edits that are drawn from a number.
 fn edited_source(alloc: Global, first: u32) -> Result<Source<UnicodeClasses>, AllocError> {
     let mut source = detached(alloc, TEXT)?;
     let mut draws = Draws::new(first);
@@ -217,7 +217,7 @@ fn changed(alloc: Global, tree: &mut SyntaxNode, change: Change) -> Result<(), A
 }
 
 impl Subject {
-    /// What stands behind edits that are drawn from a number.
+    /// What stands after edits that are drawn from a number.
     pub fn new(alloc: Global, first: u32) -> Result<Subject, AllocError> {
         let source = edited_source(alloc, first)?;
         let lines = source.lines().try_clone()?;

@@ -4,13 +4,14 @@
 use std::alloc::{AllocError, Global};
 use std::ops::Range;
 use typst_features::{
-    FoldKind, Mention, MentionKind, SymbolKind, Token, TokenKind, definitions, edit_between,
-    foldings, highlights, problems, references, selections, semantic_tokens, symbols,
+    FoldKind, Mention, MentionKind, SymbolKind, definitions, foldings, highlights, problems,
+    references, selections, symbols,
 };
 use typst_grammar::parse;
 use typst_highlight::tag_stretches;
 use typst_kinds::Severity;
 use typst_lines::UnicodeClasses;
+use typst_styles::{Token, TokenKind, edit_between, semantic_tokens};
 use typst_tree::SyntaxNode;
 
 /// The outline of a text: a line for each entry with its depth, its kind, its name and its range.

@@ -64,7 +64,7 @@ impl Write for Recipient<'_> {
 #[derive(Drop)]
 pub struct Session {
     pub status: u8,
-    /// How many frames were begun, and one more where it went on behind the last.
+    /// How many frames were begun, and one more where it went on after the last.
     begun: usize,
     /// What was written while so many frames were begun.
     taken: Vec<Vec<u8>>,

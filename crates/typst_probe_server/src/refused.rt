@@ -2,7 +2,7 @@
 //!
 //! A row's text has three parts, between empty lines. The first tells how each subject stands
 //! before it, as `SUBJECT STAND` a line. The second has the rules of what may be heard about a message, as
-//! `STANDS EFFECTS HEARD NEXT` a line, with `once` behind it where what is heard tells that memory was
+//! `STANDS EFFECTS HEARD NEXT` a line, with `once` after it where what is heard tells that memory was
 //! refused, which it is once. The third has the messages, as `EFFECT SUBJECT BODY` a line.
 
 use crate::exchange::{Session, exchange, told};
@@ -41,7 +41,7 @@ impl<'a> Message<'a> {
     }
 
     /// The number of the message whose answer is as good as that to this one: all tokens, which are asked for
-    /// behind their changes, are as good as those, and what begins or ends a session, as it does twice, does
+    /// after their changes, are as good as those, and what begins or ends a session, as it does twice, does
     /// so the second time where the first was refused.
     fn substitute(self, number: usize) -> usize {
         match self.effect {
@@ -186,7 +186,7 @@ impl<'a> Client<'a> {
     }
 
     /// Whether a session goes as it may where one request for memory is refused: it begins and ends, and nothing
-    /// is written before the first message and behind the last.
+    /// is written before the first message and after the last.
     fn goes_on(&mut self, clean: &Session, session: &Session, messages: &str) -> bool {
         let mut number = 0usize;
         for line in messages.split('\n') {

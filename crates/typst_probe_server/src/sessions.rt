@@ -72,7 +72,7 @@ fn print_body(printed: &mut String, frame: &str) -> Result<(), AllocError> {
 }
 
 /// What a session answers, however little is read or written at a time, and wherever that is interrupted: a
-/// line for each message behind the answer to the first, and one for a status that isn't 0.
+/// line for each message after the answer to the first, and one for a status that isn't 0.
 pub fn answer(alloc: Global, errors: ShownErrors, text: &str) -> Result<String, AllocError> {
     let sent = frames(alloc, text)?;
     let session = Session::at_pace(alloc, errors, sent.as_bytes(), Pace::Whole);
@@ -101,7 +101,7 @@ fn unlike_pace(alloc: Global, errors: ShownErrors, sent: &[u8], session: &Sessio
     None
 }
 
-/// A line for each answer of a session behind the first, and one for a status that isn't 0.
+/// A line for each answer of a session after the first, and one for a status that isn't 0.
 fn printed(alloc: Global, session: &Session) -> Result<String, AllocError> {
     let mut printed = String::new(alloc);
     for frame in session.text().split(HEAD).skip(2) {
@@ -154,7 +154,7 @@ fn unlike_cut(alloc: Global, sent: &[u8], start: usize) -> Option<usize> {
     None
 }
 
-/// Whether a session whose input ends, or fails, behind these bytes is as another one.
+/// Whether a session whose input ends, or fails, after these bytes is as another one.
 fn is_cut_off(alloc: Global, given: &[u8], before: &Session) -> bool {
     let room = Room::ample(Pace::Whole);
     let failed = Session::of(alloc, SHOWN, Reader::failing(given, Pace::Whole), room);

@@ -13,7 +13,7 @@ use Rattle.typst_protocol.specs.declared.refusal.Loss.TheVariants as loss
 abbrev pub response : List ℕ → List ℕ → List ℕ → List ℕ
 response id name value = codes "{\"jsonrpc\":\"2.0\",\"id\":" ++ id ++ codes ",\"" ++ name ++ codes "\":" ++ value ++ codes "}"
 
--- that member is a result
+-- the response with a result
 abbrev pub success : List ℕ → List ℕ → List ℕ
 success id value = response id (codes "result") value
 
@@ -45,7 +45,7 @@ message_of NotRenamable = codes "nothing that this document defines stands there
 message_of NotAnIdentifier = codes "the new name is not an identifier"
 message_of NotALabel = codes "the new name is not the name of a label"
 
--- or that member is the error of a refusal
+-- the response with the error of a refusal
 abbrev pub failure : List ℕ → Refusal → List ℕ
 failure id refusal = response id (codes "error") (error (code_of refusal) (message_of refusal))
 
@@ -55,7 +55,7 @@ error_of unread.NotJson = error (codes "-32700") (codes "not JSON")
 error_of unread.NotAMessage = error (codes "-32600") (codes "not a message")
 error_of unread.OutOfMemory = error (codes "-32603") (codes "out of memory")
 
--- such a body is answered with no identifier
+-- the response to a body that isn't taken for a message, which has no identifier
 abbrev pub nameless : Unread → List ℕ
 nameless why = response (codes "null") (codes "error") (error_of why)
 

@@ -19,7 +19,7 @@ unit text =
 abbrev pub begins_low : List ℕ → Bool
 begins_low text = option_map_or is_low_surrogate (unit text) false
 
--- a high surrogate and a low one directly behind it are one character; any other surrogate is lone
+-- a high surrogate and a low one directly after it are one character; any other surrogate is lone
 abbrev pub is_lone : Bool → ℕ → Bool → Bool
 is_lone behind_high u before_low = (is_high_surrogate u && not before_low) || (is_low_surrogate u && not behind_high)
 
@@ -31,8 +31,8 @@ replacement = codes "\\ufffd"
 abbrev pub read_as : Bool → List ℕ → List ℕ
 read_as lone escape = if lone then replacement else escape
 
--- a text whose lone surrogates are U+FFFD; the first one may stand behind a high one. Where no escape of a code unit begins, a backslash
--- goes with the byte behind it. Fewer than six bytes have no such escape
+-- a text whose lone surrogates are U+FFFD; the first one may stand after a high one. Where no escape of a code unit begins, a backslash
+-- goes with the byte after it. Fewer than six bytes have no such escape
 unfoldable pub mended_behind : Bool → List ℕ → List ℕ
 mended_behind behind_high (a ∷ b ∷ c ∷ d ∷ e ∷ f ∷ rest) =
     option_map_or (λ u. read_as (is_lone behind_high u (begins_low rest)) (a ∷ b ∷ c ∷ d ∷ e ∷ f ∷ []) ++ mended_behind (is_high_surrogate u) rest)

@@ -1,4 +1,4 @@
--- A stream of bytes as frames: header lines, each with a CR LF behind it, an empty line, and a body as long as they say.
+-- A stream of bytes as frames: header lines, each with a CR LF after it, an empty line, and a body as long as they say.
 use Rattle.std.specs.Prelude.{◌≡◌, ℕ, zero, suc, ◌+◌, ◌&&◌, ◌==◌, if◌then◌else◌, nat_lt, List, [], ◌∷◌, ◌++◌, length, take, drop, codes, Option, None, Some, option_map, Result, Ok, Err}
 use Rattle.std.specs.Fmt.{decimal}
 use Rattle.std.specs.Option.{ok_or}
@@ -22,18 +22,18 @@ abbrev pub ◌>>=◌ : {A B : Type 0} → Result A End → (A → Result B End) 
 unfoldable pub line_len : List ℕ → Result ℕ End
 line_len bytes = ok_or (before_crlf (take 1024 bytes)) (if nat_lt (length bytes) 1024 then CutOff else Malformed)
 
--- a head, which has at most so many lines, up to the empty one: how long the body is, and what stands behind the head
+-- a head, which has at most so many lines, up to the empty one: how long the body is, and what stands after the head
 unfoldable pub head : ℕ → Option ℕ → List ℕ → Result (ℕ × List ℕ) End
 head zero before bytes = Err Malformed
 head (suc lines) before bytes = line_len bytes >>= λ n.
     if n == 0 then ok_or (option_map (λ len. (len, drop 2 bytes)) before) Malformed
     else (ok_or (length_after (take n bytes) before) Malformed >>= λ after. head lines after (drop (n + 2) bytes))
 
--- a body, and what stands behind it
+-- a body, and what stands after it
 abbrev pub body : ℕ × List ℕ → Result (List ℕ × List ℕ) End
 body h = if nat_lt (length h.1) h.0 then Err CutOff else Ok (take h.0 h.1, drop h.0 h.1)
 
--- the body of the first frame, and what stands behind the frame; a stream may end before a frame, and not inside one
+-- the body of the first frame, and what stands after the frame; a stream may end before a frame, and not inside one
 unfoldable pub frame : List ℕ → Result (List ℕ × List ℕ) End
 frame [] = Err Clean
 frame (b ∷ bytes) = head 64 None (b ∷ bytes) >>= body

@@ -30,11 +30,11 @@ abbrev pub agreed : Option ℕ → ℕ → Option (Option ℕ)
 agreed None n = Some (Some n)
 agreed (Some m) n = if m == n then Some (Some n) else None
 
--- what a header makes of the length that came before it: only Content-Length counts, in capitals or not
+-- what a header makes of the length that came before it: only Content-Length counts, in upper or lower case
 abbrev pub header : Option ℕ → List ℕ × List ℕ → Option (Option ℕ)
 header before h =
     if str_eq_ignore_ascii_case h.0 (codes "content-length") then option_and_then (agreed before) (number (trimmed h.1)) else Some before
 
--- the same of a header line, which has a colon
+-- what a header line, which has a colon, makes of the length that came before it
 abbrev pub length_after : List ℕ → Option ℕ → Option (Option ℕ)
 length_after line before = option_and_then (header before) (at_colon line)

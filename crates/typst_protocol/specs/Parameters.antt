@@ -39,11 +39,11 @@ text_in name value = option_and_then as_str (member name value)
 abbrev pub equals : Float → ℤ → Bool
 equals x n = eq x (of_int binary64 n)
 
--- that number, if it stands from 0 on and takes 32 bits at most, as those of the protocol do
+-- the whole number that a float equals, if it is from 0 on and takes 32 bits at most, as those of the protocol do
 abbrev pub whole_count : Float → Option ℕ
 whole_count x = let n = float_to_unsigned w32 x in if equals x (pos n) then Some n else None
 
--- the same with a sign
+-- the whole number that a float equals, if it takes 32 bits at most with its sign
 abbrev pub whole_number : Float → Option ℤ
 whole_number x = let n = float_to_signed w32 x in if equals x n then Some n else None
 
@@ -107,7 +107,7 @@ version value = option_and_then integer_of (option_and_then as_number (member (c
 abbrev pub changes : Option Data → Option Items
 changes value = option_and_then as_array (member (codes "contentChanges") value)
 
--- the name of the tokens from which changes are told
+-- the name of the tokens from which changes are wanted
 abbrev pub previous_tokens : Option Data → Option (List ℕ)
 previous_tokens value = text_in (codes "previousResultId") value
 

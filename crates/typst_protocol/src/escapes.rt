@@ -7,7 +7,7 @@ ghost use Rattle.typst_protocol.specs.Escapes as spec;
 /// How many bytes the escape of a code unit has.
 const ESCAPE: usize = 6;
 
-/// Makes a body one that JSON allows: in the place of each lone surrogate, a high one with no low one behind
+/// Makes a body one that JSON allows: in the place of each lone surrogate, a high one with no low one after
 /// it or a low one with no high one before it, it writes U+FFFD. It takes no memory.
 pub fn mend(body: &mut [u8])
     ensures { body.new ≡ spec.mended body.old }

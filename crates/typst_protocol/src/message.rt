@@ -68,12 +68,12 @@ pub struct Request<'a> {
     pub params: Params<'a>,
 }
 
-/// What is told and not answered.
+/// A notification: what is said and not answered.
 #[derive(Drop)]
 pub struct Notification<'a> {
-    /// What is told.
+    /// What it says.
     pub method: &'a str,
-    /// Of what it is told.
+    /// What it is about.
     pub params: Params<'a>,
 }
 

@@ -1,4 +1,4 @@
-//! What requests ask and notifications tell.
+//! What requests and notifications are about.
 
 ghost use Rattle.std.specs.Prelude.{◌≡◌};
 ghost use Rattle.typst_protocol.specs.Methods.{events, methods, named};
@@ -79,7 +79,7 @@ impl Method {
     }
 }
 
-/// What a notification tells, where the server acts on it.
+/// What a notification is about, where the server acts on it.
 #[derive(Debug, Clone, Copy, PartialEq, Eq)]
 pub enum Event {
     /// A document was opened.

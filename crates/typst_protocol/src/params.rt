@@ -118,7 +118,7 @@ impl<'a> Params<'a> {
         stretch.ok_or(Refusal::BadParameters)
     }
 
-    /// The name of the tokens from which changes are told.
+    /// The name of the tokens from which changes are wanted.
     pub fn previous_tokens(self) -> Result<&'a str, Refusal>
         ensures { Finds (λ name. name.now) (spec.previous_tokens (seen self.entry)) result }
     {

@@ -123,7 +123,7 @@ pub enum Loss {
 }
 
 impl Loss {
-    /// The notification that warns the person of it. It takes no memory.
+    /// The notification that warns the user of it. It takes no memory.
     pub fn warning(self) -> &'static str
         ensures { result.now ≡ warning (text_of self) }
     {

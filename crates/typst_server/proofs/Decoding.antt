@@ -7,9 +7,9 @@ use Rattle.std.specs.Char.{len_utf8}
 use Rattle.std.specs.List.{prefix_len, range_with_len}
 use Rattle.std.specs.Prelude.{slice_index}
 use Rattle.std.specs.Str.{IsUtf8, chars}
-use Rattle.typst_features.specs.Tokens as tokens
-use Rattle.typst_features.specs.Tokens.{end_of}
-use Rattle.typst_features.specs.declared.tokens.Token.{Token}
+use Rattle.typst_styles.specs.Tokens as tokens
+use Rattle.typst_styles.specs.Tokens.{end_of}
+use Rattle.typst_styles.specs.declared.tokens.Token.{Token}
 use Rattle.typst_positions.specs.Columns.{column_of, measured, width}
 use Rattle.typst_positions.specs.Positions.{line_of, position_of}
 use Rattle.typst_positions.specs.Starts.{is_line_end, line_at, line_starts, starts_between, starts_line}

@@ -1,8 +1,8 @@
 -- Numbers of tokens that grow token by token.
 use Rattle.std.proofs.Common.{◌≡◌, ℕ, ◌+◌, ◌<◌, List, ◌∷◌, ◌++◌, length, drop, get_or, Result, Ok, Err, IfOk, ap, sym, subst, ◌∙◌, append_assoc, add-one, drop-cons}
-use Rattle.typst_features.specs.declared.tokens.Token.{Token}
+use Rattle.typst_styles.specs.declared.tokens.Token.{Token}
 use Rattle.typst_positions.specs.declared.columns.Encoding.{Encoding}
-use Rattle.typst_server.specs.Document.{Opened}
+use Rattle.typst_document.specs.Document.{Opened}
 use Rattle.typst_server.specs.Numbers.{IsAdded, Shown, encoded, five, shown, shown_each}
 use Rattle.typst_server.specs.declared.tokens.Encoder.{Encoder}
 

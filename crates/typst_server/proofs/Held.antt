@@ -15,7 +15,7 @@ use Rattle.std.specs.String.{string_bytes}
 use Rattle.typst_protocol.proofs.SameAddress.{same-as, same-with}
 use Rattle.typst_protocol.specs.Addresses.{is_same}
 use Rattle.typst_positions.specs.declared.columns.Encoding.{Encoding}
-use Rattle.typst_server.specs.Document.{Opened}
+use Rattle.typst_document.specs.Document.{Opened}
 use Rattle.typst_server.specs.Documents.{IsUnknown, Keeps, KeepsOthers, Knows, found, is_known, is_named, known}
 use Rattle.typst_protocol.specs.declared.refusal.Loss.{Loss}
 use Rattle.typst_server.specs.Left.{AreSame, AreUnknown, IsWarned, LosesNone}

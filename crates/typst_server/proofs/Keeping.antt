@@ -6,7 +6,7 @@ use Rattle.typst_protocol.specs.Bodies.{success}
 use Rattle.typst_protocol.specs.Parameters as parameters
 use Rattle.typst_protocol.specs.declared.method.Method.{Method}
 use Rattle.typst_protocol.specs.declared.refusal.Refusal.{Refusal}
-use Rattle.typst_server.specs.Document.{Opened}
+use Rattle.typst_document.specs.Document.{Opened}
 use Rattle.typst_server.specs.Documents.{found}
 use Rattle.typst_server.specs.Made.{AnswersWith, IsOfTokens, IsSentOf, IsTaken, IsLed, SendsAsked, standing_after}
 use Rattle.typst_server.specs.Sent.{HasSent, IsKept, IsSentAs, sent_of}

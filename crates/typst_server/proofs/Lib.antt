@@ -1,15 +1,13 @@
 mod Answered
 mod Decoding
-mod Edits
 mod Encoding
 mod Growing
 mod Held
 mod Keeping
 mod Locating
+mod Occurring
 mod Publishing
-mod Records
 mod Responses
 mod Taking
 mod Texts
 mod Transcripts
-mod Walking

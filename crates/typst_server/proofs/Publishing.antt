@@ -14,7 +14,7 @@ use Rattle.typst_protocol.specs.Written.{WritesReport}
 use Rattle.typst_protocol.specs.declared.values.Problem.{Problem}
 use Rattle.typst_protocol.specs.declared.values.Problems.{Problems}
 use Rattle.typst_protocol.specs.declared.values.Report.{Report}
-use Rattle.typst_server.specs.Document.{Opened}
+use Rattle.typst_document.specs.Document.{Opened}
 use Rattle.typst_server.specs.Answers.{TakesEvent}
 use Rattle.typst_server.specs.Documents.{IsMissing, found}
 use Rattle.typst_server.specs.Published.{AreNews, AreNone, ArePublished, Empties, EmptiesAll, IsNews, IsNewsReply, IsNotice, IsPublished, IsToldOf, Publishes, Reports, problems_of}

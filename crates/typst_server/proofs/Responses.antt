@@ -10,7 +10,7 @@ use Rattle.typst_protocol.specs.declared.method.Method.{Method}
 use Rattle.typst_protocol.specs.declared.method.Method.TheVariants.{Initialize, Shutdown, WorkspaceSymbols, Diagnostics, Definition, References, Highlights}
 use Rattle.typst_protocol.specs.declared.refusal.Refusal.{Refusal}
 use Rattle.typst_protocol.specs.declared.refusal.Refusal.TheVariants.{BadParameters, OutOfMemory}
-use Rattle.typst_server.specs.Document.{Opened}
+use Rattle.typst_document.specs.Document.{Opened}
 use Rattle.typst_server.specs.Documents.{IsMissing, found}
 use Rattle.typst_server.specs.Made.{IsLed, standing_after}
 use Rattle.typst_server.specs.Phases.{Responds, leads}
@@ -55,54 +55,54 @@ pub tells-memory : (given : Answer → Type 0) (id text : List ℕ) → text ≡
 tells-memory given id text told = record { answer = Err OutOfMemory; told = told; meant = inr refl }
 
 -- a document that isn't named, and one of which nothing is known
-pub about_unnamed : (which : ShownErrors) (method : Method) (uri : Option (List ℕ)) (documents : Documents) (why : Refusal) → uri ≡ None → why ≡ BadParameters → IsOf which method uri documents (Err why)
-about_unnamed which method uri documents why unnamed bad = subst (λ u. IsOf which method u documents (Err why)) (sym unnamed) (ap (λ w. Err w) bad)
+pub about_unnamed : (which : ShownErrors) (method : Method) (params : Option Data) (uri : Option (List ℕ)) (documents : Documents) (why : Refusal) → uri ≡ None → why ≡ BadParameters → IsOf which method params uri documents (Err why)
+about_unnamed which method params uri documents why unnamed bad = subst (λ u. IsOf which method params u documents (Err why)) (sym unnamed) (ap (λ w. Err w) bad)
 
-missing : (which : ShownErrors) (method : Method) (uri : List ℕ) (known : Option (Option Opened)) (why : Refusal) → IsMissing known why → IsAbout which method uri known (Err why)
-missing which method uri None why h = ap (λ w. Err w) h
-missing which method uri (Some None) why h = ap (λ w. Err w) h
-missing which method uri (Some (Some document)) why h = absurd h
+missing : (which : ShownErrors) (method : Method) (params : Option Data) (uri : List ℕ) (known : Option (Option Opened)) (why : Refusal) → IsMissing known why → IsAbout which method params uri known (Err why)
+missing which method params uri None why h = ap (λ w. Err w) h
+missing which method params uri (Some None) why h = ap (λ w. Err w) h
+missing which method params uri (Some (Some document)) why h = absurd h
 
-pub about_missing : (which : ShownErrors) (method : Method) (uri : Option (List ℕ)) (named : List ℕ) (documents : Documents) (why : Refusal) → uri ≡ Some named → IsMissing (found named documents) why
-    → IsOf which method uri documents (Err why)
-about_missing which method uri named documents why is h = subst (λ u. IsOf which method u documents (Err why)) (sym is) (missing which method named (found named documents) why h)
+pub about_missing : (which : ShownErrors) (method : Method) (params : Option Data) (uri : Option (List ℕ)) (named : List ℕ) (documents : Documents) (why : Refusal) → uri ≡ Some named → IsMissing (found named documents) why
+    → IsOf which method params uri documents (Err why)
+about_missing which method params uri named documents why is h = subst (λ u. IsOf which method params u documents (Err why)) (sym is) (missing which method params named (found named documents) why h)
 
 -- one that is known
-pub about_known : (which : ShownErrors) (method : Method) (uri : Option (List ℕ)) (named : List ℕ) (documents : Documents) (document : Opened) (answer : Answer) → uri ≡ Some named
-    → found named documents ≡ Some (Some document) → IfOk answer (Looks which method named document) → IsOf which method uri documents answer
-about_known which method uri named documents document answer is known h =
-    subst (λ u. IsOf which method u documents answer) (sym is) (subst (λ f. IsAbout which method named f answer) (sym known) h)
+pub about_known : (which : ShownErrors) (method : Method) (params : Option Data) (uri : Option (List ℕ)) (named : List ℕ) (documents : Documents) (document : Opened) (answer : Answer) → uri ≡ Some named
+    → found named documents ≡ Some (Some document) → IfOk answer (Looks which method params named document) → IsOf which method params uri documents answer
+about_known which method params uri named documents document answer is known h =
+    subst (λ u. IsOf which method params u documents answer) (sym is) (subst (λ f. IsAbout which method params named f answer) (sym known) h)
 
 -- what is said of it
 said_ok : (P : List ℕ → Type 0) (result : Result (String Global) Refusal) → IfOk result (λ text. P (string_bytes text)) → IfOk (said_of result) P
 said_ok P (Ok text) h = h
 said_ok P (Err why) h = tt
 
-pub looked : (which : ShownErrors) (method : Method) (uri : List ℕ) (document : Opened) (value : Result (String Global) Refusal) (answer : Answer) → answer ≡ said_of value
-    → IfOk value (λ text. Looks which method uri document (string_bytes text)) → IfOk answer (Looks which method uri document)
-looked which method uri document value answer is h = subst (λ a. IfOk a (Looks which method uri document)) (sym is) (said_ok (Looks which method uri document) value h)
+pub looked : (which : ShownErrors) (method : Method) (params : Option Data) (uri : List ℕ) (document : Opened) (value : Result (String Global) Refusal) (answer : Answer) → answer ≡ said_of value
+    → IfOk value (λ text. Looks which method params uri document (string_bytes text)) → IfOk answer (Looks which method params uri document)
+looked which method params uri document value answer is h = subst (λ a. IfOk a (Looks which method params uri document)) (sym is) (said_ok (Looks which method params uri document) value h)
 
 -- of tokens nothing more is stated there
 pub looked_tokens : (answer : Answer) → IfOk answer (λ _. ⊤)
 looked_tokens (Ok value) = tt
 looked_tokens (Err why) = tt
 
-looks_rest : (which : ShownErrors) (method : Method) (uri : List ℕ) (document : Opened) (value : List ℕ) → (method ≡ Diagnostics → ⊥) → (method ≡ Definition → ⊥) → (method ≡ References → ⊥) → (method ≡ Highlights → ⊥)
-    → Looks which method uri document value
-looks_rest which Diagnostics uri document value d e r h = absurd (d refl)
-looks_rest which Definition uri document value d e r h = absurd (e refl)
-looks_rest which References uri document value d e r h = absurd (r refl)
-looks_rest which Highlights uri document value d e r h = absurd (h refl)
-looks_rest which _ uri document value d e r h = tt
+looks_rest : (which : ShownErrors) (method : Method) (params : Option Data) (uri : List ℕ) (document : Opened) (value : List ℕ) → (method ≡ Diagnostics → ⊥) → (method ≡ Definition → ⊥) → (method ≡ References → ⊥) → (method ≡ Highlights → ⊥)
+    → Looks which method params uri document value
+looks_rest which Diagnostics params uri document value d e r h = absurd (d refl)
+looks_rest which Definition params uri document value d e r h = absurd (e refl)
+looks_rest which References params uri document value d e r h = absurd (r refl)
+looks_rest which Highlights params uri document value d e r h = absurd (h refl)
+looks_rest which _ params uri document value d e r h = tt
 
-pub looked_rest : (which : ShownErrors) (method : Method) (uri : List ℕ) (document : Opened) (result : Result (String Global) Refusal) → (method ≡ Diagnostics → ⊥) → (method ≡ Definition → ⊥) → (method ≡ References → ⊥)
-    → (method ≡ Highlights → ⊥) → IfOk result (λ text. Looks which method uri document (string_bytes text))
-looked_rest which method uri document (Ok text) d e r h = looks_rest which method uri document (string_bytes text) d e r h
-looked_rest which method uri document (Err why) d e r h = tt
+pub looked_rest : (which : ShownErrors) (method : Method) (params : Option Data) (uri : List ℕ) (document : Opened) (result : Result (String Global) Refusal) → (method ≡ Diagnostics → ⊥) → (method ≡ Definition → ⊥) → (method ≡ References → ⊥)
+    → (method ≡ Highlights → ⊥) → IfOk result (λ text. Looks which method params uri document (string_bytes text))
+looked_rest which method params uri document (Ok text) d e r h = looks_rest which method params uri document (string_bytes text) d e r h
+looked_rest which method params uri document (Err why) d e r h = tt
 
 -- a request that neither begins a session nor ends it is about a document
 pub gives_about : (which : ShownErrors) (method : Method) (params : Option Data) (documents : Documents) (answer : Answer) → (method ≡ Shutdown → ⊥) → (method ≡ WorkspaceSymbols → ⊥)
-    → IsOf which method (parameters.uri params) documents answer → Gives Running which (Some method) params documents answer
+    → IsOf which method params (parameters.uri params) documents answer → Gives Running which (Some method) params documents answer
 gives_about which Initialize params documents answer goes_on of_one h = tt
 gives_about which Shutdown params documents answer goes_on of_one h = absurd (goes_on refl)
 gives_about which WorkspaceSymbols params documents answer goes_on of_one h = absurd (of_one refl)

@@ -3,11 +3,11 @@ use Rattle.std.proofs.Common.{◌≡◌, ℕ, ◌+◌, ◌<◌, ◌≤◌, List,
 use Rattle.std.proofs.lemmas.List.{drop_all}
 use Rattle.serde_json.specs.View.{items_view, view}
 use Rattle.serde_json.specs.declared.value.Value.{Value}
-use Rattle.typst_lines.specs.UnicodeTables.{unicode_classes}
-use Rattle.typst_parser.specs.Headline.{Headline}
+use Rattle.typst_document.specs.UnicodeTables.{unicode_classes}
+use Rattle.typst_document.specs.Headline.{Headline}
 use Rattle.typst_positions.specs.declared.columns.Encoding.{Encoding}
 use Rattle.typst_protocol.specs.Parameters.{Edit, whole, ranged, edit}
-use Rattle.typst_server.specs.Document.{Opened, changed}
+use Rattle.typst_document.specs.Document.{Opened, changed}
 use Rattle.typst_server.specs.Documents.{IsUnknown, Keeps, KeepsOthers, Knows, after, next}
 use Rattle.typst_server.specs.declared.documents.Documents.{Documents}
 

@@ -64,6 +64,7 @@ pub record IsOfNone (body : List ℕ) (why : Unread) : Type 0 where
   pub read : read_text body ≡ Some value
   pub none : IsUnread value why
 
+-- a body isn't read, or says nothing
 abbrev pub IsNoMessage : List ℕ → Unread → Type 0
 IsNoMessage body why = IsUnreadBody body why ⊎ IsOfNone body why
 
@@ -94,7 +95,7 @@ pub record IsNoticed (which : ShownErrors) (behind : Documents) (body : List ℕ
   pub told : said value ≡ tells
   pub says : SaysNews which (parameters.params value) behind news
 
--- what may be done about a body, and where the server stands behind it: only a request has a response, with its identifier, and what is no
+-- what may be done about a body, and where the server stands after it: only a request has a response, with its identifier, and what is no
 -- message has one without, with notifications that say that documents have no problems; where memory is refused anything may get the latter
 abbrev pub IsAnswer : Standing → Standing → Documents → Documents → List ℕ → Reply → Type 0
 IsAnswer old new before behind body (reply.Response text) = IsAsked old new before body (string_bytes text)

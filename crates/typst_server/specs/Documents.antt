@@ -3,14 +3,14 @@ use Rattle.std.specs.Prelude.{◌≡◌, ⊤, ℕ, List, Bool, true, false, Opti
 use Rattle.std.specs.List.{find}
 use Rattle.std.specs.String.{string_bytes}
 use Rattle.serde_json.specs.Data.{Items, no_items, item}
-use Rattle.typst_lines.specs.UnicodeTables.{unicode_classes}
-use Rattle.typst_parser.specs.Headline.{Headline}
+use Rattle.typst_document.specs.UnicodeTables.{unicode_classes}
+use Rattle.typst_document.specs.Headline.{Headline}
 use Rattle.typst_positions.specs.declared.columns.Encoding.{Encoding}
 use Rattle.typst_protocol.specs.Addresses.{is_same}
 use Rattle.typst_protocol.specs.Parameters.{Edit, whole, ranged, edit}
 use Rattle.typst_protocol.specs.declared.refusal.Refusal.{Refusal}
 use Rattle.typst_protocol.specs.declared.refusal.Refusal.TheVariants.{BadParameters, LostDocument}
-use Rattle.typst_server.specs.Document.{Opened, changed}
+use Rattle.typst_document.specs.Document.{Opened, changed}
 use Rattle.typst_server.specs.declared.documents.Documents.{Documents}
 use Rattle.typst_server.specs.declared.documents.Entry.{Entry}
 use Rattle.typst_server.specs.declared.documents.Held.{Held}
@@ -53,7 +53,7 @@ next encoding before (Some (whole text)) = Some text
 next encoding None (Some (ranged place text)) = None
 next encoding (Some before) (Some (ranged place text)) = Some (changed encoding before (ranged place text))
 
--- the same of changes, each of what the one before it left
+-- what several changes make of it, one after the other
 abbrev pub after : Encoding → Option (List ℕ) → Items → Option (List ℕ)
 after encoding before no_items = before
 after encoding before (item value values) = after encoding (next encoding before (edit value)) values

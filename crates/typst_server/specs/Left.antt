@@ -70,7 +70,7 @@ abbrev pub IsTaken : Encoding → Option Event → Option Data → Documents →
 IsTaken encoding None params old new = AreSame old new
 IsTaken encoding (Some done) params old new = IsDone encoding done (parameters.uri params) params old new
 
--- which it does between `initialize` and `shutdown` alone
+-- what a client tells is acted on between `initialize` and `shutdown`; before and after it leaves all documents
 abbrev pub IsTold : Phase → Encoding → Option Event → Option Data → Documents → Documents → Type 0
 IsTold Running encoding told params old new = IsTaken encoding told params old new
 IsTold Fresh encoding told params old new = AreSame old new
@@ -97,7 +97,7 @@ IsKnownAfter phase encoding body old new (reply.News news) = LeavesSo phase enco
 IsKnownAfter phase encoding body old new reply.Nothing = LeavesSo phase encoding body old new
 IsKnownAfter phase encoding body old new (reply.Exit status) = LeavesSo phase encoding body old new
 
--- the same of a message of the code
+-- what a message of the code leaves of the documents
 abbrev pub IsLeftBy : Message → Phase → Encoding → Documents → Documents → Type 0
 IsLeftBy (message.Notification n) phase encoding old new = IsTold phase encoding (told_by n.method.now) (parameters.seen n.params) old new
 IsLeftBy (message.Request r) phase encoding old new = AreSame old new

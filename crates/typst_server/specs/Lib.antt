@@ -1,11 +1,10 @@
 -- The server.
 pub mod Answers
-pub mod Document
 pub mod Documents
 pub mod Left
 pub mod Numbers
+pub mod Occurrences
 pub mod Phases
-pub mod Places
 pub mod Located
 pub mod Made
 pub mod Published

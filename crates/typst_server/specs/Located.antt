@@ -7,8 +7,8 @@ use Rattle.typst_protocol.specs.declared.values.Extent.{Extent}
 use Rattle.typst_protocol.specs.declared.values.Highlight.{Highlight}
 use Rattle.typst_protocol.specs.declared.values.Location.{Location}
 use Rattle.serde.specs.Event.{WritesSeq}
-use Rattle.typst_server.specs.Document.{Opened}
-use Rattle.typst_server.specs.Places.{IsPlaceOf}
+use Rattle.typst_document.specs.Document.{Opened}
+use Rattle.typst_document.specs.Places.{IsPlaceOf}
 
 -- there is one for each range, in the same order
 abbrev pub AreAt : {A : Type 0} → (Range ℕ → A → Type 0) → List (Range ℕ) → List A → Type 0
@@ -36,7 +36,7 @@ pub record TellsLocations (document : Opened) (uri : List ℕ) (ranges : List (R
   pub located : AreAt (IsLocationOf document uri) ranges locations
   pub json : IsJsonOf (WritesSeq WritesLocation locations) text
 
--- the same of highlights
+-- a text is the JSON of highlights of some ranges of a document
 pub record TellsHighlights (document : Opened) (ranges : List (Range ℕ)) (text : List ℕ) : Type 0 where
   pub highlights : List Highlight
   pub located : AreAt (IsHighlightOf document) ranges highlights

@@ -6,7 +6,7 @@ use Rattle.typst_protocol.specs.Addresses.{is_same}
 use Rattle.typst_protocol.specs.Parameters as parameters
 use Rattle.typst_protocol.specs.declared.method.Method.{Method}
 use Rattle.typst_protocol.specs.declared.refusal.Refusal.{Refusal}
-use Rattle.typst_server.specs.Document.{Opened}
+use Rattle.typst_document.specs.Document.{Opened}
 use Rattle.typst_server.specs.Documents.{found}
 use Rattle.typst_server.specs.Results.{Answer}
 use Rattle.typst_server.specs.Sent.{HasSent, IsKept, IsSentAs, sent_of}
@@ -46,7 +46,7 @@ abbrev pub SendsAsked : Server → Option Method → Option Data → Effect → 
 SendsAsked now method params (Sends uri sent) = AsksTokens method × (parameters.uri params ≡ Some uri.now) × HasSent (found uri.now now.documents) now.next_number (Some sent)
 SendsAsked now method params _ = ⊤
 
--- the same of a value that is made
+-- a value that is made sends tokens only so
 abbrev pub IsOfTokens : Server → Option Method → Option Data → Result Made Refusal → Type 0
 IsOfTokens now method params result = IfOk result (λ made. SendsAsked now method params made.effect)
 

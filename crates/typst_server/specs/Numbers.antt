@@ -1,13 +1,13 @@
 -- The numbers in which tokens are sent.
 use Rattle.std.specs.Prelude.{◌≡◌, ℕ, ◌+◌, ◌-◌, ◌^◌, ◌==◌, min, Bool, List, [], ◌∷◌, ◌++◌, if◌then◌else◌}
 use Rattle.std.specs.declared.ops.Range.{Range}
-use Rattle.typst_features.specs.Tokens.{end_of, tokens_in}
-use Rattle.typst_features.specs.declared.styles.TokenKind.{TokenKind}
-use Rattle.typst_features.specs.declared.styles.TokenKind.TheVariants as kind
-use Rattle.typst_features.specs.declared.tokens.Token.{Token}
+use Rattle.typst_styles.specs.Tokens.{end_of, tokens_in}
+use Rattle.typst_styles.specs.declared.styles.TokenKind.{TokenKind}
+use Rattle.typst_styles.specs.declared.styles.TokenKind.TheVariants as kind
+use Rattle.typst_styles.specs.declared.tokens.Token.{Token}
 use Rattle.typst_positions.specs.Positions.{position_of}
 use Rattle.typst_positions.specs.declared.columns.Encoding.{Encoding}
-use Rattle.typst_server.specs.Document.{Opened}
+use Rattle.typst_document.specs.Document.{Opened}
 use Rattle.typst_server.specs.declared.tokens.Encoder.{Encoder}
 
 -- the number of a type of token
@@ -48,7 +48,7 @@ pub record Shown : Type 0 where
   pub kind : ℕ
   pub modifiers : ℕ
 
--- THE NUMBERS READ BACK, behind a token at a line and a column, five for each: the line counts from there on; so does the column in the
+-- THE NUMBERS READ BACK, after a token at a line and a column, five for each: the line counts from there on; so does the column in the
 -- same line, and else from its line's start
 abbrev pub decoded : ℕ → ℕ → List ℕ → List Shown
 decoded line column (down ∷ right ∷ size ∷ kind ∷ modifiers ∷ numbers) =
@@ -82,7 +82,7 @@ all_shown document range = shown_each document.encoding document.source.text (to
 abbrev pub clipped : ℕ → ℕ
 clipped count = min count (2 ^ 32 - 1)
 
--- the numbers of a token behind one at a line and a column
+-- the numbers of a token after one at a line and a column
 abbrev pub five : ℕ → ℕ → Shown → List ℕ
 five line column token =
     clipped (token.line - line) ∷ clipped (token.column - (if token.line == line then column else 0)) ∷ clipped token.size ∷ token.kind ∷ token.modifiers ∷ []

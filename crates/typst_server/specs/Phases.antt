@@ -30,7 +30,7 @@ begun which params =
       errors = which;
     }
 
--- it ends, and nothing else changes
+-- it is shut down, and nothing else changes
 abbrev pub shut : Standing → Standing
 shut now = record now { phase = ShutDown }
 
@@ -44,11 +44,11 @@ leads Running (Some Shutdown) params now = Ok (shut now)
 leads Running (Some _) params now = Ok now
 leads ShutDown _ params now = Err OutOfPlace
 
--- `initialize` comes first and once, and nothing is asked behind `shutdown`; all other requests leave the server where it stands
+-- `initialize` comes first and once, and nothing is asked after `shutdown`; all other requests leave the server where it stands
 abbrev pub allowed : Standing → Option Method → Option Data → Result Standing Refusal
 allowed now method params = leads now.phase method params now
 
--- the status to end with: 0 behind `shutdown`, else 1
+-- the status to end with: 0 after `shutdown`, else 1
 abbrev pub status_of : Phase → ℕ
 status_of Fresh = 1
 status_of Running = 1

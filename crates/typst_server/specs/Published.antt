@@ -7,18 +7,18 @@ use Rattle.std.specs.declared.ops.Range.{Range}
 use Rattle.serde_json.specs.Data.{Data}
 use Rattle.typst_features.specs.Problems.{Reported, node}
 use Rattle.typst_features.specs.Shown as typing
-use Rattle.typst_parser.specs.Diagnostic.{Diagnostic, Hint}
-use Rattle.typst_parser.specs.Severity.{Severity}
-use Rattle.typst_parser.specs.Severity.TheVariants.{Error, Warning}
+use Rattle.typst_document.specs.Diagnostic.{Diagnostic, Hint}
+use Rattle.typst_document.specs.Severity.{Severity}
+use Rattle.typst_document.specs.Severity.TheVariants.{Error, Warning}
 use Rattle.typst_protocol.specs.Bodies.{IsJsonOf, notification}
 use Rattle.typst_protocol.specs.Parameters as parameters
 use Rattle.typst_protocol.specs.Written.{WritesProblems, WritesReport}
 use Rattle.typst_protocol.specs.declared.values.Problem.{Problem}
 use Rattle.typst_protocol.specs.declared.values.Problems.{Problems}
 use Rattle.typst_protocol.specs.declared.values.Report.{Report}
-use Rattle.typst_server.specs.Document.{Opened}
+use Rattle.typst_document.specs.Document.{Opened}
 use Rattle.typst_server.specs.Documents.{found}
-use Rattle.typst_server.specs.Places.{IsPlaceOf}
+use Rattle.typst_document.specs.Places.{IsPlaceOf}
 use Rattle.typst_server.specs.declared.diagnostics.ShownErrors.{ShownErrors}
 use Rattle.typst_server.specs.declared.diagnostics.ShownErrors.TheVariants as errors
 use Rattle.typst_server.specs.declared.documents.Documents.{Documents}

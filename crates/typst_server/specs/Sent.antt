@@ -6,7 +6,7 @@ use Rattle.std.specs.String.{string_bytes}
 use Rattle.typst_protocol.specs.declared.values.TokenChanges.{TokenChanges}
 use Rattle.typst_protocol.specs.declared.values.TokenEdit.{TokenEdit}
 use Rattle.typst_protocol.specs.declared.values.Tokens.{Tokens}
-use Rattle.typst_server.specs.Document.{Opened, all_bytes}
+use Rattle.typst_document.specs.Document.{Opened, all_bytes}
 use Rattle.typst_server.specs.Numbers.{all_shown, decoded}
 use Rattle.typst_server.specs.Documents.{entry_of}
 use Rattle.typst_server.specs.declared.documents.Documents.{Documents}
@@ -21,7 +21,7 @@ abbrev pub last_of : Held → Option Sent
 last_of (Known document sent) = sent
 last_of Lost = None
 
--- the same of the document with an address
+-- the tokens that were sent last of the document with an address
 abbrev pub sent_of : List ℕ → Documents → Option Sent
 sent_of uri documents = option_and_then (λ entry. last_of entry.held) (entry_of uri documents)
 
@@ -58,7 +58,7 @@ abbrev pub HasSent : Option (Option Opened) → ℕ → Option Sent → Type 0
 HasSent (Some (Some document)) number (Some sent) = IsSentAs document number sent
 HasSent _ number _ = ⊥
 
--- what a client makes of numbers by edits of them, one behind the other
+-- what a client makes of numbers by edits of them, one after the other
 abbrev pub made_by : List TokenEdit → List ℕ → List ℕ
 made_by [] numbers = numbers
 made_by (edit ∷ edits) numbers = made_by edits (take edit.start numbers ++ edit.data.now ++ drop (edit.start + edit.delete_count) numbers)
@@ -73,7 +73,7 @@ pub record AreAll (tokens : Tokens) (sent : Sent) : Type 0 where
   pub named : option_map (λ name. name.now) tokens.result_id ≡ Some (string_bytes sent.name)
   pub numbers : tokens.data.now ≡ sent.data.items
 
--- WHAT A CLIENT HAS behind an answer about tokens: where it named the ones that were sent last it makes them by changes, and else it is sent all
+-- WHAT A CLIENT HAS after an answer about tokens: where it named the ones that were sent last it makes them by changes, and else it is sent all
 abbrev pub TellsOf : Option Sent → Sent → Told → Type 0
 TellsOf None sent (All tokens) = AreAll tokens sent
 TellsOf None sent (Changes changes) = ⊥

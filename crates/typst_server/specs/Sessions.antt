@@ -21,7 +21,7 @@ pub record IsNew (which : ShownErrors) (server : Server) : Type 0 where
   pub errors : server.standing.errors ≡ which
   pub none : (uri : List ℕ) → found uri server.documents ≡ None
 
--- WHAT A BODY MAKES OF A SESSION: it has one of the replies that it may have, which say where the server stands behind it, and it leaves
+-- WHAT A BODY MAKES OF A SESSION: it has one of the replies that it may have, which say where the server stands after it, and it leaves
 -- known of the documents what `IsKnownAfter` says. If one is lost the reply says so. Tokens are kept only as they are sent
 pub record IsHandled (old new : Server) (body : List ℕ) (answer : Reply) : Type 0 where
   pub reply : IsAnswer old.standing new.standing old.documents new.documents body answer

@@ -49,12 +49,12 @@ pub record SendsTokens (old new : Server) (method : Option Method) (params : Opt
 abbrev pub KeepsTokens : Server → Server → Option Method → Option Data → List ℕ → List ℕ → Type 0
 KeepsTokens old new method params id text = SameSent old new ⊎ SendsTokens old new method params id text
 
--- the same of what a reply does about a request
+-- which tokens are kept when a request has this reply
 abbrev pub KeepsByReply : Server → Server → Option Method → Option Data → List ℕ → Reply → Type 0
 KeepsByReply old new method params id (reply.Response text) = KeepsTokens old new method params id (string_bytes text)
 KeepsByReply old new method params id _ = DropsSent old new
 
--- and about a message of the code
+-- which tokens are kept when a message of the code has this reply
 abbrev pub IsSentBy : Server → Server → Message → Reply → Type 0
 IsSentBy old new (message.Request r) answer = KeepsByReply old new (named methods r.method.now) (parameters.seen r.params) r.id answer
 IsSentBy old new _ answer = DropsSent old new

@@ -57,18 +57,18 @@ pub record IsAnswered (old new : Server) (body : List ℕ) (answer : Reply) : Ty
   pub read : length body ≤ longest → IsHandled old new (mended body) answer
   pub too_long : longest < length body → LosesAll old new unread.NotAMessage answer
 
--- a stream begins with a frame, and this is what is done about its body and stands behind it
+-- a stream begins with a frame, and this is what is done about its body, and what stands after it
 pub record IsFirst (old : Server) (stream : List ℕ) (answer : Reply) (new : Server) (rest : List ℕ) : Type 0 where
   pub body : List ℕ
   pub first : frame stream ≡ Ok (body, rest)
   pub answered : IsAnswered old new body answer
 
--- from one state of the server to another the first frames of a stream have these replies, one each and in order, and this stands behind them
+-- from one state of the server to another the first frames of a stream have these replies, one each and in order, and this stands after them
 abbrev pub AreAnswered : Server → List ℕ → List Reply → Server → List ℕ → Type 0
 AreAnswered old stream [] new rest = (new ≡ old) × (rest ≡ stream)
 AreAnswered old stream (answer ∷ answers) new rest = (mid : Server) × (left : List ℕ) × IsFirst old stream answer mid left × AreAnswered mid left answers new rest
 
--- behind a reply there may be more
+-- a reply that doesn't end a session
 abbrev pub IsNoExit : Reply → Type 0
 IsNoExit (reply.Exit status) = ⊥
 IsNoExit _ = ⊤
@@ -79,7 +79,7 @@ pub record EndWith (answers : List Reply) (status : ℕ) : Type 0 where
   pub last : answers ≡ before ++ reply.Exit status ∷ []
   pub on : AllByRecursion IsNoExit before
 
--- why it ended: the client said so, or no frame stands behind those that were answered, or what comes first couldn't be written
+-- why it ended: the client said so, or no frame stands after those that were answered, or what comes first couldn't be written
 abbrev pub IsReason : Ended → List ℕ → List Reply → Type 0
 IsReason (ended.Input end) rest answers = EndsSo end (frame rest) × AllByRecursion IsNoExit answers
 IsReason (ended.Exit status) rest answers = EndWith answers status
@@ -107,7 +107,7 @@ IsStatus (ended.Input Clean) phase status = status ≡ status_of phase
 IsStatus (ended.Exit said) phase status = status ≡ said
 IsStatus _ phase status = status ≡ 1
 
--- what was answered to a stream, in a session that shows these errors and begins with no document open, and went out before this status was given. Behind each
+-- what was answered to a stream, in a session that shows these errors and begins with no document open, and went out before this status was given. After each
 -- message nothing is known of a document, or it has the text that the edits of the protocol give, with its tree: `IsHandled` says so step by step
 pub record Serves (which : ShownErrors) (stream : List ℕ) (old new : Option (List ℕ)) (status : ℕ) : Type 0 where
   pub why : Ended

@@ -1,8 +1,7 @@
 //! What can be done about a stretch of a document.
 
-use crate::document::Document;
-use crate::walk::Extents;
 use std::alloc::{AllocError, Global};
+use typst_document::{Document, Extents};
 use typst_features::{Fix, quick_fixes};
 use typst_protocol::values::{Changes, CodeAction, TextEdit, WorkspaceEdit};
 use typst_protocol::{Params, Refusal, json_of};
@@ -31,7 +30,12 @@ pub fn actions(
             new_text: text.as_str(),
         })?;
         written.push(CodeAction {
-            title: title_of(alloc, document.text_at(&fix.range), text.as_str().trim())?,
+            title: title_of(
+                alloc,
+                document.text_at(&fix.range),
+                text.as_str().trim(),
+                fix.at_line_end,
+            )?,
             kind: "quickfix",
             edit: WorkspaceEdit {
                 changes: Changes { uri, edits },
@@ -58,13 +62,17 @@ fn texts_of(alloc: Global, fixes: &[Fix<'_>]) -> Result<Vec<String>, AllocError>
     Ok(texts)
 }
 
-/// How an edit is named that puts a text in the place of another one.
-fn title_of(alloc: Global, old: &str, new: &str) -> Result<String, AllocError> {
+/// How an edit is named that puts a text in the place of another one. Of two edits that close a delimiter the one
+/// at the end of its line says so, as editors list them by their names.
+fn title_of(alloc: Global, old: &str, new: &str, at_line_end: bool) -> Result<String, AllocError> {
     if new.is_empty() {
         if old.is_empty() {
             return String::from_str(alloc, "Insert a space");
         }
         return format!(in alloc; "Remove `{old}`");
+    }
+    if at_line_end {
+        return format!(in alloc; "Insert `{new}` at the end of the line");
     }
     if old.is_empty() {
         return format!(in alloc; "Insert `{new}`");

@@ -6,9 +6,9 @@ ghost use Rattle.typst_server.specs.Numbers as spec;
 ghost use Rattle.typst_server.specs.Results.{Grows, Names, encoding_name};
 
 use std::alloc::{AllocError, Global};
-use typst_features::TokenKind;
 use typst_positions::Encoding;
 use typst_protocol::Params;
+use typst_styles::TokenKind;
 
 /// The names of the types of tokens, each at the place of its number.
 const TYPES: &str =

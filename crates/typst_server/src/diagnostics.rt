@@ -5,11 +5,9 @@ ghost use Rattle.typst_features.specs.Problems.{reported};
 ghost use Rattle.typst_server.specs.Published as spec;
 ghost use Rattle.typst_server.specs.Published.{AreNone, AreProblemsOf, ArePublished, IsNotice, IsPublished, IsShownAt, Publishes, Reports, full_message, severity_number};
 
-use crate::document::Document;
-use crate::walk::{Extents, is_line_end};
 use std::alloc::{AllocError, Global};
 use std::ops::Range;
-use typst_parser::{Diagnostic, Severity};
+use typst_document::{Diagnostic, Document, Extents, Severity, is_line_end};
 use typst_protocol::values::{Problem, Problems, Report};
 use typst_protocol::{Refusal, json_of, notification};
 
@@ -166,7 +164,7 @@ fn message_of(alloc: Global, diagnostic: &Diagnostic) -> Result<String, AllocErr
     Ok(text)
 }
 
-/// Some bytes, and where they are none the character behind them: the one before them at the end of a
+/// Some bytes, and where they are none the character after them: the one before them at the end of a
 /// line, and none on an empty line.
 fn widened(text: &str, start: usize, end: usize) -> Range<usize>
     ensures { IsShownAt (record { start = start; end = end }) result }

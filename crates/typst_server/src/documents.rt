@@ -9,11 +9,11 @@ ghost use Rattle.typst_server.specs.Documents as spec;
 ghost use Rattle.typst_server.specs.Documents.{IsMissing, IsUnknown, Keeps, KeepsOthers, Knows, after, found, is_named, known, next};
 ghost use Rattle.typst_server.specs.Left.{AreSame, AreUnknown};
 
-use crate::document::Document;
 use crate::tokens::Sent;
 use serde_json::Value;
 use std::alloc::{AllocError, Global};
 use std::mem;
+use typst_document::Document;
 use typst_positions::Encoding;
 use typst_protocol::{Change, Refusal, is_same};
 
@@ -260,7 +260,7 @@ impl Documents {
         }
     }
 
-    /// Closes a document, and tells whether it was open.
+    /// Closes a document, and says whether it was open.
     pub fn close(&mut self, uri: &str) -> bool
         ensures closed { found uri.now self.new ≡ None }
         ensures was_open { result ≡ is_some (spec.entry_of uri.now self.old) }

@@ -7,7 +7,6 @@
 mod actions;
 mod capabilities;
 mod diagnostics;
-mod document;
 mod documents;
 mod links;
 mod naming;
@@ -19,11 +18,9 @@ mod showing;
 mod streams;
 mod tokens;
 mod typing;
-mod walk;
 mod workspace;
 
 pub use diagnostics::ShownErrors;
-pub use document::Document;
 pub use documents::Documents;
 pub use reply::Reply;
 pub use server::Server;

@@ -1,8 +1,7 @@
 //! What of a document leads elsewhere.
 
-use crate::document::Document;
-use crate::walk::Extents;
 use std::alloc::{AllocError, Global};
+use typst_document::{Document, Extents};
 use typst_features::{LinkKind, document_links};
 use typst_protocol::values::DocumentLink;
 use typst_protocol::{Refusal, json_of, neighbour};

@@ -1,18 +1,24 @@
 //! Requests about the label or the name at a position.
-ghost use Rattle.std.specs.Prelude.{IfOk, map};
+ghost use Rattle.std.specs.Prelude.{◌≡◌, ◌||◌, IfOk, map, not};
 ghost use Rattle.std.specs.String.{string_bytes};
+ghost use Rattle.typst_features.specs.Labels as labels;
+ghost use Rattle.typst_features.specs.Meanings as meanings;
+ghost use Rattle.typst_features.specs.Names as bound;
+ghost use Rattle.typst_features.specs.Renames.{is_bound, stands_as};
+ghost use Rattle.typst_protocol.specs.Parameters as parameters;
 ghost use Rattle.typst_server.specs.Located.{AreAt, IsHighlightOf, IsLocationOf, TellsHighlights, TellsLocations};
-ghost use Rattle.typst_server.specs.Results.{Locates, Shows};
+ghost use Rattle.typst_server.specs.Occurrences as spec;
+ghost use Rattle.typst_server.specs.Occurrences.{AtPosition};
 
-use crate::document::Document;
-use crate::walk::Extents;
 use std::alloc::{AllocError, Global};
+use typst_document::{
+    Document, Extents, SyntaxKind, UnicodeClasses, is_id_continue, is_valid_label_literal_id,
+    parse_code, ref_name,
+};
 use typst_features::{
-    Mention, MentionKind, Named, Occurrence, OccurrenceKind, Renamed, binding_of, mention_at,
+    Mention, MentionKind, Name, Named, Occurrence, OccurrenceKind, Renamed, binding_of, mention_at,
     name_at, named_at, names, uses_of,
 };
-use typst_lines::{is_id_continue, is_valid_label_literal_id, ref_name};
-use typst_parser::{SyntaxKind, UnicodeClasses, parse_code};
 use typst_protocol::values::{Changes, Highlight, Location, Renamable, TextEdit, WorkspaceEdit};
 use typst_protocol::{Params, Refusal, json_of};
 
@@ -23,11 +29,11 @@ pub fn definition(
     uri: &str,
     params: Params<'_>,
 ) -> Result<String, Refusal>
-    ensures { IfOk result (λ text. Locates uri.now document.now (string_bytes text)) }
+    ensures { IfOk result (λ text. AtPosition (parameters.seen params.entry) document.now (λ b. TellsLocations document.now uri.now (spec.defined (spec.occurrences document.now b)) (string_bytes text))) }
 {
     let mut found = occurrences(alloc, document, params)?;
     found.retain(|occurrence| is_defined(occurrence.kind));
-    locations(alloc, document, uri, &found)
+    locations(alloc, document, uri, found.as_slice())
 }
 
 /// Where the label or the name at the cursor is used, and also where it is defined if that is asked for.
@@ -37,20 +43,20 @@ pub fn references(
     uri: &str,
     params: Params<'_>,
 ) -> Result<String, Refusal>
-    ensures { IfOk result (λ text. Locates uri.now document.now (string_bytes text)) }
+    ensures { IfOk result (λ text. AtPosition (parameters.seen params.entry) document.now (λ b. TellsLocations document.now uri.now (spec.used (parameters.includes_label (parameters.seen params.entry)) (spec.occurrences document.now b)) (string_bytes text))) }
 {
     let with_definitions = params.includes_label();
     let mut found = occurrences(alloc, document, params)?;
-    found.retain(|occurrence| with_definitions || !is_defined(occurrence.kind));
-    locations(alloc, document, uri, &found)
+    found.retain(|occurrence| is_wanted(occurrence.kind, with_definitions));
+    locations(alloc, document, uri, found.as_slice())
 }
 
 /// Where the label or the name at the cursor stands.
 pub fn highlights(alloc: Global, document: &Document, params: Params<'_>) -> Result<String, Refusal>
-    ensures { IfOk result (λ text. Shows document.now (string_bytes text)) }
+    ensures { IfOk result (λ text. AtPosition (parameters.seen params.entry) document.now (λ b. TellsHighlights document.now (spec.stretches (spec.occurrences document.now b)) (string_bytes text))) }
 {
     let found = occurrences(alloc, document, params)?;
-    shown(alloc, document, &found)
+    shown(alloc, document, found.as_slice())
 }
 
 /// The definitions and uses of the label or the name at the cursor: labels and references with their marks.
@@ -58,30 +64,55 @@ fn occurrences(
     alloc: Global,
     document: &Document,
     params: Params<'_>,
-) -> Result<Vec<Occurrence>, Refusal> {
-    let byte = document.byte_of(params.position()?);
-    let mentions = typst_features::highlights(alloc, document.root(), byte)?;
+) -> Result<Vec<Occurrence>, Refusal>
+    ensures { IfOk result (λ found. AtPosition (parameters.seen params.entry) document.now (λ b. found.items ≡ spec.occurrences document.now b)) }
+{
+    let position = params.position()?;
+    let found = occurrences_at(alloc, document, document.byte_of(position))?;
+    Ok(found)
+}
+
+/// The same of a byte.
+fn occurrences_at(
+    alloc: Global,
+    document: &Document,
+    byte: usize,
+) -> Result<Vec<Occurrence>, AllocError>
+    ensures { IfOk result (λ found. found.items ≡ spec.occurrences document.now byte) }
+{
+    let found = typst_features::highlights(alloc, document.root(), byte)?;
+    let mentions = found.as_slice();
     if mentions.is_empty() {
-        Ok(bound_at(alloc, document, byte)?)
-    } else {
-        Ok(mentioned(alloc, &mentions)?)
+        return bound_at(alloc, document, byte);
     }
+    mentioned(alloc, mentions)
 }
 
 /// Labels as definitions, and references as uses.
-fn mentioned(alloc: Global, mentions: &[Mention<'_>]) -> Result<Vec<Occurrence>, AllocError> {
+fn mentioned(alloc: Global, mentions: &[Mention<'_>]) -> Result<Vec<Occurrence>, AllocError>
+    ensures { IfOk result (λ found. found.items ≡ map (λ m. spec.occurred (labels.mentioned m)) mentions.now) }
+{
     let mut found = Vec::new(alloc);
     for mention in mentions {
-        found.push(Occurrence {
-            kind: kind_of(mention.kind),
-            range: mention.range.start..mention.range.end,
-        })?;
+        found.push(occurrence_of(mention))?;
     }
     Ok(found)
 }
 
+/// A label or a reference with its marks.
+fn occurrence_of(mention: &Mention<'_>) -> Occurrence
+    ensures { result ≡ spec.occurred (labels.mentioned mention.now) }
+{
+    Occurrence {
+        kind: kind_of(mention.kind),
+        range: mention.range.start..mention.range.end,
+    }
+}
+
 /// What a label or a reference is to its name.
-fn kind_of(kind: MentionKind) -> OccurrenceKind {
+fn kind_of(kind: MentionKind) -> OccurrenceKind
+    ensures { result ≡ stands_as kind }
+{
     match kind {
         MentionKind::Label => OccurrenceKind::Definition,
         MentionKind::Reference => OccurrenceKind::Use,
@@ -89,28 +120,47 @@ fn kind_of(kind: MentionKind) -> OccurrenceKind {
 }
 
 /// The binding that the name at a byte means, and the uses that mean it.
-fn bound_at(
+fn bound_at(alloc: Global, document: &Document, byte: usize) -> Result<Vec<Occurrence>, AllocError>
+    ensures { IfOk result (λ found. found.items ≡ spec.bound_at document.now.source.text (bound.names document.now.source.root) (meanings.name_at (bound.names document.now.source.root) byte)) }
+{
+    let found = names(alloc, document.root())?;
+    let names = found.as_slice();
+    match name_at(names, byte) {
+        Some(index) => bound_by(alloc, document.text(), names, index),
+        None => Ok(Vec::new(alloc)),
+    }
+}
+
+/// The same of a name, by its place.
+fn bound_by(
     alloc: Global,
-    document: &Document,
-    byte: usize,
-) -> Result<Vec<Occurrence>, AllocError> {
-    let text = document.text();
-    let names = names(alloc, document.root())?;
-    let Some(index) = name_at(&names, byte) else {
-        return Ok(Vec::new(alloc));
-    };
-    match binding_of(text, &names, index) {
-        Some(binding) => uses_of(alloc, text, &names, binding),
+    text: &str,
+    names: &[Name],
+    index: usize,
+) -> Result<Vec<Occurrence>, AllocError>
+    ensures { IfOk result (λ found. found.items ≡ spec.with_uses text.now names.now (meanings.binding_of text.now names.now index)) }
+{
+    match binding_of(text, names, index) {
+        Some(binding) => uses_of(alloc, text, names, binding),
         None => Ok(Vec::new(alloc)),
     }
 }
 
 /// Whether a name is defined or bound there.
-fn is_defined(kind: OccurrenceKind) -> bool {
+fn is_defined(kind: OccurrenceKind) -> bool
+    ensures { result ≡ is_bound kind }
+{
     match kind {
         OccurrenceKind::Use => false,
         _ => true,
     }
+}
+
+/// Whether it counts as a reference, by whether definitions do.
+fn is_wanted(kind: OccurrenceKind, with_definitions: bool) -> bool
+    ensures { result ≡ (with_definitions || not (is_bound kind)) }
+{
+    with_definitions || !is_defined(kind)
 }
 
 /// Where some occurrences stand, as locations.

@@ -1,8 +1,7 @@
 //! The outline of a document.
 
-use crate::document::Document;
-use crate::walk::Extents;
 use std::alloc::{AllocError, Global};
+use typst_document::{Document, Extents};
 use typst_features::SymbolKind;
 use typst_protocol::values::{FlatSymbol, Location, Symbol};
 use typst_protocol::{Refusal, json_of};

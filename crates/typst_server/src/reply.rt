@@ -11,18 +11,18 @@ pub enum Reply {
     Nothing,
     /// It answers a request, with this body.
     Response(String),
-    /// It answers what isn't taken for a message, and tells what is lost by it.
+    /// It answers what isn't taken for a message, and says what is lost by it.
     Nameless(Unread, News),
-    /// It tells something of documents.
+    /// It sends something about documents.
     News(News),
     /// It ends, with this status.
     Exit(u8),
 }
 
-/// What the server tells of documents.
+/// What the server sends about documents.
 #[derive(Drop)]
 pub struct News {
-    /// What was known and isn't any more. The person is warned of it before the rest is told.
+    /// What was known and isn't any more. The user is warned of it before the rest is sent.
     pub lost: Option<Loss>,
     /// The bodies of notifications that publish errors and warnings, in order.
     pub published: Vec<String>,

@@ -1,8 +1,7 @@
 //! What of a document can be folded and selected.
 
-use crate::document::Document;
-use crate::walk::Extents;
 use std::alloc::{AllocError, Global};
+use typst_document::{Document, Extents};
 use typst_features::{Fold, FoldKind, expansions};
 use typst_protocol::params::position_of;
 use typst_protocol::values::{Extent, Folding, Place, Selection};
@@ -17,7 +16,7 @@ pub struct FoldingStyle {
     pub limit: Option<usize>,
 }
 
-/// The stretches to fold: no more than the client wants, of which those that end first are told.
+/// The stretches to fold: no more than the client wants, those that end first.
 pub fn foldings(
     alloc: Global,
     document: &Document,

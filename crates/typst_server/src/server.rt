@@ -23,7 +23,6 @@ ghost use Rattle.typst_server.specs.declared.server.Phase.TheVariants as phase;
 
 use crate::capabilities::capabilities;
 use crate::diagnostics::{ShownErrors, publish, publish_none, report};
-use crate::document::Document;
 use crate::documents::Documents;
 use crate::reply::{News, Reply};
 use crate::requests::FoldingStyle;
@@ -31,6 +30,7 @@ use crate::tokens::Sent;
 use crate::{actions, links, naming, outline, requests, showing, tokens, typing, workspace};
 use serde_json::Value;
 use std::alloc::{AllocError, Global};
+use typst_document::Document;
 use typst_positions::Encoding;
 use typst_protocol::{
     Event, Id, Loss, Message, Method, Notification, Params, Refusal, Request, Unread, failure,
@@ -152,7 +152,7 @@ impl Server {
         Reply::Nameless(unread, news)
     }
 
-    /// What is told where all documents are lost: nothing if none was known.
+    /// What is sent if all documents are lost: nothing if none was known.
     fn all_lost(&self) -> News
         ensures warned { result.lost ≡ None → AreUnknown self.now.documents }
         ensures emptied { EmptiesAll result }
@@ -215,7 +215,7 @@ impl Server {
         }
     }
 
-    /// What is told of a document that is lost.
+    /// What is sent about a document that is lost.
     fn lost(&self, uri: &str) -> News
         ensures lost { result.lost ≡ Some loss.Document }
         ensures published { All (λ text. Publishes (AreNone uri.now) (string_bytes text)) result.published.items }
@@ -392,7 +392,7 @@ impl Server {
     #[tactic(auto, using(crate::proofs::Keeping::of_nothing, crate::proofs::Keeping::of_sent, crate::proofs::Keeping::sent_stays, crate::proofs::Responses::about_known, crate::proofs::Responses::about_missing, crate::proofs::Responses::about_unnamed, crate::proofs::Responses::looked, crate::proofs::Responses::looked_tokens))]
     fn ask_document<'a>(&self, method: Method, params: Params<'a>) -> Result<Made<'a>, Refusal>
         ensures stays { IfOk result (λ made. standing_after made.effect self.now.standing ≡ self.now.standing) }
-        ensures answer { IsOf self.now.standing.errors method (parameters.uri (parameters.seen params.entry)) self.now.documents (answer_of result) }
+        ensures answer { IsOf self.now.standing.errors method (parameters.seen params.entry) (parameters.uri (parameters.seen params.entry)) self.now.documents (answer_of result) }
         ensures tokens { IsOfTokens self.now (Some method) (parameters.seen params.entry) result }
     {
         let uri = params.uri()?;
@@ -437,7 +437,7 @@ impl Server {
         method: Method,
         params: Params<'_>,
     ) -> Result<String, Refusal>
-        ensures { IfOk result (λ text. Looks self.now.standing.errors method uri.now document.now (string_bytes text)) }
+        ensures { IfOk result (λ text. Looks self.now.standing.errors method (parameters.seen params.entry) uri.now document.now (string_bytes text)) }
     {
         match method {
             Method::Diagnostics => report(self.alloc, document, self.standing.errors),
@@ -563,7 +563,7 @@ impl Server {
         }
     }
 
-    /// What is told of a document: its errors and warnings, at a version of it, unless the client asks for
+    /// What is sent about a document: its errors and warnings, at a version of it, unless the client asks for
     /// them; where its text isn't known that it is lost, if that `is_new`.
     fn news_of(&self, uri: &str, version: Option<i64>, is_new: bool) -> Reply
         ensures news { IsNewsReply self.now.standing.errors (found uri.now self.now.documents) uri.now version result }
@@ -607,7 +607,7 @@ fn alone<'a>(value: Result<String, Refusal>) -> Result<Made<'a>, Refusal>
     })
 }
 
-/// A notification that was made is told.
+/// The reply that sends a notification that was made.
 fn told(alloc: Global, made: Result<String, Refusal>) -> Reply
     ensures told { IsToldOf made result }
     ensures lost { loss_of result ≡ None }

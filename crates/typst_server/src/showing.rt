@@ -1,8 +1,7 @@
 //! What is shown of a position: what is known of it, and what a word there may become.
 
-use crate::document::Document;
-use crate::walk::Extents;
 use std::alloc::Global;
+use typst_document::{Document, Extents};
 use typst_features::{CompletionKind, completions_at, hover_at};
 use typst_protocol::values::{CompletionItem, CompletionList, Hover, MarkupContent, TextEdit};
 use typst_protocol::{Params, Refusal, json_of};

@@ -137,7 +137,7 @@ fn write_reply<W: Write>(reply: &Reply, output: &mut W) -> io::Result<()>
     }
 }
 
-/// Writes what is told of documents.
+/// Writes what is sent about documents.
 fn write_news<W: Write>(news: &News, output: &mut W) -> io::Result<()>
     ensures whole { OnOk result (Appends (W.contents output.old) (W.contents output.new) (frames_of (told news.now))) }
     ensures begins { Begins (W.contents output.old) (W.contents output.new) (frames_of (told news.now)) }

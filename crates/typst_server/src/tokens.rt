@@ -5,15 +5,14 @@ ghost use Rattle.typst_server.specs.Sent.{AreAll, IsSentAs, Leads, TellsOf, made
 ghost use Rattle.typst_server.specs.Numbers.{IsAdded, all_shown, clipped, decoded, encoded, shown, shown_each};
 
 use crate::capabilities::{modifiers_of, number_of};
-use crate::document::Document;
-use crate::walk::Walk;
 use std::alloc::{AllocError, Global};
 use std::ops::Range;
-use typst_features::{Token, edit_between, semantic_tokens};
+use typst_document::{Document, Walk};
 use typst_protocol::values::{Place, TokenChanges, TokenEdit, Tokens};
 use typst_protocol::{Params, Refusal, json_of};
+use typst_styles::{Token, edit_between, semantic_tokens};
 
-/// The tokens that were sent last, by which changes are told.
+/// The tokens that were sent last, as changes of which new ones are sent.
 #[derive(Drop)]
 pub struct Sent {
     name: String,
@@ -119,7 +118,7 @@ pub fn fresh(alloc: Global, document: &Document, number: u64) -> Result<Sent, Al
     })
 }
 
-/// What is told of tokens.
+/// What is sent for tokens.
 #[derive(Drop)]
 pub enum Told<'a> {
     /// All.
@@ -129,7 +128,7 @@ pub enum Told<'a> {
 }
 
 impl Told<'_> {
-    /// The answer that tells it, as JSON.
+    /// The answer with it, as JSON.
     pub fn text(&self, alloc: Global) -> Result<String, Refusal> {
         match self {
             Told::All(tokens) => json_of(alloc, tokens),
@@ -138,7 +137,7 @@ impl Told<'_> {
     }
 }
 
-/// What is told of tokens that are sent: what has changed where the client has others, and else all.
+/// What is sent for tokens: the changes if the client has the last ones, otherwise all.
 pub fn tell<'a>(alloc: Global, sent: &'a Sent, last: Option<&Sent>) -> Result<Told<'a>, AllocError>
     ensures { IfOk result (TellsOf (option_map (λ sent. sent.now) last.entry) sent.now) }
 {

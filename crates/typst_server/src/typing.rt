@@ -1,8 +1,7 @@
 //! What is edited after a character that was typed.
 
-use crate::document::Document;
-use crate::walk::Extents;
 use std::alloc::Global;
+use typst_document::{Document, Extents};
 use typst_features::next_item;
 use typst_protocol::values::TextEdit;
 use typst_protocol::{Params, Refusal, json_of};

@@ -2,11 +2,10 @@
 ghost use Rattle.typst_protocol.specs.Parameters as parameters;
 ghost use Rattle.typst_server.specs.Results.{OfDocuments, said_of};
 
-use crate::document::Document;
 use crate::documents::Documents;
 use crate::outline::{name_of, number_of};
-use crate::walk::Extents;
 use std::alloc::{AllocError, Global};
+use typst_document::{Document, Extents};
 use typst_protocol::values::{FlatSymbol, Location};
 use typst_protocol::{Params, Refusal, json_of};
 

@@ -26,7 +26,7 @@ static CHAIN: [Part; 3] = [
     (&[(SyntaxKind::Markup, "", Some(2))], 1),
 ];
 
-/// As many hashes, and a name behind the last.
+/// As many hashes, and a name after the last.
 static HASHES: [Part; 2] = [
     (&[(SyntaxKind::Hash, "#", None)], COUNT),
     (

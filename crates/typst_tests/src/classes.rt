@@ -28,7 +28,7 @@ const UNSPACED_NUMBER: Answers = [true, true, true, true, true, false];
 
 const CONTINUES: Answers = [false, true, false, false, false, false];
 
-/// The characters White_Space but for some of the spaces from U+2000 to U+200A.
+/// The characters White_Space except some of the spaces from U+2000 to U+200A.
 const WHITE_SPACE: &str =
     "\t\n\r \u{85}\u{a0}\u{1680}\u{2000}\u{200a}\u{2028}\u{2029}\u{202f}\u{205f}\u{3000}";
 

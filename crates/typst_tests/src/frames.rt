@@ -29,7 +29,7 @@ fn has(alloc: Global, stream: Reader<'_>, bodies: &[&[u8]], end: End) -> Option<
     Some(ends(&mut frames, &mut body, end))
 }
 
-/// A stream with the bodies that it has, and how it ends behind them.
+/// A stream with the bodies that it has, and how it ends after them.
 type Row<'a> = (&'a [u8], &'a [&'a [u8]], End);
 
 static ROWS: [Row<'static>; 30] = [

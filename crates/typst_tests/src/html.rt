@@ -1,4 +1,4 @@
-//! The HTML of four documents that are made by hand.
+//! The HTML of four documents that are built node by node.
 
 use crate::refusals::{DEEP, is_told};
 use crate::rows::{Row, tree};
@@ -6,7 +6,7 @@ use std::alloc::Global;
 use typst_highlight::highlight_html;
 use typst_kinds::SyntaxKind;
 
-/// A heading from right to left with an equals sign of its own, and behind it tabs: in a text, in
+/// A heading from right to left with an equals sign of its own, and after it tabs: in a text, in
 /// raw text and between them.
 pub(crate) const RIGHT_TO_LEFT: [Row; 25] = [
     (SyntaxKind::HeadingMarker, "=", None),
@@ -39,7 +39,7 @@ pub(crate) const RIGHT_TO_LEFT: [Row; 25] = [
 const RIGHT_TO_LEFT_HTML: &str =
     "<code><span class=\"typ-heading\">= שלום <span class=\"typ-strong\">*עולם*</span>\u{200f}&quot;&lt;&quot;=</span>\n\n\ta\t<span class=\"typ-raw\">`\tx`</span><span class=\"typ-label\">&lt;l&gt;</span></code>";
 
-/// A term with a call behind it.
+/// A term with a call after it.
 pub(crate) const TERM: [Row; 22] = [
     (SyntaxKind::TermMarker, "/", None),
     (SyntaxKind::Space, " ", None),
@@ -68,7 +68,7 @@ pub(crate) const TERM: [Row; 22] = [
 const TERM_HTML: &str =
     "<code><span class=\"typ-marker\">/</span> <span class=\"typ-term\">a</span><span class=\"typ-punct\">:</span> b &amp; &#39;c&#39; <span class=\"typ-func\">#</span><span class=\"typ-func\">f</span><span class=\"typ-punct\">[</span>x<span class=\"typ-punct\">]</span> d</code>";
 
-/// A binding, and errors before and behind it.
+/// A binding, and errors before and after it.
 pub(crate) const ERRORS: [Row; 10] = [
     (SyntaxKind::Error, "*/", None),
     (SyntaxKind::Hash, "#", None),

@@ -43,7 +43,7 @@ fn has_units(lines: &Lines<&str>, units: &[(usize, usize)]) -> bool {
     true
 }
 
-/// Whether a line ends where it does, and nothing lies behind the text or within a character.
+/// Whether a line ends where it does, and nothing lies past the text or within a character.
 fn has_ends(lines: &Lines<&str>) -> bool {
     let nowhere = [
         lines.line_column_to_byte(1, 6),
@@ -78,7 +78,7 @@ pub(crate) fn lines_of(alloc: Global, text: &str) -> Option<Lines<String>> {
     Lines::new(alloc, String::from_str(alloc, text).ok()?).ok()
 }
 
-/// Whether the text is this one, with its table made anew.
+/// Whether the text is this one, with its table newly made.
 pub(crate) fn is_anew(alloc: Global, lines: &Lines<String>, text: &str) -> Option<bool> {
     let anew = Lines::new(alloc, text).ok()?;
     for i in 0..anew.len_lines() {

@@ -10,7 +10,7 @@ use typst_tree::{LinkedNode, SyntaxNode, is_ordered};
 #[derive(Clone, Copy)]
 struct Place {
     parent: Option<usize>,
-    /// Behind all that is below it.
+    /// After all that is below it.
     behind: usize,
     begin: usize,
     end: usize,
@@ -299,7 +299,7 @@ const ODD: &[Row] = &[
 
 const A: &[Row] = &[(SyntaxKind::Ident, "a", None)];
 
-/// Goes round the node before it.
+/// Goes around the node before it.
 const LINK: &[Row] = &[(SyntaxKind::Strong, "", Some(1))];
 
 /// A leaf below five nodes with one child each.
@@ -312,7 +312,7 @@ const CHAIN: &[Row] = &[
     (SyntaxKind::Strong, "", Some(1)),
 ];
 
-/// The same below six.
+/// A leaf below six nodes with one child each.
 const LONG_CHAIN: &[Row] = &[
     (SyntaxKind::Ident, "a", None),
     (SyntaxKind::Strong, "", Some(1)),

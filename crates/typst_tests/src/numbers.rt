@@ -304,7 +304,7 @@ fn grown(alloc: Global, turns: usize) -> Option<usize> {
     Some(node.len())
 }
 
-// Few numbers are free, so that neighbours have to be numbered anew again and again.
+// Few numbers are free, so that neighbours have to be numbered again and again.
 #[test]
 fn two_hundred_replacements(rt: HostRuntime) {
     assert!(rt; grown(rt.alloc(), 200) == Some(600));

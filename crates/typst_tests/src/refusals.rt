@@ -202,7 +202,7 @@ fn replaces_or_stays(
     }
 }
 
-// Among all numbers, where the neighbour has to be numbered anew, and where numbers are too few.
+// Among all numbers, where the neighbour has to be numbered again, and where numbers are too few.
 const REPLACEMENTS: [Case; 6] = [
     Case::Replaces(END, 0, Ok(())),
     Case::Replaces(END, 1, Ok(())),

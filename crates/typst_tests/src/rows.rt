@@ -1,4 +1,4 @@
-//! Trees made by hand from their nodes. Where memory was refused there is nothing.
+//! Trees built node by node. Where memory was refused there is nothing.
 
 use std::alloc::Global;
 use typst_kinds::SyntaxKind;

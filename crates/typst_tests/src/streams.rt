@@ -48,7 +48,7 @@ pub struct Reader<'a> {
 }
 
 impl Reader<'_> {
-    /// A reader that ends behind the bytes.
+    /// A reader that ends after the bytes.
     pub fn ending(bytes: &[u8], pace: Pace) -> Reader<'_> {
         Reader {
             bytes,
@@ -58,7 +58,7 @@ impl Reader<'_> {
         }
     }
 
-    /// A reader that fails behind the bytes.
+    /// A reader that fails after the bytes.
     pub fn failing(bytes: &[u8], pace: Pace) -> Reader<'_> {
         Reader {
             bytes,
@@ -114,7 +114,7 @@ pub struct Room {
 }
 
 impl Room {
-    /// Room for so many bytes, behind which writes fail.
+    /// Room for so many bytes, after which writes fail.
     pub fn of(bytes: usize, pace: Pace) -> Room {
         Room {
             bytes,

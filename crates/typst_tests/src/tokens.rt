@@ -77,7 +77,7 @@ fn counts_columns(rt: HostRuntime) {
     assert!(rt; start_at(rt.alloc(), text, &STARTS));
 }
 
-/// Whether the end is reached; nothing where the lexer doesn't stand behind the token that it read, or
+/// Whether the end is reached; nothing where the lexer doesn't stand after the token that it read, or
 /// where memory was refused not where it stood.
 fn ends_here(alloc: Global, lexer: &mut Lexer<'_, UnicodeClasses>) -> Option<bool> {
     let (cursor, newline) = (lexer.cursor(), lexer.newline());

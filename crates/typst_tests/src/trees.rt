@@ -21,7 +21,7 @@ const FRONT: [Row; 3] = [
     (SyntaxKind::Star, "*", None),
 ];
 
-/// What stands behind it.
+/// What stands after it.
 const BEHIND: [Row; 4] = [
     (SyntaxKind::Star, "*", None),
     (SyntaxKind::Strong, "", Some(3)),

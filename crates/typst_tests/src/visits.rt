@@ -81,7 +81,7 @@ fn offsets_end_at_the_largest(rt: HostRuntime) {
 /// How many levels a chain has, each of them a node with the next one below it.
 const LEVELS: usize = 100_000;
 
-/// A chain of nodes over an `a`, each with a `b` before or behind the next one.
+/// A chain of nodes over an `a`, each with a `b` before or after the next one.
 fn chain(alloc: Global, is_last: bool) -> Result<SyntaxNode, AllocError> {
     let mut node = SyntaxNode::leaf(alloc, SyntaxKind::Ident, "a")?;
     for _ in 1..LEVELS {

@@ -20,7 +20,7 @@ const TREE: [Row; 10] = [
 ];
 
 /// Where a node begins and ends, and the places in preorder of its parent, next sibling, leaf before, leaf
-/// behind and first leaf within.
+/// after and first leaf within.
 type Standing = (usize, usize, [Option<usize>; 5]);
 
 /// The nodes of `TREE` in preorder.

@@ -1,4 +1,4 @@
-//! Typing behind something that is open: till it is closed, what follows is read as a part of it.
+//! Typing after something that is open: till it is closed, what follows is read as a part of it.
 
 use crate::digest::Outcome;
 use crate::document::Shape;
@@ -37,7 +37,7 @@ const IN_MARKUP: &[Marks] = &[
     },
 ];
 
-/// The same in code.
+/// The marks of a code block, a content block, a formula, a string and raw text in code.
 const IN_CODE: &[Marks] = &[
     Marks {
         opening: "{",
@@ -68,7 +68,7 @@ const TYPED: &str = "revised";
 const TAKEN: usize = 3;
 
 /// Opens a brace, a bracket, a dollar sign, a quote and a backtick near the front of documents and packages
-/// of 20 and 60 kilobytes, types behind each, and closes it.
+/// of 20 and 60 kilobytes, types after each, and closes it.
 pub fn broken(alloc: Global, random: &mut Random, outcome: &mut Outcome) -> anyhow::Result<()> {
     for bytes in [20_000, 60_000] {
         for marks in IN_MARKUP {
@@ -97,7 +97,7 @@ fn type_behind(
 }
 
 /// Types a mark that opens something, a word, and the mark that closes it, and holds the tree before and
-/// behind the last.
+/// after the last.
 fn open_and_close(
     alloc: Global,
     desk: &mut Desk,
@@ -111,7 +111,7 @@ fn open_and_close(
     desk.hold(alloc, outcome)
 }
 
-/// Types a mark that opens something and a word behind it, and gives where this ends.
+/// Types a mark that opens something and a word after it, and gives where this ends.
 fn open(desk: &mut Desk, start: usize, mark: &str, outcome: &mut Outcome) -> anyhow::Result<usize> {
     let opened = desk.type_letters(start, mark, outcome)?;
     let typed = desk.type_letters(opened, TYPED, outcome)?;

@@ -3,7 +3,7 @@
 use crate::random::Random;
 use std::alloc::{AllocError, Global};
 
-/// The text with something put behind one of so many lines, and with the spaces at the ends of lines
+/// The text with something put after one of so many lines, and with the spaces at the ends of lines
 /// left out.
 pub fn formatted(
     alloc: Global,
@@ -18,7 +18,7 @@ pub fn formatted(
     Ok(out)
 }
 
-/// Adds a line without the spaces at its end, with something put behind it in one of so many cases.
+/// Adds a line without the spaces at its end, with something put after it in one of so many cases.
 fn push_formatted(
     out: &mut String,
     random: &mut Random,

@@ -241,7 +241,7 @@ fn push_display(text: &mut String, random: &mut Random) -> Result<(), AllocError
     text.push_str("z $\n\n")
 }
 
-/// Writes a function of code behind its `let`.
+/// Writes a function of code after its `let`.
 fn push_function(text: &mut String, random: &mut Random) -> Result<(), AllocError> {
     let number = random.below(1000);
     write!(text, "item{number}(first, second: 12pt, ..rest) = {{\n")?;

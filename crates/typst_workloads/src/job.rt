@@ -18,7 +18,7 @@ pub enum Job {
     Typing,
     /// Typing into texts that are one block as a whole.
     Blocks,
-    /// Typing behind something that is open.
+    /// Typing after something that is open.
     Broken,
     /// Walking through trees and highlighting what is shown.
     Walking,
@@ -28,7 +28,7 @@ pub enum Job {
     Outside,
     /// Finding positions in lines.
     Positions,
-    /// Summing up short texts, as it was done by hand. It is no job of users and isn't timed.
+    /// Summing up short texts, against sums that were computed separately. It is no job of users and isn't timed.
     Sums,
 }
 

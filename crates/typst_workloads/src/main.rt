@@ -52,7 +52,7 @@ fn unknown() -> anyhow::Error {
 }
 
 /// Does the jobs of a name on so many rounds of inputs, and prints how many results were held against
-/// others made anew, how many agreed, and where it isn't only a check the digest of all results. Where a
+/// newly made ones, how many agreed, and where it isn't only a check the digest of all results. Where a
 /// result differs, it ends with an error.
 fn do_jobs(
     rt: &HostRuntime,
@@ -101,7 +101,7 @@ fn repeat(rt: &HostRuntime, word: &str, rounds: &str) -> anyhow::Result<()> {
     repeat_on(rt, work, rounds, text)
 }
 
-/// The same on a text.
+/// Does the work so many times on a text, and prints what `repeat` says.
 fn repeat_on(rt: &HostRuntime, work: Work, rounds: u64, text: String) -> anyhow::Result<()> {
     let bytes = text.len();
     let mut subject = work.subject(rt.alloc(), text)?;

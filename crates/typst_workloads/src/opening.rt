@@ -11,8 +11,8 @@ use typst_parser::{Source, UnicodeClasses, highlight_html};
 const FILES: usize = 22;
 
 /// Opens a project: documents of 2 to 50 kilobytes, packages, comments, formulas, nests, prose in other
-/// scripts, and a document of a megabyte. Of one in ten files the tree is held against one that is parsed
-/// anew, in each round of others.
+/// scripts, and a document of a megabyte. Of one in ten files the tree is held against one that is newly
+/// parsed, in each round of others.
 pub fn opening(
     alloc: Global,
     random: &mut Random,
@@ -27,7 +27,7 @@ pub fn opening(
     Ok(())
 }
 
-/// Makes the page of a source; where its tree is to be held, holds it against the one that is parsed anew.
+/// Makes the page of a source; where its tree is to be held, holds it against the one that is newly parsed.
 fn open(
     alloc: Global,
     source: &Source<UnicodeClasses>,

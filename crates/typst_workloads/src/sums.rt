@@ -1,11 +1,11 @@
-//! Sums that are known by hand.
+//! Sums that are computed separately.
 
 use crate::digest::Outcome;
 use crate::work::Work;
 use std::alloc::Global;
 
 /// Kinds of work, texts, and what a round on the text sums up. `"a\r\nb"` has four units, and its second
-/// line begins behind three bytes and three units; `"a"` is one byte and two nodes.
+/// line begins after three bytes and three units; `"a"` is one byte and two nodes.
 const ROWS: [(Work, &str, u64); 4] = [
     (Work::Lines, "a\r\nb", 10),
     (Work::Parse, "a", 3),
@@ -13,7 +13,7 @@ const ROWS: [(Work, &str, u64); 4] = [
     (Work::ParseMath, "a", 3),
 ];
 
-/// Does a round of each kind of work on a short text, and holds its sum against the one by hand.
+/// Does a round of each kind of work on a short text, and holds its sum against the one computed separately.
 pub fn sums(alloc: Global, outcome: &mut Outcome) -> anyhow::Result<()> {
     for (work, text, sum) in &ROWS {
         outcome.hold("a sum", sum_of(alloc, *work, text)? == *sum);

@@ -79,8 +79,8 @@ struct Task {
     turn: usize,
 }
 
-/// Makes a source of a text, does so many keystrokes, and holds the tree against the one that is parsed
-/// anew.
+/// Makes a source of a text, does so many keystrokes, and holds the tree against the one that is newly
+/// parsed.
 fn type_into(
     alloc: Global,
     random: &mut Random,
@@ -104,7 +104,7 @@ pub fn source(
     Source::detached(alloc, text, UnicodeClasses).map_err(told)
 }
 
-/// Holds a source's tree, of which it is told what it is, against the one that is parsed anew.
+/// Holds a source's tree, of which it is told what it is, against the one that is newly parsed.
 pub fn hold_tree(
     alloc: Global,
     source: &Source<UnicodeClasses>,
@@ -237,7 +237,7 @@ impl Desk {
         Ok(at)
     }
 
-    /// Holds the tree against the one that is parsed anew, and digests both text and tree.
+    /// Holds the tree against the one that is newly parsed, and digests both text and tree.
     pub fn hold(&self, alloc: Global, outcome: &mut Outcome) -> anyhow::Result<()> {
         outcome.digest.add_text(self.source.text());
         outcome.digest.add_tree(self.source.root());
@@ -289,7 +289,7 @@ impl Desk {
         Ok(at)
     }
 
-    /// Asks what an editor asks behind a keystroke: the cursor's line, column and UTF-16 offset and the
+    /// Asks what an editor asks after a keystroke: the cursor's line, column and UTF-16 offset and the
     /// ways back, the leaf at the cursor, and the bytes of its span.
     fn ask(&self, at: usize, outcome: &mut Outcome) {
         let digest = &mut outcome.digest;

@@ -89,7 +89,7 @@ fn first_leaf<'a>(root: LinkedNode<'a>, byte: usize) -> Option<LinkedNode<'a>> {
     }
 }
 
-/// Shows a leaf: its tag, its range, and what stands behind it, and the tags of up to three nodes above
+/// Shows a leaf: its tag, its range, and what stands after it, and the tags of up to three nodes above
 /// it that begin where it begins, since the others were shown with an earlier leaf.
 fn show(leaf: LinkedNode<'_>, digest: &mut Digest) {
     let range = leaf.range();

@@ -19,7 +19,7 @@ pub enum TreeWord {
     Tags,
     /// The stretches of the text with their tags.
     Tagged,
-    /// What of a text may be read anew in an edit.
+    /// What of a text may be read again in an edit.
     Candidates,
     /// The syntax tree of the text as markup, with the number of each node.
     Spans,

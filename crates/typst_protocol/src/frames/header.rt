@@ -14,7 +14,7 @@ pub(crate) fn length_after(line: &[u8], before: Option<usize>) -> Option<Option<
     agreed(before, number(trimmed(value))?)
 }
 
-/// What stands before the first colon, and what behind it.
+/// What stands before the first colon, and what after it.
 fn at_colon(line: &[u8]) -> Option<(&[u8], &[u8])>
     ensures { option_map (λ parts. (parts.0.now, parts.1.now)) result ≡ spec.at_colon line.now }
 {
@@ -56,7 +56,7 @@ fn unled(value: &[u8]) -> &[u8]
     rest
 }
 
-/// A value without the spaces and tabs behind it.
+/// A value without the spaces and tabs after it.
 fn unfollowed(value: &[u8]) -> &[u8]
     ensures { result.now ≡ reverse (spec.unled (reverse value.now)) }
 {

@@ -123,7 +123,7 @@ fn fill_all<R: Read>(reader: &mut R, body: &mut Vec<u8>) -> Result<(), End>
     fill(reader, body.as_mut_slice())
 }
 
-/// Reads a head, and says how long the body behind it is.
+/// Reads a head, and says how long the body after it is.
 fn read_head<R: Read>(reader: &mut R) -> Result<usize, End>
     ensures { IfSome (R.remaining reader.old) (λ bytes. ReadsHead bytes result (R.remaining reader.new)) }
 {

@@ -23,7 +23,7 @@ pub fn write_frame<W: Write>(writer: &mut W, body: &[u8]) -> io::Result<()>
     flush(writer)
 }
 
-/// A frame that was written is read again, whatever follows it, and so are frames in a row, behind which
+/// A frame that was written is read again, whatever follows it, and so are frames in a row, after which
 /// the stream ends clean.
 pub fn written_is_read()
     ensures one { (body rest : List ℕ) → length body < 2 ^ 64 → frame (written body ++ rest) ≡ Ok (body, rest) }

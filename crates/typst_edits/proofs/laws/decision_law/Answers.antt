@@ -1,7 +1,6 @@
 use Rattle.typst_edits.proofs.InnerBytes.{inner-decision-law}
 use Rattle.typst_edits.proofs.Bytes.{decision-law}
-use Rattle.typst_edits.proofs.JointBytes.{joint-decision-law}
-use Rattle.typst_edits.proofs.RunBytes.{run-decision-law}
+use Rattle.typst_edits.proofs.RunBytes.{run-decision-law, joint-decision-law}
 use Rattle.typst_edits.proofs.laws.decision_law.Goals as goal
 
 pub returns-clause-blocks : goal.returns-clause-blocks

@@ -72,6 +72,7 @@ returns c = λ beyond. record {
     shifted = refl;
     meets = record { known = refl; known_now = refl; value = λ o. cc; over = λ o k. ends-alike 1 0 k; errors = λ o. cc };
   };
+  own_nodes = refl;
   line_values = refl;
   line_over = refl;
 }

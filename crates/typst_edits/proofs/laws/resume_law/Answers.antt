@@ -1,5 +1,4 @@
-use Rattle.typst_edits.proofs.InnerPiecesLog.{inner-pieces-log-law}
-use Rattle.typst_edits.proofs.PiecesLog.{pieces-log-law}
+use Rattle.typst_edits.proofs.PiecesLog.{pieces-log-law, inner-pieces-log-law}
 use Rattle.typst_edits.proofs.Resumed.{resume-law, inner-resume-law, count-law, inner-count-law}
 use Rattle.typst_edits.proofs.laws.resume_law.Goals as goal
 

@@ -1,7 +1,7 @@
 use Rattle.std.proofs.Common.{◌≡◌, List, ap, subst, ◌∙◌}
 use Rattle.std.specs.Str.{IsUtf8}
-use Rattle.typst_features.specs.Tokens.{tokens_in}
-use Rattle.typst_features.specs.declared.tokens.Token.{Token}
+use Rattle.typst_styles.specs.Tokens.{tokens_in}
+use Rattle.typst_styles.specs.declared.tokens.Token.{Token}
 use Rattle.typst_server.proofs.Decoding.{tokens-back}
 use Rattle.typst_server.proofs.Encoding.{if-ok}
 use Rattle.typst_server.proofs.tokens.numbers_of.Goals as goal

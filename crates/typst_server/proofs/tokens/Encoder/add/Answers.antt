@@ -4,8 +4,8 @@ use Rattle.typst_positions.specs.Positions.{position_of}
 use Rattle.typst_positions.specs.declared.positions.Position.{Position}
 use Rattle.typst_server.proofs.tokens.Encoder.add.Goals as goal
 use Rattle.typst_server.proofs.tokens.Encoder.add.Goals.{then-line-self, else-line-self}
-use Rattle.typst_server.specs.Document.{Opened}
-use Rattle.typst_features.specs.Tokens.{end_of}
+use Rattle.typst_document.specs.Document.{Opened}
+use Rattle.typst_styles.specs.Tokens.{end_of}
 use Rattle.typst_server.specs.Numbers.{clipped, shown}
 
 pub returns-clause-added : goal.returns-clause-added

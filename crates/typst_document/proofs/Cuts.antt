@@ -1,0 +1,52 @@
+-- Texts that are cut out of others.
+use Rattle.std.proofs.Common.{◌≡◌, ℕ, ◌+◌, ◌-◌, ◌≤◌, List, [], ◌∷◌, ◌++◌, length, take, drop, get_or, Option, None, Some, refl, ap, sym, subst, ◌∙◌, arith, append_assoc}
+use Rattle.std.specs.Borrow.{Bor}
+use Rattle.std.specs.Prelude.{slice_range}
+use Rattle.std.specs.Option.{unwrap_or}
+use Rattle.std.specs.Str.{IsCharBoundary, IsUtf8, chars}
+use Rattle.std.specs.Str.Pattern.{GetsRange}
+use Rattle.std.specs.declared.ops.Range.{Range}
+use Rattle.std.proofs.Math.Utf8.{encode, encodes}
+use Rattle.std.proofs.lemmas.List.{drop-drop, get_or-drop, take-append-drop}
+use Rattle.std.proofs.lemmas.Str.{IsCharBoundary-from_drop, IsCharBoundary-start, IsUtf8-drop, IsUtf8-past_char, encodes-chars}
+use Rattle.typst_document.specs.Document.{IsTextAt}
+
+-- what follows characters is text again
+past_chars : (cs bs rest : List ℕ) → IsUtf8 bs → bs ≡ encodes cs ++ rest → IsUtf8 rest
+past_chars [] bs rest u e = subst IsUtf8 e u
+past_chars (c ∷ cs) bs rest u e = past_chars cs (encodes cs ++ rest) rest (IsUtf8-past_char bs (encodes cs ++ rest) c u (e ∙ append_assoc (encode c) (encodes cs) rest)) refl
+
+past_text : (xs bs rest : List ℕ) → IsUtf8 xs → IsUtf8 bs → bs ≡ xs ++ rest → IsUtf8 rest
+past_text xs bs rest ux ub e = past_chars (chars xs) bs rest ub (e ∙ ap (λ ys. ys ++ rest) (sym (encodes-chars xs ux)))
+
+-- the bytes from i to j of a text are followed by those from j on
+cut_out : (s : List ℕ) (i j : ℕ) → i ≤ j → drop i s ≡ slice_range s i j ++ drop j s
+cut_out s i j ordered =
+    sym (take-append-drop (j - i) (drop i s)) ∙ ap (λ ys. take (j - i) (drop i s) ++ ys) (drop-drop (j - i) i s ∙ ap (λ n. drop n s) (omega arith))
+
+-- where text begins in a text a character does
+begins : (s rest : List ℕ) (i x : ℕ) (xs : List ℕ) → i ≤ length s → IsUtf8 (x ∷ xs) → drop i s ≡ (x ∷ xs) ++ rest → IsCharBoundary s i
+begins s rest i x xs within u e =
+    let first : get_or s i 0 ≡ x = ap (λ n. get_or s n 0) (omega arith) ∙ sym (get_or-drop i s 0 0) ∙ ap (λ ys. get_or ys 0 0) e in
+    (within, λ _ high. let opens = (IsCharBoundary-start (x ∷ xs) u).1 (omega arith) (omega (arith, first, high)) in omega (arith, first, opens))
+
+-- a part that is text and isn't empty begins and ends between characters
+between_chars : (s xs : List ℕ) (i j : ℕ) → IsUtf8 s → IsUtf8 xs → xs ≡ slice_range s i j → length xs + i ≡ j → j ≤ length s → (IsCharBoundary s i → ¬ (IsCharBoundary s j)) → xs ≡ []
+between_chars s [] i j us ux is ends within out = refl
+between_chars s (x ∷ xs) i j us ux is ends within out =
+    let split : drop i s ≡ (x ∷ xs) ++ drop j s = cut_out s i j (omega arith) ∙ ap (λ ys. ys ++ drop j s) (sym is) in
+    let start : IsCharBoundary s i = begins s (drop j s) i x xs (omega arith) ux split in
+    absurd (out start (IsCharBoundary-from_drop s j within (past_text (x ∷ xs) (drop i s) (drop j s) ux (IsUtf8-drop s i us start) split)))
+
+-- what `get` finds, and nothing where it finds nothing
+pub text_found : (s : List ℕ) (bytes : Range ℕ) (found : Option (Bor (List ℕ))) (nothing result : Bor (List ℕ)) → IsUtf8 s → IsUtf8 result.now → GetsRange s bytes.start bytes.end found → nothing.now ≡ []
+    → result ≡ unwrap_or found nothing → IsTextAt s bytes result.now
+text_found s bytes None nothing result us ur h empty is =
+    record { within = λ ordered start end. absurd (h ordered start end); none = λ _. ap (λ r. r.now) is ∙ empty }
+text_found s bytes (Some x) nothing result us ur h empty is =
+    let part : result.now ≡ slice_range s bytes.start bytes.end = ap (λ r. r.now) is ∙ h.0 in
+    let ends : length result.now + bytes.start ≡ bytes.end = ap (λ r. length r.now + bytes.start) is ∙ h.1 in
+    record {
+      within = λ _ _ _. part;
+      none = λ out. between_chars s result.now bytes.start bytes.end us ur part ends h.2 (out (omega (arith, ends)));
+    }

@@ -1,0 +1,4 @@
+mod Cuts
+mod Edits
+mod Records
+mod Walking

@@ -1,0 +1,18 @@
+use Rattle.std.proofs.Common.{rules, ◌≡◌, ◌≤◌, arith, length, subst, sym}
+use Rattle.std.proofs.lemmas.Grind.{common_steps}
+use Rattle.typst_parser.specs.Headline.{edited}
+use Rattle.typst_positions.specs.Positions.{IsEdited}
+use Rattle.typst_positions.specs.Starts.{line_starts}
+use Rattle.typst_document.proofs.Edits.{is_edited}
+use Rattle.typst_document.proofs.document.Document.edited.Goals as goal
+
+pub edit-requires-2 : goal.edit-requires-2
+edit-requires-2 c =
+    let text : c.text.result.now ≡ edited c.args.self.source.text c.args.replace c.args.with.now = first_of (search rules, grind (arith, common_steps)) in
+    let starts : c.self.inside.positions ≡ line_starts c.args.self.source.text = first_of (search rules, grind (arith, common_steps)) in
+    let within : c.args.replace.end ≤ length c.args.self.source.text = c.requires.end.0 in
+    subst (λ s. IsEdited s c.text.result.now c.args.replace (length c.args.with.now)) (sym starts)
+    (
+    subst (λ t. IsEdited (line_starts c.args.self.source.text) t c.args.replace (length c.args.with.now)) (sym text)
+    (is_edited c.args.self.source.text c.args.with.now c.args.replace c.requires.ordered within)
+    )

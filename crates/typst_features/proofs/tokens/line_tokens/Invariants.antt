@@ -1,6 +1,0 @@
-use Rattle.std.proofs.Common.{◌≡◌, ◌++◌, drop}
-use Rattle.typst_features.specs.Tokens.{stretches}
-use Rattle.typst_features.proofs.tokens.line_tokens.Given as goal
-
-abbrev pub invariant-loop-index : goal.invariant-loop-index
-invariant-loop-index l = l.tokens.items ++ stretches l.text (drop l.index l.tagged) (drop l.index l.roles) ≡ stretches l.text l.tagged l.roles

@@ -1,6 +1,0 @@
-use Rattle.std.proofs.Common.{◌≡◌, ◌++◌, drop}
-use Rattle.typst_features.specs.Tokens.{merged, merged_after, touching}
-use Rattle.typst_features.proofs.tokens.merge.Given as goal
-
-abbrev pub invariant-loop-token : goal.invariant-loop-token
-invariant-loop-token l = l.merged.items ++ merged_after l.last (touching l.within (drop l.token-index l.tokens)) ≡ merged (touching l.within l.tokens)

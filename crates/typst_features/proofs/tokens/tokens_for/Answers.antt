@@ -1,4 +1,0 @@
-use Rattle.typst_features.proofs.tokens.tokens_for.Goals as goal
-
-pub tokens_near-requires : goal.tokens_near-requires
-tokens_near-requires c = c.is_part.ensures c.if-is_part.true

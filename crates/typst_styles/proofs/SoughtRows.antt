@@ -1,0 +1,196 @@
+-- The rows of a walk for tokens.
+use Rattle.std.proofs.Common.{◌≡◌, ℕ, ◌+◌, ◌<◌, true, List, [], ◌∷◌, ◌++◌, length, map, Option, None, Some, refl, ap, sym, subst, ◌∙◌, arith, append_assoc, append-nil, length-append}
+use Rattle.typst_tree.specs.Tree.{Forest, none, more, Tree, count, forest, places, preorder}
+use Rattle.typst_tree.specs.Walks.{numbers}
+use Rattle.typst_tree.specs.Steps.{At, at, children}
+use Rattle.typst_tree.specs.Linked.{linked, left}
+use Rattle.typst_tree.proofs.WalksInPreorder.{length_places}
+use Rattle.typst_highlight.specs.Walk.{tree_of}
+use Rattle.typst_highlight.specs.declared.tags.Tag.{Tag}
+use Rattle.typst_highlight.proofs.Rows.{alone, here}
+use Rattle.typst_names.specs.Bytes.{behind}
+use Rattle.typst_names.specs.Contexts.{after}
+use Rattle.typst_names.specs.Names.{is_end}
+use Rattle.typst_names.specs.RoleRows.{steps}
+use Rattle.typst_names.specs.declared.contexts.Context.{Context}
+use Rattle.typst_names.specs.declared.contexts.Context.TheVariants as context
+use Rattle.typst_styles.specs.Seeking.{AreRows, IsRow, IsSpot, Standing, Takes, first_number, left_of, left_of_all, node, number, of_spot, row, steps_all, steps_left}
+use Rattle.typst_styles.specs.Tokens.{all_tokens}
+use Rattle.typst_styles.specs.declared.seeking.Row.{Row}
+use Rattle.typst_styles.specs.declared.seeking.Spot.{Spot}
+use Rattle.typst_styles.specs.declared.tokens.Token.{Token}
+use Rattle.typst_styles.proofs.TokensByNode.{by_node}
+
+-- ---- nodes at their places
+
+standing : (root : Tree) (n : ℕ) (f : Forest) (front back : List Tree) → places root ≡ front ++ (preorder f ++ back) → n ≡ length front → Standing root n f
+standing root n none front back e l = tt
+standing root n (more h ks r) front back e l =
+    let t : Tree = tree_of h ks in (
+      here root n t front _ e l,
+      (
+        standing root (n + 1) ks (front ++ t ∷ []) (preorder r ++ back) (e ∙ simp append_assoc refl) (omega (arith, l, length-append front (t ∷ []))),
+        standing root (n + (1 + count ks)) r (front ++ places t) back (e ∙ simp append_assoc refl) (omega (arith, l, length-append front (places t), length_places t)),
+      ),
+    )
+
+-- all nodes of a tree stand in it
+pub standing_root : (root : Tree) → Standing root 0 (more root.head root.kids none)
+standing_root root = standing root 0 (more root.head root.kids none) [] [] (alone root).whole refl
+
+-- the first of some places
+abbrev first_of : At → List At → At
+first_of d [] = d
+first_of d (a ∷ rest) = a
+
+abbrev rest_of : List At → List At
+rest_of [] = []
+rest_of (a ∷ rest) = rest
+
+-- what holds of trees from the number m on holds of them from the number of the first of their places on
+renumbered : (P : ℕ → Forest → Type 0) (root : Tree) (m : ℕ) (ts : List Tree) (ps : List At) → ps ≡ map (at root) (numbers m (forest ts)) → ((k : ℕ) → P k none) → P m (forest ts) → P (first_number ps) (forest ts)
+renumbered P root m [] ps e nothing here = nothing (first_number ps)
+renumbered P root m (t ∷ ts) ps e nothing here = subst (λ k. P k (forest (t ∷ ts))) (sym (ap first_number e)) here
+
+-- a row whose places are those of the number m on
+pub is_row : (root : Tree) (m : ℕ) (w : Row) → left w.places ≡ map (at root) (numbers m (forest w.nodes.now)) → Standing root m (forest w.nodes.now) → IsRow root w
+is_row root m w e s =
+    let ts : List Tree = w.nodes.now in
+    let ps : List At = left w.places in
+    record {
+      places = e ∙ renumbered (λ k f. map (at root) (numbers m f) ≡ map (at root) (numbers k f)) root m ts ps e (λ k. refl) refl;
+      standing = renumbered (λ k f. Standing root k f) root m ts ps e (λ k. tt) s;
+    }
+
+pub left_from : (text : List ℕ) (root : Tree) (m : ℕ) (w : Row) → left w.places ≡ map (at root) (numbers m (forest w.nodes.now)) → row text root m w.start w.around w.context (forest w.nodes.now) ≡ left_of text root w
+left_from text root m w e =
+    renumbered (λ k f. row text root m w.start w.around w.context f ≡ row text root k w.start w.around w.context f) root m w.nodes.now (left w.places) e (λ k. refl) refl
+
+-- ---- a node is taken out of a row
+
+pub record Taken (w v : Row) (t : Tree) (ts : List Tree) (s : Spot) : Type 0 where
+  pub were : w.nodes.now ≡ t ∷ ts
+  pub placed : left w.places ≡ linked s.place ∷ left v.places
+  pub tree : s.node.node.now ≡ t
+  pub start : s.node.start ≡ w.start
+  pub role_in : s.context ≡ w.context
+  pub around : s.around ≡ w.around
+  pub is_last : s.is_last ≡ is_end (forest ts)
+  pub later : v.nodes.now ≡ ts
+  pub end : v.start ≡ behind w.start t.head t.kids
+  pub then_in : v.context ≡ after w.context t.head.kind
+  pub still : v.around ≡ w.around
+
+pub takes : (root : Tree) (w v : Row) (t : Tree) (ts : List Tree) (s : Spot) → IsRow root w → Taken w v t ts s → Takes root w (Some s) v
+takes root w v t ts s is k =
+    let n : ℕ = number w in
+    let m : ℕ = n + (1 + count t.kids) in
+    let parts : linked s.place ∷ left v.places ≡ at root n ∷ map (at root) (numbers (n + 1 + count t.kids) (forest ts)) =
+    sym k.placed ∙ (is.places ∙ ap (λ xs. map (at root) (numbers n (forest xs))) k.were) in
+    let place : linked s.place ≡ at root n = ap (first_of (at root n)) parts in
+    let same : n + 1 + count t.kids ≡ m = omega arith in
+    let rest : left v.places ≡ map (at root) (numbers m (forest v.nodes.now)) =
+    ap rest_of parts ∙ (ap (λ j. map (at root) (numbers j (forest ts))) same ∙ ap (λ xs. map (at root) (numbers m (forest xs))) (sym k.later)) in
+    let stands : Standing root n (forest (t ∷ ts)) = subst (λ xs. Standing root n (forest xs)) k.were is.standing in
+    let num : (linked s.place).number ≡ n = ap (λ (a : At). a.number) place in
+    let alone_it : Standing root n (more t.head t.kids none) = (stands.0, (stands.1.0, tt)) in
+    let spot : IsSpot root s = record {
+      place = place ∙ ap (at root) (sym num);
+      standing = subst (λ j. Standing root j (more s.node.node.now.head s.node.node.now.kids none)) (sym num) (subst (λ (u : Tree). Standing root n (more u.head u.kids none)) (sym k.tree) alone_it);
+    } in
+    let later : IsRow root v = is_row root m v rest (subst (λ xs. Standing root m (forest xs)) (sym k.later) stands.1.1) in (
+      spot,
+      (
+        later,
+        λ text.
+            let whole : left_of text root w ≡ node text root n w.start w.around w.context (is_end (forest ts)) t ++ row text root m (behind w.start t.head t.kids) w.around (after w.context t.head.kind) (forest ts) =
+            ap (λ xs. row text root n w.start w.around w.context (forest xs)) k.were in
+            let mine : node text root n w.start w.around w.context (is_end (forest ts)) t ≡ of_spot text root s =
+            (λ i. node text root (sym num i) (sym k.start i) (sym k.around i) (sym k.role_in i) (sym k.is_last i) (sym k.tree i)) in
+            let others : row text root m (behind w.start t.head t.kids) w.around (after w.context t.head.kind) (forest ts) ≡ left_of text root v =
+            (λ i. row text root m (sym k.end i) (sym k.still i) (sym k.then_in i) (forest (sym k.later i))) ∙ left_from text root m v rest in
+            whole ∙ (λ i. mine i ++ others i),
+      ),
+    )
+
+pub fewer : (were kept : List Tree) (kids : Forest) (t : Tree) (ts : List Tree) → were ≡ t ∷ ts → kids ≡ t.kids → kept ≡ ts → 1 + steps kids + (1 + steps (forest kept)) < 1 + steps (forest were)
+fewer were kept kids t ts e f g =
+    let whole : steps (forest were) ≡ 2 + (steps t.kids + steps (forest ts)) = ap (λ xs. steps (forest xs)) e in
+    let inside : steps kids ≡ steps t.kids = ap steps f in
+    let later : steps (forest kept) ≡ steps (forest ts) = ap (λ xs. steps (forest xs)) g in
+    omega (arith, whole, inside, later)
+
+nothing_left : (text : List ℕ) (root : Tree) (n a : ℕ) (u : Option Tag) (c : Context) (ts : List Tree) → length ts ≡ 0 → row text root n a u c (forest ts) ≡ []
+nothing_left text root n a u c [] e = refl
+nothing_left text root n a u c (t ∷ ts) e = absurd (omega (arith, e))
+
+pub takes_none : (root : Tree) (w : Row) → length w.nodes.now ≡ 0 → (text : List ℕ) → left_of text root w ≡ []
+takes_none root w e = λ text. nothing_left text root (number w) w.start w.around w.context w.nodes.now e
+
+-- where a node is left there is a place for it
+pub has_place : (root : Tree) (w : Row) (t : Tree) (ts : List Tree) → IsRow root w → w.nodes.now ≡ t ∷ ts → left w.places ≡ [] → ⊥
+has_place root w t ts is e f =
+    let some : [] ≡ at root (number w) ∷ map (at root) (numbers (number w + 1 + count t.kids) (forest ts)) = sym f ∙ (is.places ∙ ap (λ xs. map (at root) (numbers (number w) (forest xs))) e) in
+    let long : length (at root (number w) ∷ map (at root) (numbers (number w + 1 + count t.kids) (forest ts))) ≡ 0 = sym (ap length some) in
+    omega (arith, long)
+
+-- ---- the rows
+
+pub left_pushed : (text : List ℕ) (root : Tree) (ws : List Row) (w : Row) → left_of_all text root (ws ++ w ∷ []) ≡ left_of text root w ++ left_of_all text root ws
+left_pushed text root [] w = sym (append-nil (left_of text root w))
+left_pushed text root (v ∷ ws) w = ap (λ ts. ts ++ left_of text root v) (left_pushed text root ws w) ∙ append_assoc (left_of text root w) (left_of_all text root ws) (left_of text root v)
+
+pub steps_pushed : (ws : List Row) (w : Row) → steps_all (ws ++ w ∷ []) ≡ steps_left w + steps_all ws
+steps_pushed [] w = omega arith
+steps_pushed (v ∷ ws) w = omega (arith, steps_pushed ws w)
+
+pub rows_pushed : (root : Tree) (ws : List Row) (w : Row) → AreRows root ws → IsRow root w → AreRows root (ws ++ w ∷ [])
+rows_pushed root [] w are is = (is, tt)
+rows_pushed root (v ∷ ws) w are is = (are.0, rows_pushed root ws w are.1 is)
+
+pub rows_popped : (root : Tree) (ws : List Row) (w : Row) → AreRows root (ws ++ w ∷ []) → AreRows root ws × IsRow root w
+rows_popped root [] w are = (tt, are.0)
+rows_popped root (v ∷ ws) w are = let rest = rows_popped root ws w are.1 in ((are.0, rest.0), rest.1)
+
+-- the row of the children of a node
+pub record Below (s : Spot) (w : Row) : Type 0 where
+  pub placed : left w.places ≡ children (linked s.place)
+  pub kids : forest w.nodes.now ≡ s.node.node.now.kids
+
+below_from : (root : Tree) (s : Spot) (w : Row) → IsSpot root s → Below s w → left w.places ≡ map (at root) (numbers ((linked s.place).number + 1) (forest w.nodes.now))
+below_from root s w is k =
+    let n : ℕ = (linked s.place).number in
+    k.placed ∙ (ap children is.place ∙ (ap (λ (t : Tree). map (at root) (numbers (n + 1) t.kids)) is.standing.0 ∙ ap (λ f. map (at root) (numbers (n + 1) f)) (sym k.kids)))
+
+pub below_is : (root : Tree) (s : Spot) (w : Row) → IsSpot root s → Below s w → IsRow root w
+below_is root s w is k =
+    is_row root ((linked s.place).number + 1) w (below_from root s w is k) (subst (Standing root ((linked s.place).number + 1)) (sym k.kids) is.standing.1.0)
+
+pub below_left : (text : List ℕ) (root : Tree) (s : Spot) (w : Row) → IsSpot root s → Below s w → row text root ((linked s.place).number + 1) w.start w.around w.context s.node.node.now.kids ≡ left_of text root w
+below_left text root s w is k =
+    ap (row text root ((linked s.place).number + 1) w.start w.around w.context) (sym k.kids) ∙ left_from text root ((linked s.place).number + 1) w (below_from root s w is k)
+
+pub parted : (mine kids found later : List Token) → (found ++ mine) ++ (kids ++ later) ≡ found ++ ((mine ++ kids) ++ later)
+parted mine kids found later = simp append_assoc refl
+
+-- ---- the root
+
+-- where a node is the root, and its place the root's
+pub record IsTop (root : Tree) (s : Spot) : Type 0 where
+  pub place : linked s.place ≡ at root 0
+  pub tree : s.node.node.now ≡ root
+  pub start : s.node.start ≡ 0
+  pub role_in : s.context ≡ context.Value
+  pub around : s.around ≡ None
+  pub is_last : s.is_last ≡ true
+
+pub top_is : (root : Tree) (s : Spot) → IsTop root s → IsSpot root s
+top_is root s k =
+    let num : (linked s.place).number ≡ 0 = ap (λ (a : At). a.number) k.place in
+    record {
+      place = k.place ∙ ap (at root) (sym num);
+      standing = subst (λ j. Standing root j (more s.node.node.now.head s.node.node.now.kids none)) (sym num) (subst (λ (u : Tree). Standing root 0 (more u.head u.kids none)) (sym k.tree) (standing_root root));
+    }
+
+pub top_tokens : (text : List ℕ) (root : Tree) (n a : ℕ) (t : Tree) → n ≡ 0 → a ≡ 0 → t ≡ root → node text root n a None context.Value true t ++ [] ≡ all_tokens text root
+top_tokens text root n a t e f g = (λ i. node text root (e i) (f i) None context.Value true (g i) ++ []) ∙ sym (by_node text root)

@@ -1,0 +1,5 @@
+-- How a text is shown.
+pub mod Styles
+pub mod Tokens
+pub mod Seeking
+pub mod DataEdits
