@@ -8,12 +8,12 @@ use Rattle.typst_candidates.specs.declared.anchor.Anchor.{Anchor}
 use Rattle.typst_candidates.specs.declared.cuts.Window.{Window}
 use Rattle.typst_candidates.specs.declared.entry.Entry.{Entry}
 use Rattle.typst_candidates.specs.Anchors.{AllLooksEnd, IsAnchor, inside_of}
-use Rattle.typst_candidates.specs.Cursors.{Place, behind, entry_behind, inside_behind, leads, piece_of, pieces_of, start_at, token_at}
+use Rattle.typst_candidates.specs.Cursors.{EntryPlace, after, entry_after, inside_after, leads, piece_of, pieces_of, start_at, token_at}
 use Rattle.typst_candidates.specs.Entries.{end_of, front_of}
 use Rattle.typst_candidates.specs.Records.{opening_of}
-use Rattle.typst_candidates.specs.Rows.{within}
+use Rattle.typst_candidates.specs.Edges.{within}
 use Rattle.typst_candidates.proofs.Blocks.{opening-over}
-use Rattle.typst_candidates.proofs.Cursors.{behind-found-in, end-after, inside-grows, start-on}
+use Rattle.typst_candidates.proofs.Cursors.{after-found-in, end-after, inside-grows, start-on}
 use Rattle.typst_candidates.proofs.Tallies.{fewer}
 
 -- ---- the anchor of entries that stay
@@ -38,7 +38,7 @@ anchor-append es e a h =
 
 -- ---- an entry more
 
--- what follows from in how many blocks entries behind the first begin, if the run goes on
+-- what follows from in how many blocks entries after the first begin, if the run goes on
 abbrev OnTo : List Entry → ℕ → Option ℕ → Type 0
 OnTo es now o = (elim o as (λ _. Option ℕ) [ None ↦ None | Some m ↦ inside_of m es ]) ≡ Some now
 
@@ -48,9 +48,9 @@ none-to es now q = cc
 same-inside : (inside now : ℕ) → ◌≡◌ {A = Option ℕ} (Some inside) (Some now) → inside ≡ now
 same-inside inside now q = cc
 
-pub inside-on : (inside now further : ℕ) (es : List Entry) (e : Entry) → inside_of inside es ≡ Some now → inside_behind e.tag now ≡ Some further → inside_of inside (es ++ e ∷ []) ≡ Some further
-inside-on inside now further [] e h i = ap (λ (o : Option ℕ). elim o as (λ _. Option ℕ) [ None ↦ None | Some m ↦ Some m ]) (ap (inside_behind e.tag) (same-inside inside now h) ∙ i)
-inside-on inside now further (d ∷ es) e h i = by (λ m q. inside-on m now further es e q i) (inside_behind d.tag inside) h
+pub inside-on : (inside now further : ℕ) (es : List Entry) (e : Entry) → inside_of inside es ≡ Some now → inside_after e.kind now ≡ Some further → inside_of inside (es ++ e ∷ []) ≡ Some further
+inside-on inside now further [] e h i = ap (λ (o : Option ℕ). elim o as (λ _. Option ℕ) [ None ↦ None | Some m ↦ Some m ]) (ap (inside_after e.kind) (same-inside inside now h) ∙ i)
+inside-on inside now further (d ∷ es) e h i = by (λ m q. inside-on m now further es e q i) (inside_after d.kind inside) h
   where
     by : ((m : ℕ) → inside_of m es ≡ Some now → inside_of m (es ++ e ∷ []) ≡ Some further) → (o : Option ℕ) → OnTo es now o → OnTo (es ++ e ∷ []) further o
     by f None q = absurd (none-to es now q)
@@ -66,7 +66,7 @@ looks-more at more start (e ∷ es) le h = let here = h.0 in (omega (arith, here
 
 pub inside-over : (inside now : ℕ) (us vs : List Entry) → inside_of inside us ≡ Some now → inside_of inside (us ++ vs) ≡ inside_of now vs
 inside-over inside now [] vs h = ap (λ i. inside_of i vs) (same-inside inside now h)
-inside-over inside now (u ∷ us) vs h = by (λ m q. inside-over m now us vs q) (inside_behind u.tag inside) h
+inside-over inside now (u ∷ us) vs h = by (λ m q. inside-over m now us vs q) (inside_after u.kind inside) h
   where
     by : ((m : ℕ) → inside_of m us ≡ Some now → inside_of m (us ++ vs) ≡ inside_of now vs) → (o : Option ℕ) → OnTo us now o → (elim o as (λ _. Option ℕ) [ None ↦ None | Some m ↦ inside_of m (us ++ vs) ]) ≡ inside_of now vs
     by f None q = absurd (none-to us now q)
@@ -76,7 +76,7 @@ pub end-over : (start : ℕ) (us vs : List Entry) → end_of start (us ++ vs) �
 end-over start [] vs = refl
 end-over start (u ∷ us) vs = end-over (token_at start u) us vs
 
--- behind an entry more
+-- after an entry more
 pub record Further (es : List Entry) (n start reach : ℕ) : Type 0 where
   pub start_is : start ≡ end_of 0 (take n es)
   pub order : start ≤ reach
@@ -94,7 +94,7 @@ goes-further es n start end reach more e h s f le upto l =
       looks = subst (AllLooksEnd more 0) (sym whole) (looks-on more 0 (take n es) e (looks-more reach more 0 (take n es) le l) (omega (arith, s, f, upto)));
     }
 
-pub run-further : (es : List Entry) (first n inside further : ℕ) (e : Entry) → slice_get es n ≡ Some e → first ≤ n → inside_of 0 (drop first (take n es)) ≡ Some inside → inside_behind e.tag inside ≡ Some further
+pub run-further : (es : List Entry) (first n inside further : ℕ) (e : Entry) → slice_get es n ≡ Some e → first ≤ n → inside_of 0 (drop first (take n es)) ≡ Some inside → inside_after e.kind inside ≡ Some further
     → inside_of 0 (drop first (take (suc n) es)) ≡ Some further
 run-further es first n inside further e h le i b =
     let lt = slice_get_within es n e h in
@@ -113,48 +113,48 @@ anchors es n start reach first outer a within le h around run is =
 
 -- ---- on from an anchor, entry by entry
 
--- what is known at a place behind an anchor, in so many blocks of its run
-pub record Passed (es : List Entry) (a : Anchor) (p : Place) (reach inside : ℕ) : Type 0 where
+-- what is known at a place after an anchor, in a given number of blocks of its run
+pub record Passed (es : List Entry) (a : Anchor) (p : EntryPlace) (reach inside : ℕ) : Type 0 where
   pub entries : p.entries ≡ es
   pub few : inside ≤ p.number
-  pub behind : a.number ≤ p.number
+  pub after : a.number ≤ p.number
   pub looks : AllLooksEnd reach 0 (take p.number es)
   pub run : inside_of 0 (drop a.first (take p.number es)) ≡ Some inside
 
-pub at-anchor : (es : List Entry) (a : Anchor) (p : Place) → IsAnchor es a → p ≡ record { entries = es; number = a.number } → Passed es a p a.reach 0
+pub at-anchor : (es : List Entry) (a : Anchor) (p : EntryPlace) → IsAnchor es a → p ≡ record { entries = es; number = a.number } → Passed es a p a.reach 0
 at-anchor es a p h is =
-    subst (λ q. Passed es a q a.reach 0) (sym is) (record { entries = refl; few = omega arith; behind = omega arith; looks = h.looks; run = h.run })
+    subst (λ q. Passed es a q a.reach 0) (sym is) (record { entries = refl; few = omega arith; after = omega arith; looks = h.looks; run = h.run })
 
-further-on : (es : List Entry) (a : Anchor) (p q : Place) (e : Entry) (start end reach more inside : ℕ) → Passed es a p reach inside → ◌≡◌ {A = Option Entry} (Some e) (entry_behind p) → q ≡ behind (Some e) p
+further-on : (es : List Entry) (a : Anchor) (p q : EntryPlace) (e : Entry) (start end reach more inside : ℕ) → Passed es a p reach inside → ◌≡◌ {A = Option Entry} (Some e) (entry_after p) → q ≡ after (Some e) p
     → start ≡ start_at q → end ≡ start + e.forth → reach ≤ more → end ≤ more → Further es (suc p.number) start more
 further-on es a p q e start end reach more inside h there moved s f le upto =
-    let here = behind-found-in es p e h.entries there in
+    let here = after-found-in es p e h.entries there in
     let token = s ∙ start-on es p q e h.entries there moved ∙ ap (λ us. token_at (end_of 0 (take p.number us)) e) h.entries in
     goes-further es p.number start end reach more e here token f le upto h.looks
 
--- and at the place behind the next entry, of which this is the start
-pub record PassedOn (es : List Entry) (a : Anchor) (p : Place) (start reach inside : ℕ) : Type 0 where
+-- and at the place after the next entry, of which this is the start
+pub record PassedOn (es : List Entry) (a : Anchor) (p : EntryPlace) (start reach inside : ℕ) : Type 0 where
   pub passed : Passed es a p reach inside
   pub further : Further es p.number start reach
   pub within : p.number ≤ length es
 
-pub passed-on : (es : List Entry) (a : Anchor) (p q : Place) (e : Entry) (start end reach more inside further : ℕ) → Passed es a p reach inside → IsAnchor es a → ◌≡◌ {A = Option Entry} (Some e) (entry_behind p) → q ≡ behind (Some e) p
-    → start ≡ start_at q → end ≡ start + e.forth → reach ≤ more → end ≤ more → inside_behind e.tag inside ≡ Some further → PassedOn es a q start more further
+pub passed-on : (es : List Entry) (a : Anchor) (p q : EntryPlace) (e : Entry) (start end reach more inside further : ℕ) → Passed es a p reach inside → IsAnchor es a → ◌≡◌ {A = Option Entry} (Some e) (entry_after p) → q ≡ after (Some e) p
+    → start ≡ start_at q → end ≡ start + e.forth → reach ≤ more → end ≤ more → inside_after e.kind inside ≡ Some further → PassedOn es a q start more further
 passed-on es a p q e start end reach more inside further h anchor there moved s f le upto b =
-    let here = behind-found-in es p e h.entries there in
-    let number : q.number ≡ suc p.number = ap (λ (r : Place). r.number) moved in
+    let here = after-found-in es p e h.entries there in
+    let number : q.number ≡ suc p.number = ap (λ (r : EntryPlace). r.number) moved in
     let lt = slice_get_within es p.number e here in
     let on = further-on es a p q e start end reach more inside h there moved s f le upto in
     let first = anchor.first in
-    let after = h.behind in
+    let after = h.after in
     let few = h.few in
-    let grows = inside-grows e.tag inside further b in
+    let grows = inside-grows e.kind inside further b in
     let run = run-further es a.first p.number inside further e here (omega (arith, first, after)) h.run b in
     record {
       passed = record {
-        entries = ap (λ (r : Place). r.entries) moved ∙ h.entries;
+        entries = ap (λ (r : EntryPlace). r.entries) moved ∙ h.entries;
         few = omega (arith, number, few, grows);
-        behind = omega (arith, number, after);
+        after = omega (arith, number, after);
         looks = subst (λ n. AllLooksEnd more 0 (take n es)) (sym number) on.looks;
         run = ap (λ n. inside_of 0 (drop a.first (take n es))) number ∙ run;
       };
@@ -162,35 +162,35 @@ passed-on es a p q e start end reach more inside further h anchor there moved s 
       within = omega (arith, number, lt);
     }
 
--- an anchor behind that entry, in no block of the run
-pub anchor-on : (es : List Entry) (a b : Anchor) (p : Place) (start reach inside : ℕ) → PassedOn es a p start reach inside → IsAnchor es a → inside ≡ 0 → b ≡ record { number = p.number; start = start; reach = reach; first = a.first; outer = a.outer } → IsAnchor es b
+-- an anchor after that entry, in no block of the run
+pub anchor-on : (es : List Entry) (a b : Anchor) (p : EntryPlace) (start reach inside : ℕ) → PassedOn es a p start reach inside → IsAnchor es a → inside ≡ 0 → b ≡ record { number = p.number; start = start; reach = reach; first = a.first; outer = a.outer } → IsAnchor es b
 anchor-on es a b p start reach inside h anchor none is =
     let first = anchor.first in
-    let after = h.passed.behind in
+    let after = h.passed.after in
     anchors es p.number start reach a.first a.outer b h.within (omega (arith, first, after)) h.further anchor.outer (h.passed.run ∙ ap (λ n. Some n) none) is
 
--- an anchor at the begin of the block that begins behind another
+-- an anchor at the begin of the block that begins after another
 pub record AnchorIn (es : List Entry) (a b : Anchor) : Type 0 where
   pub anchor : IsAnchor es b
-  pub behind : a.number < b.number
+  pub after : a.number < b.number
 
-pub anchor-in : (es : List Entry) (a b : Anchor) (p q : Place) (e : Entry) (start end more : ℕ) → IsAnchor es a → p ≡ record { entries = es; number = a.number } → ◌≡◌ {A = Option Entry} (Some e) (entry_behind p) → q ≡ behind (Some e) p
+pub anchor-in : (es : List Entry) (a b : Anchor) (p q : EntryPlace) (e : Entry) (start end more : ℕ) → IsAnchor es a → p ≡ record { entries = es; number = a.number } → ◌≡◌ {A = Option Entry} (Some e) (entry_after p) → q ≡ after (Some e) p
     → start ≡ start_at q → end ≡ start + e.forth → a.reach ≤ more → end ≤ more → b ≡ record { number = q.number; start = start; reach = more; first = q.number; outer = a.start } → AnchorIn es a b
 anchor-in es a b p q e start end more h at there moved s f le upto is =
     let passed = at-anchor es a p h at in
     let on = further-on es a p q e start end a.reach more 0 passed there moved s f le upto in
-    let here = behind-found-in es p e passed.entries there in
+    let here = after-found-in es p e passed.entries there in
     let lt = slice_get_within es p.number e here in
-    let number : q.number ≡ suc p.number = ap (λ (r : Place). r.number) moved in
-    let first : p.number ≡ a.number = ap (λ (r : Place). r.number) at in
+    let number : q.number ≡ suc p.number = ap (λ (r : EntryPlace). r.number) moved in
+    let first : p.number ≡ a.number = ap (λ (r : EntryPlace). r.number) at in
     let last : b.number ≡ q.number = ap (λ (c : Anchor). c.number) is in
     let around : a.number ≡ q.number - 1 = omega (arith, number, first) in
     record {
       anchor = anchors es q.number start more q.number a.start b (omega (arith, number, lt)) (omega arith) (subst (λ n. Further es n start more) (sym number) on) (h.start ∙ ap (λ n. end_of 0 (take n es)) around) (run-begins es q.number) is;
-      behind = omega (arith, number, first, last);
+      after = omega (arith, number, first, last);
     }
 
--- ---- what comes behind entries of which nothing is looked for
+-- ---- what comes after entries of which nothing is looked for
 
 front-split : (at start : ℕ) (us vs : List Entry) → AllLooksEnd at start us → front_of at start (us ++ vs) ≡ length us + front_of at (end_of start us) vs
 front-split at start [] vs h = omega arith
@@ -208,9 +208,9 @@ piece-split at inside start number now (u ∷ us) vs h lt =
     let after = end-after (token_at start u) us in
     let early : token_at start u < at = omega (arith, after, lt) in
     let other : (token_at start u == at) ≡ false = grind (arith, nat_tests, early) in
-    let test : (leads u.tag inside && token_at start u == at) ≡ false = ap (λ b. leads u.tag inside && b) other ∙ and-false (leads u.tag inside) in
-    ap (λ b. if b then Some number else onto (inside_behind u.tag inside) (us ++ vs)) test
-    ∙ by (λ m q. piece-split at m (token_at start u) (suc number) now us vs q lt) (inside_behind u.tag inside) h ∙ ap (λ n. piece_of at now (end_of (token_at start u) us) n vs) (omega arith)
+    let test : (leads u.kind inside && token_at start u == at) ≡ false = ap (λ b. leads u.kind inside && b) other ∙ and-false (leads u.kind inside) in
+    ap (λ b. if b then Some number else onto (inside_after u.kind inside) (us ++ vs)) test
+    ∙ by (λ m q. piece-split at m (token_at start u) (suc number) now us vs q lt) (inside_after u.kind inside) h ∙ ap (λ n. piece_of at now (end_of (token_at start u) us) n vs) (omega arith)
   where
     and-false : (b : Bool) → (b && false) ≡ false
     and-false true = refl
@@ -232,7 +232,7 @@ pieces-split w inside start now (u ∷ us) vs h lt =
     let after = end-after (token_at start u) us in
     let early : token_at start u < w.from = omega (arith, after, lt) in
     let out : nat_le w.from (token_at start u) ≡ false = grind (arith, nat_tests, early) in
-    skipped (leads u.tag inside) (onto (inside_behind u.tag inside) (us ++ vs)) out ∙ by (λ m q. pieces-split w m (token_at start u) now us vs q lt) (inside_behind u.tag inside) h
+    skipped (leads u.kind inside) (onto (inside_after u.kind inside) (us ++ vs)) out ∙ by (λ m q. pieces-split w m (token_at start u) now us vs q lt) (inside_after u.kind inside) h
   where
     onto : Option ℕ → List Entry → List ℕ
     onto o es = elim o as (λ _. List ℕ) [ None ↦ [] | Some further ↦ pieces_of further (token_at start u) es ]
@@ -269,7 +269,7 @@ opening-around es a at n h is lt =
     let within = h.within in
     opening-at es n a.outer at (omega (arith, is, first, within)) (h.outer ∙ ap (λ m. end_of 0 (take m es)) (sym is)) lt
 
--- the entries behind some, up to more of them and behind these
+-- the entries after some, up to more of them and after these
 record Parts (es : List Entry) (n m : ℕ) : Type 0 where
   front : take n es ++ drop n (take m es) ≡ take m es
   rest : drop n es ≡ drop n (take m es) ++ drop m es
@@ -288,7 +288,7 @@ parts es n m le within =
       long = omega (arith, some, whole);
     }
 
--- the first piece of an anchor's run that begins at a byte behind it comes behind it
+-- the first piece of an anchor's run that begins at a byte after it comes after it
 pub piece-from : (es : List Entry) (a : Anchor) (at : ℕ) → IsAnchor es a → a.start < at → piece_of at 0 (end_of 0 (take a.number es)) a.number (drop a.number es) ≡ piece_of at 0 (end_of 0 (take a.first es)) a.first (drop a.first es)
 piece-from es a at h lt =
     let there = h.start in
@@ -302,10 +302,10 @@ piece-from es a at h lt =
     (ap (piece_of at 0 (end_of 0 (take a.first es)) a.first) p.rest ∙ piece-split at 0 (end_of 0 (take a.first es)) a.first 0 vs ws h.run (omega (arith, end_is, there, lt))
     ∙ ap (λ s. piece_of at 0 s (a.first + length vs) ws) end_is ∙ ap (λ n. piece_of at 0 (end_of 0 (take a.number es)) n ws) (omega (arith, long, le)))
 
--- the same pieces of an anchor's run come behind it as behind a place of the run before it
+-- the same pieces of an anchor's run come after it as after a place of the run before it
 pub pieces-from : (es : List Entry) (a : Anchor) (n : ℕ) (w : Window) → IsAnchor es a → a.first ≤ n → n ≤ a.number → inside_of 0 (drop a.first (take n es)) ≡ Some 0 → a.start < w.from
     → within w (pieces_of 0 (end_of 0 (take a.number es)) (drop a.number es)) ≡ within w (pieces_of 0 (end_of 0 (take n es)) (drop n es))
-pieces-from es a n w h behind le run lt =
+pieces-from es a n w h after le run lt =
     let there = h.start in
     let inside = h.within in
     let p = parts es n a.number le inside in
@@ -314,7 +314,7 @@ pieces-from es a n w h behind le run lt =
     let vs = drop n (take a.number es) in
     let ws = drop a.number es in
     let long = length-take-le n es (omega (arith, le, inside)) in
-    let both : us ++ vs ≡ drop a.first (take a.number es) = sym (drop-append-le a.first (take n es) vs (omega (arith, long, behind))) ∙ ap (drop a.first) p.front in
+    let both : us ++ vs ≡ drop a.first (take a.number es) = sym (drop-append-le a.first (take n es) vs (omega (arith, long, after))) ∙ ap (drop a.first) p.front in
     let inner : inside_of 0 vs ≡ Some 0 = sym (inside-over 0 0 us vs run) ∙ ap (inside_of 0) both ∙ h.run in
     sym
     (ap (λ xs. within w (pieces_of 0 (end_of 0 (take n es)) xs)) p.rest ∙ pieces-split w 0 (end_of 0 (take n es)) 0 vs ws inner (omega (arith, end_is, there, lt))

@@ -5,12 +5,12 @@ use Rattle.std.proofs.lemmas.List.{drop-map, length-map, take-append-drop, take-
 use Rattle.std.proofs.lemmas.Nat.{mod_below, pow_pos}
 use Rattle.std.specs.List.{slice_get}
 use Rattle.typst_candidates.specs.declared.entry.Entry.{Entry}
-use Rattle.typst_candidates.specs.declared.entry.Tag.{Tag}
-use Rattle.typst_candidates.specs.declared.entry.Tag.TheVariants as tag
+use Rattle.typst_candidates.specs.declared.entry.EntryKind.{EntryKind}
+use Rattle.typst_candidates.specs.declared.entry.EntryKind.TheVariants as entry_kind
 use Rattle.typst_candidates.specs.declared.packed.Packed.{Packed}
 use Rattle.typst_candidates.specs.Cursors.{AreNear}
-use Rattle.typst_candidates.specs.Entries.{end_of, front_of, is_behind, rear_of}
-use Rattle.typst_candidates.specs.Packed.{all_beside, beside, entry_by, entry_in, back_bits, filled, forth_bits, spans, tags, unpacked, wides, widths}
+use Rattle.typst_candidates.specs.Entries.{end_of, front_of, is_after, rear_of}
+use Rattle.typst_candidates.specs.Packed.{all_beside, beside, entry_by, entry_in, back_bits, filled, forth_bits, spans, entry_kinds, unpacked, wides, widths}
 use Rattle.typst_candidates.specs.Records.{is_opening, opening_of}
 use Rattle.typst_candidates.proofs.Cursors.{cut, end-after}
 use Rattle.typst_candidates.proofs.Spans.{filled-end}
@@ -18,35 +18,35 @@ use Rattle.typst_candidates.proofs.Words.{beside-append, halves}
 
 -- ---- what words hold
 
-forth-small : (t : Tag) (m : ℕ) → m % 2 ^ forth_bits t < 2 ^ 10
-forth-small (tag.Piece at_start) m = let low = mod_below m (2 ^ 10) (pow_pos 10) in omega (arith, low)
-forth-small (tag.Opens b x) m = let low = mod_below m (2 ^ 6) (pow_pos 6) in omega (arith, low)
-forth-small tag.Closes m = let low = mod_below m (2 ^ 10) (pow_pos 10) in omega (arith, low)
+forth-small : (t : EntryKind) (m : ℕ) → m % 2 ^ forth_bits t < 2 ^ 10
+forth-small (entry_kind.Piece at_start) m = let low = mod_below m (2 ^ 10) (pow_pos 10) in omega (arith, low)
+forth-small (entry_kind.Opens b x) m = let low = mod_below m (2 ^ 6) (pow_pos 6) in omega (arith, low)
+forth-small entry_kind.Closes m = let low = mod_below m (2 ^ 10) (pow_pos 10) in omega (arith, low)
 
-back-small : (t : Tag) (m : ℕ) → m % 2 ^ back_bits t < 2 ^ 4
-back-small (tag.Piece at_start) m = let low = mod_below m (2 ^ 4) (pow_pos 4) in omega (arith, low)
-back-small (tag.Opens b x) m = let low = mod_below m (2 ^ 2) (pow_pos 2) in omega (arith, low)
-back-small tag.Closes m = let low = mod_below m (2 ^ 4) (pow_pos 4) in omega (arith, low)
+back-small : (t : EntryKind) (m : ℕ) → m % 2 ^ back_bits t < 2 ^ 4
+back-small (entry_kind.Piece at_start) m = let low = mod_below m (2 ^ 4) (pow_pos 4) in omega (arith, low)
+back-small (entry_kind.Opens b x) m = let low = mod_below m (2 ^ 2) (pow_pos 2) in omega (arith, low)
+back-small entry_kind.Closes m = let low = mod_below m (2 ^ 4) (pow_pos 4) in omega (arith, low)
 
 abbrev IsNear : Entry → Type 0
 IsNear e = (e.forth < 2 ^ 10) × (e.back < 2 ^ 4)
 
-abbrev by_tag : Option Tag → ℕ → Option Entry
-by_tag o rest = elim o as (λ _. Option Entry) [ None ↦ None | Some t ↦ Some (entry_by t (widths t) rest) ]
+abbrev by_kind : Option EntryKind → ℕ → Option Entry
+by_kind o rest = elim o as (λ _. Option Entry) [ None ↦ None | Some t ↦ Some (entry_by t (widths t) rest) ]
 
-near-tag : (o : Option Tag) (rest : ℕ) (e : Entry) → by_tag o rest ≡ Some e → IsNear e
-near-tag None rest e h = absurd (never h)
+near-kind : (o : Option EntryKind) (rest : ℕ) (e : Entry) → by_kind o rest ≡ Some e → IsNear e
+near-kind None rest e h = absurd (never h)
   where
     never : ◌≡◌ {A = Option Entry} None (Some e) → ⊥
     never q = cc
-near-tag (Some t) rest e h = subst IsNear (inj h) (forth-small t (rest / 2 ^ 8 / 2 ^ 4), back-small t (rest / 2 ^ 8 / 2 ^ 4 / 2 ^ forth_bits t))
+near-kind (Some t) rest e h = subst IsNear (inj h) (forth-small t (rest / 2 ^ 8 / 2 ^ 4), back-small t (rest / 2 ^ 8 / 2 ^ 4 / 2 ^ forth_bits t))
   where
     inj : ◌≡◌ {A = Option Entry} (Some (entry_by t (widths t) rest)) (Some e) → entry_by t (widths t) rest ≡ e
     inj q = cc
 
 near-words : (ps : List Packed) → wides ps ≡ 0 → AreNear (unpacked ps [])
 near-words [] h = tt
-near-words (p ∷ ps) h = step (entry_in p) (λ e. near-tag (slice_get tags (p.word % 2 ^ 4)) (p.word / 2 ^ 4) e) (near-words ps) h
+near-words (p ∷ ps) h = step (entry_in p) (λ e. near-kind (slice_get entry_kinds (p.word % 2 ^ 4)) (p.word / 2 ^ 4) e) (near-words ps) h
   where
     step : (o : Option Entry) → ((e : Entry) → o ≡ Some e → IsNear e) → (wides ps ≡ 0 → AreNear (unpacked ps [])) → beside o + wides ps ≡ 0 → AreNear (filled (o ∷ map entry_in ps) [])
     step None f rest n = absurd (omega (arith, n))
@@ -64,10 +64,10 @@ block-of ps ws n m span within h none sum =
     let k = all_beside (take n os) in
     let vs = drop k ws in
     let long : length os ≡ length ps = length-map ps entry_in in
-    let behind : drop n os ≡ map entry_in qs = drop-map entry_in n ps in
+    let after : drop n os ≡ map entry_in qs = drop-map entry_in n ps in
     let a = halves os ws n (omega (arith, within, long)) h in
-    let rest : drop n (unpacked ps ws) ≡ unpacked qs vs = a.back ∙ ap (λ us. filled us vs) behind in
-    let parts : all_beside os ≡ k + wides qs = ap all_beside (sym (take-append-drop n os)) ∙ beside-append (take n os) (drop n os) ∙ ap (λ us. k + all_beside us) behind in
+    let rest : drop n (unpacked ps ws) ≡ unpacked qs vs = a.back ∙ ap (λ us. filled us vs) after in
+    let parts : all_beside os ≡ k + wides qs = ap all_beside (sym (take-append-drop n os)) ∙ beside-append (take n os) (drop n os) ∙ ap (λ us. k + all_beside us) after in
     let left : length vs ≡ length ws - k = length-drop k ws in
     let all : wides qs ≡ length vs = omega (arith, parts, left, h) in
     let some : length (map entry_in qs) ≡ length ps - n = length-map qs entry_in ∙ length-drop n ps in
@@ -112,21 +112,21 @@ opening-over (suc m) at start number (e ∷ es) h f =
     let here = (start + e.step) + e.gap in
     let end = end-after here (take m es) in
     let less : here < at = omega (arith, end, f) in
-    let test : (is_opening e.tag && here == at) ≡ false = ap (λ b. is_opening e.tag && b) (grind (arith, nat_tests, less)) ∙ and-false (is_opening e.tag) in
+    let test : (is_opening e.kind && here == at) ≡ false = ap (λ b. is_opening e.kind && b) (grind (arith, nat_tests, less)) ∙ and-false (is_opening e.kind) in
     let one : opening_of at start number (e ∷ es) ≡ opening_of at here (suc number) es = ap (λ (b : Bool). if b then Some number else opening_of at here (suc number) es) test in
     let count : suc number + m ≡ number + suc m = omega arith in
     one ∙ opening-over m at here (suc number) es (omega (arith, h)) f ∙ ap (λ n. opening_of at (end_of here (take m es)) n (drop m es)) count
 
 -- ---- passing back
 
-far : (at start back : ℕ) → at + 2 ^ 4 ≤ start → back < 2 ^ 4 → is_behind at start back ≡ true
+far : (at start back : ℕ) → at + 2 ^ 4 ≤ start → back < 2 ^ 4 → is_after at start back ≡ true
 far at start back h b = let less : at < suc start - back = omega (arith, h, b) in grind (arith, nat_tests, less)
 
 abbrev most_by : ℕ → ℕ → Bool → ℕ
 most_by count rest b = max (if b then 0 else count) rest
 
--- where all looks begin behind a byte none counts
-rear-none : (at start count : ℕ) (ys : List Entry) (back : ℕ) → at + 2 ^ 4 ≤ start → AreNear ys → is_behind at (end_of start ys) back ≡ true → rear_of at start count ys back ≡ 0
+-- where all looks begin after a byte none counts
+rear-none : (at start count : ℕ) (ys : List Entry) (back : ℕ) → at + 2 ^ 4 ≤ start → AreNear ys → is_after at (end_of start ys) back ≡ true → rear_of at start count ys back ≡ 0
 rear-none at start count [] back h a b = ap (λ (t : Bool). if t then 0 else count) b
 rear-none at start count (y ∷ ys) back h a b =
     let here = (start + y.step) + y.gap in
@@ -134,15 +134,15 @@ rear-none at start count (y ∷ ys) back h a b =
     let one : rear_of at start count (y ∷ ys) back ≡ max 0 (rear_of at here (suc count) ys back) = ap (most_by count (rear_of at here (suc count) ys back)) (far at start y.back h a.1) in
     omega (arith, one, rest)
 
--- entries whose looks begin behind a byte, but for those of their first, are passed over
-pub rear-over : (at start count : ℕ) (xs : List Entry) (y : Entry) (ys : List Entry) (back : ℕ) → is_behind at (end_of start (xs ++ y ∷ ys)) back ≡ true → AreNear (y ∷ ys) → at + 2 ^ 4 ≤ end_of start xs
+-- entries whose looks begin after a byte, except for those of their first, are passed over
+pub rear-over : (at start count : ℕ) (xs : List Entry) (y : Entry) (ys : List Entry) (back : ℕ) → is_after at (end_of start (xs ++ y ∷ ys)) back ≡ true → AreNear (y ∷ ys) → at + 2 ^ 4 ≤ end_of start xs
     → rear_of at start count (xs ++ y ∷ ys) back ≡ rear_of at start count xs y.back
 rear-over at start count [] y ys back b a h =
     let rest = rear-none at ((start + y.step) + y.gap) (suc count) ys back (omega (arith, h)) a.2 b in
     omega (arith, rest)
 rear-over at start count (x ∷ xs) y ys back b a h =
     let here = (start + x.step) + x.gap in
-    ap (max (if is_behind at start x.back then 0 else count)) (rear-over at here (suc count) xs y ys back b a h)
+    ap (max (if is_after at start x.back then 0 else count)) (rear-over at here (suc count) xs y ys back b a h)
 
 pub take-more : (n m : ℕ) (es : List Entry) → take (n + m) es ≡ take n es ++ take m (drop n es)
 take-more zero m es = ap (λ k. take k es) (omega arith)
@@ -161,10 +161,10 @@ end-more start (x ∷ xs) ys = end-more ((start + x.step) + x.gap) xs ys
 pub end-block : (es : List Entry) (n m : ℕ) → end_of 0 (take (n + m) es) ≡ end_of (end_of 0 (take n es)) (take m (drop n es))
 end-block es n m = ap (end_of 0) (take-more n m es) ∙ end-more 0 (take n es) (take m (drop n es))
 
-pub rear-block : (es : List Entry) (at back n : ℕ) (e : Entry) → slice_get es n ≡ Some e → is_behind at (end_of 0 (take (n + 16) es)) back ≡ true → AreNear (take 16 (drop n es)) → at + 2 ^ 4 ≤ end_of 0 (take n es)
+pub rear-block : (es : List Entry) (at back n : ℕ) (e : Entry) → slice_get es n ≡ Some e → is_after at (end_of 0 (take (n + 16) es)) back ≡ true → AreNear (take 16 (drop n es)) → at + 2 ^ 4 ≤ end_of 0 (take n es)
     → rear_of at 0 0 (take (n + 16) es) back ≡ rear_of at 0 0 (take n es) e.back
 rear-block es at back n e here b near h =
     let block : take 16 (drop n es) ≡ e ∷ take 15 (drop (suc n) es) = ap (take 16) (cut es n e here) in
     let whole = take-more n 16 es ∙ ap (λ us. take n es ++ us) block in
     ap (λ us. rear_of at 0 0 us back) whole
-    ∙ rear-over at 0 0 (take n es) e (take 15 (drop (suc n) es)) back (ap (λ us. is_behind at (end_of 0 us) back) (sym whole) ∙ b) (subst AreNear block near) h
+    ∙ rear-over at 0 0 (take n es) e (take 15 (drop (suc n) es)) back (ap (λ us. is_after at (end_of 0 us) back) (sym whole) ∙ b) (subst AreNear block near) h

@@ -7,7 +7,7 @@ use Rattle.std.proofs.lemmas.Bool.{cases_lt}
 use Rattle.std.proofs.lemmas.Bool.Decides.{nat_tests}
 use Rattle.typst_candidates.specs.declared.entry.Entry.{Entry}
 use Rattle.typst_candidates.specs.Candidates.{is_among}
-use Rattle.typst_candidates.specs.Cursors.{inside_behind, leads, pieces_of, token_at}
+use Rattle.typst_candidates.specs.Cursors.{inside_after, leads, pieces_of, token_at}
 
 -- ---- whether a byte is among them
 
@@ -46,10 +46,10 @@ rise-sooner a b (x ∷ xs) h r = let least = r.0 in (omega (arith, h, least), r.
 
 pieces-rise : (inside start : ℕ) (es : List Entry) → RiseFrom start (pieces_of inside start es)
 pieces-rise inside start [] = tt
-pieces-rise inside start (e ∷ es) = step (leads e.tag inside) (inside_behind e.tag inside) (λ further. pieces-rise further (token_at start e) es)
+pieces-rise inside start (e ∷ es) = step (leads e.kind inside) (inside_after e.kind inside) (λ further. pieces-rise further (token_at start e) es)
   where
     step : (b : Bool) (o : Option ℕ) → ((further : ℕ) → RiseFrom (token_at start e) (pieces_of further (token_at start e) es))
-        → RiseFrom start (let behind = elim o as (λ _. List ℕ) [ None ↦ [] | Some further ↦ pieces_of further (token_at start e) es ] in if b then token_at start e ∷ behind else behind)
+        → RiseFrom start (let after = elim o as (λ _. List ℕ) [ None ↦ [] | Some further ↦ pieces_of further (token_at start e) es ] in if b then token_at start e ∷ after else after)
     step true None rest = (omega arith, tt)
     step true (Some further) rest = (omega arith, rest further)
     step false None rest = tt

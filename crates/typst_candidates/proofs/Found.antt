@@ -6,12 +6,13 @@ use Rattle.std.proofs.lemmas.List.{append-nil, map-append, take-take, take_at}
 use Rattle.typst_kinds.specs.declared.kind.SyntaxKind.{SyntaxKind}
 use Rattle.typst_language.specs.declared.calls.Note.{Note}
 use Rattle.typst_tree.specs.Tree.{Tree, Forest, none, more, forest, trees, joined, text_of, count, nodes}
+pub use Rattle.typst_tree.proofs.SpansAside.{forest_trees}
 use Rattle.typst_candidates.specs.declared.candidate.Candidate as found
-use Rattle.typst_candidates.specs.declared.row.Near.{Near}
-use Rattle.typst_candidates.specs.declared.row.Stretch as row
-use Rattle.typst_candidates.specs.Candidates.{Candidate, Child, Stretch, laid, child_at, begins, first_near, around, is_all, stretches, of_children, of_stretches, of_run, of_block, covers, run_in, candidates_at}
-use Rattle.typst_candidates.specs.Rows.{IsEdge, IsNear, indices, spelled, is_covered, below}
-use Rattle.typst_candidates.proofs.Rows.{laid_length, begins_next, begins_most}
+use Rattle.typst_candidates.specs.declared.children.Near.{Near}
+use Rattle.typst_candidates.specs.declared.children.ChildRange as children
+use Rattle.typst_candidates.specs.Candidates.{Candidate, Child, ChildRange, laid, child_at, begins, first_near, around, is_all, child_ranges, of_children, of_child_ranges, of_run, of_block, covers, run_in, candidates_at}
+use Rattle.typst_candidates.specs.Edges.{IsEdge, IsNear, indices, spelled, is_covered, below}
+use Rattle.typst_candidates.proofs.Edges.{laid_length, begins_next, begins_most}
 
 take_nothing : {X : Type 0} (n : ℕ) → take {A = X} n [] ≡ []
 take_nothing zero = refl
@@ -20,31 +21,31 @@ take_nothing (suc n) = refl
 -- ---- stretches one after the other
 
 -- with fewer tries there are the first of them
-fewer_tries : (cuts : List ℕ) (cs : List Child) (i j m tries x : ℕ) → stretches cuts cs i j (min m tries) x ≡ take m (stretches cuts cs i j tries x)
-fewer_tries cuts cs i j zero tries x = let over : min 0 tries ≡ 0 = omega arith in ap (λ (n : ℕ). stretches cuts cs i j n x) over
-fewer_tries cuts cs i j (suc m) zero x = let over : min (suc m) 0 ≡ 0 = omega arith in ap (λ (n : ℕ). stretches cuts cs i j n x) over
+fewer_tries : (cuts : List ℕ) (cs : List Child) (i j m tries x : ℕ) → child_ranges cuts cs i j (min m tries) x ≡ take m (child_ranges cuts cs i j tries x)
+fewer_tries cuts cs i j zero tries x = let over : min 0 tries ≡ 0 = omega arith in ap (λ (n : ℕ). child_ranges cuts cs i j n x) over
+fewer_tries cuts cs i j (suc m) zero x = let over : min (suc m) 0 ≡ 0 = omega arith in ap (λ (n : ℕ). child_ranges cuts cs i j n x) over
 fewer_tries cuts cs i j (suc m) (suc tries) x =
     let one : min (suc m) (suc tries) ≡ suc (min m tries) = omega arith in
-    ap (λ (n : ℕ). stretches cuts cs i j n x) one
-    ∙ ap (λ (ss : List Stretch). around cuts cs i j x ∷ ss) (behind (is_all cs (around cuts cs i j x)) (fewer_tries cuts cs i j m tries (2 * x)))
+    ap (λ (n : ℕ). child_ranges cuts cs i j n x) one
+    ∙ ap (λ (ss : List ChildRange). around cuts cs i j x ∷ ss) (after (is_all cs (around cuts cs i j x)) (fewer_tries cuts cs i j m tries (2 * x)))
   where
-    behind : (b : Bool) → stretches cuts cs i j (min m tries) (2 * x) ≡ take m (stretches cuts cs i j tries (2 * x))
-        → (if b then [] else stretches cuts cs i j (min m tries) (2 * x)) ≡ take m (if b then [] else stretches cuts cs i j tries (2 * x))
-    behind true further = sym (take_nothing m)
-    behind false further = further
+    after : (b : Bool) → child_ranges cuts cs i j (min m tries) (2 * x) ≡ take m (child_ranges cuts cs i j tries (2 * x))
+        → (if b then [] else child_ranges cuts cs i j (min m tries) (2 * x)) ≡ take m (if b then [] else child_ranges cuts cs i j tries (2 * x))
+    after true further = sym (take_nothing m)
+    after false further = further
 
-first_stretches : (path : List ℕ) (at : ℕ) (ts : List Tree) (m : ℕ) (ss : List Stretch) → of_stretches path at ts (take m ss) ≡ take m (of_stretches path at ts ss)
-first_stretches path at ts zero ss = refl
-first_stretches path at ts (suc m) [] = refl
-first_stretches path at ts (suc m) (s ∷ ss) = ap (λ (cs : List Candidate). of_children false path at ts s.from s.to ∷ cs) (first_stretches path at ts m ss)
+first_ranges : (path : List ℕ) (at : ℕ) (ts : List Tree) (m : ℕ) (ss : List ChildRange) → of_child_ranges path at ts (take m ss) ≡ take m (of_child_ranges path at ts ss)
+first_ranges path at ts zero ss = refl
+first_ranges path at ts (suc m) [] = refl
+first_ranges path at ts (suc m) (s ∷ ss) = ap (λ (cs : List Candidate). of_children false path at ts s.from s.to ∷ cs) (first_ranges path at ts m ss)
 
 -- the first of a run, by as many tries
-pub first_of_run : (path cuts : List ℕ) (at : ℕ) (ts : List Tree) (i j m tries x : ℕ) → of_stretches path at ts (stretches cuts (laid at ts) i j (min m tries) x) ≡ take m (of_stretches path at ts (stretches cuts (laid at ts) i j tries x))
-first_of_run path cuts at ts i j m tries x = ap (of_stretches path at ts) (fewer_tries cuts (laid at ts) i j m tries x) ∙ first_stretches path at ts m (stretches cuts (laid at ts) i j tries x)
+pub first_of_run : (path cuts : List ℕ) (at : ℕ) (ts : List Tree) (i j m tries x : ℕ) → of_child_ranges path at ts (child_ranges cuts (laid at ts) i j (min m tries) x) ≡ take m (of_child_ranges path at ts (child_ranges cuts (laid at ts) i j tries x))
+first_of_run path cuts at ts i j m tries x = ap (of_child_ranges path at ts) (fewer_tries cuts (laid at ts) i j m tries x) ∙ first_ranges path at ts m (child_ranges cuts (laid at ts) i j tries x)
 
 -- with no tries left there are no more
-pub no_more : (path cuts : List ℕ) (at : ℕ) (ts : List Tree) (i j tries x : ℕ) (cs : List Candidate) → tries ≡ 0 → cs ≡ cs ++ of_stretches path at ts (stretches cuts (laid at ts) i j tries x)
-no_more path cuts at ts i j tries x cs over = sym (append-nil cs) ∙ ap (λ (n : ℕ). cs ++ of_stretches path at ts (stretches cuts (laid at ts) i j n x)) (sym over)
+pub no_more : (path cuts : List ℕ) (at : ℕ) (ts : List Tree) (i j tries x : ℕ) (cs : List Candidate) → tries ≡ 0 → cs ≡ cs ++ of_child_ranges path at ts (child_ranges cuts (laid at ts) i j tries x)
+no_more path cuts at ts i j tries x cs over = sym (append-nil cs) ∙ ap (λ (n : ℕ). cs ++ of_child_ranges path at ts (child_ranges cuts (laid at ts) i j n x)) (sym over)
 
 -- with as many more children as there are, all are taken
 all_taken : (cuts : List ℕ) (at : ℕ) (ts : List Tree) (i j x : ℕ) → i ≤ length ts → length ts ≤ x → is_all (laid at ts) (around cuts (laid at ts) i j x) ≡ true
@@ -62,17 +63,17 @@ not_all cuts at ts i j x h e = pick (nat_lt x (length ts)) refl
     pick true p = grind (arith, nat_tests)
     pick false p = let le : length ts ≤ x = grind (arith, nat_tests) in let all = all_taken cuts at ts i j x h le in absurd (cc)
 
-pub all_by_test : (cs : List Child) (w s : Stretch) (b : Bool) → w ≡ s → is_all cs w ≡ b → is_all cs s ≡ b
+pub all_by_test : (cs : List Child) (w s : ChildRange) (b : Bool) → w ≡ s → is_all cs w ≡ b → is_all cs s ≡ b
 all_by_test cs w s b e f = ap (is_all cs) (sym e) ∙ f
 
--- a stretch in hand is one of the run
-pub one_piece : (path : List ℕ) (depth at : ℕ) (ts : List Tree) (w : row.Stretch) (s : Stretch) (c : found.Candidate) → IsEdge at ts w.from → IsEdge at ts w.to → indices w ≡ s
+-- a stretch at hand is one of the run
+pub one_piece : (path : List ℕ) (depth at : ℕ) (ts : List Tree) (w : children.ChildRange) (s : ChildRange) (c : found.Candidate) → IsEdge at ts w.from → IsEdge at ts w.to → indices w ≡ s
     → c ≡ record { is_block = false; depth = depth; from = w.from.index; to = w.to.index; start = w.from.byte; end = w.to.byte }
     → spelled path c ≡ of_children false (take depth path) at ts s.from s.to
 one_piece path depth at ts w s c from to e is =
     ap (spelled path) is
     ∙ ((λ k. record { is_block = false; path = take depth path; from = w.from.index; to = w.to.index; start = from.byte k; end = to.byte k })
-    ∙ ap (λ (p : Stretch). of_children false (take depth path) at ts p.from p.to) e)
+    ∙ ap (λ (p : ChildRange). of_children false (take depth path) at ts p.from p.to) e)
 
 module _ (cuts : List ℕ) (at : ℕ) (ts : List Tree) (i j : ℕ) (path : List ℕ) (depth tries n x : ℕ) (items later : List found.Candidate) (c : found.Candidate) where
   pushed : later ≡ items ++ c ∷ [] → map (spelled path) later ≡ map (spelled path) items ++ spelled path c ∷ []
@@ -80,19 +81,19 @@ module _ (cuts : List ℕ) (at : ℕ) (ts : List Tree) (i j : ℕ) (path : List 
 
   pub last_piece : n < tries → later ≡ items ++ c ∷ [] → spelled path c ≡ of_children false (take depth path) at ts (around cuts (laid at ts) i j x).from (around cuts (laid at ts) i j x).to
       → is_all (laid at ts) (around cuts (laid at ts) i j x) ≡ true
-      → map (spelled path) items ++ of_stretches (take depth path) at ts (stretches cuts (laid at ts) i j (tries - n) x) ≡ map (spelled path) later
+      → map (spelled path) items ++ of_child_ranges (take depth path) at ts (child_ranges cuts (laid at ts) i j (tries - n) x) ≡ map (spelled path) later
   last_piece lt e is all =
       let turn : tries - n ≡ suc (tries - (n + 1)) = omega arith in
       rw (turn, all) (ap (λ (d : Candidate). map (spelled path) items ++ d ∷ []) (sym is) ∙ sym (pushed e))
 
   pub next_piece : n < tries → later ≡ items ++ c ∷ [] → spelled path c ≡ of_children false (take depth path) at ts (around cuts (laid at ts) i j x).from (around cuts (laid at ts) i j x).to
       → is_all (laid at ts) (around cuts (laid at ts) i j x) ≡ false
-      → map (spelled path) items ++ of_stretches (take depth path) at ts (stretches cuts (laid at ts) i j (tries - n) x)
-      ≡ map (spelled path) later ++ of_stretches (take depth path) at ts (stretches cuts (laid at ts) i j (tries - (n + 1)) (2 * x))
+      → map (spelled path) items ++ of_child_ranges (take depth path) at ts (child_ranges cuts (laid at ts) i j (tries - n) x)
+      ≡ map (spelled path) later ++ of_child_ranges (take depth path) at ts (child_ranges cuts (laid at ts) i j (tries - (n + 1)) (2 * x))
   next_piece lt e is all =
       let turn : tries - n ≡ suc (tries - (n + 1)) = omega arith in
-      rw (turn, all) (ap (λ (d : Candidate). map (spelled path) items ++ d ∷ of_stretches (take depth path) at ts (stretches cuts (laid at ts) i j (tries - (n + 1)) (2 * x))) (sym is)
-      ∙ sym (ap (λ (ds : List Candidate). ds ++ of_stretches (take depth path) at ts (stretches cuts (laid at ts) i j (tries - (n + 1)) (2 * x))) (pushed e) ∙ append_assoc (map (spelled path) items) (spelled path c ∷ []) (of_stretches (take depth path) at ts (stretches cuts (laid at ts) i j (tries - (n + 1)) (2 * x)))))
+      rw (turn, all) (ap (λ (d : Candidate). map (spelled path) items ++ d ∷ of_child_ranges (take depth path) at ts (child_ranges cuts (laid at ts) i j (tries - (n + 1)) (2 * x))) (sym is)
+      ∙ sym (ap (λ (ds : List Candidate). ds ++ of_child_ranges (take depth path) at ts (child_ranges cuts (laid at ts) i j (tries - (n + 1)) (2 * x))) (pushed e) ∙ append_assoc (map (spelled path) items) (spelled path c ∷ []) (of_child_ranges (take depth path) at ts (child_ranges cuts (laid at ts) i j (tries - (n + 1)) (2 * x)))))
 
 -- ---- a node and its child
 
@@ -143,10 +144,6 @@ pub begins_end : (at : ℕ) (ts : List Tree) → begins at ts (length ts) ≡ at
 begins_end at [] = omega arith
 begins_end at (t ∷ ts) = omega (arith, begins_end (at + length (text_of t)) ts, length-append t.head.text (joined t.kids ++ joined (forest ts)), length-append (joined t.kids) (joined (forest ts)), length-append t.head.text (joined t.kids))
 
-pub forest_trees : (f : Forest) → forest (trees f) ≡ f
-forest_trees none = refl
-forest_trees (more h ks r) = ap (more h ks) (forest_trees r)
-
 -- a node ends where its last child does
 pub ends_of : (at a : ℕ) (t : Tree) (ts : List Tree) → ts ≡ trees t.kids → a ≡ at + length t.head.text → begins a ts (length ts) ≡ at + length (text_of t)
 ends_of at a t ts e p =
@@ -166,7 +163,7 @@ fewer [] n d h = absurd (omega arith)
 fewer (t ∷ ts) zero d h = omega arith
 fewer (t ∷ ts) (suc n) d h = omega (arith, fewer ts n d (omega arith))
 
--- a child in hand
+-- a child at hand
 child_in_hand : (a : ℕ) (ts : List Tree) (n : ℕ) (u : Tree) → n < length ts → u ≡ get_or ts n u → child_at (laid a ts) n ≡ Some (record { start = begins a ts n; end = begins a ts n + length (text_of u); node = u })
 child_in_hand a ts n u h e = child_here a ts n u h ∙ ap (λ (v : Tree). Some (record { start = begins a ts n; end = begins a ts n + length (text_of v); node = v })) (sym e)
 
@@ -193,7 +190,7 @@ Rest ns rs re path at parent a ts i o = elim o as (λ _. List Candidate) [
 ]
 
 module _ (ns : List Note) (rs re : ℕ) (path : List ℕ) (at a : ℕ) (t : Tree) (ts : List Tree) (near : Near) (kids : trees t.kids ≡ ts) (inside : at + length t.head.text ≡ a) (is : IsNear a ts rs re near) where
-  -- the same over the children in hand
+  -- the same over the children at hand
   in_hand : below ns rs re path at t ≡ Rest ns rs re path at t.head.kind a ts near.first.index (child_at (laid a ts) near.first.index)
   in_hand = (λ k. Rest ns rs re path at t.head.kind (inside k) (kids k) (first_near rs (laid (inside k) (kids k))) (child_at (laid (inside k) (kids k)) (first_near rs (laid (inside k) (kids k)))))
       ∙ ap (λ (i : ℕ). Rest ns rs re path at t.head.kind a ts i (child_at (laid a ts) i)) (sym is.first)

@@ -1,17 +1,17 @@
 -- From what a contract promises to the lemma behind it:
---   a row's edges and stretches      Rows; Windows: those in a window; Found: what is found in a row; Stops: on the way down; Nested: the run by its entries
+--   edges and child ranges           Edges; Windows: those in a window; Found: what is found in a run; Stops: on the way down; Nested: the run by its entries
 --   has, run: the bytes rise         Bytes
 --   records: of_notes, rear, front, opening, last   Walks: entry by entry; Passes: over all of them
---   next, back, cursor_at, piece_behind, piece_before, top_run, run_in, closing   Cursors; Openings: run_in by opening
+--   next, back, cursor_at, piece_after, piece_before, top_run, run_in, closing   Cursors; Openings: run_in by opening
 --   the anchor, and what is looked up from it   Anchors; Starts: top_run, run_in by their first piece
 --   put, push, next, back of the words       Words
---   start of a walk, put             Spans: by sums over words, Rounds: round the machine's numbers; pass_block   Blocks
+--   start of a word cursor, put             Spans: by sums over words, Rounds: round the machine's numbers; pass_block   Blocks
 --   looks_law                        Looks: note by note
 --   nested_law                       Nested
 pub mod Found
 pub mod Stops
 pub mod Bytes
-pub mod Rows
+pub mod Edges
 pub mod Windows
 pub mod Looks
 pub mod Walks

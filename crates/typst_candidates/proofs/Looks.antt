@@ -3,7 +3,7 @@ use Rattle.std.proofs.Common.{◌≡◌, ℕ, suc, ◌+◌, ◌-◌, ◌≤◌, 
 use Rattle.std.proofs.lemmas.Bool.Decides.{nat_tests}
 use Rattle.typst_language.specs.declared.calls.Note.{Note}
 use Rattle.typst_candidates.specs.declared.entry.Entry.{Entry}
-use Rattle.typst_candidates.specs.Entries.{back_of, entry_of, entries_by, last_start, front_of, is_behind, rear_of}
+use Rattle.typst_candidates.specs.Entries.{back_of, entry_of, entries_by, last_start, front_of, is_after, rear_of}
 use Rattle.typst_candidates.specs.Records.{IsRising, AllEnd, AllBegin, FrontLaw, RearLaw}
 
 -- the token of a note begins where its entry says
@@ -44,9 +44,9 @@ front-law ns more n at r h = front-by ns more n at 0 r h
 
 -- ---- the rear
 
--- behind a token at a byte or behind it looks begin behind the byte just where their number is greater
-behind-is : (at start least : ℕ) → at ≤ start → (is_behind at start (back_of start least) ≡ true ↔ at < least)
-behind-is at start least h = (
+-- after a token at a byte or after it looks begin after the byte just where their number is greater
+after-is : (at start least : ℕ) → at ≤ start → (is_after at start (back_of start least) ≡ true ↔ at < least)
+after-is at start least h = (
   (λ e. (let d : at < suc start - (suc start - least) = grind (arith, nat_tests, e) in omega (arith, d))),
   (λ l. (let d : at < suc start - (suc start - least) = omega (arith, l) in grind (arith, nat_tests, d))),
 )
@@ -60,23 +60,23 @@ passes false number c l = ((λ h. absurd (omega (arith, h, l))), (λ e. absurd (
     false-true e = cc
 
 step-rear : (at start number : ℕ) (n : Note) (es : List Entry) (back : ℕ) → start ≤ n.before → n.before ≤ n.start
-    → rear_of at start number (entry_of start n ∷ es) back ≡ max (if is_behind at start (back_of start n.least) then 0 else number) (rear_of at n.start (suc number) es back)
-step-rear at start number n es back a b = ap (λ here. max (if is_behind at start (back_of start n.least) then 0 else number) (rear_of at here (suc number) es back)) (here-is start n a b)
+    → rear_of at start number (entry_of start n ∷ es) back ≡ max (if is_after at start (back_of start n.least) then 0 else number) (rear_of at n.start (suc number) es back)
+step-rear at start number n es back a b = ap (λ here. max (if is_after at start (back_of start n.least) then 0 else number) (rear_of at here (suc number) es back)) (here-is start n a b)
 
 tail-by : (more : List Note) (at least start number c : ℕ) → c < number → at ≤ start → IsRising start more
     → (rear_of at start number (entries_by start more) (back_of (last_start start more) least) ≤ c ↔ AllBegin at more least)
 tail-by [] at least start number c l h r =
-    let p = passes (is_behind at start (back_of start least)) number c l in
-    let b = behind-is at start least h in
+    let p = passes (is_after at start (back_of start least)) number c l in
+    let b = after-is at start least h in
     ((λ m. b.0 (p.0 m)), (λ m. p.1 (b.1 m)))
 tail-by (n ∷ more) at least start number c l h r =
     let before = r.0 in
     let there = r.1 in
     let e = step-rear at start number n (entries_by n.start more) (back_of (last_start n.start more) least) before there in
-    let w = if is_behind at start (back_of start n.least) then 0 else number in
+    let w = if is_after at start (back_of start n.least) then 0 else number in
     let rest = rear_of at n.start (suc number) (entries_by n.start more) (back_of (last_start n.start more) least) in
-    let p = passes (is_behind at start (back_of start n.least)) number c l in
-    let b = behind-is at start n.least h in
+    let p = passes (is_after at start (back_of start n.least)) number c l in
+    let b = after-is at start n.least h in
     let i = tail-by more at least n.start (suc number) c (omega (arith, l)) (omega (arith, h, before, there)) r.2 in (
       (λ m. (let both : max w rest ≤ c = subst (λ j. j ≤ c) e m in (b.0 (p.0 (omega (arith, both))), i.0 (omega (arith, both))))),
       (λ m. (let one = p.1 (b.1 m.0) in let two = i.1 m.1 in subst (λ j. j ≤ c) (sym e) (omega (arith, one, two)))),
@@ -90,9 +90,9 @@ rear-by : (ns more : List Note) (n : Note) (at least start number : ℕ) → IsR
     → (rear_of at start number (entries_by start (ns ++ n ∷ more)) (back_of (last_start start (ns ++ n ∷ more)) least) ≤ number + length ns ↔ AllBegin at more least)
 rear-by [] more n at least start number r h =
     let e = step-rear at start number n (entries_by n.start more) (back_of (last_start n.start more) least) r.0 r.1 in
-    let w = if is_behind at start (back_of start n.least) then 0 else number in
+    let w = if is_after at start (back_of start n.least) then 0 else number in
     let rest = rear_of at n.start (suc number) (entries_by n.start more) (back_of (last_start n.start more) least) in
-    let few = small (is_behind at start (back_of start n.least)) number (number + 0) (omega arith) in
+    let few = small (is_after at start (back_of start n.least)) number (number + 0) (omega arith) in
     let i = tail-by more at least n.start (suc number) (number + 0) (omega arith) h r.2 in (
       (λ m. (let both : max w rest ≤ number + 0 = subst (λ j. j ≤ number + 0) e m in i.0 (omega (arith, both)))),
       (λ m. (let two = i.1 m in subst (λ j. j ≤ number + 0) (sym e) (omega (arith, few, two)))),
@@ -101,9 +101,9 @@ rear-by (m ∷ ns) more n at least start number r h =
     let rest = ns ++ n ∷ more in
     let back = back_of (last_start m.start rest) least in
     let e = step-rear at start number m (entries_by m.start rest) back r.0 r.1 in
-    let w = if is_behind at start (back_of start m.least) then 0 else number in
+    let w = if is_after at start (back_of start m.least) then 0 else number in
     let later = rear_of at m.start (suc number) (entries_by m.start rest) back in
-    let few = small (is_behind at start (back_of start m.least)) number (number + suc (length ns)) (omega arith) in
+    let few = small (is_after at start (back_of start m.least)) number (number + suc (length ns)) (omega arith) in
     let i = rear-by ns more n at least m.start (suc number) r.2 h in (
       (λ k. (let both : max w later ≤ number + suc (length ns) = subst (λ j. j ≤ number + suc (length ns)) e k in i.0 (omega (arith, both)))),
       (λ k. (let two = i.1 k in subst (λ j. j ≤ number + suc (length ns)) (sym e) (omega (arith, few, two)))),

@@ -8,39 +8,39 @@ use Rattle.typst_kinds.specs.Kinds.{same}
 use Rattle.typst_kinds.specs.declared.kind.SyntaxKind.{SyntaxKind}
 use Rattle.typst_kinds.specs.declared.kind.SyntaxKind.TheVariants as kind
 use Rattle.typst_candidates.specs.declared.entry.Entry.{Entry}
-use Rattle.typst_candidates.specs.declared.entry.Tag.{Tag}
-use Rattle.typst_candidates.specs.Cursors.{inside_behind, leads, pieces_of, pieces_in, piece_run, closing_of, token_at}
+use Rattle.typst_candidates.specs.declared.entry.EntryKind.{EntryKind}
+use Rattle.typst_candidates.specs.Cursors.{inside_after, leads, pieces_of, pieces_in, piece_run, closing_of, token_at}
 use Rattle.typst_candidates.specs.Cursors as cursor
 use Rattle.typst_candidates.specs.Candidates.{run_in}
-use Rattle.typst_candidates.specs.Entries.{entries_by, entry_of, last_start, tag_of}
+use Rattle.typst_candidates.specs.Entries.{entries_by, entry_of, last_start, entry_kind_of}
 use Rattle.typst_candidates.specs.Nested.{Nested, none, piece, block, Written}
 use Rattle.typst_candidates.specs.Records.{IsRising}
-use Rattle.typst_candidates.specs.Units.{is_piece, is_closing, is_content, opens_content, starts, up_to_end, behind_first, top_cuts, cuts_in}
+use Rattle.typst_candidates.specs.Units.{is_piece, is_closing, is_content, opens_content, starts, up_to_end, after_first, top_cuts, cuts_in}
 
 -- ---- a note and its entry
 
--- a note's token begins where its entry says, behind one before it
+-- a note's token begins where its entry says, after one before it
 pub token-of : (start : ℕ) (n : Note) → start ≤ n.before → n.before ≤ n.start → token_at start (entry_of start n) ≡ n.start
 token-of start n a b = omega (arith, a, b)
 
--- what comes behind an entry, where it stands in so many blocks of a run
-abbrev behind : Tag → ℕ → ℕ → List Entry → List ℕ
-behind t inside start es = elim (inside_behind t inside) as (λ _. List ℕ) [ None ↦ [] | Some further ↦ pieces_of further start es ]
+-- what comes after an entry, where it stands in a given number of blocks of a run
+abbrev after : EntryKind → ℕ → ℕ → List Entry → List ℕ
+after t inside start es = elim (inside_after t inside) as (λ _. List ℕ) [ None ↦ [] | Some further ↦ pieces_of further start es ]
 
-pieces-here : (inside start : ℕ) (n : Note) (t : Tag) (es : List Entry) → start ≤ n.before → n.before ≤ n.start → tag_of n.mark n.state ≡ t
-    → pieces_of inside start (entry_of start n ∷ es) ≡ (if leads t inside then n.start ∷ behind t inside n.start es else behind t inside n.start es)
+pieces-here : (inside start : ℕ) (n : Note) (t : EntryKind) (es : List Entry) → start ≤ n.before → n.before ≤ n.start → entry_kind_of n.mark n.state ≡ t
+    → pieces_of inside start (entry_of start n ∷ es) ≡ (if leads t inside then n.start ∷ after t inside n.start es else after t inside n.start es)
 pieces-here inside start n t es a b e =
-    ap (λ (u : Tag). if leads u inside then token_at start (entry_of start n) ∷ behind u inside (token_at start (entry_of start n)) es else behind u inside (token_at start (entry_of start n)) es) e
-    ∙ ap (λ (at : ℕ). if leads t inside then at ∷ behind t inside at es else behind t inside at es) (token-of start n a b)
+    ap (λ (u : EntryKind). if leads u inside then token_at start (entry_of start n) ∷ after u inside (token_at start (entry_of start n)) es else after u inside (token_at start (entry_of start n)) es) e
+    ∙ ap (λ (at : ℕ). if leads t inside then at ∷ after t inside at es else after t inside at es) (token-of start n a b)
 
-piece-tag : (n : Note) (line : Bool) (brackets : ℕ) → n.mark ≡ mark.Piece line brackets → tag_of n.mark n.state ≡ tag_of (mark.Piece line brackets) n.state
-piece-tag n line brackets e = ap (λ (m : Mark). tag_of m n.state) e
+piece-kind : (n : Note) (line : Bool) (brackets : ℕ) → n.mark ≡ mark.Piece line brackets → entry_kind_of n.mark n.state ≡ entry_kind_of (mark.Piece line brackets) n.state
+piece-kind n line brackets e = ap (λ (m : Mark). entry_kind_of m n.state) e
 
-opens-tag : (n : Note) (b : Block) → n.mark ≡ mark.Opens b → tag_of n.mark n.state ≡ tag_of (mark.Opens b) n.state
-opens-tag n b e = ap (λ (m : Mark). tag_of m n.state) e
+opens-kind : (n : Note) (b : Block) → n.mark ≡ mark.Opens b → entry_kind_of n.mark n.state ≡ entry_kind_of (mark.Opens b) n.state
+opens-kind n b e = ap (λ (m : Mark). entry_kind_of m n.state) e
 
-closes-tag : (n : Note) → n.mark ≡ mark.Closes → tag_of n.mark n.state ≡ tag_of mark.Closes n.state
-closes-tag n e = ap (λ (m : Mark). tag_of m n.state) e
+closes-kind : (n : Note) → n.mark ≡ mark.Closes → entry_kind_of n.mark n.state ≡ entry_kind_of mark.Closes n.state
+closes-kind n e = ap (λ (m : Mark). entry_kind_of m n.state) e
 
 -- ---- rising notes
 
@@ -137,17 +137,17 @@ passed : (levels inside start : ℕ) (ns ms : List Note) → Nested levels ns �
     → pieces_of (suc inside) start (made start (ns ++ ms)) ≡ pieces_of (suc inside) (last_start start ns) (made (last_start start ns) ms)
 passed levels inside start ns ms (none l) r = refl
 passed levels inside start ns ms (piece l n us line brackets m e more) r =
-    pieces-here (suc inside) start n _ (made n.start (us ++ ms)) r.0 r.1 (piece-tag n line brackets m) ∙ skipped inside _ _ ∙ passed levels inside n.start us ms more r.2
+    pieces-here (suc inside) start n _ (made n.start (us ++ ms)) r.0 r.1 (piece-kind n line brackets m) ∙ skipped inside _ _ ∙ passed levels inside n.start us ms more r.2
 passed levels inside start ns ms (block l o c inner later b m n same less nest rest) r =
     let flat = flat-block o c inner later ms in
     let rising = subst (IsRising start) flat r in
     let mid = last_start o.start inner in
-    let behind_inner = rising-second o.start inner (c ∷ (later ++ ms)) rising.2 in
+    let after_inner = rising-second o.start inner (c ∷ (later ++ ms)) rising.2 in
     ap (λ us. pieces_of (suc inside) start (made start us)) flat
-    ∙ pieces-here (suc inside) start o _ (made o.start (inner ++ (c ∷ (later ++ ms)))) rising.0 rising.1 (opens-tag o b m)
+    ∙ pieces-here (suc inside) start o _ (made o.start (inner ++ (c ∷ (later ++ ms)))) rising.0 rising.1 (opens-kind o b m)
     ∙ passed o.levels (suc inside) o.start inner (c ∷ (later ++ ms)) nest rising.2
-    ∙ pieces-here (suc (suc inside)) mid c _ (made c.start (later ++ ms)) behind_inner.0 behind_inner.1 (closes-tag c n)
-    ∙ passed levels inside c.start later ms rest behind_inner.2
+    ∙ pieces-here (suc (suc inside)) mid c _ (made c.start (later ++ ms)) after_inner.0 after_inner.1 (closes-kind c n)
+    ∙ passed levels inside c.start later ms rest after_inner.2
     ∙ ap (λ (at : ℕ). pieces_of (suc inside) at (made at ms)) (sym (last-block start o c inner later))
 
 -- the pieces of nested notes are those that say their levels
@@ -155,21 +155,21 @@ pub found-pieces : (levels start : ℕ) (ns ms : List Note) → Nested levels ns
     → pieces_of 0 start (made start (ns ++ ms)) ≡ starts levels ns ++ pieces_of 0 (last_start start ns) (made (last_start start ns) ms)
 found-pieces levels start ns ms (none l) r = refl
 found-pieces levels start ns ms (piece l n us line brackets m e more) r =
-    pieces-here 0 start n _ (made n.start (us ++ ms)) r.0 r.1 (piece-tag n line brackets m)
+    pieces-here 0 start n _ (made n.start (us ++ ms)) r.0 r.1 (piece-kind n line brackets m)
     ∙ ap (λ vs. n.start ∷ vs) (found-pieces levels n.start us ms more r.2)
     ∙ ap (λ vs. vs ++ pieces_of 0 (last_start n.start us) (made (last_start n.start us) ms)) (sym (starts-piece levels n us line brackets m e))
 found-pieces levels start ns ms (block l o c inner later b m n same less nest rest) r =
     let flat = flat-block o c inner later ms in
     let rising = subst (IsRising start) flat r in
     let mid = last_start o.start inner in
-    let behind_inner = rising-second o.start inner (c ∷ (later ++ ms)) rising.2 in
+    let after_inner = rising-second o.start inner (c ∷ (later ++ ms)) rising.2 in
     let own : starts levels (o ∷ (inner ++ c ∷ later)) ≡ starts levels later =
     starts-opens levels o (inner ++ c ∷ later) b m ∙ starts-both levels inner (c ∷ later) ∙ ap (λ us. us ++ starts levels (c ∷ later)) (none-deeper levels o.levels inner nest less) ∙ starts-closes levels c later n in
     ap (λ us. pieces_of 0 start (made start us)) flat
-    ∙ pieces-here 0 start o _ (made o.start (inner ++ (c ∷ (later ++ ms)))) rising.0 rising.1 (opens-tag o b m)
+    ∙ pieces-here 0 start o _ (made o.start (inner ++ (c ∷ (later ++ ms)))) rising.0 rising.1 (opens-kind o b m)
     ∙ passed o.levels 0 o.start inner (c ∷ (later ++ ms)) nest rising.2
-    ∙ pieces-here 1 mid c _ (made c.start (later ++ ms)) behind_inner.0 behind_inner.1 (closes-tag c n)
-    ∙ found-pieces levels c.start later ms rest behind_inner.2
+    ∙ pieces-here 1 mid c _ (made c.start (later ++ ms)) after_inner.0 after_inner.1 (closes-kind c n)
+    ∙ found-pieces levels c.start later ms rest after_inner.2
     ∙ ap (λ (at : ℕ). starts levels later ++ pieces_of 0 at (made at ms)) (sym (last-block start o c inner later))
     ∙ ap (λ vs. vs ++ pieces_of 0 (last_start start (o ∷ (inner ++ c ∷ later))) (made (last_start start (o ∷ (inner ++ c ∷ later))) ms)) (sym own)
 
@@ -177,18 +177,18 @@ found-pieces levels start ns ms (block l o c inner later b m n same less nest re
 pub found-in : (levels start : ℕ) (inner : List Note) (c : Note) (later : List Note) → Nested levels inner → c.mark ≡ mark.Closes → IsRising start (inner ++ c ∷ later)
     → pieces_of 0 start (made start (inner ++ c ∷ later)) ≡ starts levels inner
 found-in levels start inner c later nest m r =
-    let behind_inner = rising-second start inner (c ∷ later) r in
+    let after_inner = rising-second start inner (c ∷ later) r in
     found-pieces levels start inner (c ∷ later) nest r
-    ∙ ap (λ vs. starts levels inner ++ vs) (pieces-here 0 (last_start start inner) c _ (made c.start later) behind_inner.0 behind_inner.1 (closes-tag c m))
+    ∙ ap (λ vs. starts levels inner ++ vs) (pieces-here 0 (last_start start inner) c _ (made c.start later) after_inner.0 after_inner.1 (closes-kind c m))
     ∙ all (starts levels inner)
   where
     all : (us : List ℕ) → us ++ [] ≡ us
     all [] = refl
     all (u ∷ us) = ap (λ vs. u ∷ vs) (all us)
 
-pub top-pieces : (ns : List Note) → Nested 256 ns → IsRising 0 ns → behind_first (pieces_of 0 0 (entries_by 0 ns)) ≡ top_cuts ns
+pub top-pieces : (ns : List Note) → Nested 256 ns → IsRising 0 ns → after_first (pieces_of 0 0 (entries_by 0 ns)) ≡ top_cuts ns
 top-pieces ns h r =
-    ap behind_first (ap (λ us. pieces_of 0 0 (made 0 us)) (sym (all ns)) ∙ found-pieces 256 0 ns [] h (subst (IsRising 0) (sym (all ns)) r) ∙ none-more (starts 256 ns))
+    ap after_first (ap (λ us. pieces_of 0 0 (made 0 us)) (sym (all ns)) ∙ found-pieces 256 0 ns [] h (subst (IsRising 0) (sym (all ns)) r) ∙ none-more (starts 256 ns))
   where
     all : (us : List Note) → us ++ [] ≡ us
     all [] = refl
@@ -201,35 +201,35 @@ top-pieces ns h r =
 -- ---- the block that begins at a byte
 
 -- by a note, and by its entry
-in-note : (at : ℕ) (n : Note) (ns : List Note) (m : Mark) → n.mark ≡ m → cuts_in at (n ∷ ns) ≡ (if opens_content m && n.start == at then behind_first (starts n.levels (up_to_end n.levels ns)) else cuts_in at ns)
-in-note at n ns m e = ap (λ (x : Mark). if opens_content x && n.start == at then behind_first (starts n.levels (up_to_end n.levels ns)) else cuts_in at ns) e
+in-note : (at : ℕ) (n : Note) (ns : List Note) (m : Mark) → n.mark ≡ m → cuts_in at (n ∷ ns) ≡ (if opens_content m && n.start == at then after_first (starts n.levels (up_to_end n.levels ns)) else cuts_in at ns)
+in-note at n ns m e = ap (λ (x : Mark). if opens_content x && n.start == at then after_first (starts n.levels (up_to_end n.levels ns)) else cuts_in at ns) e
 
-in-entry : (at start : ℕ) (n : Note) (es : List Entry) (t : Tag) → start ≤ n.before → n.before ≤ n.start → tag_of n.mark n.state ≡ t
-    → pieces_in at start (entry_of start n ∷ es) ≡ (if cursor.opens_content t && n.start == at then behind_first (pieces_of 0 n.start es) else pieces_in at n.start es)
+in-entry : (at start : ℕ) (n : Note) (es : List Entry) (t : EntryKind) → start ≤ n.before → n.before ≤ n.start → entry_kind_of n.mark n.state ≡ t
+    → pieces_in at start (entry_of start n ∷ es) ≡ (if cursor.opens_content t && n.start == at then after_first (pieces_of 0 n.start es) else pieces_in at n.start es)
 in-entry at start n es t a b e =
-    ap (λ (u : Tag). if cursor.opens_content u && token_at start (entry_of start n) == at then behind_first (pieces_of 0 (token_at start (entry_of start n)) es) else pieces_in at (token_at start (entry_of start n)) es) e
-    ∙ ap (λ (s : ℕ). if cursor.opens_content t && s == at then behind_first (pieces_of 0 s es) else pieces_in at s es) (token-of start n a b)
+    ap (λ (u : EntryKind). if cursor.opens_content u && token_at start (entry_of start n) == at then after_first (pieces_of 0 (token_at start (entry_of start n)) es) else pieces_in at (token_at start (entry_of start n)) es) e
+    ∙ ap (λ (s : ℕ). if cursor.opens_content t && s == at then after_first (pieces_of 0 s es) else pieces_in at s es) (token-of start n a b)
 
 found-block : (levels at start : ℕ) (ns ms : List Note) → Nested levels ns → IsRising start (ns ++ ms) → pieces_in at (last_start start ns) (made (last_start start ns) ms) ≡ cuts_in at ms
     → pieces_in at start (made start (ns ++ ms)) ≡ cuts_in at (ns ++ ms)
 found-block levels at start ns ms (none l) r h = h
 found-block levels at start ns ms (piece l n us line brackets m e more) r h =
-    in-entry at start n (made n.start (us ++ ms)) _ r.0 r.1 (piece-tag n line brackets m) ∙ found-block levels at n.start us ms more r.2 h ∙ sym (in-note at n (us ++ ms) _ m)
+    in-entry at start n (made n.start (us ++ ms)) _ r.0 r.1 (piece-kind n line brackets m) ∙ found-block levels at n.start us ms more r.2 h ∙ sym (in-note at n (us ++ ms) _ m)
 found-block levels at start ns ms (block l o c inner later b m n same less nest rest) r h =
     let flat = flat-block o c inner later ms in
     let rising = subst (IsRising start) flat r in
     let mid = last_start o.start inner in
     let tail = c ∷ (later ++ ms) in
-    let behind_inner = rising-second o.start inner tail rising.2 in
+    let after_inner = rising-second o.start inner tail rising.2 in
     let last = ap (λ (s : ℕ). pieces_in at s (made s ms)) (sym (last-block start o c inner later)) ∙ h in
-    let later_same = found-block levels at c.start later ms rest behind_inner.2 last in
+    let later_same = found-block levels at c.start later ms rest after_inner.2 last in
     let tail_same : pieces_in at mid (made mid tail) ≡ cuts_in at tail =
-    in-entry at mid c (made c.start (later ++ ms)) _ behind_inner.0 behind_inner.1 (closes-tag c n) ∙ later_same ∙ sym (in-note at c (later ++ ms) _ n) in
+    in-entry at mid c (made c.start (later ++ ms)) _ after_inner.0 after_inner.1 (closes-kind c n) ∙ later_same ∙ sym (in-note at c (later ++ ms) _ n) in
     let inside_same = found-block o.levels at o.start inner tail nest rising.2 tail_same in
-    let own : behind_first (pieces_of 0 o.start (made o.start (inner ++ tail))) ≡ behind_first (starts o.levels (up_to_end o.levels (inner ++ tail))) =
-    ap behind_first (found-in o.levels o.start inner c (later ++ ms) nest n rising.2) ∙ ap (λ us. behind_first (starts o.levels us)) (sym (up-to-own-end o.levels inner c (later ++ ms) nest n same)) in
+    let own : after_first (pieces_of 0 o.start (made o.start (inner ++ tail))) ≡ after_first (starts o.levels (up_to_end o.levels (inner ++ tail))) =
+    ap after_first (found-in o.levels o.start inner c (later ++ ms) nest n rising.2) ∙ ap (λ us. after_first (starts o.levels us)) (sym (up-to-own-end o.levels inner c (later ++ ms) nest n same)) in
     ap (λ us. pieces_in at start (made start us)) flat
-    ∙ in-entry at start o (made o.start (inner ++ tail)) _ rising.0 rising.1 (opens-tag o b m)
+    ∙ in-entry at start o (made o.start (inner ++ tail)) _ rising.0 rising.1 (opens-kind o b m)
     ∙ one (is_content b && o.start == at) _ _ _ _ own inside_same
     ∙ sym (in-note at o (inner ++ tail) _ m)
     ∙ ap (cuts_in at) (sym flat)
@@ -249,36 +249,36 @@ inner-pieces levels at ns h r =
 pub piece-run : (es : List Entry) (ns : List Note) (at : ℕ) (parent child : SyntaxKind) → Written es ns → piece_run es at parent child ≡ run_in ns at parent child
 piece-run es ns at parent child w = ap (λ o. if same kind.ContentBlock parent && same kind.Markup child then o else None) (ap (pieces_in at 0) w.entries ∙ inner-pieces 256 at ns w.nested w.rising)
 
-pub top-run : (es : List Entry) (ns : List Note) → Written es ns → behind_first (pieces_of 0 0 es) ≡ top_cuts ns
-top-run es ns w = ap (λ us. behind_first (pieces_of 0 0 us)) w.entries ∙ top-pieces ns w.nested w.rising
+pub top-run : (es : List Entry) (ns : List Note) → Written es ns → after_first (pieces_of 0 0 es) ≡ top_cuts ns
+top-run es ns w = ap (λ us. after_first (pieces_of 0 0 us)) w.entries ∙ top-pieces ns w.nested w.rising
 
 -- ---- where a block ends
 
-closing-here : (inside number start : ℕ) (n : Note) (t : Tag) (es : List Entry) → tag_of n.mark n.state ≡ t
-    → closing_of inside number (entry_of start n ∷ es) ≡ (elim (inside_behind t inside) as (λ _. Option ℕ) [ None ↦ Some number | Some further ↦ closing_of further (suc number) es ])
-closing-here inside number start n t es e = ap (λ (u : Tag). elim (inside_behind u inside) as (λ _. Option ℕ) [ None ↦ Some number | Some further ↦ closing_of further (suc number) es ]) e
+closing-here : (inside number start : ℕ) (n : Note) (t : EntryKind) (es : List Entry) → entry_kind_of n.mark n.state ≡ t
+    → closing_of inside number (entry_of start n ∷ es) ≡ (elim (inside_after t inside) as (λ _. Option ℕ) [ None ↦ Some number | Some further ↦ closing_of further (suc number) es ])
+closing-here inside number start n t es e = ap (λ (u : EntryKind). elim (inside_after u inside) as (λ _. Option ℕ) [ None ↦ Some number | Some further ↦ closing_of further (suc number) es ]) e
 
 -- nested notes end no block that stands around them
 pub closing-passes : (levels inside number start : ℕ) (ns ms : List Note) → Nested levels ns
     → closing_of inside number (made start (ns ++ ms)) ≡ closing_of inside (number + length ns) (made (last_start start ns) ms)
 closing-passes levels inside number start ns ms (none l) = ap (λ (j : ℕ). closing_of inside j (made start ms)) (omega arith)
 closing-passes levels inside number start ns ms (piece l n us line brackets m e more) =
-    closing-here inside number start n _ (made n.start (us ++ ms)) (piece-tag n line brackets m) ∙ closing-passes levels inside (suc number) n.start us ms more
+    closing-here inside number start n _ (made n.start (us ++ ms)) (piece-kind n line brackets m) ∙ closing-passes levels inside (suc number) n.start us ms more
     ∙ ap (λ (j : ℕ). closing_of inside j (made (last_start n.start us) ms)) (omega arith)
 closing-passes levels inside number start ns ms (block l o c inner later b m n same less nest rest) =
     let flat = flat-block o c inner later ms in
     let mid = last_start o.start inner in
     let long = length-append inner (c ∷ later) in
     ap (λ us. closing_of inside number (made start us)) flat
-    ∙ closing-here inside number start o _ (made o.start (inner ++ (c ∷ (later ++ ms)))) (opens-tag o b m)
+    ∙ closing-here inside number start o _ (made o.start (inner ++ (c ∷ (later ++ ms)))) (opens-kind o b m)
     ∙ closing-passes o.levels (suc inside) (suc number) o.start inner (c ∷ (later ++ ms)) nest
-    ∙ closing-here (suc inside) (suc number + length inner) mid c _ (made c.start (later ++ ms)) (closes-tag c n)
+    ∙ closing-here (suc inside) (suc number + length inner) mid c _ (made c.start (later ++ ms)) (closes-kind c n)
     ∙ closing-passes levels inside (suc (suc number + length inner)) c.start later ms rest
     ∙ ap (λ (at : ℕ). closing_of inside (suc (suc number + length inner) + length later) (made at ms)) (sym (last-block start o c inner later))
     ∙ ap (λ (j : ℕ). closing_of inside j (made (last_start start (o ∷ (inner ++ c ∷ later))) ms)) (omega (arith, long))
 
--- a block ends with the note behind those in it
+-- a block ends with the note after those in it
 pub closing-found : (levels number start : ℕ) (inner : List Note) (c : Note) (later : List Note) → Nested levels inner → c.mark ≡ mark.Closes
     → closing_of 0 number (entries_by start (inner ++ c ∷ later)) ≡ Some (number + length inner)
 closing-found levels number start inner c later nest m =
-    closing-passes levels 0 number start inner (c ∷ later) nest ∙ closing-here 0 (number + length inner) (last_start start inner) c _ (made c.start later) (closes-tag c m)
+    closing-passes levels 0 number start inner (c ∷ later) nest ∙ closing-here 0 (number + length inner) (last_start start inner) c _ (made c.start later) (closes-kind c m)

@@ -4,8 +4,8 @@ use Rattle.std.proofs.lemmas.Bool.Decides.{nat_tests}
 use Rattle.std.proofs.lemmas.Option.{get_or_from_slice_get, slice_get_within}
 use Rattle.std.specs.List.{slice_get}
 use Rattle.typst_candidates.specs.declared.entry.Entry.{Entry}
-use Rattle.typst_candidates.specs.Cursors.{Place, before, entry_before, last_of, start_at}
-use Rattle.typst_candidates.specs.Entries.{end_of, front_of, is_behind, rear_of}
+use Rattle.typst_candidates.specs.Cursors.{EntryPlace, before, entry_before, last_of, start_at}
+use Rattle.typst_candidates.specs.Entries.{end_of, front_of, is_after, rear_of}
 use Rattle.typst_candidates.specs.Records.{is_opening, opening_of}
 use Rattle.typst_candidates.proofs.Cursors.{cut}
 use Rattle.typst_candidates.proofs.Walks.{gap-over, opening-cut, step-over, stepped, stops}
@@ -46,9 +46,9 @@ opening-end (e ∷ es) at start number zero h = absurd (never h)
 opening-end (e ∷ es) at start number (suc n) h = opening-end es at start number n h
 
 pub opening-on : (es : List Entry) (at start n here : ℕ) (e : Entry) → slice_get es n ≡ Some e → here ≡ (start + e.step) + e.gap
-    → opening_of at start n (drop n es) ≡ (if is_opening e.tag && here == at then Some n else opening_of at here (suc n) (drop (suc n) es))
+    → opening_of at start n (drop n es) ≡ (if is_opening e.kind && here == at then Some n else opening_of at here (suc n) (drop (suc n) es))
 opening-on es at start n here e h s =
-    ap (opening_of at start n) (cut es n e h) ∙ ap (λ (m : ℕ). if is_opening e.tag && m == at then Some n else opening_of at m (suc n) (drop (suc n) es)) (sym s)
+    ap (opening_of at start n) (cut es n e h) ∙ ap (λ (m : ℕ). if is_opening e.kind && m == at then Some n else opening_of at m (suc n) (drop (suc n) es)) (sym s)
 
 pub same-place : (at left : ℕ) → left ≤ at → ((at - left) == at) ≡ (left == 0)
 same-place at zero h = let same : at - 0 ≡ at = omega arith in grind (arith, nat_tests, same)
@@ -83,15 +83,15 @@ gap-past es at stop n e h all is far =
     let same = get_or_from_slice_get es n e e h in
     gap-over es es n at stop e (slice_get_within es n e h) all refl (is ∙ ap (λ (d : Entry). at + d.step) (sym same)) (λ f. far (subst (λ (d : Entry). stop + d.gap < 2 ^ 64) same f))
 
--- ---- from which one on all looks begin behind a byte
+-- ---- from which one on all looks begin after a byte
 
-pub record Stepped-back (es : List Entry) (at back : ℕ) (p now : Place) (e : Entry) : Type 0 where
+pub record Stepped-back (es : List Entry) (at back : ℕ) (p now : EntryPlace) (e : Entry) : Type 0 where
   pub entries : now.entries ≡ es
   pub within : now.number ≤ length es
   pub less : now.number < p.number
   pub counts : rear_of at 0 0 (take now.number es) e.back ≡ rear_of at 0 0 (take p.number es) back
 
-rear-by : (es : List Entry) (at back n : ℕ) (e : Entry) → ◌≡◌ {A = Option Entry} (Some e) (last_of n es) → n ≤ length es → is_behind at (end_of 0 (take n es)) back ≡ true
+rear-by : (es : List Entry) (at back n : ℕ) (e : Entry) → ◌≡◌ {A = Option Entry} (Some e) (last_of n es) → n ≤ length es → is_after at (end_of 0 (take n es)) back ≡ true
     → Stepped-back es at back (record { entries = es; number = n }) (record { entries = es; number = n - 1 }) e
 rear-by es at back zero e h le b = absurd (never h)
   where
@@ -108,10 +108,10 @@ rear-by es at back (suc m) e h le b =
       counts = ap (λ (d : Entry). rear_of at 0 0 (take (suc m - 1) es) d.back) (sym same) ∙ s.counts;
     }
 
-pub rear-step : (es : List Entry) (at back : ℕ) (p now : Place) (e : Entry) → p.entries ≡ es → p.number ≤ length es → ◌≡◌ {A = Option Entry} (Some e) (entry_before p) → now ≡ before p → is_behind at (start_at p) back ≡ true
+pub rear-step : (es : List Entry) (at back : ℕ) (p now : EntryPlace) (e : Entry) → p.entries ≡ es → p.number ≤ length es → ◌≡◌ {A = Option Entry} (Some e) (entry_before p) → now ≡ before p → is_after at (start_at p) back ≡ true
     → Stepped-back es at back p now e
 rear-step es at back p now e a le h m b =
-    subst (λ (q : Place). Stepped-back es at back p q e) (sym m)
+    subst (λ (q : EntryPlace). Stepped-back es at back p q e) (sym m)
     (subst (λ us. Stepped-back us at back p (before p) e) a (rear-by p.entries at back p.number e h (subst (λ us. p.number ≤ length us) (sym a) le) b))
 
 nothing : (b : Bool) → ◌≡◌ {A = ℕ} 0 (if b then 0 else 0)
@@ -119,7 +119,7 @@ nothing true = refl
 nothing false = refl
 
 rear-first : (es : List Entry) (at back n : ℕ) → last_of n es ≡ None → n ≤ length es → 0 ≡ rear_of at 0 0 (take n es) back
-rear-first es at back zero h le = nothing (is_behind at 0 back)
+rear-first es at back zero h le = nothing (is_after at 0 back)
 rear-first es at back (suc m) h le = absurd (missing es m h (omega (arith, le)))
   where
     missing : (us : List Entry) (m : ℕ) → slice_get us m ≡ None → m < length us → ⊥
@@ -130,12 +130,12 @@ rear-first es at back (suc m) h le = absurd (missing es m h (omega (arith, le)))
         never q = cc
     missing (u ∷ us) (suc m) q lt = missing us m q (omega (arith, lt))
 
-pub rear-none : (es : List Entry) (at back : ℕ) (p : Place) → p.entries ≡ es → p.number ≤ length es → ◌≡◌ {A = Option Entry} None (entry_before p) → 0 ≡ rear_of at 0 0 (take p.number es) back
+pub rear-none : (es : List Entry) (at back : ℕ) (p : EntryPlace) → p.entries ≡ es → p.number ≤ length es → ◌≡◌ {A = Option Entry} None (entry_before p) → 0 ≡ rear_of at 0 0 (take p.number es) back
 rear-none es at back p a le h = rear-first es at back p.number (ap (last_of p.number) (sym a) ∙ sym h) le
 
-rear-last : (es : List Entry) (at back n : ℕ) → n ≤ length es → is_behind at (end_of 0 (take n es)) back ≡ false → n ≡ rear_of at 0 0 (take n es) back
-rear-last es at back zero le b = nothing (is_behind at 0 back)
+rear-last : (es : List Entry) (at back n : ℕ) → n ≤ length es → is_after at (end_of 0 (take n es)) back ≡ false → n ≡ rear_of at 0 0 (take n es) back
+rear-last es at back zero le b = nothing (is_after at 0 back)
 rear-last es at back (suc m) le b = stops at (end_of 0 (take (suc m) es)) back (suc m) es (omega arith) le refl b
 
-pub rear-stop : (es : List Entry) (at back : ℕ) (p : Place) → p.entries ≡ es → p.number ≤ length es → is_behind at (start_at p) back ≡ false → p.number ≡ rear_of at 0 0 (take p.number es) back
-rear-stop es at back p a le b = rear-last es at back p.number le (ap (λ us. is_behind at (end_of 0 (take p.number us)) back) (sym a) ∙ b)
+pub rear-stop : (es : List Entry) (at back : ℕ) (p : EntryPlace) → p.entries ≡ es → p.number ≤ length es → is_after at (start_at p) back ≡ false → p.number ≡ rear_of at 0 0 (take p.number es) back
+rear-stop es at back p a le b = rear-last es at back p.number le (ap (λ us. is_after at (end_of 0 (take p.number us)) back) (sym a) ∙ b)

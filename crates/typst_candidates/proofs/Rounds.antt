@@ -18,7 +18,7 @@ both-between from to s l h =
     let sum : (s % 2 ^ 64 + l % 2 ^ 64) % 2 ^ 64 ≡ (s + l) % 2 ^ 64 = mod-add-mod s (2 ^ 64) (l % 2 ^ 64) ∙ add-mod-mod s l (2 ^ 64) in
     ap (λ n. (from + n) % 2 ^ 64) sum ∙ add-mod-mod from (s + l) (2 ^ 64) ∙ ap (λ n. n % 2 ^ 64) (sym h)
 
--- the last token of entries of which a part took the place of others: those up to the first, up to the last that goes, and behind it
-pub last-put : (last gone part from to behind : ℕ) → last ≡ (to + behind) % 2 ^ 64 → gone < 2 ^ 64 → (from + gone) % 2 ^ 64 ≡ to % 2 ^ 64
-    → ((last + (2 ^ 64 - gone)) % 2 ^ 64 + part % 2 ^ 64) % 2 ^ 64 ≡ ((from + part) + behind) % 2 ^ 64
-last-put last gone part from to behind l g h = omega (arith, l, g, h)
+-- the last token of entries of which a part took the place of others: those up to the first, up to the last that goes, and after it
+pub last-put : (last gone part from to after : ℕ) → last ≡ (to + after) % 2 ^ 64 → gone < 2 ^ 64 → (from + gone) % 2 ^ 64 ≡ to % 2 ^ 64
+    → ((last + (2 ^ 64 - gone)) % 2 ^ 64 + part % 2 ^ 64) % 2 ^ 64 ≡ ((from + part) + after) % 2 ^ 64
+last-put last gone part from to after l g h = omega (arith, l, g, h)

@@ -4,13 +4,13 @@ use Rattle.std.proofs.lemmas.List.{length-map, take-map}
 use Rattle.std.proofs.lemmas.Nat.{mod_below, pow_pos}
 use Rattle.std.specs.List.{slice_get}
 use Rattle.typst_candidates.specs.declared.entry.Entry.{Entry}
-use Rattle.typst_candidates.specs.declared.entry.Tag.{Tag}
+use Rattle.typst_candidates.specs.declared.entry.EntryKind.{EntryKind}
 use Rattle.typst_candidates.specs.declared.packed.Packed.{Packed}
 use Rattle.typst_candidates.specs.Entries.{end_of}
-use Rattle.typst_candidates.specs.Packed.{all_beside, all_spans, entry_by, entry_in, filled, lengths, span, spans, tags, unpacked, wides, widths}
+use Rattle.typst_candidates.specs.Packed.{all_beside, all_spans, entry_by, entry_in, filled, lengths, span, spans, entry_kinds, unpacked, wides, widths}
 use Rattle.typst_candidates.proofs.Words.{halves}
 
--- entries that stand one behind another, by the words' sum and that of those beside
+-- entries that stand one after another, by the words' sum and that of those beside
 pub filled-end : (os : List (Option Entry)) (ws : List Entry) (start : ℕ) → all_beside os ≡ length ws → end_of start (filled os ws) ≡ start + (all_spans os + lengths ws)
 filled-end [] [] start h = omega arith
 filled-end [] (w ∷ ws) start h = absurd (omega (arith, h))
@@ -18,7 +18,7 @@ filled-end (Some e ∷ os) ws start h = let i = filled-end os ws ((start + e.ste
 filled-end (None ∷ os) [] start h = absurd (omega (arith, h))
 filled-end (None ∷ os) (w ∷ ws) start h = let i = filled-end os ws ((start + w.step) + w.gap) (omega (arith, h)) in omega (arith, i)
 
--- so behind the first n of them
+-- so after the first n of them
 pub start-sum : (ps : List Packed) (ws : List Entry) (n : ℕ) → n ≤ length ps → wides ps ≡ length ws
     → end_of 0 (take n (unpacked ps ws)) ≡ spans (take n ps) + lengths (take (wides (take n ps)) ws)
 start-sum ps ws n le h =
@@ -56,21 +56,21 @@ lengths-few (d ∷ es) (suc i) = let n = lengths-few es i in omega (arith, n)
 
 -- ---- words are short
 
-short : (t : Tag) (m : ℕ) → m % 2 ^ 8 + m / 2 ^ 8 % 2 ^ 4 < 2 ^ 9
+short : (t : EntryKind) (m : ℕ) → m % 2 ^ 8 + m / 2 ^ 8 % 2 ^ 4 < 2 ^ 9
 short t m = let step = mod_below m (2 ^ 8) (pow_pos 8) in let gap = mod_below (m / 2 ^ 8) (2 ^ 4) (pow_pos 4) in omega (arith, step, gap)
 
-span-by : Option Tag → ℕ → ℕ
+span-by : Option EntryKind → ℕ → ℕ
 span-by o rest = span (elim o as (λ _. Option Entry) [ None ↦ None | Some t ↦ Some (entry_by t (widths t) rest) ])
 
-span-tag : (o : Option Tag) (rest : ℕ) → span-by o rest < 2 ^ 9
+span-kind : (o : Option EntryKind) (rest : ℕ) → span-by o rest < 2 ^ 9
 unfolding span-by
-span-tag None rest = omega arith
-span-tag (Some t) rest = short t rest
+span-kind None rest = omega arith
+span-kind (Some t) rest = short t rest
 
 pub spans-small : (ps : List Packed) → spans ps ≤ 2 ^ 9 * length ps
 unfolding span-by
 spans-small [] = omega arith
-spans-small (p ∷ ps) = let one = span-tag (slice_get tags (p.word % 2 ^ 4)) (p.word / 2 ^ 4) in let rest = spans-small ps in omega (arith, one, rest)
+spans-small (p ∷ ps) = let one = span-kind (slice_get entry_kinds (p.word % 2 ^ 4)) (p.word / 2 ^ 4) in let rest = spans-small ps in omega (arith, one, rest)
 
 pub wides-more : (ps : List Packed) (n m : ℕ) → wides (take (n + m) ps) ≡ wides (take n ps) + wides (take m (drop n ps))
 wides-more [] zero m = let e : zero + m ≡ m = omega arith in let same = ap (λ k. wides (take k [])) e in omega (arith, same)

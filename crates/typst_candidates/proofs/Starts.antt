@@ -7,13 +7,13 @@ use Rattle.std.proofs.lemmas.List.Kept.{IsNonDecreasingBy-filter}
 use Rattle.std.specs.List.Sorted.{IsNonDecreasing}
 use Rattle.typst_candidates.specs.declared.cuts.Window.{Window}
 use Rattle.typst_candidates.specs.declared.entry.Entry.{Entry}
-use Rattle.typst_candidates.specs.declared.entry.Tag.{Tag}
-use Rattle.typst_candidates.specs.declared.entry.Tag.TheVariants as tag
+use Rattle.typst_candidates.specs.declared.entry.EntryKind.{EntryKind}
+use Rattle.typst_candidates.specs.declared.entry.EntryKind.TheVariants as entry_kind
 use Rattle.typst_candidates.specs.Anchors.{inside_of}
-use Rattle.typst_candidates.specs.Cursors.{Place, behind, entry_behind, first_piece, inside_behind, leads, pieces_of, placed, start_at, token_at}
+use Rattle.typst_candidates.specs.Cursors.{EntryPlace, after, entry_after, first_piece, inside_after, leads, pieces_of, placed, start_at, token_at}
 use Rattle.typst_candidates.specs.Entries.{end_of}
-use Rattle.typst_candidates.specs.Rows.{within}
-use Rattle.typst_candidates.specs.Units.{behind_first}
+use Rattle.typst_candidates.specs.Edges.{within}
+use Rattle.typst_candidates.specs.Units.{after_first}
 use Rattle.typst_candidates.proofs.Anchors.{end-over}
 use Rattle.typst_candidates.proofs.Blocks.{take-more}
 use Rattle.typst_candidates.proofs.Bytes.{pieces-in-order}
@@ -40,10 +40,10 @@ one-within w t true h =
     ap (λ c. if nat_le w.from t && c then t ∷ [] else []) near ∙ ap (λ c. if c then t ∷ [] else []) (and-true (nat_le w.from t))
 one-within w t false h = refl
 
--- ---- none behind the window
+-- ---- none after the window
 
 none-on : (w : Window) (t : ℕ) (b : Bool) (o : Option ℕ) (f : ℕ → List ℕ) → w.to < t → ((m : ℕ) → within w (f m) ≡ [])
-    → within w (let behind = elim o as (λ _. List ℕ) [ None ↦ [] | Some m ↦ f m ] in if b then t ∷ behind else behind) ≡ []
+    → within w (let after = elim o as (λ _. List ℕ) [ None ↦ [] | Some m ↦ f m ] in if b then t ∷ after else after) ≡ []
 none-on w t true None f h n = first
   where
     first : within w (t ∷ []) ≡ []
@@ -59,38 +59,38 @@ none-from : (w : Window) (inside start : ℕ) (es : List Entry) → w.to < start
 none-from w inside start [] h = refl
 none-from w inside start (e ∷ es) h =
     let later : w.to < token_at start e = omega (arith, h) in
-    none-on w (token_at start e) (leads e.tag inside) (inside_behind e.tag inside) (λ m. pieces_of m (token_at start e) es) later (λ m. none-from w m (token_at start e) es later)
+    none-on w (token_at start e) (leads e.kind inside) (inside_after e.kind inside) (λ m. pieces_of m (token_at start e) es) later (λ m. none-from w m (token_at start e) es later)
 
-pub none-behind-window : (w : Window) (inside start : ℕ) (e : Entry) (es : List Entry) → w.to < token_at start e → within w (pieces_of inside start (e ∷ es)) ≡ []
-none-behind-window w inside start e es h =
-    none-on w (token_at start e) (leads e.tag inside) (inside_behind e.tag inside) (λ m. pieces_of m (token_at start e) es) h (λ m. none-from w m (token_at start e) es h)
+pub none-after-window : (w : Window) (inside start : ℕ) (e : Entry) (es : List Entry) → w.to < token_at start e → within w (pieces_of inside start (e ∷ es)) ≡ []
+none-after-window w inside start e es h =
+    none-on w (token_at start e) (leads e.kind inside) (inside_after e.kind inside) (λ m. pieces_of m (token_at start e) es) h (λ m. none-from w m (token_at start e) es h)
 
 -- ---- the first piece of a run
 
-pub not-placed : (p : Place) (o : Option ℕ) → placed p o ≡ None → o ≡ None
+pub not-placed : (p : EntryPlace) (o : Option ℕ) → placed p o ≡ None → o ≡ None
 not-placed p None h = refl
 not-placed p (Some n) h = absurd (never h)
   where
-    never : ◌≡◌ {A = Option Place} (Some (record p { number = n })) None → ⊥
+    never : ◌≡◌ {A = Option EntryPlace} (Some (record p { number = n })) None → ⊥
     never q = cc
 
-pub placed-at : (p q : Place) (o : Option ℕ) → placed p o ≡ Some q → (n : ℕ) × (o ≡ Some n) × (q ≡ record p { number = n })
+pub placed-at : (p q : EntryPlace) (o : Option ℕ) → placed p o ≡ Some q → (n : ℕ) × (o ≡ Some n) × (q ≡ record p { number = n })
 placed-at p q None h = absurd (never h)
   where
-    never : ◌≡◌ {A = Option Place} None (Some q) → ⊥
+    never : ◌≡◌ {A = Option EntryPlace} None (Some q) → ⊥
     never r = cc
 placed-at p q (Some n) h = (n, refl, same h)
   where
-    same : ◌≡◌ {A = Option Place} (Some (record p { number = n })) (Some q) → q ≡ record p { number = n }
+    same : ◌≡◌ {A = Option EntryPlace} (Some (record p { number = n })) (Some q) → q ≡ record p { number = n }
     same r = cc
 
 pub no-first : (inside start number : ℕ) (es : List Entry) → first_piece inside number es ≡ None → pieces_of inside start es ≡ []
 no-first inside start number [] h = refl
-no-first inside start number (e ∷ es) h = by (leads e.tag inside) (inside_behind e.tag inside) (λ m q. no-first m (token_at start e) (suc number) es q) h
+no-first inside start number (e ∷ es) h = by (leads e.kind inside) (inside_after e.kind inside) (λ m q. no-first m (token_at start e) (suc number) es q) h
   where
     by : (b : Bool) (o : Option ℕ) → ((m : ℕ) → first_piece m (suc number) es ≡ None → pieces_of m (token_at start e) es ≡ [])
         → (if b then Some number else elim o as (λ _. Option ℕ) [ None ↦ None | Some further ↦ first_piece further (suc number) es ]) ≡ None
-        → (let behind = elim o as (λ _. List ℕ) [ None ↦ [] | Some further ↦ pieces_of further (token_at start e) es ] in if b then token_at start e ∷ behind else behind) ≡ []
+        → (let after = elim o as (λ _. List ℕ) [ None ↦ [] | Some further ↦ pieces_of further (token_at start e) es ] in if b then token_at start e ∷ after else after) ≡ []
     by true o f q = absurd (never q)
       where
         never : ◌≡◌ {A = Option ℕ} (Some number) None → ⊥
@@ -98,20 +98,20 @@ no-first inside start number (e ∷ es) h = by (leads e.tag inside) (inside_behi
     by false None f q = refl
     by false (Some m) f q = f m q
 
--- so many entries stand before the one at which it begins
+-- a given number of entries stand before the one at which it begins
 record First (inside start : ℕ) (es : List Entry) (k : ℕ) : Type 0 where
   within : k < length es
   token : ℕ
   pieces : pieces_of inside start es ≡ token ∷ pieces_of 0 (end_of start (take (suc k) es)) (drop (suc k) es)
   run : inside_of inside (take (suc k) es) ≡ Some 0
 
-leading : (t : Tag) (inside : ℕ) → leads t inside ≡ true → inside_behind t inside ≡ Some 0
-leading (tag.Piece at_start) inside h = let zero_is : inside ≡ 0 = grind (arith, nat_tests, h) in ap (λ n. Some n) zero_is
-leading (tag.Opens block m) inside h = absurd (never h)
+leading : (t : EntryKind) (inside : ℕ) → leads t inside ≡ true → inside_after t inside ≡ Some 0
+leading (entry_kind.Piece at_start) inside h = let zero_is : inside ≡ 0 = grind (arith, nat_tests, h) in ap (λ n. Some n) zero_is
+leading (entry_kind.Opens block m) inside h = absurd (never h)
   where
     never : ◌≡◌ {A = Bool} false true → ⊥
     never q = cc
-leading tag.Closes inside h = absurd (never h)
+leading entry_kind.Closes inside h = absurd (never h)
   where
     never : ◌≡◌ {A = Bool} false true → ⊥
     never q = cc
@@ -121,18 +121,18 @@ the-first inside start number n [] h = absurd (never h)
   where
     never : ◌≡◌ {A = Option ℕ} None (Some n) → ⊥
     never q = cc
-the-first inside start number n (e ∷ es) h = by (leads e.tag inside) refl (inside_behind e.tag inside) refl (λ m q. the-first m (token_at start e) (suc number) n es q) h
+the-first inside start number n (e ∷ es) h = by (leads e.kind inside) refl (inside_after e.kind inside) refl (λ m q. the-first m (token_at start e) (suc number) n es q) h
   where
-    whole : (b : Bool) (o : Option ℕ) → leads e.tag inside ≡ b → inside_behind e.tag inside ≡ o
-        → pieces_of inside start (e ∷ es) ≡ (let behind = elim o as (λ _. List ℕ) [ None ↦ [] | Some further ↦ pieces_of further (token_at start e) es ] in if b then token_at start e ∷ behind else behind)
+    whole : (b : Bool) (o : Option ℕ) → leads e.kind inside ≡ b → inside_after e.kind inside ≡ o
+        → pieces_of inside start (e ∷ es) ≡ (let after = elim o as (λ _. List ℕ) [ None ↦ [] | Some further ↦ pieces_of further (token_at start e) es ] in if b then token_at start e ∷ after else after)
     whole b o l i =
-        ap (λ c. let behind = elim (inside_behind e.tag inside) as (λ _. List ℕ) [ None ↦ [] | Some further ↦ pieces_of further (token_at start e) es ] in if c then token_at start e ∷ behind else behind) l
-        ∙ ap (λ p. let behind = elim p as (λ _. List ℕ) [ None ↦ [] | Some further ↦ pieces_of further (token_at start e) es ] in if b then token_at start e ∷ behind else behind) i
+        ap (λ c. let after = elim (inside_after e.kind inside) as (λ _. List ℕ) [ None ↦ [] | Some further ↦ pieces_of further (token_at start e) es ] in if c then token_at start e ∷ after else after) l
+        ∙ ap (λ p. let after = elim p as (λ _. List ℕ) [ None ↦ [] | Some further ↦ pieces_of further (token_at start e) es ] in if b then token_at start e ∷ after else after) i
 
-    onto : (o : Option ℕ) (us : List Entry) → inside_behind e.tag inside ≡ o → inside_of inside (e ∷ us) ≡ (elim o as (λ _. Option ℕ) [ None ↦ None | Some further ↦ inside_of further us ])
+    onto : (o : Option ℕ) (us : List Entry) → inside_after e.kind inside ≡ o → inside_of inside (e ∷ us) ≡ (elim o as (λ _. Option ℕ) [ None ↦ None | Some further ↦ inside_of further us ])
     onto o us i = ap (λ p. elim p as (λ _. Option ℕ) [ None ↦ None | Some further ↦ inside_of further us ]) i
 
-    by : (b : Bool) → leads e.tag inside ≡ b → (o : Option ℕ) → inside_behind e.tag inside ≡ o
+    by : (b : Bool) → leads e.kind inside ≡ b → (o : Option ℕ) → inside_after e.kind inside ≡ o
         → ((m : ℕ) → first_piece m (suc number) es ≡ Some n → (k : ℕ) × (n ≡ suc number + k) × First m (token_at start e) es k)
         → (if b then Some number else elim o as (λ _. Option ℕ) [ None ↦ None | Some further ↦ first_piece further (suc number) es ]) ≡ Some n
         → (k : ℕ) × (n ≡ number + k) × First inside start (e ∷ es) k
@@ -142,8 +142,8 @@ the-first inside start number n (e ∷ es) h = by (leads e.tag inside) refl (ins
       record {
         within = omega arith;
         token = token_at start e;
-        pieces = whole true (Some 0) l (leading e.tag inside l);
-        run = onto (Some 0) [] (leading e.tag inside l);
+        pieces = whole true (Some 0) l (leading e.kind inside l);
+        run = onto (Some 0) [] (leading e.kind inside l);
       },
     )
       where
@@ -168,10 +168,10 @@ the-first inside start number n (e ∷ es) h = by (leads e.tag inside) refl (ins
           },
         )
 
--- the pieces behind the first one of a run, behind so many entries
+-- the pieces after the first one of a run, after a given number of entries
 pub record Firsts (es : List Entry) (number n : ℕ) : Type 0 where
   pub within : n < length es
-  pub rest : behind_first (pieces_of 0 (end_of 0 (take number es)) (drop number es)) ≡ Some (pieces_of 0 (end_of 0 (take (n + 1) es)) (drop (n + 1) es))
+  pub rest : after_first (pieces_of 0 (end_of 0 (take number es)) (drop number es)) ≡ Some (pieces_of 0 (end_of 0 (take (n + 1) es)) (drop (n + 1) es))
   pub order : number ≤ n + 1
   pub run : inside_of 0 (drop number (take (n + 1) es)) ≡ Some 0
 
@@ -189,30 +189,30 @@ firsts es number n h =
     let end_is : end_of (end_of 0 (take number es)) (take (suc k) (drop number es)) ≡ end_of 0 (take (n + 1) es) = sym (end-over 0 (take number es) (take (suc k) (drop number es))) ∙ ap (end_of 0) front in
     record {
       within = omega (arith, sum, long, inner);
-      rest = ap behind_first f.pieces ∙ ap (λ s. Some (pieces_of 0 s (drop (suc k) (drop number es)))) end_is ∙ ap (λ us. Some (pieces_of 0 (end_of 0 (take (n + 1) es)) us)) back;
+      rest = ap after_first f.pieces ∙ ap (λ s. Some (pieces_of 0 s (drop (suc k) (drop number es)))) end_is ∙ ap (λ us. Some (pieces_of 0 (end_of 0 (take (n + 1) es)) us)) back;
       order = omega (arith, sum);
       run = ap (λ m. inside_of 0 (drop number (take m es))) (sym all) ∙ ap (inside_of 0) (drop-take number (suc k) es) ∙ f.run;
     }
 
--- the pieces behind the first one of a run that begins behind a place
-pub behind-run : (p first now : Place) (o : Option Entry) → placed p (first_piece 0 p.number (drop p.number p.entries)) ≡ Some first → o ≡ entry_behind first → now ≡ behind o first
-    → behind_first (pieces_of 0 (start_at p) (drop p.number p.entries)) ≡ Some (pieces_of 0 (start_at now) (drop now.number now.entries))
-behind-run p first now o h e n =
+-- the pieces after the first one of a run that begins after a place
+pub after-run : (p first now : EntryPlace) (o : Option Entry) → placed p (first_piece 0 p.number (drop p.number p.entries)) ≡ Some first → o ≡ entry_after first → now ≡ after o first
+    → after_first (pieces_of 0 (start_at p) (drop p.number p.entries)) ≡ Some (pieces_of 0 (start_at now) (drop now.number now.entries))
+after-run p first now o h e n =
     let at = placed-at p first (first_piece 0 p.number (drop p.number p.entries)) h in
     let f = firsts p.entries p.number at.0 at.1 in
     let is = steps-on p.entries at.0 first now o f.within at.2 e n in
-    f.rest ∙ sym (ap (λ (q : Place). Some (pieces_of 0 (start_at q) (drop q.number q.entries))) is)
+    f.rest ∙ sym (ap (λ (q : EntryPlace). Some (pieces_of 0 (start_at q) (drop q.number q.entries))) is)
 
--- behind which no block of the run is open
-pub record StandsInRun (first : ℕ) (p : Place) : Type 0 where
+-- after which no block of the run is open
+pub record StandsInRun (first : ℕ) (p : EntryPlace) : Type 0 where
   pub order : first ≤ p.number
   pub run : inside_of 0 (drop first (take p.number p.entries)) ≡ Some 0
 
-pub stands-in-run : (p first now : Place) (o : Option Entry) → placed p (first_piece 0 p.number (drop p.number p.entries)) ≡ Some first → o ≡ entry_behind first → now ≡ behind o first → StandsInRun p.number now
+pub stands-in-run : (p first now : EntryPlace) (o : Option Entry) → placed p (first_piece 0 p.number (drop p.number p.entries)) ≡ Some first → o ≡ entry_after first → now ≡ after o first → StandsInRun p.number now
 stands-in-run p first now o h e n =
     let at = placed-at p first (first_piece 0 p.number (drop p.number p.entries)) h in
     let f = firsts p.entries p.number at.0 at.1 in
     let is = steps-on p.entries at.0 first now o f.within at.2 e n in
     let order = f.order in
-    let number = ap (λ (q : Place). q.number) is in
-    record { order = omega (arith, order, number); run = ap (λ (q : Place). inside_of 0 (drop p.number (take q.number q.entries))) is ∙ f.run }
+    let number = ap (λ (q : EntryPlace). q.number) is in
+    record { order = omega (arith, order, number); run = ap (λ (q : EntryPlace). inside_of 0 (drop p.number (take q.number q.entries))) is ∙ f.run }

@@ -15,14 +15,14 @@ use Rattle.typst_candidates.specs.declared.enclosing.Enclosing.TheVariants as en
 use Rattle.typst_candidates.specs.declared.enclosing.RunAt.{RunAt}
 use Rattle.typst_candidates.specs.declared.enclosing.Stop.{Stop}
 use Rattle.typst_candidates.specs.declared.entry.Entry.{Entry}
-use Rattle.typst_candidates.specs.declared.row.Near.{Near}
-use Rattle.typst_candidates.specs.Candidates.{Candidate, laid, of_block, of_children, of_run, of_stretches, run_in, stretches, candidates_at}
-use Rattle.typst_candidates.specs.Rows.{IsNear, below, is_covered, pieces_at, spelled}
+use Rattle.typst_candidates.specs.declared.children.Near.{Near}
+use Rattle.typst_candidates.specs.Candidates.{Candidate, laid, of_block, of_children, of_run, of_child_ranges, run_in, child_ranges, candidates_at}
+use Rattle.typst_candidates.specs.Edges.{IsNear, below, is_covered, pieces_at, spelled}
 use Rattle.typst_candidates.specs.Stops.{block_of, covering, found_in, found_in_all, inside, kids, run_of}
-use Rattle.typst_candidates.proofs.Rows.{trees_forest}
+use Rattle.typst_candidates.proofs.Edges.{trees_forest}
 use Rattle.typst_candidates.proofs.Found.{below_else, below_none, child_fits, deeper, fewer, fits_of, forest_trees, node_is, path_front}
 
--- ---- the first of some, and others behind them
+-- ---- the first of some, and others after them
 
 pub take_less : {X : Type 0} (m n : ℕ) (xs ys : List X) → m ≤ n → take m (take n xs ++ ys) ≡ take m (xs ++ ys)
 take_less zero n xs ys h = refl
@@ -30,20 +30,20 @@ take_less (suc m) zero xs ys h = absurd (omega arith)
 take_less (suc m) (suc n) [] ys h = refl
 take_less (suc m) (suc n) (x ∷ xs) ys h = ap (λ (zs : List _). x ∷ zs) (take_less m n xs ys (omega arith))
 
--- what was added and what comes behind it are the first of all, where they were so together
+-- what was added and what comes after it are the first of all, where they were so together
 pub added_first : {X : Type 0} (n m : ℕ) (xs ys zs later all : List X) → take n (xs ++ (ys ++ zs)) ≡ take n all → later ≡ take m (xs ++ ys) → m ≤ n → take m (later ++ zs) ≡ take m all
 added_first n m xs ys zs later all e is less =
     ap (λ (us : List _). take m (us ++ zs)) is
     ∙ (take_less m m (xs ++ ys) zs (omega arith) ∙ (ap (take m) (append_assoc xs ys zs) ∙ (sym (take-take m n (xs ++ (ys ++ zs)) less) ∙ (ap (take m) e ∙ take-take m n all less))))
 
--- with so many of a run behind them
+-- with so many of a run after them
 pub run-added : (path : List ℕ) (s : Stop) (a : ℕ) (ts : List Tree) (cuts : List ℕ) (run : Option (List ℕ)) (before later : List Candidate) (n added : ℕ) → a ≡ inside s → ts ≡ kids s → run ≡ Some cuts → n ≡ length before
-    → later ≡ before ++ take added (of_stretches (take s.depth path) a ts (stretches cuts (laid a ts) s.near.first.index s.near.end.index (suc (length ts)) 1)) → later ≡ take (n + added) (before ++ run_of path s run)
+    → later ≡ before ++ take added (of_child_ranges (take s.depth path) a ts (child_ranges cuts (laid a ts) s.near.first.index s.near.end.index (suc (length ts)) 1)) → later ≡ take (n + added) (before ++ run_of path s run)
 run-added path s a ts cuts run before later n added at same is long grown =
-    grown ∙ ((λ k. before ++ take added (of_stretches (take s.depth path) (at k) (same k) (stretches cuts (laid (at k) (same k)) s.near.first.index s.near.end.index (suc (length (same k))) 1)))
+    grown ∙ ((λ k. before ++ take added (of_child_ranges (take s.depth path) (at k) (same k) (child_ranges cuts (laid (at k) (same k)) s.near.first.index s.near.end.index (suc (length (same k))) 1)))
     ∙ (sym (take-append-add before (run_of path s (Some cuts)) added) ∙ (λ k. take (sym long k + added) (before ++ run_of path s (sym is k)))))
 
--- those that come last, behind the first of the others
+-- those that come last, after the first of the others
 pub added_last : {X : Type 0} (m n : ℕ) (first inner outer later all : List X) → later ≡ take m (first ++ outer) → first ≡ take n inner → m ≤ n → inner ++ outer ≡ all → later ≡ take m all
 added_last m n first inner outer later all is e less whole = is ∙ (ap (λ (us : List _). take m (us ++ outer)) e ∙ (take_less m n inner outer less ∙ ap (take m) whole))
 
@@ -53,7 +53,7 @@ pub found-push : (es : List Entry) (path : List ℕ) (around : List Enclosing) (
 found-push es path [] e = sym (append-nil (found_in es path e))
 found-push es path (a ∷ around) e = ap (λ (cs : List Candidate). cs ++ found_in es path a) (found-push es path around e) ∙ append_assoc (found_in es path e) (found_in_all es path around) (found_in es path a)
 
--- a child in hand, if it is a block
+-- a child at hand, if it is a block
 pub block-pushed : (es : List Entry) (path : List ℕ) (around later : List Enclosing) (s : Stop) (k : SyntaxKind) → s.near.end.index ≡ suc s.near.first.index → later ≡ around ++ enclosing.Block s ∷ [] → is_block k ≡ true
     → found_in_all es path later ≡ of_block (take s.depth path) (inside s) (kids s) s.near.first.index k ++ found_in_all es path around
 block-pushed es path around later s k next pushed block =
@@ -78,7 +78,7 @@ block-spelled path s c is =
 pub kids-are : (s : Stop) (ts : List Tree) → forest ts ≡ s.node.now.kids → ts ≡ kids s
 kids-are s ts e = sym (trees_forest ts) ∙ ap trees e
 
--- the child in hand, among them
+-- the child at hand, among them
 pub kid-is : (s : Stop) (ts : List Tree) (t : Tree) → forest ts ≡ s.node.now.kids → s.near.first.index < length ts → t ≡ get_or ts s.near.first.index t → slice_get (kids s) s.near.first.index ≡ Some t
 kid-is s ts t e h is = ap (λ (us : List Tree). slice_get us s.near.first.index) (sym (kids-are s ts e)) ∙ slice_get_read ts (length ts) s.near.first.index t refl h is
 
@@ -161,7 +161,7 @@ covered-fewer rs re s t u is e =
 -- stretches of a run by the children near the replaced bytes
 run-is : (rs re : ℕ) (path final : List ℕ) (s : Stop) (run : Option (List ℕ)) → IsNear (inside s) (kids s) rs re s.near → take s.depth final ≡ path → run_of final s run ≡ of_run rs re path (inside s) (kids s) run
 run-is rs re path final s None near way = refl
-run-is rs re path final s (Some cuts) near way = λ k. of_stretches (way k) (inside s) (kids s) (stretches cuts (laid (inside s) (kids s)) (near.first k) (near.end k) (suc (length (kids s))) 1)
+run-is rs re path final s (Some cuts) near way = λ k. of_child_ranges (way k) (inside s) (kids s) (child_ranges cuts (laid (inside s) (kids s)) (near.first k) (near.end k) (suc (length (kids s))) 1)
 
 -- at a stop, those below it come before those of its own run
 pub stop-is : (ns : List Note) (rs re : ℕ) (path final : List ℕ) (s : Stop) (run : Option (List ℕ)) → IsNear (inside s) (kids s) rs re s.near → take s.depth final ≡ path
@@ -176,7 +176,7 @@ front-longer p q r i front e =
     let less : length p ≤ length q = omega (arith, ap (λ (xs : List ℕ). length xs) front, length-take (length p) q) in
     ap (take (length p)) e ∙ (take-append-le (length p) q (i ∷ []) less ∙ front)
 
--- those of what is around are added behind those further in
+-- those of what is around are added after those further in
 regroup : (inner run block outer deeper outermost all below : List Candidate) → below ≡ (inner ++ run) ++ block → deeper ≡ run ++ outermost → outermost ≡ block ++ outer → below ++ outer ≡ all → inner ++ deeper ≡ all
 regroup inner run block outer deeper outermost all below is last first e =
     ap (λ (cs : List Candidate). inner ++ cs) (last ∙ ap (λ (cs : List Candidate). run ++ cs) first)

@@ -4,8 +4,8 @@ use Rattle.std.proofs.Math.Seq.{take-suc, take-append_seam, drop-append_seam}
 use Rattle.std.proofs.lemmas.Bool.Decides.{nat_tests}
 use Rattle.typst_language.specs.declared.calls.Note.{Note}
 use Rattle.typst_candidates.specs.declared.entry.Entry.{Entry}
-use Rattle.typst_candidates.specs.declared.entry.Tag.TheVariants as tag
-use Rattle.typst_candidates.specs.Entries.{end_of, entry_of, entries_by, last_start, is_behind, rear_of}
+use Rattle.typst_candidates.specs.declared.entry.EntryKind.TheVariants as entry_kind
+use Rattle.typst_candidates.specs.Entries.{end_of, entry_of, entries_by, last_start, is_after, rear_of}
 use Rattle.typst_candidates.specs.Records.{AllFit, opening_of, is_opening}
 
 -- ---- from the rear
@@ -18,7 +18,7 @@ end-from : (start : ℕ) (es : List Entry) → end_of start es ≡ start + end_o
 end-from start [] = omega arith
 end-from start (e ∷ es) = let here = end-from ((start + e.step) + e.gap) es in let first = end-from ((0 + e.step) + e.gap) es in omega (arith, here, first)
 
--- of two lists of entries, one behind the other
+-- of two lists of entries, one after the other
 pub end-sum : (start : ℕ) (es ds : List Entry) → end_of start (es ++ ds) ≡ end_of start es + end_of 0 ds
 end-sum start [] ds = end-from start ds
 end-sum start (e ∷ es) ds = end-sum ((start + e.step) + e.gap) es ds
@@ -27,14 +27,14 @@ counts : Bool → ℕ → ℕ
 counts b n = if b then 0 else n
 
 pub rear-append : (at start number : ℕ) (es : List Entry) (e : Entry) (back : ℕ)
-    → rear_of at start number (es ++ e ∷ []) back ≡ max (rear_of at start number es e.back) (if is_behind at (end_of start (es ++ e ∷ [])) back then 0 else suc (number + length es))
+    → rear_of at start number (es ++ e ∷ []) back ≡ max (rear_of at start number es e.back) (if is_after at (end_of start (es ++ e ∷ [])) back then 0 else suc (number + length es))
 rear-append at start number [] e back =
     let n : suc number ≡ suc (number + 0) = omega arith in
-    ap (λ j. max (if is_behind at start e.back then 0 else number) (if is_behind at ((start + e.step) + e.gap) back then 0 else j)) n
+    ap (λ j. max (if is_after at start e.back then 0 else number) (if is_after at ((start + e.step) + e.gap) back then 0 else j)) n
 rear-append at start number (d ∷ es) e back =
-    let w = if is_behind at start d.back then 0 else number in
+    let w = if is_after at start d.back then 0 else number in
     let here = (start + d.step) + d.gap in
-    let last = λ (j : ℕ). if is_behind at (end_of here (es ++ e ∷ [])) back then 0 else j in
+    let last = λ (j : ℕ). if is_after at (end_of here (es ++ e ∷ [])) back then 0 else j in
     let n : suc (suc number + length es) ≡ suc (number + suc (length es)) = omega arith in
     let i = rear-append at here (suc number) es e back in
     ap (max w) (i ∙ ap (λ j. max (rear_of at here (suc number) es e.back) (last j)) n) ∙ sorted w (rear_of at here (suc number) es e.back) (last (suc (number + suc (length es))))
@@ -48,9 +48,9 @@ few false n = omega arith
 
 -- no more are counted than there are
 pub rear-most : (at start number : ℕ) (es : List Entry) (back : ℕ) → rear_of at start number es back ≤ number + length es
-rear-most at start number [] back = let h = few (is_behind at start back) number in omega (arith, h)
+rear-most at start number [] back = let h = few (is_after at start back) number in omega (arith, h)
 rear-most at start number (e ∷ es) back =
-    let h = few (is_behind at start e.back) number in
+    let h = few (is_after at start e.back) number in
     let i = rear-most at ((start + e.step) + e.gap) (suc number) es back in
     omega (arith, h, i)
 
@@ -62,13 +62,13 @@ opening-past at start number (e ∷ es) h =
     let here = (start + e.step) + e.gap in
     let other : (here == at) ≡ false = grind (arith, nat_tests, h) in
     let i = opening-past at here (suc number) es (omega (arith, h)) in
-    subst (λ b. (if is_opening e.tag && b then Option.Some number else opening_of at here (suc number) es) ≡ None) (sym other) (neither (is_opening e.tag) _ i)
+    subst (λ b. (if is_opening e.kind && b then Option.Some number else opening_of at here (suc number) es) ≡ None) (sym other) (neither (is_opening e.kind) _ i)
   where
     neither : (b : Bool) (o : Option ℕ) → o ≡ None → (if b && false then Option.Some number else o) ≡ None
     neither true o e = e
     neither false o e = e
 
--- where the next entry's token begins behind the byte, no block's is looked for any more
+-- where the next entry's token begins after the byte, no block's is looked for any more
 pub opening-cut : (at left number : ℕ) (es : List Entry) (d : Entry) → number < length es → left ≤ at → left < (get_or es number d).step + (get_or es number d).gap
     → opening_of at (at - left) number (drop number es) ≡ None
 opening-cut at left number es d lt le h =
@@ -79,7 +79,7 @@ opening-cut at left number es d lt le h =
     let other : (here == at) ≡ false = grind (arith, nat_tests, far) in
     let i = opening-past at here (suc number) later far in
     subst (λ us. opening_of at (at - left) number us ≡ None) (sym (drop-cons es number d lt))
-    (subst (λ b. (if is_opening e.tag && b then Option.Some number else opening_of at here (suc number) later) ≡ None) (sym other) (unmatched (is_opening e.tag) number _ i))
+    (subst (λ b. (if is_opening e.kind && b then Option.Some number else opening_of at here (suc number) later) ≡ None) (sym other) (unmatched (is_opening e.kind) number _ i))
   where
     unmatched : (b : Bool) (n : ℕ) (o : Option ℕ) → o ≡ None → (if b && false then Option.Some n else o) ≡ None
     unmatched true n o e = e
@@ -92,7 +92,7 @@ pub record Stepped (at start back number : ℕ) (es : List Entry) (e : Entry) : 
   pub there : start - (e.step + e.gap) ≡ end_of 0 (take (number - 1) es)
   pub counts : rear_of at 0 0 (take (number - 1) es) e.back ≡ rear_of at 0 0 (take number es) back
 
-stepped-by : (at start back n : ℕ) (es : List Entry) (d : Entry) → n < length es → start ≡ end_of 0 (take (suc n) es) → is_behind at start back ≡ true
+stepped-by : (at start back n : ℕ) (es : List Entry) (d : Entry) → n < length es → start ≡ end_of 0 (take (suc n) es) → is_after at start back ≡ true
     → (let e = get_or es n d in (e.step + e.gap ≤ start) × (start - (e.step + e.gap) ≡ end_of 0 (take n es)) × (rear_of at 0 0 (take n es) e.back ≡ rear_of at 0 0 (take (suc n) es) back))
 stepped-by at start back n es d lt s b =
     let e = get_or es n d in
@@ -101,12 +101,12 @@ stepped-by at start back n es d lt s b =
     let end : start ≡ (end_of 0 before + e.step) + e.gap = s ∙ ap (end_of 0) cut ∙ end-append 0 before e in
     let ends : start ≡ end_of 0 (before ++ e ∷ []) = s ∙ ap (end_of 0) cut in
     let counted = ap (λ us. rear_of at 0 0 us back) cut ∙ rear-append at 0 0 before e back in
-    let none : (if is_behind at (end_of 0 (before ++ e ∷ [])) back then 0 else suc (0 + length before)) ≡ 0 =
-    subst (λ x. (if is_behind at x back then 0 else suc (0 + length before)) ≡ 0) ends (ap (λ y. if y then 0 else suc (0 + length before)) b) in
+    let none : (if is_after at (end_of 0 (before ++ e ∷ [])) back then 0 else suc (0 + length before)) ≡ 0 =
+    subst (λ x. (if is_after at x back then 0 else suc (0 + length before)) ≡ 0) ends (ap (λ y. if y then 0 else suc (0 + length before)) b) in
     let m : max (rear_of at 0 0 before e.back) 0 ≡ rear_of at 0 0 before e.back = omega arith in
     (omega (arith, end), omega (arith, end), sym (counted ∙ ap (max (rear_of at 0 0 before e.back)) none ∙ m))
 
-pub stepped : (at start back number : ℕ) (es : List Entry) (d : Entry) → 0 < number → number ≤ length es → start ≡ end_of 0 (take number es) → is_behind at start back ≡ true
+pub stepped : (at start back number : ℕ) (es : List Entry) (d : Entry) → 0 < number → number ≤ length es → start ≡ end_of 0 (take number es) → is_after at start back ≡ true
     → Stepped at start back number es (get_or es (number - 1) d)
 stepped at start back zero es d some le s b = absurd (omega (arith, some))
 stepped at start back (suc n) es d some le s b =
@@ -116,10 +116,10 @@ stepped at start back (suc n) es d some le s b =
     (record { fits = i.0; there = i.1 ∙ ap (λ m. end_of 0 (take m es)) (sym one); counts = ap (λ m. rear_of at 0 0 (take m es) (get_or es n d).back) one ∙ i.2 })
 
 blank : Entry
-blank = record { tag = tag.Piece false; step = 0; gap = 0; forth = 0; back = 0; count = 0 }
+blank = record { kind = entry_kind.Piece false; step = 0; gap = 0; forth = 0; back = 0; count = 0 }
 
 -- there it stops
-pub stops : (at start back number : ℕ) (es : List Entry) → 0 < number → number ≤ length es → start ≡ end_of 0 (take number es) → is_behind at start back ≡ false
+pub stops : (at start back number : ℕ) (es : List Entry) → 0 < number → number ≤ length es → start ≡ end_of 0 (take number es) → is_after at start back ≡ false
     → number ≡ rear_of at 0 0 (take number es) back
 stops at start back zero es some le s b = absurd (omega (arith, some))
 stops at start back (suc n) es some le s b =
@@ -130,8 +130,8 @@ stops at start back (suc n) es some le s b =
     let cut = take-suc es n d lt in
     let ends : start ≡ end_of 0 (before ++ e ∷ []) = s ∙ ap (end_of 0) cut in
     let counted = ap (λ us. rear_of at 0 0 us back) cut ∙ rear-append at 0 0 before e back in
-    let all : (if is_behind at (end_of 0 (before ++ e ∷ [])) back then 0 else suc (0 + length before)) ≡ suc (length before) =
-    subst (λ x. (if is_behind at x back then 0 else suc (0 + length before)) ≡ suc (length before)) ends (ap (λ y. if y then 0 else suc (0 + length before)) b ∙ (omega arith)) in
+    let all : (if is_after at (end_of 0 (before ++ e ∷ [])) back then 0 else suc (0 + length before)) ≡ suc (length before) =
+    subst (λ x. (if is_after at x back then 0 else suc (0 + length before)) ≡ suc (length before)) ends (ap (λ y. if y then 0 else suc (0 + length before)) b ∙ (omega arith)) in
     let long : length before ≡ n = length-front n es (omega (arith, le)) in
     let most = rear-most at 0 0 before e.back in
     let m : max (rear_of at 0 0 before e.back) (suc (length before)) ≡ suc n = omega (arith, most, long) in
@@ -164,7 +164,7 @@ fits-at (suc i) (n ∷ ns) d h lt = fits-at i ns d h.1 (omega (arith, lt))
 
 -- ---- a part put in place of another
 
--- behind the entries A stand first D and then P, then P and D, and then P, the rest of D, and what goes
+-- after the entries A stand first D and then P, then P and D, and then P, the rest of D, and what goes
 pub put-is : {T : Type 0} (A P D both one two : List T) (at count gone : ℕ) → both ≡ (A ++ D) ++ P → at ≡ length A → count ≡ length A + length D → gone ≤ length D
     → one ≡ (let rest = drop at both in take at both ++ (drop (length rest - length P) rest ++ take (length rest - length P) rest))
     → two ≡ (let rest = drop (at + length P) one in take (at + length P) one ++ (drop gone rest ++ take gone rest))
@@ -191,27 +191,27 @@ put-is A P D both one two at count gone e a n le f g =
 
 -- ---- where the last token begins
 
-end-behind : (start : ℕ) (es : List Entry) → start ≤ end_of start es
-end-behind start [] = omega arith
-end-behind start (e ∷ es) = let i = end-behind ((start + e.step) + e.gap) es in omega (arith, i)
+end-after : (start : ℕ) (es : List Entry) → start ≤ end_of start es
+end-after start [] = omega arith
+end-after start (e ∷ es) = let i = end-after ((start + e.step) + e.gap) es in omega (arith, i)
 
 -- it begins at no byte before an entry's token
-last-behind : (es : List Entry) (i at : ℕ) (d : Entry) → i < length es → end_of at (drop i es) ≡ end_of 0 es → (at + (get_or es i d).step) + (get_or es i d).gap ≤ end_of 0 es
-last-behind es i at d h e =
+last-after : (es : List Entry) (i at : ℕ) (d : Entry) → i < length es → end_of at (drop i es) ≡ end_of 0 es → (at + (get_or es i d).step) + (get_or es i d).gap ≤ end_of 0 es
+last-after es i at d h e =
     let one = ap (end_of at) (drop-cons es i d h) in
-    let rest = end-behind ((at + (get_or es i d).step) + (get_or es i d).gap) (drop (suc i) es) in
+    let rest = end-after ((at + (get_or es i d).step) + (get_or es i d).gap) (drop (suc i) es) in
     omega (arith, one, rest, e)
 
 -- so where the sum up to there is too large, it is
 pub step-over : (es all : List Entry) (i at : ℕ) (d : Entry) → i < length es → end_of at (drop i es) ≡ end_of 0 es → es ≡ all → (at + (get_or es i d).step < 2 ^ 64 → ⊥) → 2 ^ 64 ≤ end_of 0 all
 step-over es all i at d h e same far =
-    let last = last-behind es i at d h e in
+    let last = last-after es i at d h e in
     let ends = ap (end_of 0) same in
     omega (arith, last, ends, far)
 
 pub gap-over : (es all : List Entry) (i at stop : ℕ) (d : Entry) → i < length es → end_of at (drop i es) ≡ end_of 0 es → es ≡ all → stop ≡ at + (get_or es i d).step → (stop + (get_or es i d).gap < 2 ^ 64 → ⊥) → 2 ^ 64 ≤ end_of 0 all
 gap-over es all i at stop d h e same is far =
-    let last = last-behind es i at d h e in
+    let last = last-after es i at d h e in
     let ends = ap (end_of 0) same in
     omega (arith, last, ends, is, far)
 

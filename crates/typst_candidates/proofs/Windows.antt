@@ -3,13 +3,14 @@ use Rattle.std.proofs.Common.{◌≡◌, ℕ, zero, suc, ◌+◌, ◌-◌, ◌�
 use Rattle.std.specs.Prelude.{◌==◌, ◌||◌, ◌&&◌, not}
 use Rattle.std.proofs.lemmas.Bool.{leb-true}
 use Rattle.std.proofs.lemmas.Bool.Decides.{nat_tests}
+use Rattle.std.proofs.lemmas.Bool.{and_parts}
 use Rattle.std.proofs.Math.Seq.{take-append-add, take-append_seam}
 use Rattle.typst_tree.specs.Tree.{Tree, text_of}
 use Rattle.typst_candidates.specs.declared.cuts.Window.{Window}
-use Rattle.typst_candidates.specs.declared.row.Stretch as row
-use Rattle.typst_candidates.specs.Candidates.{Child, Stretch, laid, begun, ended, first_near, end_near, clings, is_hash, is_among, leads, holds_at, back_past, on_past, begins, with_hash, from_of, to_of, around}
-use Rattle.typst_candidates.specs.Rows.{IsEdge, indices, within}
-use Rattle.typst_candidates.proofs.Rows.{laid_length, begins_order, begun_none}
+use Rattle.typst_candidates.specs.declared.children.ChildRange as children
+use Rattle.typst_candidates.specs.Candidates.{Child, ChildRange, laid, begun, ended, first_near, end_near, clings, is_hash, is_among, leads, holds_at, back_past, on_past, begins, with_hash, from_of, to_of, around}
+use Rattle.typst_candidates.specs.Edges.{IsEdge, indices, within}
+use Rattle.typst_candidates.proofs.Edges.{laid_length, begins_order, begun_none}
 
 -- ---- the bytes of a window
 
@@ -126,7 +127,7 @@ module _ (w : Window) (bs : List ℕ) (at : ℕ) (ts : List Tree) (i j x : ℕ) 
   unfolding right
   final = on_least (holds_at (λ c. clings c.node || not (leads (within w bs) c)) (laid at ts)) (length (laid at ts) - right) right
 
-  -- the pieces that begin in the window say the same of each child of the stretch, and of the one behind it
+  -- the pieces that begin in the window say the same of each child of the stretch, and of the one after it
   leads_here : (k : ℕ) → from_of (within w bs) (laid at ts) i x ≤ k → k ≤ to_of (within w bs) (laid at ts) j x → (c : Child) → c.start ≡ begins at ts k → leads (within w bs) c ≡ leads bs c
   leads_here k least most c e =
       leads_within w bs c
@@ -147,25 +148,17 @@ module _ (w : Window) (bs : List ℕ) (at : ℕ) (ts : List Tree) (i j x : ℕ) 
   around_within : around (within w bs) (laid at ts) i j x ≡ around bs (laid at ts) i j x
   around_within = λ k. record { from = from_same k; to = to_same k }
 
-pub in_window : (w : Window) (bs cuts : List ℕ) (at : ℕ) (ts : List Tree) (i j x : ℕ) (s : row.Stretch) → i ≤ j → j ≤ length ts → cuts ≡ within w bs → IsEdge at ts s.from → IsEdge at ts s.to
+pub in_window : (w : Window) (bs cuts : List ℕ) (at : ℕ) (ts : List Tree) (i j x : ℕ) (s : children.ChildRange) → i ≤ j → j ≤ length ts → cuts ≡ within w bs → IsEdge at ts s.from → IsEdge at ts s.to
     → indices s ≡ around cuts (laid at ts) i j x → (nat_le w.from s.from.byte && nat_le s.to.byte w.to) ≡ true → indices s ≡ around bs (laid at ts) i j x
 in_window w bs cuts at ts i j x s order last e from to is lies =
     let there : indices s ≡ around (within w bs) (laid at ts) i j x = is ∙ ap (λ (ds : List ℕ). around ds (laid at ts) i j x) e in
-    let first : s.from.index ≡ from_of (within w bs) (laid at ts) i x = ap (λ (r : Stretch). r.from) there in
-    let final : s.to.index ≡ to_of (within w bs) (laid at ts) j x = ap (λ (r : Stretch). r.to) there in
+    let first : s.from.index ≡ from_of (within w bs) (laid at ts) i x = ap (λ (r : ChildRange). r.from) there in
+    let final : s.to.index ≡ to_of (within w bs) (laid at ts) j x = ap (λ (r : ChildRange). r.to) there in
     let begin : s.from.byte ≡ begins at ts (from_of (within w bs) (laid at ts) i x) = from.byte ∙ ap (begins at ts) first in
     let end : s.to.byte ≡ begins at ts (to_of (within w bs) (laid at ts) j x) = to.byte ∙ ap (begins at ts) final in
-    let low : w.from ≤ s.from.byte = leb-true w.from s.from.byte (left_true (nat_le w.from s.from.byte) (nat_le s.to.byte w.to) lies) in
-    let high : s.to.byte ≤ w.to = leb-true s.to.byte w.to (right_true (nat_le w.from s.from.byte) (nat_le s.to.byte w.to) lies) in
+    let low : w.from ≤ s.from.byte = leb-true w.from s.from.byte (and_parts (nat_le w.from s.from.byte) (nat_le s.to.byte w.to) lies).0 in
+    let high : s.to.byte ≤ w.to = leb-true s.to.byte w.to (and_parts (nat_le w.from s.from.byte) (nat_le s.to.byte w.to) lies).1 in
     there ∙ around_within w bs at ts i j x order last (omega (arith, low, begin)) (omega (arith, high, end))
-  where
-    left_true : (a b : Bool) → (a && b) ≡ true → a ≡ true
-    left_true true b f = refl
-    left_true false b f = f
-
-    right_true : (a b : Bool) → (a && b) ≡ true → b ≡ true
-    right_true true b f = f
-    right_true false b f = absurd (cc)
 
 -- ---- the children near an edit
 
@@ -181,8 +174,8 @@ begun_ended rs re at (t ∷ ts) h = pick (begun_ended rs re (at + length (text_o
         omega (arith, one, too, rest)
     pick rest true false e f =
         let one : begun rs (laid at (t ∷ ts)) ≡ suc (begun rs (laid (at + length (text_of t)) ts)) = rw e refl in
-        let behind : re < at + length (text_of t) = grind (arith, nat_tests) in
-        omega (arith, one, begun_none rs (at + length (text_of t)) ts (omega (arith, behind, h)))
+        let after : re < at + length (text_of t) = grind (arith, nat_tests) in
+        omega (arith, one, begun_none rs (at + length (text_of t)) ts (omega (arith, after, h)))
 
 begun_most : (b at : ℕ) (ts : List Tree) → begun b (laid at ts) ≤ length ts
 begun_most b at [] = omega arith

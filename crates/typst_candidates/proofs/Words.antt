@@ -8,10 +8,10 @@ use Rattle.std.proofs.lemmas.Option.{slice_get-map}
 use Rattle.std.specs.List.{slice_get}
 use Rattle.std.specs.Option.{option_map}
 use Rattle.typst_candidates.specs.declared.entry.Entry.{Entry}
-use Rattle.typst_candidates.specs.declared.entry.Tag.{Tag}
+use Rattle.typst_candidates.specs.declared.entry.EntryKind.{EntryKind}
 use Rattle.typst_candidates.specs.declared.packed.Packed.{Packed}
 use Rattle.typst_candidates.specs.declared.packed.Widths.{Widths}
-use Rattle.typst_candidates.specs.Packed.{tags, widths, entry_by, entry_in, beside, all_beside, filled, holds_piece, span, wides, unpacked}
+use Rattle.typst_candidates.specs.Packed.{entry_kinds, widths, entry_by, entry_in, beside, all_beside, filled, holds_piece, span, wides, unpacked}
 use Rattle.typst_candidates.specs.Cursors.{is_piece}
 
 -- ---- filled by those beside
@@ -138,14 +138,14 @@ none-at (None ∷ os) (w ∷ ws) (suc n) h = none-at os ws n (omega (arith, h))
 
 -- ---- one word
 
-made : Tag → ℕ → ℕ → ℕ → ℕ → ℕ → Entry
-made t step gap forth back count = record { tag = t; step = step; gap = gap; forth = forth; back = back; count = count }
+made : EntryKind → ℕ → ℕ → ℕ → ℕ → ℕ → Entry
+made t step gap forth back count = record { kind = t; step = step; gap = gap; forth = forth; back = back; count = count }
 
 -- an entry whose parts were joined from the highest on
-pub joined-by : (t : Tag) (s : Widths) (step gap forth back count w1 w2 w3 w4 : ℕ)
+pub joined-by : (t : EntryKind) (s : Widths) (step gap forth back count w1 w2 w3 w4 : ℕ)
     → back < 2 ^ s.back → w1 ≡ count * 2 ^ s.back + back → forth < 2 ^ s.forth → w2 ≡ w1 * 2 ^ s.forth + forth
     → gap < 2 ^ s.gap → w3 ≡ w2 * 2 ^ s.gap + gap → step < 2 ^ s.step → w4 ≡ w3 * 2 ^ s.step + step
-    → entry_by t s w4 ≡ record { tag = t; step = step; gap = gap; forth = forth; back = back; count = count }
+    → entry_by t s w4 ≡ record { kind = t; step = step; gap = gap; forth = forth; back = back; count = count }
 unfolding made
 joined-by t s step gap forth back count w1 w2 w3 w4 b b1 f f1 g g1 p p1 =
     let low4 : w4 % 2 ^ s.step ≡ step = ap (λ m. m % 2 ^ s.step) p1 ∙ mod_low w3 s.step step p in
@@ -165,15 +165,15 @@ joined-by t s step gap forth back count w1 w2 w3 w4 b b1 f f1 g g1 p p1 =
     ∙ ap (λ a. made t step gap forth a (w1 / 2 ^ s.back)) low1
     ∙ ap (λ r. made t step gap forth back r) high1
 
-abbrev by_tag : Option Tag → ℕ → Option Entry
-by_tag o rest = elim o as (λ _. Option Entry) [ None ↦ None | Some t ↦ Some (entry_by t (widths t) rest) ]
+abbrev by_kind : Option EntryKind → ℕ → Option Entry
+by_kind o rest = elim o as (λ _. Option Entry) [ None ↦ None | Some t ↦ Some (entry_by t (widths t) rest) ]
 
-pub tagged : (e : Entry) (number rest word : ℕ) → slice_get tags number ≡ Some e.tag → number < 2 ^ 4 → word ≡ rest * 2 ^ 4 + number → entry_by e.tag (widths e.tag) rest ≡ e
+pub tagged : (e : Entry) (number rest word : ℕ) → slice_get entry_kinds number ≡ Some e.kind → number < 2 ^ 4 → word ≡ rest * 2 ^ 4 + number → entry_by e.kind (widths e.kind) rest ≡ e
     → entry_in (record { word = word }) ≡ Some e
 tagged e number rest word t n w h =
     let low : word % 2 ^ 4 ≡ number = ap (λ m. m % 2 ^ 4) w ∙ mod_low rest 4 number n in
     let high : word / 2 ^ 4 ≡ rest = ap (λ m. m / 2 ^ 4) w ∙ shr_high rest 4 number n in
-    ap (λ m. by_tag (slice_get tags m) (word / 2 ^ 4)) low ∙ ap (λ o. by_tag o (word / 2 ^ 4)) t ∙ ap (λ m. by_tag (Some e.tag) m) high ∙ ap (λ d. Some d) h
+    ap (λ m. by_kind (slice_get entry_kinds m) (word / 2 ^ 4)) low ∙ ap (λ o. by_kind o (word / 2 ^ 4)) t ∙ ap (λ m. by_kind (Some e.kind) m) high ∙ ap (λ d. Some d) h
 
 -- ---- words and those beside
 
@@ -213,14 +213,14 @@ put-entries ps qs ws vs from to order within h g =
     let a = halves os ws from (omega (arith, order, within, long)) h in
     let b = halves os ws to (omega (arith, within, long)) h in
     let front = take-map entry_in from ps in
-    let behind = drop-map entry_in to ps in
+    let after = drop-map entry_in to ps in
     let upto = take-map entry_in to ps in
     let first : wides (take from ps) ≡ length (take (wides (take from ps)) ws) = subst (λ us. all_beside us ≡ length (take (all_beside us) ws)) front a.first in
     let parts : map entry_in (take from ps ++ (qs ++ drop to ps)) ≡ map entry_in (take from ps) ++ (map entry_in qs ++ map entry_in (drop to ps)) =
     map-append entry_in (take from ps) (qs ++ drop to ps) ∙ ap (λ us. map entry_in (take from ps) ++ us) (map-append entry_in qs (drop to ps)) in
     let one : unpacked (take from ps) (take (wides (take from ps)) ws) ≡ take from (unpacked ps ws) = subst (λ us. filled us (take (all_beside us) ws) ≡ take from (unpacked ps ws)) front (sym a.front) in
     let two : unpacked (drop to ps) (drop (wides (take to ps)) ws) ≡ drop to (unpacked ps ws) =
-    ap (λ us. filled us (drop (wides (take to ps)) ws)) (sym behind) ∙ ap (λ us. filled (drop to os) (drop (all_beside us) ws)) (sym upto) ∙ sym b.back in
+    ap (λ us. filled us (drop (wides (take to ps)) ws)) (sym after) ∙ ap (λ us. filled (drop to os) (drop (all_beside us) ws)) (sym upto) ∙ sym b.back in
     ap (λ us. filled us (take (wides (take from ps)) ws ++ (vs ++ drop (wides (take to ps)) ws))) parts
     ∙ filled-append (map entry_in (take from ps)) (map entry_in qs ++ map entry_in (drop to ps)) (take (wides (take from ps)) ws) (vs ++ drop (wides (take to ps)) ws) first
     ∙ ap (λ us. unpacked (take from ps) (take (wides (take from ps)) ws) ++ us) (filled-append (map entry_in qs) (map entry_in (drop to ps)) vs (drop (wides (take to ps)) ws) g)
@@ -289,7 +289,7 @@ holds ps ws n p e at h held =
 pub record Passed (ps : List Packed) (ws : List Entry) (n : ℕ) (p : Packed) : Type 0 where
   pub entry : Entry
   pub found : slice_get (unpacked ps ws) n ≡ Some entry
-  pub leads : is_piece entry.tag ≡ true
+  pub leads : is_piece entry.kind ≡ true
   pub same : wides (take (suc n) ps) ≡ wides (take n ps)
   pub long : span (entry_in p) ≡ entry.step + entry.gap
 
@@ -319,8 +319,8 @@ stands ps ws n p at h none =
       within = omega (arith, within, two, single);
     }
 
-pub none-behind : (ps : List Packed) (ws : List Entry) (n : ℕ) → length ps ≤ n → slice_get (unpacked ps ws) n ≡ None
-none-behind ps ws n h = let l = length-map ps entry_in in none-at (map entry_in ps) ws n (omega (arith, l, h))
+pub none-after : (ps : List Packed) (ws : List Entry) (n : ℕ) → length ps ≤ n → slice_get (unpacked ps ws) n ≡ None
+none-after ps ws n h = let l = length-map ps entry_in in none-at (map entry_in ps) ws n (omega (arith, l, h))
 
 -- ---- how many stand beside the first of them
 

@@ -2,13 +2,13 @@
 use Rattle.std.specs.Prelude.{◌≡◌, ℕ, ◌+◌, ◌-◌, ◌≤◌, List, [], ◌∷◌, length, take, drop, Option, Some, None}
 use Rattle.typst_candidates.specs.declared.entry.Entry.{Entry}
 use Rattle.typst_candidates.specs.declared.anchor.Anchor.{Anchor}
-use Rattle.typst_candidates.specs.Cursors.{inside_behind, token_at}
+use Rattle.typst_candidates.specs.Cursors.{inside_after, token_at}
 use Rattle.typst_candidates.specs.Entries.{end_of}
 
--- in how many blocks of a run one is after some entries, unless the run's own block ends among them
+-- how many blocks of a run are open after some entries, unless the run's own block ends among them
 abbrev pub inside_of : ℕ → List Entry → Option ℕ
 inside_of inside [] = Some inside
-inside_of inside (e ∷ es) = elim (inside_behind e.tag inside) as (λ _. Option ℕ) [ None ↦ None | Some further ↦ inside_of further es ]
+inside_of inside (e ∷ es) = elim (inside_after e.kind inside) as (λ _. Option ℕ) [ None ↦ None | Some further ↦ inside_of further es ]
 
 -- the looks of some entries, after a token that begins at a byte, end at another one or before it
 abbrev pub AllLooksEnd : ℕ → ℕ → List Entry → Type 0

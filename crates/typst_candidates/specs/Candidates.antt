@@ -30,15 +30,15 @@ abbrev pub ended : ℕ → List Child → ℕ
 ended b [] = 0
 ended b (c ∷ cs) = if nat_le c.end b then suc (ended b cs) else 0
 
--- the index of the last child that begins before the replaced bytes, else of the first
+-- the index of the last child that begins before the replaced bytes, or else of the first
 abbrev pub first_near : ℕ → List Child → ℕ
 first_near rs cs = begun rs cs - 1
 
--- the index after the first child that ends after the replaced bytes, else after the last
+-- the index after the first child that ends after the replaced bytes, or else after the last
 abbrev pub end_near : ℕ → List Child → ℕ
 end_near re cs = min (suc (ended re cs)) (length cs)
 
--- ---- which children may be at the ends of a stretch
+-- ---- which children may be at the ends of a child range
 
 -- a text of one character, a slash or a colon
 abbrev pub is_sign : List ℕ → Bool
@@ -76,51 +76,51 @@ holds_at f [] n = false
 holds_at f (c ∷ cs) zero = f c
 holds_at f (c ∷ cs) (suc n) = holds_at f cs n
 
--- from an index back to the nearest that fails a test, else to the first
+-- from an index back to the nearest that fails a test, or else to the first
 abbrev pub back_past : (ℕ → Bool) → ℕ → ℕ
 back_past f zero = 0
 back_past f (suc n) = if f (suc n) then back_past f n else suc n
 
--- from an index on to the nearest that fails a test, over so many at most
+-- from an index on to the nearest that fails a test, over a limited number at most
 abbrev pub on_past : (ℕ → Bool) → ℕ → ℕ → ℕ
 on_past f zero n = n
 on_past f (suc limit) n = if f n then on_past f limit (suc n) else n
 
--- ---- stretches of a run's children
+-- ---- ranges of a run's children
 
 -- the children of a run from one index to another
-pub record Stretch : Type 0 where
+pub record ChildRange : Type 0 where
   pub from : ℕ
   pub to : ℕ
 
--- the index of the hash directly before a child, if there is one, else the child's own
+-- the index of the hash directly before a child, if there is one, or else the child's own
 abbrev pub with_hash : List Child → ℕ → ℕ
 with_hash cs n = if nat_lt 0 n && holds_at (λ c. is_hash c.node) cs (n - 1) then n - 1 else n
 
--- where the stretch around i..j with x more children on each side begins: x back, but two at least;
+-- where the range around i..j with x more children on each side begins: x back, but at least two;
 -- then back past children that cling, to a hash directly before, and to the first child of a piece
 abbrev pub from_of : List ℕ → List Child → ℕ → ℕ → ℕ
 from_of cuts cs i x =
     back_past (holds_at (λ c. not (leads cuts c)) cs) (with_hash cs (back_past (holds_at (λ c. clings c.node) cs) (i - max x 2)))
 
--- where that stretch ends: x on, then past children that cling, up to the first child of a piece
+-- where that range ends: x on, then past children that cling, up to the first child of a piece
 abbrev pub to_of : List ℕ → List Child → ℕ → ℕ → ℕ
 to_of cuts cs j x =
     on_past (holds_at (λ c. clings c.node || not (leads cuts c)) cs) (length cs - min (j + x) (length cs)) (min (j + x) (length cs))
 
--- the stretch around the children i..j with x more on each side, as whole pieces
-abbrev pub around : List ℕ → List Child → ℕ → ℕ → ℕ → Stretch
+-- the range around the children i..j with x more on each side, as whole pieces
+abbrev pub around : List ℕ → List Child → ℕ → ℕ → ℕ → ChildRange
 around cuts cs i j x = record { from = from_of cuts cs i x; to = to_of cuts cs j x }
 
--- the stretch has all children
-abbrev pub is_all : List Child → Stretch → Bool
+-- the range has all children
+abbrev pub is_all : List Child → ChildRange → Bool
 is_all cs s = s.from == 0 && s.to == length cs
 
--- the stretches with x more children on each side, and twice as many each time, until all are
+-- the ranges with x more children on each side, and twice as many each time, until all are
 -- taken. One try more than there are children is always enough
-abbrev pub stretches : List ℕ → List Child → ℕ → ℕ → ℕ → ℕ → List Stretch
-stretches cuts cs i j zero x = []
-stretches cuts cs i j (suc tries) x = around cuts cs i j x ∷ (if is_all cs (around cuts cs i j x) then [] else stretches cuts cs i j tries (2 * x))
+abbrev pub child_ranges : List ℕ → List Child → ℕ → ℕ → ℕ → ℕ → List ChildRange
+child_ranges cuts cs i j zero x = []
+child_ranges cuts cs i j (suc tries) x = around cuts cs i j x ∷ (if is_all cs (around cuts cs i j x) then [] else child_ranges cuts cs i j tries (2 * x))
 
 -- ---- candidates
 
@@ -144,16 +144,16 @@ begins at (t ∷ ts) (suc n) = begins (at + length (text_of t)) ts n
 abbrev pub of_children : Bool → List ℕ → ℕ → List Tree → ℕ → ℕ → Candidate
 of_children is_block path at ts from to = record { is_block = is_block; path = path; from = from; to = to; start = begins at ts from; end = begins at ts to }
 
--- stretches of a run's children, as candidates
-abbrev pub of_stretches : List ℕ → ℕ → List Tree → List Stretch → List Candidate
-of_stretches path at ts [] = []
-of_stretches path at ts (s ∷ ss) = of_children false path at ts s.from s.to ∷ of_stretches path at ts ss
+-- ranges of a run's children, as candidates
+abbrev pub of_child_ranges : List ℕ → ℕ → List Tree → List ChildRange → List Candidate
+of_child_ranges path at ts [] = []
+of_child_ranges path at ts (s ∷ ss) = of_children false path at ts s.from s.to ∷ of_child_ranges path at ts ss
 
--- the candidates of a run: stretches of its children around the replaced bytes rs..re, by where its
+-- the candidates of a run: ranges of its children around the replaced bytes rs..re, by where its
 -- pieces begin. What isn't a run has none
 abbrev pub of_run : ℕ → ℕ → List ℕ → ℕ → List Tree → Option (List ℕ) → List Candidate
 of_run rs re path at ts None = []
-of_run rs re path at ts (Some cuts) = let cs = laid at ts in of_stretches path at ts (stretches cuts cs (first_near rs cs) (end_near re cs) (suc (length ts)) 1)
+of_run rs re path at ts (Some cuts) = let cs = laid at ts in of_child_ranges path at ts (child_ranges cuts cs (first_near rs cs) (end_near re cs) (suc (length ts)) 1)
 
 -- child i is alone near the replaced bytes, is an inner node, begins before them and ends after
 -- them

@@ -6,14 +6,14 @@ use Rattle.typst_language.specs.declared.calls.Note.{Note}
 use Rattle.typst_language.specs.declared.reading.State.{State}
 use Rattle.typst_language.specs.Log.{Log}
 use Rattle.typst_candidates.specs.declared.entry.Entry.{Entry}
-use Rattle.typst_candidates.specs.declared.entry.Tag.{Tag}
-use Rattle.typst_candidates.specs.declared.entry.Tag.TheVariants as tag
+use Rattle.typst_candidates.specs.declared.entry.EntryKind.{EntryKind}
+use Rattle.typst_candidates.specs.declared.entry.EntryKind.TheVariants as entry_kind
 
 -- what begins or ends at a note, and of a block the mode in which its first token is read
-abbrev pub tag_of : Mark → State → Tag
-tag_of (mark.Piece at_start brackets) s = tag.Piece at_start
-tag_of (mark.Opens block) s = tag.Opens block s.held.mode
-tag_of mark.Closes s = tag.Closes
+abbrev pub entry_kind_of : Mark → State → EntryKind
+entry_kind_of (mark.Piece at_start brackets) s = entry_kind.Piece at_start
+entry_kind_of (mark.Opens block) s = entry_kind.Opens block s.held.mode
+entry_kind_of mark.Closes s = entry_kind.Closes
 
 -- the brackets that are open after a piece, or the levels that are left in a block
 abbrev pub count_of : Mark → ℕ → ℕ
@@ -29,7 +29,7 @@ back_of start least = suc start - least
 -- the entry of a note, after a note whose token begins at a byte
 abbrev pub entry_of : ℕ → Note → Entry
 entry_of start n = record {
-  tag = tag_of n.mark n.state;
+  kind = entry_kind_of n.mark n.state;
   step = n.before - start;
   gap = n.start - n.before;
   forth = n.reach - n.start;
@@ -40,7 +40,7 @@ entry_of start n = record {
 -- the entry of a block's end at byte `end`, after a token that begins at `start`, where the looks
 -- since then have this reach and this least
 abbrev pub block_end : ℕ → ℕ → ℕ → ℕ → Entry
-block_end start end reach least = record { tag = tag.Closes; step = end - start; gap = 0; forth = reach - end; back = back_of start least; count = 0 }
+block_end start end reach least = record { kind = entry_kind.Closes; step = end - start; gap = 0; forth = reach - end; back = back_of start least; count = 0 }
 
 -- the entries of some notes, after a note whose token begins at a byte
 abbrev pub entries_by : ℕ → List Note → List Entry
@@ -52,7 +52,7 @@ abbrev pub last_start : ℕ → List Note → ℕ
 last_start start [] = start
 last_start start (n ∷ ns) = last_start n.start ns
 
--- the units of a text: its entries, and
+-- the units of a text: its entries, and where the looks after the last note begin
 pub record Units : Type 0 where
   pub entries : List Entry
   -- how far before the last token the looks after the last note begin
@@ -85,12 +85,12 @@ abbrev pub front_of : ℕ → ℕ → List Entry → ℕ
 front_of at start [] = 0
 front_of at start (e ∷ es) = let here = (start + e.step) + e.gap in if nat_le (here + e.forth) at then suc (front_of at here es) else 0
 
--- looks that begin so far before the token at `start` begin after the byte `at`
-abbrev pub is_behind : ℕ → ℕ → ℕ → Bool
-is_behind at start back = nat_lt at (suc start - back)
+-- looks that begin `back` bytes before the token at `start` begin at the byte `at` or after it
+abbrev pub is_after : ℕ → ℕ → ℕ → Bool
+is_after at start back = nat_lt at (suc start - back)
 
--- how many of the first entries have looks after them that begin at the byte `at` or before it:
--- after the entry with that number all looks begin after the byte
+-- how many of the first entries have looks after them that begin before the byte `at`: after the
+-- entry with that number all looks begin there or later
 abbrev pub rear_of : ℕ → ℕ → ℕ → List Entry → ℕ → ℕ
-rear_of at start count [] back = if is_behind at start back then 0 else count
-rear_of at start count (e ∷ es) back = max (if is_behind at start e.back then 0 else count) (rear_of at ((start + e.step) + e.gap) (suc count) es back)
+rear_of at start count [] back = if is_after at start back then 0 else count
+rear_of at start count (e ∷ es) back = max (if is_after at start e.back then 0 else count) (rear_of at ((start + e.step) + e.gap) (suc count) es back)

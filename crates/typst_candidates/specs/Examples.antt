@@ -11,7 +11,7 @@ use Rattle.typst_language.specs.declared.reading.AtNewline.TheVariants as at_new
 use Rattle.typst_tree.specs.Tree.{Tree, forest, leaf_of, inner_of, error_of}
 use Rattle.typst_candidates.specs.Candidates.{Candidate, candidates}
 
--- a note of what begins or ends at byte b, with so many levels left
+-- a note of what begins or ends at byte b, with this number of levels left
 abbrev pub noted : Mark → ℕ → ℕ → Note
 noted m levels b = let reading : Reading = record { mode = mode.Markup; at_newline = at_newline.Continue } in record {
   mark = m;
@@ -64,7 +64,7 @@ pub record Examples : Type 0 where
   pub nested : ranges (noted (mark.Piece true 0) 256 0 ∷ noted (mark.Piece false 0) 256 1 ∷ noted (mark.Piece false 0) 256 3 ∷ noted (mark.Opens block.Content) 254 4
       ∷ noted (mark.Piece true 0) 254 5 ∷ noted (mark.Piece false 0) 254 7 ∷ noted mark.Closes 254 8 ∷ noted (mark.Piece false 0) 256 8 ∷ [])
       6 6 (text (codes "A") ∷ text (codes ":") ∷ leaf_of kind.Space (codes " ") ∷ leaf_of kind.Hash (codes "#") ∷ content ∷ []) ≡ bytes 5 7 ∷ bytes 4 8 ∷ bytes 0 8 ∷ []
-  -- a hash isn't parted from what it embeds: `https:/a#{x}`, 7..7
+  -- a hash isn't separated from what it embeds: `https:/a#{x}`, 7..7
   pub embedded : ranges (pieces 256 (0 ∷ 5 ∷ 6 ∷ 8 ∷ 12 ∷ [])) 7 7 (text (codes "https") ∷ text (codes ":") ∷ text (codes "/a") ∷ leaf_of kind.Hash (codes "#") ∷ inner_of kind.CodeBlock (forest (text (codes "{x}") ∷ [])) ∷ []) ≡ bytes 0 12 ∷ []
   -- an empty error belongs to the piece before: `~~#x` with an error and ` els`, 8..8
   pub errors : ranges (pieces 256 (0 ∷ 1 ∷ 2 ∷ 5 ∷ 8 ∷ [])) 8 8 (tilde ∷ tilde ∷ leaf_of kind.Hash (codes "#") ∷ text (codes "x") ∷ error_of [] [] ∷ leaf_of kind.Space (codes " ") ∷ text (codes "els") ∷ []) ≡ bytes 2 8 ∷ bytes 2 8 ∷ bytes 2 8 ∷ bytes 0 8 ∷ []

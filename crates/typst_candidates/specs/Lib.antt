@@ -1,6 +1,6 @@
 pub mod Units
 pub mod Candidates
-pub mod Rows
+pub mod Edges
 pub mod Stops
 pub mod Examples
 pub mod Entries

@@ -7,9 +7,9 @@ use Rattle.typst_candidates.specs.declared.entry.Entry.{Entry}
 use Rattle.typst_candidates.specs.Cursors.{pieces_of, pieces_in, closing_of}
 use Rattle.typst_candidates.specs.Entries.{entries_by}
 use Rattle.typst_candidates.specs.Records.{IsRising}
-use Rattle.typst_candidates.specs.Units.{behind_first, top_cuts, cuts_in}
+use Rattle.typst_candidates.specs.Units.{after_first, top_cuts, cuts_in}
 
--- Notes where so many levels are left: a piece's note says as many, and a block's says fewer, with
+-- Notes where `levels` levels are left: a piece's note says as many, and a block's says fewer, with
 -- the notes in the block up to the one where it ends.
 pub data Nested : ℕ → List Note → Type 0 where
   none : (levels : ℕ) → Nested levels []
@@ -25,7 +25,7 @@ pub record Written (es : List Entry) (ns : List Note) : Type 0 where
 
 -- In nested notes, the pieces read with all levels left are those that are in no block.
 abbrev pub TopRunLaw : Type 0
-TopRunLaw = (ns : List Note) → Nested 256 ns → IsRising 0 ns → behind_first (pieces_of 0 0 (entries_by 0 ns)) ≡ top_cuts ns
+TopRunLaw = (ns : List Note) → Nested 256 ns → IsRising 0 ns → after_first (pieces_of 0 0 (entries_by 0 ns)) ≡ top_cuts ns
 
 -- In nested notes, the pieces read with a content block's levels are those of its own run: in it,
 -- and in no block of it.

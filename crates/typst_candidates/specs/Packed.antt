@@ -4,41 +4,41 @@ use Rattle.std.specs.List.{slice_get}
 use Rattle.typst_kinds.specs.declared.mode.SyntaxMode.TheVariants as mode
 use Rattle.typst_language.specs.declared.calls.Block.TheVariants as block
 use Rattle.typst_candidates.specs.declared.entry.Entry.{Entry}
-use Rattle.typst_candidates.specs.declared.entry.Tag.{Tag}
-use Rattle.typst_candidates.specs.declared.entry.Tag.TheVariants as tag
+use Rattle.typst_candidates.specs.declared.entry.EntryKind.{EntryKind}
+use Rattle.typst_candidates.specs.declared.entry.EntryKind.TheVariants as entry_kind
 use Rattle.typst_candidates.specs.declared.packed.Packed.{Packed}
 use Rattle.typst_candidates.specs.declared.packed.Widths.{Widths}
 use Rattle.typst_candidates.specs.Cursors.{is_piece}
 
 -- ---- one word
 
--- the tags, each at the place that is its number
-abbrev pub tags : List Tag
-tags = tag.Piece false ∷ tag.Piece true ∷ tag.Closes
-    ∷ tag.Opens block.Code mode.Markup ∷ tag.Opens block.Code mode.Math ∷ tag.Opens block.Code mode.Code
-    ∷ tag.Opens block.Content mode.Markup ∷ tag.Opens block.Content mode.Math ∷ tag.Opens block.Content mode.Code ∷ []
+-- the kinds of entries, each at the place that is its number
+abbrev pub entry_kinds : List EntryKind
+entry_kinds = entry_kind.Piece false ∷ entry_kind.Piece true ∷ entry_kind.Closes
+    ∷ entry_kind.Opens block.Code mode.Markup ∷ entry_kind.Opens block.Code mode.Math ∷ entry_kind.Opens block.Code mode.Code
+    ∷ entry_kind.Opens block.Content mode.Markup ∷ entry_kind.Opens block.Content mode.Math ∷ entry_kind.Opens block.Content mode.Code ∷ []
 
 -- how many bits of an entry say how far its looks go forth
-abbrev pub forth_bits : Tag → ℕ
-forth_bits (tag.Piece at_start) = 10
-forth_bits (tag.Opens b m) = 6
-forth_bits tag.Closes = 10
+abbrev pub forth_bits : EntryKind → ℕ
+forth_bits (entry_kind.Piece at_start) = 10
+forth_bits (entry_kind.Opens b m) = 6
+forth_bits entry_kind.Closes = 10
 
 -- how many bits of an entry say how far its looks go back
-abbrev pub back_bits : Tag → ℕ
-back_bits (tag.Piece at_start) = 4
-back_bits (tag.Opens b m) = 2
-back_bits tag.Closes = 4
+abbrev pub back_bits : EntryKind → ℕ
+back_bits (entry_kind.Piece at_start) = 4
+back_bits (entry_kind.Opens b m) = 2
+back_bits entry_kind.Closes = 4
 
--- how many bits the parts of an entry take after its tag's four, from the lowest on; the others hold its count
-abbrev pub widths : Tag → Widths
+-- how many bits the parts of an entry take after its kind's four, from the lowest on; the others hold its count
+abbrev pub widths : EntryKind → Widths
 widths t = record { step = 8; gap = 4; forth = forth_bits t; back = back_bits t }
 
--- the entry of a tag, whose parts are the bits of a number: of these widths from the lowest on, and
+-- the entry of a kind, whose parts are the bits of a number: of these widths from the lowest on, and
 -- the rest its count
-abbrev pub entry_by : Tag → Widths → ℕ → Entry
+abbrev pub entry_by : EntryKind → Widths → ℕ → Entry
 entry_by t w rest = record {
-  tag = t;
+  kind = t;
   step = rest % 2 ^ w.step;
   gap = rest / 2 ^ w.step % 2 ^ w.gap;
   forth = rest / 2 ^ w.step / 2 ^ w.gap % 2 ^ w.forth;
@@ -50,9 +50,9 @@ entry_by t w rest = record {
 abbrev pub nothing : Option Entry
 nothing = None
 
--- the entry that a word holds; a word with no tag's number holds none
+-- the entry that a word holds; a word with no kind's number holds none
 abbrev pub entry_in : Packed → Option Entry
-entry_in p = elim (slice_get tags (p.word % 2 ^ 4)) as (λ _. Option Entry) [ None ↦ None | Some t ↦ Some (entry_by t (widths t) (p.word / 2 ^ 4)) ]
+entry_in p = elim (slice_get entry_kinds (p.word % 2 ^ 4)) as (λ _. Option Entry) [ None ↦ None | Some t ↦ Some (entry_by t (widths t) (p.word / 2 ^ 4)) ]
 
 -- ---- some words
 
@@ -69,7 +69,7 @@ all_beside (o ∷ os) = beside o + all_beside os
 -- whether a word holds an entry at which a piece begins
 abbrev pub holds_piece : Option Entry → Bool
 holds_piece None = false
-holds_piece (Some e) = is_piece e.tag
+holds_piece (Some e) = is_piece e.kind
 
 -- how many bytes lie between the token before an entry and its own, or 0 where the word holds none
 abbrev pub span : Option Entry → ℕ

@@ -8,8 +8,8 @@ use Rattle.typst_language.specs.declared.calls.Note.{Note}
 use Rattle.typst_language.specs.declared.reading.Reading.{Reading}
 use Rattle.typst_language.specs.declared.reading.AtNewline.TheVariants as at_newline
 use Rattle.typst_candidates.specs.declared.entry.Entry.{Entry}
-use Rattle.typst_candidates.specs.declared.entry.Tag.{Tag}
-use Rattle.typst_candidates.specs.declared.entry.Tag.TheVariants as tag
+use Rattle.typst_candidates.specs.declared.entry.EntryKind.{EntryKind}
+use Rattle.typst_candidates.specs.declared.entry.EntryKind.TheVariants as entry_kind
 use Rattle.typst_candidates.specs.Entries.{Units, units_by, front_of, rear_of, spliced}
 use Rattle.typst_candidates.specs.Records.{opening_of}
 use Rattle.typst_candidates.specs.Cursors.{first_piece, last_piece}
@@ -28,8 +28,8 @@ noted m before start levels reach least = let reading : Reading = record { mode 
 }
 
 -- an entry with these parts
-abbrev pub entry : Tag → ℕ → ℕ → ℕ → ℕ → ℕ → Entry
-entry t step gap forth back count = record { tag = t; step = step; gap = gap; forth = forth; back = back; count = count }
+abbrev pub entry : EntryKind → ℕ → ℕ → ℕ → ℕ → ℕ → Entry
+entry t step gap forth back count = record { kind = t; step = step; gap = gap; forth = forth; back = back; count = count }
 
 -- the notes of `@x[ab  ]`, where the word in the block ends at byte `word`, and the text at byte
 -- `end`
@@ -44,12 +44,12 @@ units = units_by (notes 5 8) 9
 -- what these units are, what decides an edit of that text, and the pieces of its runs
 pub record RecordExamples : Type 0 where
   pub entries : units ≡ record {
-    entries = entry (tag.Piece true) 0 0 0 0 0 ∷ entry (tag.Opens block.Content mode.Markup) 2 0 1 0 255 ∷ entry (tag.Piece true) 1 0 0 0 0
-        ∷ entry (tag.Piece false) 2 2 1 0 0 ∷ entry tag.Closes 1 0 0 0 0 ∷ entry (tag.Piece false) 0 0 1 0 0 ∷ [];
+    entries = entry (entry_kind.Piece true) 0 0 0 0 0 ∷ entry (entry_kind.Opens block.Content mode.Markup) 2 0 1 0 255 ∷ entry (entry_kind.Piece true) 1 0 0 0 0
+        ∷ entry (entry_kind.Piece false) 2 2 1 0 0 ∷ entry entry_kind.Closes 1 0 0 0 0 ∷ entry (entry_kind.Piece false) 0 0 1 0 0 ∷ [];
     back = 0;
   }
   -- with one more letter, `@x[abc  ]`, only one entry differs
-  pub letter : units_by (notes 6 9) 10 ≡ spliced 2 3 (entry (tag.Piece false) 3 2 1 0 0 ∷ []) units
+  pub letter : units_by (notes 6 9) 10 ≡ spliced 2 3 (entry (entry_kind.Piece false) 3 2 1 0 0 ∷ []) units
   -- where bytes 4 to 5 are replaced, the word's piece is read again, from its own note to the next
   pub front : front_of 4 0 units.entries ≡ 3
   pub rear : rear_of 5 0 0 units.entries units.back ≡ 3

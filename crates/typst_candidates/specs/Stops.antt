@@ -5,8 +5,8 @@ use Rattle.typst_candidates.specs.declared.entry.Entry.{Entry}
 use Rattle.typst_candidates.specs.declared.enclosing.Enclosing.{Enclosing}
 use Rattle.typst_candidates.specs.declared.enclosing.Enclosing.TheVariants as enclosing
 use Rattle.typst_candidates.specs.declared.enclosing.Stop.{Stop}
-use Rattle.typst_candidates.specs.Candidates.{Candidate, laid, stretches, of_children, of_stretches}
-use Rattle.typst_candidates.specs.Rows.{is_covered, pieces_at}
+use Rattle.typst_candidates.specs.Candidates.{Candidate, laid, child_ranges, of_children, of_child_ranges}
+use Rattle.typst_candidates.specs.Edges.{is_covered, pieces_at}
 
 -- where the children of a stop's node begin
 abbrev pub inside : Stop → ℕ
@@ -27,10 +27,10 @@ covering rs re s = elim (slice_get (kids s) s.near.first.index) as (λ _. Option
 abbrev pub block_of : List ℕ → Stop → Candidate
 block_of path s = of_children true (take s.depth path) (inside s) (kids s) s.near.first.index s.near.end.index
 
--- stretches of the children of a run around the replaced bytes, by where its pieces begin
+-- ranges of the children of a run around the replaced bytes, by where its pieces begin
 abbrev pub run_of : List ℕ → Stop → Option (List ℕ) → List Candidate
 run_of path s None = []
-run_of path s (Some cuts) = of_stretches (take s.depth path) (inside s) (kids s) (stretches cuts (laid (inside s) (kids s)) s.near.first.index s.near.end.index (suc (length (kids s))) 1)
+run_of path s (Some cuts) = of_child_ranges (take s.depth path) (inside s) (kids s) (child_ranges cuts (laid (inside s) (kids s)) s.near.first.index s.near.end.index (suc (length (kids s))) 1)
 
 -- the candidates of a block or a run
 abbrev pub found_in : List Entry → List ℕ → Enclosing → List Candidate

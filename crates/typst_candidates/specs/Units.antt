@@ -29,27 +29,27 @@ is_closing (mark.Piece line brackets) = false
 is_closing (mark.Opens b) = false
 is_closing mark.Closes = true
 
--- where the pieces begin that are read with so many levels left, and where the last of them ends
+-- where the pieces begin that are read with this number of levels left, and where the last of them ends
 abbrev pub starts : ℕ → List Note → List ℕ
 starts levels [] = []
 starts levels (n ∷ ns) = if is_piece n.mark && n.levels == levels then n.start ∷ starts levels ns else starts levels ns
 
--- the notes up to the end of a block that is read with so many levels left
+-- the notes up to the end of a block that is read with this number of levels left
 abbrev pub up_to_end : ℕ → List Note → List Note
 up_to_end levels [] = []
 up_to_end levels (n ∷ ns) = if is_closing n.mark && n.levels == levels then [] else n ∷ up_to_end levels ns
 
 -- where the pieces of a run begin, except its first; a markup without any isn't a run
-abbrev pub behind_first : List ℕ → Option (List ℕ)
-behind_first [] = None
-behind_first (s ∷ ss) = Some ss
+abbrev pub after_first : List ℕ → Option (List ℕ)
+after_first [] = None
+after_first (s ∷ ss) = Some ss
 
 -- where the pieces of the text's own run begin, which are read with all levels left, except its
 -- first
 abbrev pub top_cuts : List Note → Option (List ℕ)
-top_cuts ns = behind_first (starts 256 ns)
+top_cuts ns = after_first (starts 256 ns)
 
 -- where the pieces begin of the run of the content block at byte `at`, except its first
 abbrev pub cuts_in : ℕ → List Note → Option (List ℕ)
 cuts_in at [] = None
-cuts_in at (n ∷ ns) = if opens_content n.mark && n.start == at then behind_first (starts n.levels (up_to_end n.levels ns)) else cuts_in at ns
+cuts_in at (n ∷ ns) = if opens_content n.mark && n.start == at then after_first (starts n.levels (up_to_end n.levels ns)) else cuts_in at ns

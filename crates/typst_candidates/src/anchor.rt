@@ -7,17 +7,17 @@ ghost use Rattle.typst_candidates.specs.Anchors.{IsAnchor, inside_of};
 ghost use Rattle.typst_candidates.specs.Cursors.{piece_of, pieces_of, start_at};
 ghost use Rattle.typst_candidates.specs.Entries.{end_of, front_of};
 ghost use Rattle.typst_candidates.specs.Records.{opening_of};
-ghost use Rattle.typst_candidates.specs.Rows.{within};
+ghost use Rattle.typst_candidates.specs.Edges.{within};
 
 use crate::Window;
-use crate::cursor::{Cursor, inside_behind};
-use crate::entries::Walk;
-use crate::entry::Tag;
+use crate::cursor::{EntryCursor, inside_after};
+use crate::entries::WordCursor;
+use crate::entry::EntryKind;
 use crate::records::Records;
 use typst_language::Block;
 
-/// A place among the entries that is in no block of its run: of the text's own, or of that of a block. One is kept
-/// a while before the last edit, since the next one is mostly near: what it asks for is looked up from there on, and
+/// A place among the entries that is in no block of its run, which is the text's own or a block's. One is kept a
+/// while before the last edit, since the next edit is mostly near: what it asks for is looked up from there on, and
 /// not from the first entry.
 #[derive(Debug, Clone, Copy, PartialEq, Eq)]
 pub(crate) struct Anchor {
@@ -27,8 +27,8 @@ pub(crate) struct Anchor {
     pub start: usize,
     /// Where the looks of all of these end, or after that.
     pub reach: usize,
-    /// How many entries come before the run of the anchor: none before the text's own, else all up to the one that
-    /// opens its block.
+    /// How many entries come before the run of the anchor: none before the text's own, otherwise all up to the one
+    /// that opens its block.
     pub first: usize,
     /// Where the token of the entry before the one that opens its block begins, in bytes, or 0.
     pub outer: usize,
@@ -37,12 +37,11 @@ pub(crate) struct Anchor {
 /// How many bytes before an edit an anchor is put: most candidates begin after it.
 const BEFORE: usize = 1 << 10;
 
-/// An anchor is put into a block only if no place before the block is so near to the edit: it is of no use any
-/// more once an edit is outside the block.
+/// An anchor is put into a block only if no place before the block is as near to the edit as this many bytes: it is
+/// of no use once an edit is outside the block.
 const FAR: usize = 1 << 12;
 
-/// How many blocks, one in the other, an anchor is put into at most, since the entries of each are gone through
-/// once more.
+/// How many nested blocks an anchor is put into at most, since the entries of each are read once more.
 const MOST_BLOCKS: usize = 4;
 
 impl Anchor {
@@ -59,7 +58,7 @@ impl Anchor {
         }
     }
 
-    /// This anchor, if it is before the entries after the one with this number, else the first.
+    /// This anchor, if it is before the entries after the one with this number, or else the first.
     pub(crate) fn upto(self, number: usize) -> Anchor
         ensures { (es fs : List Entry) → IsAnchor es self → take (number + 1) fs ≡ take (number + 1) es → number < length fs → IsAnchor fs result }
     {
@@ -131,17 +130,17 @@ impl Records {
         found
     }
 
-    /// Which block begins after an anchor, and the anchor at the begin of its run, if that is at the byte `before` or
-    /// before it.
+    /// Which block begins after an anchor, and the anchor at the beginning of its run, if that is at the byte `before`
+    /// or before it.
     fn into_block(&self, outer: Anchor, before: usize) -> Option<(Block, Anchor)>
         requires places { end_of 0 self.now.units.entries < 2 ^ 64 }
         requires outer { IsAnchor self.now.units.entries outer }
         ensures anchor { IfSome result (λ r. IsAnchor self.now.units.entries r.1) }
-        ensures behind { IfSome result (λ r. outer.number < r.1.number) }
+        ensures after { IfSome result (λ r. outer.number < r.1.number) }
     {
         let mut place = self.cursor_from(outer);
         let entry = place.next()?;
-        let Tag::Opens(block, _) = entry.tag else {
+        let EntryKind::Opens(block, _) = entry.kind else {
             return None;
         };
         let start = place.start();
@@ -181,7 +180,7 @@ impl Records {
                 return Some(anchor);
             }
             let end = start.checked_add(entry.forth)?;
-            let further = inside_behind(entry.tag, inside)?;
+            let further = inside_after(entry.kind, inside)?;
             reach = reach.max(end);
             inside = further;
             if inside == 0 && start <= window.from {
@@ -198,7 +197,7 @@ impl Records {
 
     /// From which place on `front` has to go through the entries, and how far before the byte `at` that place is:
     /// the anchor's, or the first.
-    pub(crate) fn front_place(&self, at: usize) -> (Walk<'_>, usize)
+    pub(crate) fn front_place(&self, at: usize) -> (WordCursor<'_>, usize)
         ensures entries { result.0.entries ≡ self.now.units.entries }
         ensures within { result.1 ≤ at }
         ensures count { result.0.number + front_of at (at - result.1) (drop result.0.number self.now.units.entries) ≡ front_of at 0 self.now.units.entries }
@@ -210,14 +209,14 @@ impl Records {
             ..
         } = self.anchor;
         if reach <= at {
-            return (self.walk_at(number), at - start);
+            return (self.word_cursor_at(number), at - start);
         }
-        (self.walk(), at)
+        (self.word_cursor(), at)
     }
 
     /// From which place on `opening` has to go through the entries, and how far before the byte `at` that place
     /// is; if the anchor is in the block that begins at the byte, the place before that block.
-    pub(crate) fn opening_place(&self, at: usize) -> (Walk<'_>, usize)
+    pub(crate) fn opening_place(&self, at: usize) -> (WordCursor<'_>, usize)
         ensures entries { result.0.entries ≡ self.now.units.entries }
         ensures within { result.1 ≤ at }
         ensures later { opening_of at (at - result.1) result.0.number (drop result.0.number self.now.units.entries) ≡ opening_of at 0 0 self.now.units.entries }
@@ -230,17 +229,17 @@ impl Records {
             ..
         } = self.anchor;
         if start < at {
-            return (self.walk_at(number), at - start);
+            return (self.word_cursor_at(number), at - start);
         }
         if outer < at {
-            return (self.walk_at(first.saturating_sub(1)), at - outer);
+            return (self.word_cursor_at(first.saturating_sub(1)), at - outer);
         }
-        (self.walk(), at)
+        (self.word_cursor(), at)
     }
 
     /// A place before the first piece of a run whose token begins at byte `at`: the anchor's, if it is in that run
-    /// and before the byte, else the one after the first `first` entries, after which the run begins.
-    pub fn run_place(&self, first: usize, at: usize) -> Cursor<'_>
+    /// and before the byte, or else the one after the first `first` entries, after which the run begins.
+    pub fn run_place(&self, first: usize, at: usize) -> EntryCursor<'_>
         requires first { first ≤ length self.now.units.entries }
         requires places { end_of 0 self.now.units.entries < 2 ^ 64 }
         ensures entries { result.entries ≡ self.now.units.entries }
@@ -254,13 +253,13 @@ impl Records {
 
     /// A place after which the pieces of a run begin that begin after `place`, as far as they begin at the byte
     /// `from` or after it. The run begins after the first `first` entries. It is the anchor's place, if that is in
-    /// the run, before the byte and after `place`, else `place`.
+    /// the run, before the byte and after `place`, or else `place`.
     pub(crate) fn later_place<'a>(
         &'a self,
         first: usize,
-        place: Cursor<'a>,
+        place: EntryCursor<'a>,
         from: usize,
-    ) -> Cursor<'a>
+    ) -> EntryCursor<'a>
         requires places { end_of 0 self.now.units.entries < 2 ^ 64 }
         requires entries { place.entries ≡ self.now.units.entries }
         requires order { first ≤ place.number }

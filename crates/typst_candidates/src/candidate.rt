@@ -4,20 +4,20 @@ ghost use Rattle.std.specs.Prelude.{◌≡◌, ℕ, List, ◌+◌, ◌-◌, ◌<
 ghost use Rattle.typst_language.specs.declared.calls.Note.{Note};
 ghost use Rattle.typst_tree.specs.Tree.{forest, text_of};
 ghost use Rattle.typst_candidates.specs.declared.entry.Entry.{Entry};
-ghost use Rattle.typst_candidates.specs.Candidates.{laid, stretches, of_block, of_stretches, candidates, candidates_at};
+ghost use Rattle.typst_candidates.specs.Candidates.{laid, child_ranges, of_block, of_child_ranges, candidates, candidates_at};
 ghost use Rattle.typst_candidates.specs.Entries.{end_of};
 ghost use Rattle.typst_candidates.specs.Nested.{Written};
-ghost use Rattle.typst_candidates.specs.Rows.{IsEdge, IsNear, IsRun, IsWhole, Fits, below, bytes_of, pieces_at, spelled, within};
+ghost use Rattle.typst_candidates.specs.Edges.{IsEdge, IsNear, IsRun, IsWhole, Fits, below, bytes_of, pieces_at, spelled, within};
 ghost use Rattle.typst_candidates.specs.Stops.{block_of, covering, found_in, found_in_all, inside, kids, run_of};
 ghost use Rattle.typst_candidates.specs.Units.{top_cuts};
 
 use crate::enclosing::{Enclosing, RunAt, Stop, run_of_child};
-use crate::{Cuts, Near, Records, Row, Stretch, Window};
+use crate::{ChildRange, Children, Cuts, Near, Records, Window};
 use std::alloc::{AllocError, Global};
 use typst_kinds::SyntaxKind;
 use typst_tree::SyntaxNode;
 
-/// Children of a node that an edit may read again: a block alone, or pieces of a run.
+/// Children of a node that an edit may read again: one block, or pieces of a run.
 #[derive(Debug, Clone, Copy, PartialEq, Eq)]
 pub struct Candidate {
     /// Whether it is a block.
@@ -49,7 +49,7 @@ pub struct Candidates {
 /// The units of the text, the replaced bytes, how many candidates are asked for, and where pieces of runs are
 /// looked up.
 #[derive(Clone, Copy)]
-struct Search<'a> {
+struct CandidateSearch<'a> {
     records: &'a Records,
     start: usize,
     end: usize,
@@ -64,17 +64,17 @@ struct Found {
     most: usize,
 }
 
-/// The children of a stretch as a candidate.
-fn of_stretch(is_block: bool, depth: usize, stretch: Stretch) -> Candidate
-    ensures { result ≡ record { is_block = is_block; depth = depth; from = stretch.from.index; to = stretch.to.index; start = stretch.from.byte; end = stretch.to.byte } }
+/// The children of a range as a candidate.
+fn of_child_range(is_block: bool, depth: usize, range: ChildRange) -> Candidate
+    ensures { result ≡ record { is_block = is_block; depth = depth; from = range.from.index; to = range.to.index; start = range.from.byte; end = range.to.byte } }
 {
     Candidate {
         is_block,
         depth,
-        from: stretch.from.index,
-        to: stretch.to.index,
-        start: stretch.from.byte,
-        end: stretch.to.byte,
+        from: range.from.index,
+        to: range.to.index,
+        start: range.from.byte,
+        end: range.to.byte,
     }
 }
 
@@ -82,11 +82,11 @@ fn of_stretch(is_block: bool, depth: usize, stretch: Stretch) -> Candidate
 fn block_of(stop: Stop<'_>) -> Candidate
     ensures { (path : List ℕ) → spelled path result ≡ block_of path stop.entry }
 {
-    let alone = Stretch {
+    let alone = ChildRange {
         from: stop.near.first,
         to: stop.near.end,
     };
-    of_stretch(true, stop.depth, alone)
+    of_child_range(true, stop.depth, alone)
 }
 
 /// Adds the one child near the replaced bytes, of this kind, if it is a block.
@@ -125,28 +125,28 @@ fn push_run<'t>(
 /// how many were asked for in the end.
 fn add_pieces(
     found: &mut Vec<Candidate>,
-    row: &Row<'_>,
+    children: &Children<'_>,
     cuts: &Cuts,
     near: Near,
     depth: usize,
     room: usize,
 ) -> Result<usize, AllocError>
-    requires fits { Fits row.now.at row.now.kids.now }
-    requires first { IsEdge row.now.at row.now.kids.now near.first }
-    requires end { IsEdge row.now.at row.now.kids.now near.end }
+    requires fits { Fits children.now.at children.now.kids.now }
+    requires first { IsEdge children.now.at children.now.kids.now near.first }
+    requires end { IsEdge children.now.at children.now.kids.now near.end }
     requires order { near.first.index ≤ near.end.index }
-    ensures added { IfOk result (λ most. (bs : List ℕ) → bytes_of cuts.now ≡ within cuts.now.window bs → (path : List ℕ) → map (spelled path) found.new.items ≡ map (spelled path) found.old.items ++ take most (of_stretches (take depth path) row.now.at row.now.kids.now (stretches bs (laid row.now.at row.now.kids.now) near.first.index near.end.index (suc (length row.now.kids.now)) 1))) }
+    ensures added { IfOk result (λ most. (bs : List ℕ) → bytes_of cuts.now ≡ within cuts.now.window bs → (path : List ℕ) → map (spelled path) found.new.items ≡ map (spelled path) found.old.items ++ take most (of_child_ranges (take depth path) children.now.at children.now.kids.now (child_ranges bs (laid children.now.at children.now.kids.now) near.first.index near.end.index (suc (length children.now.kids.now)) 1))) }
     ensures most { IfOk result (λ most. most ≤ room) }
     ensures whole { IsWhole cuts.now.window → IfOk result (λ most. most ≡ room) }
 {
     let mut more: usize = 1;
-    for added in 0..room.min(row.len() + 1) {
-        let stretch = row.around(cuts, near, more);
-        if !stretch.lies_in(cuts.window) {
+    for added in 0..room.min(children.len() + 1) {
+        let range = children.around(cuts, near, more);
+        if !range.lies_in(cuts.window) {
             return Ok(added);
         }
-        found.push(of_stretch(false, depth, stretch))?;
-        if row.is_all(stretch) {
+        found.push(of_child_range(false, depth, range))?;
+        if children.is_all(range) {
             return Ok(room);
         }
         more *= 2;
@@ -154,8 +154,8 @@ fn add_pieces(
     Ok(room)
 }
 
-impl Search<'_> {
-    /// The stop at a node that begins at byte `at`, so many steps below the root.
+impl CandidateSearch<'_> {
+    /// The stop at a node that begins at byte `at`, `depth` steps below the root.
     fn stop<'t>(&self, node: &'t SyntaxNode, at: usize, depth: usize) -> Stop<'t>
         requires order { self.now.start ≤ self.now.end }
         requires fits { at + length (text_of node.now) < 2 ^ 64 }
@@ -164,8 +164,8 @@ impl Search<'_> {
         ensures depth { result.depth ≡ depth }
         ensures near { IsNear (inside result) (kids result) self.now.start self.now.end result.near }
     {
-        let row = Row::of(node, at);
-        let near = row.near(self.start, self.end);
+        let children = Children::of(node, at);
+        let near = children.near(self.start, self.end);
         Stop {
             node,
             at,
@@ -253,10 +253,17 @@ impl Search<'_> {
         let Some(cuts) = self.cuts(alloc, run)? else {
             return Ok(());
         };
-        let row = Row::of(stop.node, stop.at);
+        let children = Children::of(stop.node, stop.at);
         let before = found.items.len();
         let room = found.most - before;
-        let added = add_pieces(&mut found.items, &row, &cuts, stop.near, stop.depth, room)?;
+        let added = add_pieces(
+            &mut found.items,
+            &children,
+            &cuts,
+            stop.near,
+            stop.depth,
+            room,
+        )?;
         found.most = before + added;
         Ok(())
     }
@@ -348,7 +355,7 @@ pub fn find_candidates(
         from: start.saturating_sub(reach),
         to: end.saturating_add(reach),
     };
-    let search = Search {
+    let search = CandidateSearch {
         records,
         start,
         end,

@@ -6,95 +6,95 @@ ghost use Rattle.typst_candidates.specs.Entries.{end_of};
 ghost use Rattle.typst_candidates.specs.Cursors as spec;
 
 use crate::anchor::Anchor;
-use crate::entries::{BLOCK, FARTHEST_BACK, Walk};
-use crate::entry::{Entry, Tag};
+use crate::entries::{BLOCK, FARTHEST_BACK, WordCursor};
+use crate::entry::{Entry, EntryKind};
 use crate::records::Records;
 use std::marker::Model;
 
-/// A place between two entries of records, and where in the text it is.
+/// A place between two entries of [`Records`], with the byte where it is in the text.
 #[derive(Drop)]
-pub struct Cursor<'a> {
-    walk: Walk<'a>,
+pub struct EntryCursor<'a> {
+    word_cursor: WordCursor<'a>,
     /// Where the token of the entry before it begins.
     start: usize,
 }
 
-impl<'a> Model for Cursor<'a> {
+impl<'a> Model for EntryCursor<'a> {
     ghost use Rattle.std.specs.Prelude.{◌≡◌, ◌^◌, ◌<◌};
     ghost use Rattle.typst_candidates.specs.Entries.{end_of};
-    ghost use Rattle.typst_candidates.specs.Cursors.{Place, start_at};
+    ghost use Rattle.typst_candidates.specs.Cursors.{EntryPlace, start_at};
 
-    ghost Value = { Place };
+    ghost Value = { EntryPlace };
 
-    ghost view = { λ c. c.walk };
+    ghost view = { λ c. c.word_cursor };
 
-    ghost invariant = { λ c. (c.start ≡ start_at c.walk) × (end_of 0 c.walk.entries < 2 ^ 64) };
+    ghost invariant = { λ c. (c.start ≡ start_at c.word_cursor) × (end_of 0 c.word_cursor.entries < 2 ^ 64) };
 }
 
 impl Records {
     /// The place before the first entry. The places of the text must be numbers of the machine.
-    pub fn cursor(&self) -> Cursor<'_>
+    pub fn cursor(&self) -> EntryCursor<'_>
         requires { end_of 0 self.now.units.entries < 2 ^ 64 }
         ensures { result ≡ record { entries = self.now.units.entries; number = 0 } }
     {
-        Cursor {
-            walk: self.walk(),
+        EntryCursor {
+            word_cursor: self.word_cursor(),
             start: 0,
         }
     }
 
-    /// The place after so many entries. Adds up the words of these, unless it is the place before the block that
-    /// the anchor is in, which is kept.
-    pub fn cursor_at(&self, number: usize) -> Cursor<'_>
+    /// The place after the first `number` entries. Adds up the words of these, unless it is the place before the
+    /// block that the anchor is in, which is kept.
+    pub fn cursor_at(&self, number: usize) -> EntryCursor<'_>
         requires within { number ≤ length self.now.units.entries }
         requires fits { end_of 0 self.now.units.entries < 2 ^ 64 }
         ensures { result ≡ record { entries = self.now.units.entries; number = number } }
     {
-        let walk = self.walk_at(number);
+        let word_cursor = self.word_cursor_at(number);
         if number == self.anchor.first.saturating_sub(1) {
-            return Cursor {
-                walk,
+            return EntryCursor {
+                word_cursor,
                 start: self.anchor.outer,
             };
         }
-        Cursor {
-            start: walk.start(),
-            walk,
+        EntryCursor {
+            start: word_cursor.start(),
+            word_cursor,
         }
     }
 
     /// The anchor's place. Adds up no entries.
-    pub(crate) fn cursor_from(&self, anchor: Anchor) -> Cursor<'_>
+    pub(crate) fn cursor_from(&self, anchor: Anchor) -> EntryCursor<'_>
         requires places { end_of 0 self.now.units.entries < 2 ^ 64 }
         requires anchor { IsAnchor self.now.units.entries anchor }
         ensures { result ≡ record { entries = self.now.units.entries; number = anchor.number } }
     {
-        Cursor {
-            walk: self.walk_at(anchor.number),
+        EntryCursor {
+            word_cursor: self.word_cursor_at(anchor.number),
             start: anchor.start,
         }
     }
 
     /// The place after the last entry, whose token begins at the byte `last`, or 0 if there is none.
-    pub fn cursor_at_end(&self, last: usize) -> Cursor<'_>
+    pub fn cursor_at_end(&self, last: usize) -> EntryCursor<'_>
         requires { last ≡ end_of 0 self.now.units.entries }
         ensures { result ≡ record { entries = self.now.units.entries; number = length self.now.units.entries } }
     {
-        Cursor {
-            walk: self.walk_at_end(),
+        EntryCursor {
+            word_cursor: self.word_cursor_at_end(),
             start: last,
         }
     }
 }
 
-impl<'a> Cursor<'a> {
+impl<'a> EntryCursor<'a> {
     /// A copy of the place.
-    pub fn copy(&self) -> Cursor<'a>
+    pub fn copy(&self) -> EntryCursor<'a>
         ensures place { result ≡ self.now }
         ensures fits { result.number < 2 ^ 64 }
     {
-        Cursor {
-            walk: self.walk.copy(),
+        EntryCursor {
+            word_cursor: self.word_cursor.copy(),
             start: self.start,
         }
     }
@@ -103,7 +103,7 @@ impl<'a> Cursor<'a> {
     pub fn number(&self) -> usize
         ensures { result ≡ self.now.number }
     {
-        self.walk.number()
+        self.word_cursor.number()
     }
 
     /// The byte at which the token of the entry before it begins, or 0 before the first.
@@ -116,23 +116,22 @@ impl<'a> Cursor<'a> {
     /// The entry after the place, which moves past it; `None` after the last.
     #[inline]
     pub fn next(&mut self) -> Option<Entry>
-        ensures entry { result ≡ spec.entry_behind self.old }
-        ensures place { self.new ≡ spec.behind result self.old }
+        ensures entry { result ≡ spec.entry_after self.old }
+        ensures place { self.new ≡ spec.after result self.old }
         ensures fits { self.new.number < 2 ^ 64 }
     {
-        let entry = self.walk.next()?;
+        let entry = self.word_cursor.next()?;
         self.start += entry.step + entry.gap;
         Some(entry)
     }
 
     /// Passes over the entry after the place, if a word holds it and a piece begins at it, and answers whether it
-    /// did. Nearly all entries are such, so what goes through a run passes them this way, and only the others by
-    /// `next`.
+    /// did. Nearly all entries are like this, so a run is passed this way, and only the other entries by `next`.
     #[inline]
     pub(crate) fn pass_piece(&mut self) -> bool
         ensures { MatchBool result (spec.PassesPiece self.old self.new) (self.new ≡ self.old) }
     {
-        let Some(span) = self.walk.pass_piece() else {
+        let Some(span) = self.word_cursor.pass_piece() else {
             return false;
         };
         self.start += span;
@@ -143,7 +142,7 @@ impl<'a> Cursor<'a> {
     pub(crate) fn left(&self) -> usize
         ensures { result ≡ length self.now.entries - self.now.number }
     {
-        self.walk.left()
+        self.word_cursor.left()
     }
 
     /// The entry before the place, which moves back over it; `None` before the first.
@@ -152,14 +151,14 @@ impl<'a> Cursor<'a> {
         ensures entry { result ≡ spec.entry_before self.old }
         ensures place { self.new ≡ spec.before self.old }
     {
-        let entry = self.walk.back()?;
+        let entry = self.word_cursor.back()?;
         self.start -= entry.step + entry.gap;
         Some(entry)
     }
 
     /// Passes back over a block of entries before the place, if all looks after its first entry's begin more than
-    /// so many bytes after the byte `at`; answers how far back those of its first entry begin. Else nothing
-    /// changes, and it is asked again only so many steps later.
+    /// `FARTHEST_BACK` bytes after the byte `at`; answers how far back those of its first entry begin. Otherwise
+    /// nothing changes, and it is tried again only `BLOCK` calls later.
     #[inline]
     pub(crate) fn pass_far_back(&mut self, steps: &mut usize, at: usize) -> Option<usize>
         ensures { MatchOption result (self.new ≡ self.old) (λ back. spec.PassesBack at self.old self.new back) }
@@ -169,18 +168,18 @@ impl<'a> Cursor<'a> {
             return None;
         }
         let most = self.start.saturating_sub(at).saturating_sub(FARTHEST_BACK);
-        let Some(span) = self.walk.pass_block_back(most) else {
+        let Some(span) = self.word_cursor.pass_block_back(most) else {
             *steps = BLOCK;
             return None;
         };
         self.start -= span;
-        let first = self.walk.copy().next()?;
+        let first = self.word_cursor.copy().next()?;
         Some(first.back)
     }
 
     /// The place before the next piece of the run that it is in. Goes through the entries up to there; what is in
     /// a block of the run is passed over. `None` if the run has no more pieces.
-    pub fn piece_behind(&self) -> Option<Cursor<'a>>
+    pub fn piece_after(&self) -> Option<EntryCursor<'a>>
         ensures { result ≡ spec.placed self.now (spec.first_piece 0 self.now.number (drop self.now.number self.now.entries)) }
     {
         let mut place = self.copy();
@@ -188,57 +187,57 @@ impl<'a> Cursor<'a> {
         loop {
             let here = place.copy();
             let entry = place.next()?;
-            if leads(entry.tag, inside) {
+            if leads(entry.kind, inside) {
                 return Some(here);
             }
-            inside = inside_behind(entry.tag, inside)?;
+            inside = inside_after(entry.kind, inside)?;
         }
     }
 
     /// The place before the last piece of its run that is before it. Goes back through the entries to there; what
     /// is in a block of the run is passed over. `None` if there is none.
-    pub fn piece_before(&self) -> Option<Cursor<'a>>
+    pub fn piece_before(&self) -> Option<EntryCursor<'a>>
         ensures { result ≡ spec.placed self.now (spec.last_piece 0 self.now.entries self.now.number) }
     {
         let mut place = self.copy();
         let mut inside = 0usize;
         loop {
             let entry = place.back()?;
-            if leads(entry.tag, inside) {
+            if leads(entry.kind, inside) {
                 return Some(place);
             }
-            inside = inside_before(entry.tag, inside)?;
+            inside = inside_before(entry.kind, inside)?;
         }
     }
 }
 
-/// Whether a piece of the run itself begins at an entry with this tag, where so many blocks of the run are open.
-pub(crate) fn leads(tag: Tag, inside: usize) -> bool
-    ensures { result ≡ spec.leads tag inside }
+/// Whether a piece of the run itself begins at an entry of this kind, where `inside` blocks of the run are open.
+pub(crate) fn leads(kind: EntryKind, inside: usize) -> bool
+    ensures { result ≡ spec.leads kind inside }
 {
-    matches!(tag, Tag::Piece(_)) && inside == 0
+    matches!(kind, EntryKind::Piece(_)) && inside == 0
 }
 
-/// In how many blocks of a run one is after an entry, unless the run's own block ends there.
-pub(crate) fn inside_behind(tag: Tag, inside: usize) -> Option<usize>
+/// How many blocks of a run are open after an entry, or `None` if the run's own block ends there.
+pub(crate) fn inside_after(kind: EntryKind, inside: usize) -> Option<usize>
     requires { inside + 1 < 2 ^ 64 }
-    ensures { result ≡ spec.inside_behind tag inside }
+    ensures { result ≡ spec.inside_after kind inside }
 {
-    match tag {
-        Tag::Piece(_) => Some(inside),
-        Tag::Opens(_, _) => Some(inside + 1),
-        Tag::Closes => inside.checked_sub(1),
+    match kind {
+        EntryKind::Piece(_) => Some(inside),
+        EntryKind::Opens(_, _) => Some(inside + 1),
+        EntryKind::Closes => inside.checked_sub(1),
     }
 }
 
-/// In how many blocks of a run one is before an entry, unless the run's own block begins there.
-fn inside_before(tag: Tag, inside: usize) -> Option<usize>
+/// How many blocks of a run are open before an entry, or `None` if the run's own block begins there.
+fn inside_before(kind: EntryKind, inside: usize) -> Option<usize>
     requires { inside + 1 < 2 ^ 64 }
-    ensures { result ≡ spec.inside_before tag inside }
+    ensures { result ≡ spec.inside_before kind inside }
 {
-    match tag {
-        Tag::Piece(_) => Some(inside),
-        Tag::Opens(_, _) => inside.checked_sub(1),
-        Tag::Closes => Some(inside + 1),
+    match kind {
+        EntryKind::Piece(_) => Some(inside),
+        EntryKind::Opens(_, _) => inside.checked_sub(1),
+        EntryKind::Closes => Some(inside + 1),
     }
 }

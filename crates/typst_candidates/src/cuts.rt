@@ -21,7 +21,7 @@ pub struct Cuts {
 
 impl Cuts {
     ghost use Rattle.typst_candidates.specs.Candidates.{is_among};
-    ghost use Rattle.typst_candidates.specs.Rows.{bytes_of};
+    ghost use Rattle.typst_candidates.specs.Edges.{bytes_of};
 
     /// Whether a piece that isn't the run's first begins at the byte, which is one of the window's. A binary
     /// search, since each child near an edit asks.

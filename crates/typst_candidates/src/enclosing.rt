@@ -4,7 +4,7 @@ ghost use Rattle.std.specs.Prelude.{◌≡◌, ◌+◌, ◌<◌, ◌≤◌, ◌^
 ghost use Rattle.typst_tree.specs.Tree.{trees, text_of};
 ghost use Rattle.typst_candidates.specs.declared.entry.Entry.{Entry};
 ghost use Rattle.typst_candidates.specs.Cursors.{piece_run};
-ghost use Rattle.typst_candidates.specs.Rows.{IsEdge, pieces_at};
+ghost use Rattle.typst_candidates.specs.Edges.{IsEdge, pieces_at};
 
 use crate::Near;
 use typst_kinds::SyntaxKind;

@@ -1,7 +1,7 @@
 //! Entries in order, nearly all of them in words.
 
 ghost use Rattle.std.specs.Prelude.{ℕ, List, ◌≡◌, ◌+◌, ◌-◌, ◌%◌, ◌^◌, ◌++◌, ◌∷◌, [], ◌≤◌, ◌<◌, IfOk, IfSome, MatchOption, None, OnErr, OnOk, Some, length, drop, slice_get, suc, take, vec_capacity};
-ghost use Rattle.typst_candidates.specs.Cursors.{PassesBlock, PassesPiece, before, behind, block_len, entry_before, entry_behind, start_at};
+ghost use Rattle.typst_candidates.specs.Cursors.{PassesBlock, PassesPiece, before, after, block_len, entry_before, entry_after, start_at};
 ghost use Rattle.typst_candidates.specs.Entries.{end_of};
 ghost use Rattle.typst_candidates.specs.Tallies.{IsTally};
 ghost use Rattle.typst_candidates.specs.Packed.{HasRoom, lengths, spans, wides};
@@ -19,8 +19,8 @@ pub(crate) struct Entries {
     tally: Tally,
 }
 
-/// How many entries are beside so many words. It is kept for one place, so that walks which begin there or after
-/// it go on counting from there.
+/// How many entries are beside the first `number` words. It is kept for one place, so that cursors at that place or
+/// after it are counted from there.
 #[derive(Clone, Copy)]
 struct Tally {
     number: usize,
@@ -39,7 +39,7 @@ impl Tally {
         }
     }
 
-    /// This tally, if it is of no more than `number` words, else that of none.
+    /// This tally, if it is of no more than `number` words, or else that of none.
     fn upto(self, number: usize) -> Tally
         ensures same { (ps qs : List Packed) → IsTally ps self → take number qs ≡ take number ps → number ≤ length qs → IsTally qs result }
         ensures upto { result.number ≤ number }
@@ -106,7 +106,7 @@ impl Entries {
         Ok(())
     }
 
-    /// Makes words for so many more at once; the entries stay, whatever it answers.
+    /// Makes room for `more` words at once; the entries stay, whatever it answers.
     pub(crate) fn reserve_words(&mut self, more: usize) -> Result<(), AllocError>
         ensures { self.new.entries ≡ self.old.entries }
     {
@@ -160,10 +160,10 @@ impl Entries {
     }
 
     /// The place before the first entry.
-    pub(crate) fn walk(&self) -> Walk<'_>
+    pub(crate) fn word_cursor(&self) -> WordCursor<'_>
         ensures { result ≡ record { entries = self.now.entries; number = 0 } }
     {
-        Walk {
+        WordCursor {
             words: &self.words,
             wide: &self.wide,
             number: 0,
@@ -171,12 +171,12 @@ impl Entries {
         }
     }
 
-    /// The place after so many entries. Goes through the words before it, except those of the tally.
-    pub(crate) fn walk_at(&self, number: usize) -> Walk<'_>
+    /// The place after the first `number` entries. Goes through the words before it, except those of the tally.
+    pub(crate) fn word_cursor_at(&self, number: usize) -> WordCursor<'_>
         requires { number ≤ length self.now.entries }
         ensures { result ≡ record { entries = self.now.entries; number = number } }
     {
-        Walk {
+        WordCursor {
             words: &self.words,
             wide: &self.wide,
             number,
@@ -184,7 +184,7 @@ impl Entries {
         }
     }
 
-    /// Keeps the tally of the first so many words.
+    /// Keeps the tally of the first `number` words.
     pub(crate) fn tally_at(&mut self, number: usize)
         requires { number ≤ length self.old.entries }
         ensures { self.new ≡ self.old }
@@ -194,10 +194,10 @@ impl Entries {
     }
 
     /// The place after the last entry.
-    pub(crate) fn walk_at_end(&self) -> Walk<'_>
+    pub(crate) fn word_cursor_at_end(&self) -> WordCursor<'_>
         ensures { result ≡ record { entries = self.now.entries; number = length self.now.entries } }
     {
-        Walk {
+        WordCursor {
             words: &self.words,
             wide: &self.wide,
             number: self.words.len(),
@@ -216,9 +216,9 @@ pub(crate) const FARTHEST_FORTH: usize = 1 << 10;
 /// The looks of an entry that a word holds go fewer bytes back than this.
 pub(crate) const FARTHEST_BACK: usize = 1 << 4;
 
-/// A place between two entries.
+/// A place between two entries, among the words and the entries beside them. An `EntryCursor` also has its byte.
 #[derive(Drop)]
-pub(crate) struct Walk<'a> {
+pub(crate) struct WordCursor<'a> {
     words: &'a [Packed],
     wide: &'a [Entry],
     /// How many words are before the place.
@@ -227,25 +227,25 @@ pub(crate) struct Walk<'a> {
     passed: usize,
 }
 
-impl<'a> Model for Walk<'a> {
+impl<'a> Model for WordCursor<'a> {
     ghost use Rattle.std.specs.Prelude.{◌≡◌, ◌≤◌, length, take};
-    ghost use Rattle.typst_candidates.specs.Cursors.{Place};
+    ghost use Rattle.typst_candidates.specs.Cursors.{EntryPlace};
     ghost use Rattle.typst_candidates.specs.Packed.{unpacked, wides};
 
-    ghost Value = { Place };
+    ghost Value = { EntryPlace };
 
     ghost view = { λ w. record { entries = unpacked w.words.now w.wide.now; number = w.number } };
 
     ghost invariant = { λ w. (w.number ≤ length w.words.now) × (w.passed ≡ wides (take w.number w.words.now)) × (wides w.words.now ≡ length w.wide.now) };
 }
 
-impl<'a> Walk<'a> {
+impl<'a> WordCursor<'a> {
     /// A copy of the place.
-    pub(crate) fn copy(&self) -> Walk<'a>
+    pub(crate) fn copy(&self) -> WordCursor<'a>
         ensures place { result ≡ self.now }
         ensures fits { result.number < 2 ^ 64 }
     {
-        Walk {
+        WordCursor {
             words: self.words,
             wide: self.wide,
             number: self.number,
@@ -263,7 +263,7 @@ impl<'a> Walk<'a> {
     }
 
     /// Passes over a block of words after the place, if all of them hold entries and take up fewer bytes than
-    /// `most`; answers how many these are. Else nothing changes.
+    /// `most`; answers how many these are. Otherwise nothing changes.
     #[inline]
     pub(crate) fn pass_block(&mut self, most: usize) -> Option<usize>
         ensures none { result ≡ None → self.new ≡ self.old }
@@ -281,7 +281,7 @@ impl<'a> Walk<'a> {
     }
 
     /// Passes back over a block of words before the place, if all of them hold entries and take up fewer bytes
-    /// than `most`; answers how many these are. Else nothing changes.
+    /// than `most`; answers how many these are. Otherwise nothing changes.
     #[inline]
     pub(crate) fn pass_block_back(&mut self, most: usize) -> Option<usize>
         ensures none { result ≡ None → self.new ≡ self.old }
@@ -308,8 +308,8 @@ impl<'a> Walk<'a> {
     /// The entry after the place, which moves past it; `None` after the last.
     #[inline]
     pub(crate) fn next(&mut self) -> Option<Entry>
-        ensures entry { result ≡ entry_behind self.old }
-        ensures place { self.new ≡ behind result self.old }
+        ensures entry { result ≡ entry_after self.old }
+        ensures place { self.new ≡ after result self.old }
         ensures fits { self.new.number < 2 ^ 64 }
     {
         let word = *self.words.get(self.number)?;
@@ -323,7 +323,7 @@ impl<'a> Walk<'a> {
     }
 
     /// Passes over the entry after the place, if a word holds it and a piece begins at it; answers how many bytes
-    /// it takes up. Else nothing changes. Reads no more of the word than these two facts.
+    /// it takes up. Otherwise nothing changes. Reads no more of the word than these two facts.
     #[inline]
     pub(crate) fn pass_piece(&mut self) -> Option<usize>
         ensures { MatchOption result (self.new ≡ self.old) (λ span. (p : PassesPiece self.old self.new) × (span ≡ p.entry.step + p.entry.gap)) }
@@ -367,7 +367,7 @@ fn wide_at(wide: &[Entry], number: usize) -> Entry
     wide[number]
 }
 
-/// How many entries are beside the first so many words. Goes through those after the tally's, if it is of fewer,
+/// How many entries are beside the first `number` words. Goes through those after the tally's, if it is of fewer,
 /// or else through all.
 fn passed_at(words: &[Packed], tally: Tally, number: usize) -> usize
     requires tally { IsTally words.now tally }
@@ -458,9 +458,9 @@ fn lengths(entries: &[Entry]) -> usize
     sum
 }
 
-/// Puts a part in place of the items from the one numbered `from` up to the one numbered `to`, for which there is
-/// room. If as many come as go, as at nearly every keystroke, it writes over them; the rotations that make
-/// place for more or fewer go through all items after them.
+/// Replaces the items from the one numbered `from` up to the one numbered `to` by a part for which there is room.
+/// If the part is as long, as at nearly every keystroke, it writes over them; otherwise rotations make place, which
+/// go through all items after them.
 fn replace<T: Copy>(items: &mut Vec<T>, from: usize, to: usize, part: &[T])
     requires order { from ≤ to }
     requires within { to ≤ length items.old.items }

@@ -1,4 +1,4 @@
-//! One unit's begin or end, by what is between it and the one before it.
+//! Entries: the notes of a reading, each relative to the note before it.
 
 ghost use Rattle.std.specs.Prelude.{◌≡◌, ◌-◌, ◌^◌, ◌<◌};
 ghost use Rattle.typst_candidates.specs.Entries as spec;
@@ -6,9 +6,10 @@ ghost use Rattle.typst_candidates.specs.Entries as spec;
 use typst_kinds::SyntaxMode;
 use typst_language::{Block, Mark, Note, State};
 
-/// What begins or ends.
+/// What begins or ends at an [`Entry`]: what its note's `Mark` says, except for the count, and for a block also
+/// the mode of its first token.
 #[derive(Debug, Clone, Copy, PartialEq, Eq)]
-pub enum Tag {
+pub enum EntryKind {
     /// A piece of a run begins, whether at the start of a line, or the run ends.
     Piece(bool),
     /// A block begins, whose first token is read in this mode.
@@ -17,19 +18,19 @@ pub enum Tag {
     Closes,
 }
 
-/// A note of a reading by what is between it and the note before it, in bytes. An edit changes
-/// the entries of its own part alone, since no place of the text is in one.
+/// A `Note` of a reading as distances, in bytes, from the note before it. A note has places of the text, and an
+/// entry has none, so an edit changes only the entries of its own part. `Packed` is an entry in 32 bits.
 #[derive(Debug, Clone, Copy, PartialEq, Eq)]
 pub struct Entry {
     /// What begins or ends.
-    pub tag: Tag,
-    /// How far the note is after the token of the one before it.
+    pub kind: EntryKind,
+    /// How far the note is after the start of the token of the note before it.
     pub step: usize,
     /// How long the trivia between it and its own token are.
     pub gap: usize,
     /// How far the looks since the note before it go past the start of its token.
     pub forth: usize,
-    /// How far before the token of the note before it these looks begin.
+    /// How far before the start of the token of the note before it these looks begin.
     pub back: usize,
     /// The brackets that are open after a piece, the levels that are left in a block, or nothing.
     pub count: usize,
@@ -42,7 +43,7 @@ impl Entry {
         ensures { result ≡ spec.entry_of start note.now }
     {
         Entry {
-            tag: tag_of(note.mark, note.state),
+            kind: entry_kind_of(note.mark, note.state),
             step: note.before.saturating_sub(start),
             gap: note.start.saturating_sub(note.before),
             forth: note.reach.saturating_sub(note.start),
@@ -60,7 +61,7 @@ impl Entry {
         ensures { result ≡ spec.block_end start end reach least }
     {
         Entry {
-            tag: Tag::Closes,
+            kind: EntryKind::Closes,
             step: end.saturating_sub(start),
             gap: 0,
             forth: reach.saturating_sub(end),
@@ -79,13 +80,13 @@ pub(crate) fn back_of(start: usize, least: usize) -> usize
     if least > start { 0 } else { start - least + 1 }
 }
 
-fn tag_of(mark: Mark, state: State) -> Tag
-    ensures { result ≡ spec.tag_of mark state }
+fn entry_kind_of(mark: Mark, state: State) -> EntryKind
+    ensures { result ≡ spec.entry_kind_of mark state }
 {
     match mark {
-        Mark::Piece(at_start, _) => Tag::Piece(at_start),
-        Mark::Opens(block) => Tag::Opens(block, state.held.mode),
-        Mark::Closes => Tag::Closes,
+        Mark::Piece(at_start, _) => EntryKind::Piece(at_start),
+        Mark::Opens(block) => EntryKind::Opens(block, state.held.mode),
+        Mark::Closes => EntryKind::Closes,
     }
 }
 

@@ -1,20 +1,20 @@
-//! An entry in a word.
+//! Entries in 32 bits.
 
 ghost use Rattle.std.specs.Prelude.{◌≡◌, ◌+◌, ◌*◌, ◌/◌, ◌%◌, ◌^◌, ◌<◌, IfSome, Some, slice_get};
 ghost use Rattle.typst_candidates.specs.Packed as spec;
 
-use crate::entry::{Entry, Tag};
+use crate::entry::{Entry, EntryKind};
 use typst_kinds::SyntaxMode;
 use typst_language::Block;
 
-/// A word that holds an entry, or says that the entry is too wide for one. Nearly all entries of a text are
+/// An [`Entry`] in a word of 32 bits, or the mark that it is too wide for one. Nearly all entries of a text are
 /// small, so they take 4 bytes where an `Entry` takes 48.
 #[derive(Debug, Clone, Copy, PartialEq, Eq)]
 pub(crate) struct Packed {
     word: u32,
 }
 
-/// How many bits the parts of an entry take after those of its tag, from the lowest on; what is left holds
+/// How many bits the parts of an entry take after those of its kind, from the lowest on; what is left holds
 /// its count.
 #[derive(Clone, Copy)]
 struct Widths {
@@ -24,11 +24,11 @@ struct Widths {
     back: u32,
 }
 
-/// How many bits a tag takes.
-const TAG: u32 = 4;
+/// How many bits the kind takes.
+const KIND: u32 = 4;
 
-/// How many bits its step and its gap take, which are the same for each tag: so many words are added up without a
-/// look at their tags.
+/// How many bits the step and the gap take. They are the same for each kind, so words are added up without looking
+/// at their kinds.
 const STEP: u32 = 8;
 
 const GAP: u32 = 4;
@@ -45,13 +45,13 @@ impl Packed {
     pub(crate) fn pack(entry: Entry) -> Option<Packed>
         ensures { IfSome result (λ p. spec.entry_in p ≡ Some entry) }
     {
-        let widths = widths_of(entry.tag);
+        let widths = widths_of(entry.kind);
         let count = word_of(entry.count)?;
         let from_back = joined(entry.back, widths.back, count)?;
         let from_forth = joined(entry.forth, widths.forth, from_back)?;
         let from_gap = joined(entry.gap, widths.gap, from_forth)?;
         let from_step = joined(entry.step, widths.step, from_gap)?;
-        let word = joined(number(entry.tag), TAG, from_step)?;
+        let word = joined(number(entry.kind), KIND, from_step)?;
         Some(Packed { word })
     }
 
@@ -60,15 +60,15 @@ impl Packed {
     pub(crate) fn entry(self) -> Option<Entry>
         ensures { result ≡ spec.entry_in self }
     {
-        let (number, from_step) = split(self.word, TAG);
-        let tag = tag_of(number)?;
-        let widths = widths_of(tag);
+        let (number, from_step) = split(self.word, KIND);
+        let kind = entry_kind_of(number)?;
+        let widths = widths_of(kind);
         let (step, from_gap) = split(from_step, widths.step);
         let (gap, from_forth) = split(from_gap, widths.gap);
         let (forth, from_back) = split(from_forth, widths.forth);
         let (back, count) = split(from_back, widths.back);
         Some(Entry {
-            tag,
+            kind,
             step,
             gap,
             forth,
@@ -82,8 +82,8 @@ impl Packed {
     pub(crate) fn beside(self) -> u32
         ensures { result ≡ spec.beside (spec.entry_in self) }
     {
-        let (number, _) = split(self.word, TAG);
-        match tag_of(number) {
+        let (number, _) = split(self.word, KIND);
+        match entry_kind_of(number) {
             None => 1,
             Some(_) => 0,
         }
@@ -95,10 +95,10 @@ impl Packed {
         ensures value { result ≡ spec.span (spec.entry_in self) }
         ensures small { result < 2 ^ 9 }
     {
-        let (number, from_step) = split(self.word, TAG);
+        let (number, from_step) = split(self.word, KIND);
         let (step, from_gap) = split(from_step, STEP);
         let (gap, _) = split(from_gap, GAP);
-        match tag_of(number) {
+        match entry_kind_of(number) {
             None => 0,
             Some(_) => (step + gap) as u32,
         }
@@ -109,8 +109,8 @@ impl Packed {
     pub(crate) fn is_piece(self) -> bool
         ensures { result ≡ spec.holds_piece (spec.entry_in self) }
     {
-        let (number, _) = split(self.word, TAG);
-        matches!(tag_of(number), Some(Tag::Piece(_)))
+        let (number, _) = split(self.word, KIND);
+        matches!(entry_kind_of(number), Some(EntryKind::Piece(_)))
     }
 }
 
@@ -145,15 +145,15 @@ fn split(both: u32, width: u32) -> (usize, u32)
     (low as usize, both >> width)
 }
 
-/// The widths of the parts of an entry with this tag. A block's count is the levels that are left in it, a few
+/// The widths of the parts of an entry of this kind. A block's count is the levels that are left in it, a few
 /// less than the limit of depth, and trivia are seldom before it; the count of a piece is nearly always 0.
 #[inline]
-fn widths_of(tag: Tag) -> Widths
-    ensures widths { result ≡ spec.widths tag }
+fn widths_of(kind: EntryKind) -> Widths
+    ensures widths { result ≡ spec.widths kind }
     ensures fits { (result.step < 32) × (result.gap < 32) × (result.forth < 32) × (result.back < 32) }
 {
-    match tag {
-        Tag::Opens(_, _) => Widths {
+    match kind {
+        EntryKind::Opens(_, _) => Widths {
             step: STEP,
             gap: GAP,
             forth: 6,
@@ -168,38 +168,38 @@ fn widths_of(tag: Tag) -> Widths
     }
 }
 
-/// The number of a tag.
-fn number(tag: Tag) -> usize
-    ensures { slice_get spec.tags result ≡ Some tag }
+/// The number of a kind.
+fn number(kind: EntryKind) -> usize
+    ensures { slice_get spec.entry_kinds result ≡ Some kind }
 {
-    match tag {
-        Tag::Piece(false) => 0,
-        Tag::Piece(true) => 1,
-        Tag::Closes => 2,
-        Tag::Opens(Block::Code, SyntaxMode::Markup) => 3,
-        Tag::Opens(Block::Code, SyntaxMode::Math) => 4,
-        Tag::Opens(Block::Code, SyntaxMode::Code) => 5,
-        Tag::Opens(Block::Content, SyntaxMode::Markup) => 6,
-        Tag::Opens(Block::Content, SyntaxMode::Math) => 7,
-        Tag::Opens(Block::Content, SyntaxMode::Code) => 8,
+    match kind {
+        EntryKind::Piece(false) => 0,
+        EntryKind::Piece(true) => 1,
+        EntryKind::Closes => 2,
+        EntryKind::Opens(Block::Code, SyntaxMode::Markup) => 3,
+        EntryKind::Opens(Block::Code, SyntaxMode::Math) => 4,
+        EntryKind::Opens(Block::Code, SyntaxMode::Code) => 5,
+        EntryKind::Opens(Block::Content, SyntaxMode::Markup) => 6,
+        EntryKind::Opens(Block::Content, SyntaxMode::Math) => 7,
+        EntryKind::Opens(Block::Content, SyntaxMode::Code) => 8,
     }
 }
 
-/// The tag of a number.
+/// The kind of a number.
 #[inline]
-fn tag_of(number: usize) -> Option<Tag>
-    ensures { result ≡ slice_get spec.tags number }
+fn entry_kind_of(number: usize) -> Option<EntryKind>
+    ensures { result ≡ slice_get spec.entry_kinds number }
 {
     match number {
-        0 => Some(Tag::Piece(false)),
-        1 => Some(Tag::Piece(true)),
-        2 => Some(Tag::Closes),
-        3 => Some(Tag::Opens(Block::Code, SyntaxMode::Markup)),
-        4 => Some(Tag::Opens(Block::Code, SyntaxMode::Math)),
-        5 => Some(Tag::Opens(Block::Code, SyntaxMode::Code)),
-        6 => Some(Tag::Opens(Block::Content, SyntaxMode::Markup)),
-        7 => Some(Tag::Opens(Block::Content, SyntaxMode::Math)),
-        8 => Some(Tag::Opens(Block::Content, SyntaxMode::Code)),
+        0 => Some(EntryKind::Piece(false)),
+        1 => Some(EntryKind::Piece(true)),
+        2 => Some(EntryKind::Closes),
+        3 => Some(EntryKind::Opens(Block::Code, SyntaxMode::Markup)),
+        4 => Some(EntryKind::Opens(Block::Code, SyntaxMode::Math)),
+        5 => Some(EntryKind::Opens(Block::Code, SyntaxMode::Code)),
+        6 => Some(EntryKind::Opens(Block::Content, SyntaxMode::Markup)),
+        7 => Some(EntryKind::Opens(Block::Content, SyntaxMode::Math)),
+        8 => Some(EntryKind::Opens(Block::Content, SyntaxMode::Code)),
         _ => None,
     }
 }

@@ -8,22 +8,22 @@ ghost use Rattle.typst_candidates.specs.Packed.{HasRoom};
 ghost use Rattle.typst_candidates.specs.Records.{AllFit, is_opening, opening_of};
 
 use crate::anchor::Anchor;
-use crate::entries::{BLOCK, Entries, FARTHEST_FORTH, Walk};
-use crate::entry::{self, Entry, Tag};
+use crate::entries::{BLOCK, Entries, FARTHEST_FORTH, WordCursor};
+use crate::entry::{self, Entry, EntryKind};
 use std::alloc::{AllocError, Global};
 use std::marker::Model;
 use typst_language::Note;
 
 /// The units of a text: an entry for each note of its reading, in order, and where the looks after the
-/// last note begin. Nothing of it depends on where in a text an entry is, so an edit exchanges the
-/// entries of its own part alone.
+/// last note begin. None of it depends on where in a text an entry is, so an edit exchanges only the
+/// entries of its own part.
 #[derive(Drop)]
 pub struct Records {
     entries: Entries,
     /// How far before the token of the last note the looks after it begin.
     back: usize,
-    /// Where the token of the last note begins, modulo 2^64. It is kept, since an edit
-    /// that adds up all entries for it costs as much as all else.
+    /// Where the token of the last note begins, modulo 2^64. It is kept, since adding up all entries for it costs as
+    /// much as the rest of an edit.
     last: usize,
     pub(crate) anchor: Anchor,
 }
@@ -143,7 +143,7 @@ impl Records {
         ensures none { result ≡ None → 2 ^ 64 ≤ end_of 0 self.now.units.entries }
     {
         let mut at = 0usize;
-        let mut place = self.walk();
+        let mut place = self.word_cursor();
         while let Some(entry) = place.next() {
             at = at.checked_add(entry.step)?.checked_add(entry.gap)?;
         }
@@ -160,22 +160,21 @@ impl Records {
     }
 
     /// The place before the first entry.
-    pub(crate) fn walk(&self) -> Walk<'_>
+    pub(crate) fn word_cursor(&self) -> WordCursor<'_>
         ensures { result ≡ record { entries = self.now.units.entries; number = 0 } }
     {
-        self.entries.walk()
+        self.entries.word_cursor()
     }
 
-    /// The place after so many entries. Goes through the words of these.
-    pub(crate) fn walk_at(&self, number: usize) -> Walk<'_>
+    /// The place after the first `number` entries. Goes through the words of these.
+    pub(crate) fn word_cursor_at(&self, number: usize) -> WordCursor<'_>
         requires { number ≤ length self.now.units.entries }
         ensures { result ≡ record { entries = self.now.units.entries; number = number } }
     {
-        self.entries.walk_at(number)
+        self.entries.word_cursor_at(number)
     }
 
-    /// Keeps the tally of the first so many words, so that walks which begin there or after it go on counting from
-    /// there.
+    /// Keeps the tally of the first `number` words, so that cursors there or after it are counted from there.
     pub(crate) fn tally_at(&mut self, number: usize)
         requires { number ≤ length self.old.units.entries }
         ensures { self.new ≡ self.old }
@@ -184,10 +183,10 @@ impl Records {
     }
 
     /// The place after the last entry.
-    pub(crate) fn walk_at_end(&self) -> Walk<'_>
+    pub(crate) fn word_cursor_at_end(&self) -> WordCursor<'_>
         ensures { result ≡ record { entries = self.now.units.entries; number = length self.now.units.entries } }
     {
-        self.entries.walk_at_end()
+        self.entries.word_cursor_at_end()
     }
 
     /// A copy of the units.
@@ -222,7 +221,7 @@ impl Records {
             let Some(entry) = place.next() else {
                 return here;
             };
-            let Some(rest) = left_behind(left, &entry) else {
+            let Some(rest) = left_after(left, &entry) else {
                 return here;
             };
             if entry.forth > rest {
@@ -232,9 +231,9 @@ impl Records {
         }
     }
 
-    /// From which note on all looks after it begin after the byte `at`, where the last note's token begins at the
-    /// byte `last`; the number of notes if there is none. Goes back through these notes, from the last one, and
-    /// one more.
+    /// From which note on all looks after it begin at the byte `at` or after it, where the last note's token begins
+    /// at the byte `last`; the number of notes if there is none. Goes back through these notes, from the last one,
+    /// and one more.
     pub fn rear(&self, at: usize, last: usize) -> usize
         requires { last ≡ end_of 0 self.now.units.entries }
         ensures { result ≡ rear_of at 0 0 self.now.units.entries self.now.units.back }
@@ -242,7 +241,7 @@ impl Records {
         let mut place = self.cursor_at_end(last);
         let mut back = self.back;
         let mut steps = 0;
-        'entries: while is_behind(at, place.start(), back) {
+        'entries: while is_after(at, place.start(), back) {
             if let Some(first) = place.pass_far_back(&mut steps, at) {
                 back = first;
                 continue 'entries;
@@ -269,8 +268,8 @@ impl Records {
             }
             let here = place.number();
             let entry = place.next()?;
-            left = left_behind(left, &entry)?;
-            if opens_at(entry.tag, left) {
+            left = left_after(left, &entry)?;
+            if opens_at(entry.kind, left) {
                 return Some(here);
             }
         }
@@ -312,9 +311,9 @@ pub fn fit(notes: &[Note]) -> bool
 }
 
 /// Passes over a block of entries after the place, if it takes up fewer bytes than `most`, and answers how many
-/// these are. If it doesn't, it is asked again only so many steps later.
+/// these are. If it doesn't, it is tried again only `BLOCK` calls later.
 #[inline]
-fn pass_far(place: &mut Walk<'_>, steps: &mut usize, most: usize) -> Option<usize>
+fn pass_far(place: &mut WordCursor<'_>, steps: &mut usize, most: usize) -> Option<usize>
     ensures { MatchOption result (place.new ≡ place.old) (λ span. PassesBlock place.old place.new span × span < most) }
 {
     if *steps > 0 {
@@ -330,31 +329,31 @@ fn pass_far(place: &mut Walk<'_>, steps: &mut usize, most: usize) -> Option<usiz
 
 /// What is left of `left` bytes after the token of the entry, or `None` if that is further.
 #[inline]
-fn left_behind(left: usize, entry: &Entry) -> Option<usize>
+fn left_after(left: usize, entry: &Entry) -> Option<usize>
     ensures some { (rest : ℕ) → result ≡ Some rest → left ≡ (rest + entry.now.step) + entry.now.gap }
     ensures none { result ≡ None → left < entry.now.step + entry.now.gap }
 {
     left.checked_sub(entry.step)?.checked_sub(entry.gap)
 }
 
-/// Whether looks that begin so far before the token at the byte `start` begin after the byte `at`.
+/// Whether looks that begin `back` bytes before the token at the byte `start` begin at the byte `at` or after it.
 #[inline]
-fn is_behind(at: usize, start: usize, back: usize) -> bool
-    ensures { result ≡ spec.is_behind at start back }
+fn is_after(at: usize, start: usize, back: usize) -> bool
+    ensures { result ≡ spec.is_after at start back }
 {
     at <= start && back <= start - at
 }
 
-/// Whether a block begins at an entry with this tag.
-fn is_opening(tag: Tag) -> bool
-    ensures { result ≡ is_opening tag }
+/// Whether a block begins at an entry of this kind.
+fn is_opening(kind: EntryKind) -> bool
+    ensures { result ≡ is_opening kind }
 {
-    matches!(tag, Tag::Opens(_, _))
+    matches!(kind, EntryKind::Opens(_, _))
 }
 
-/// Whether a block begins at an entry with this tag, and no bytes are left up to the byte that is looked for.
-fn opens_at(tag: Tag, left: usize) -> bool
-    ensures { result ≡ (is_opening tag && left == 0) }
+/// Whether a block begins at an entry of this kind, and no bytes are left up to the byte that is looked for.
+fn opens_at(kind: EntryKind, left: usize) -> bool
+    ensures { result ≡ (is_opening kind && left == 0) }
 {
-    is_opening(tag) && left == 0
+    is_opening(kind) && left == 0
 }

@@ -3,18 +3,18 @@
 ghost use Rattle.std.specs.Prelude.{◌≡◌, ◌+◌, ◌-◌, ◌&&◌, ◌==◌, ◌<◌, ◌≤◌, ◌^◌, ◌++◌, ◌∷◌, [], if◌then◌else◌, nat_le, IfOk, OnOk, drop, ℕ, length, slice_get};
 ghost use Rattle.typst_candidates.specs.Cursors as spec;
 ghost use Rattle.typst_candidates.specs.Entries.{end_of};
-ghost use Rattle.typst_candidates.specs.Rows.{IsRun, within};
-ghost use Rattle.typst_candidates.specs.Units.{behind_first};
+ghost use Rattle.typst_candidates.specs.Edges.{IsRun, within};
+ghost use Rattle.typst_candidates.specs.Units.{after_first};
 
-use crate::cursor::{Cursor, inside_behind, leads};
+use crate::cursor::{EntryCursor, inside_after, leads};
 use crate::cuts::{Cuts, Window};
-use crate::entries::Walk;
-use crate::entry::{Entry, Tag};
+use crate::entries::WordCursor;
+use crate::entry::{Entry, EntryKind};
 use crate::records::Records;
 use std::alloc::{AllocError, Global};
 use typst_language::Block;
 
-impl<'a> Cursor<'a> {
+impl<'a> EntryCursor<'a> {
     /// Where the pieces after the place begin, in bytes, of the run that it is in, within a window. Goes through
     /// the entries up to the window's end.
     fn starts(&self, alloc: Global, window: Window) -> Result<Vec<usize>, AllocError>
@@ -30,8 +30,8 @@ impl<'a> Cursor<'a> {
             if place.start() > window.to {
                 return Ok(starts);
             }
-            add_piece(&mut starts, entry.tag, inside, place.start(), window.from)?;
-            let Some(further) = inside_behind(entry.tag, inside) else {
+            add_piece(&mut starts, entry.kind, inside, place.start(), window.from)?;
+            let Some(further) = inside_after(entry.kind, inside) else {
                 return Ok(starts);
             };
             inside = further;
@@ -44,24 +44,24 @@ impl Records {
     /// else from the first, up to the window's end.
     pub fn top_run(&self, alloc: Global, window: Window) -> Result<Option<Cuts>, AllocError>
         requires { end_of 0 self.now.units.entries < 2 ^ 64 }
-        ensures { IfOk result (λ run. IsRun window (behind_first (spec.pieces_of 0 0 self.now.units.entries)) run) }
+        ensures { IfOk result (λ run. IsRun window (after_first (spec.pieces_of 0 0 self.now.units.entries)) run) }
     {
-        self.run_behind(alloc, &self.cursor(), window)
+        self.run_after(alloc, &self.cursor(), window)
     }
 
     /// The run that begins after a place, within a window, if a piece of it begins there. Goes through the entries
     /// up to the window's end.
-    fn run_behind(
+    fn run_after(
         &self,
         alloc: Global,
-        place: &Cursor<'_>,
+        place: &EntryCursor<'_>,
         window: Window,
     ) -> Result<Option<Cuts>, AllocError>
         requires places { end_of 0 self.now.units.entries < 2 ^ 64 }
         requires entries { place.now.entries ≡ self.now.units.entries }
-        ensures { IfOk result (λ run. IsRun window (behind_first (spec.pieces_of 0 (spec.start_at place.now) (drop place.now.number place.now.entries))) run) }
+        ensures { IfOk result (λ run. IsRun window (after_first (spec.pieces_of 0 (spec.start_at place.now) (drop place.now.number place.now.entries))) run) }
     {
-        let Some(mut first) = place.piece_behind() else {
+        let Some(mut first) = place.piece_after() else {
             return Ok(None);
         };
         first.next();
@@ -72,7 +72,7 @@ impl Records {
 
     /// The run of the content block that begins at byte `at`, within a window; `None` if no block or no piece of
     /// it is noted, as at the limit of depth. Passes over the entries up to the block, many at a time, and goes
-    /// through those of the block from the anchor on, if that is in its run, or else from its begin, up to the
+    /// through those of the block from the anchor on, if that is in its run, or else from its beginning, up to the
     /// window's end.
     pub fn run_in(
         &self,
@@ -88,8 +88,8 @@ impl Records {
         };
         let mut place = self.cursor_at(first);
         while let Some(entry) = place.next() {
-            if begins_content(at, entry.tag, place.start()) {
-                return self.run_behind(alloc, &place, window);
+            if begins_content(at, entry.kind, place.start()) {
+                return self.run_after(alloc, &place, window);
             }
         }
         Ok(None)
@@ -102,13 +102,13 @@ impl Records {
         requires fits { end_of 0 self.now.units.entries < 2 ^ 64 }
         ensures { result ≡ spec.closing_of 0 from (drop from self.now.units.entries) }
     {
-        let mut place = self.walk_at(from);
+        let mut place = self.word_cursor_at(from);
         let mut inside = 0usize;
         loop {
             pass_pieces(&mut place);
             let number = place.number();
             let entry = place.next()?;
-            let Some(further) = inside_behind(entry.tag, inside) else {
+            let Some(further) = inside_after(entry.kind, inside) else {
                 return Some(number);
             };
             inside = further;
@@ -124,14 +124,14 @@ impl Records {
         if number >= self.count() {
             return None;
         }
-        self.walk_at(number).next()
+        self.word_cursor_at(number).next()
     }
 }
 
-impl<'a> Cursor<'a> {
+impl<'a> EntryCursor<'a> {
     /// The place before the first piece after it, of the run that it is in, whose token begins at byte
     /// `at`. Goes through the entries up to there.
-    pub fn piece_from(&self, at: usize) -> Option<Cursor<'a>>
+    pub fn piece_from(&self, at: usize) -> Option<EntryCursor<'a>>
         ensures { result ≡ spec.placed self.now (spec.piece_of at 0 (spec.start_at self.now) self.now.number (drop self.now.number self.now.entries)) }
     {
         let mut place = self.copy();
@@ -139,18 +139,18 @@ impl<'a> Cursor<'a> {
         loop {
             pass_other_pieces(&mut place, inside, at);
             let entry = place.next()?;
-            if begins_piece(at, entry.tag, inside, place.start()) {
+            if begins_piece(at, entry.kind, inside, place.start()) {
                 // one step back here costs less than a copy of the place before each entry
                 place.back();
                 return Some(place);
             }
-            inside = inside_behind(entry.tag, inside)?;
+            inside = inside_after(entry.kind, inside)?;
         }
     }
 }
 
 /// Passes over entries at which pieces begin: no block ends at these.
-fn pass_pieces(place: &mut Walk<'_>)
+fn pass_pieces(place: &mut WordCursor<'_>)
     ensures entries { place.new.entries ≡ place.old.entries }
     ensures on { place.old.number ≤ place.new.number }
     ensures closing { (inside : ℕ) → spec.closing_of inside place.new.number (drop place.new.number place.new.entries) ≡ spec.closing_of inside place.old.number (drop place.old.number place.old.entries) }
@@ -160,7 +160,7 @@ fn pass_pieces(place: &mut Walk<'_>)
 
 /// Passes over entries at which pieces of the run itself begin, up to one whose token begins at byte `at`. While a
 /// block of the run is open, none of its entries begins such a piece.
-fn pass_other_pieces(place: &mut Cursor<'_>, inside: usize, at: usize)
+fn pass_other_pieces(place: &mut EntryCursor<'_>, inside: usize, at: usize)
     ensures entries { place.new.entries ≡ place.old.entries }
     ensures on { place.old.number ≤ place.new.number }
     ensures piece { spec.piece_of at inside (spec.start_at place.new) place.new.number (drop place.new.number place.new.entries) ≡ spec.piece_of at inside (spec.start_at place.old) place.old.number (drop place.old.number place.old.entries) }
@@ -177,44 +177,44 @@ fn pass_other_pieces(place: &mut Cursor<'_>, inside: usize, at: usize)
     }
 }
 
-/// Whether a piece of a run itself begins at byte `at`, by an entry in so many blocks of the run whose token
+/// Whether a piece of a run itself begins at byte `at`, by an entry in `inside` blocks of the run whose token
 /// begins at the byte `start`.
-fn begins_piece(at: usize, tag: Tag, inside: usize, start: usize) -> bool
-    ensures { result ≡ (spec.leads tag inside && start == at) }
+fn begins_piece(at: usize, kind: EntryKind, inside: usize, start: usize) -> bool
+    ensures { result ≡ (spec.leads kind inside && start == at) }
 {
-    leads(tag, inside) && start == at
+    leads(kind, inside) && start == at
 }
 
-/// Adds the byte of an entry's token, if a piece of the run itself begins there, in so many blocks of the run, at
+/// Adds the byte of an entry's token, if a piece of the run itself begins there, in `inside` blocks of the run, at
 /// the byte `from` or after it.
 fn add_piece(
     starts: &mut Vec<usize>,
-    tag: Tag,
+    kind: EntryKind,
     inside: usize,
     start: usize,
     from: usize,
 ) -> Result<(), AllocError>
-    ensures { OnOk result (starts.new.items ≡ starts.old.items ++ (if spec.leads tag inside && nat_le from start then start ∷ [] else [])) }
+    ensures { OnOk result (starts.new.items ≡ starts.old.items ++ (if spec.leads kind inside && nat_le from start then start ∷ [] else [])) }
 {
-    if leads(tag, inside) && from <= start {
+    if leads(kind, inside) && from <= start {
         starts.push(start)?;
     }
     Ok(())
 }
 
 /// Whether a content block begins at byte `at`, by an entry whose token begins at the byte `start`.
-fn begins_content(at: usize, tag: Tag, start: usize) -> bool
-    ensures { result ≡ (spec.opens_content tag && start == at) }
+fn begins_content(at: usize, kind: EntryKind, start: usize) -> bool
+    ensures { result ≡ (spec.opens_content kind && start == at) }
 {
-    opens_content(tag) && start == at
+    opens_content(kind) && start == at
 }
 
-/// Whether a content block begins at an entry with this tag.
-fn opens_content(tag: Tag) -> bool
-    ensures { result ≡ spec.opens_content tag }
+/// Whether a content block begins at an entry of this kind.
+fn opens_content(kind: EntryKind) -> bool
+    ensures { result ≡ spec.opens_content kind }
 {
-    match tag {
-        Tag::Opens(block, _) => block == Block::Content,
+    match kind {
+        EntryKind::Opens(block, _) => block == Block::Content,
         _ => false,
     }
 }

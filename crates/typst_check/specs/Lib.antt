@@ -1,2 +1,2 @@
 pub mod Sarif
-pub mod Told
+pub mod NdjsonFinding

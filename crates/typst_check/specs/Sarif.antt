@@ -6,9 +6,9 @@ use Rattle.json.specs.Print.{print}
 use Rattle.json.specs.Token.{Token, begin_object, end_object, begin_array, end_array, key}
 use Rattle.json.specs.Value.{items_of}
 use Rattle.typst_cli.specs.Ndjson.{count_member, text_member}
-use Rattle.typst_check.specs.declared.sarif.told.Region.{Region}
-use Rattle.typst_check.specs.declared.sarif.told.Told.{Told}
-use Rattle.typst_check.specs.Told.{IsToldBy}
+use Rattle.typst_check.specs.declared.sarif.finding.Region.{Region}
+use Rattle.typst_check.specs.declared.sarif.finding.NdjsonFinding.{NdjsonFinding}
+use Rattle.typst_check.specs.NdjsonFinding.{IsWrittenAs}
 
 -- an object under its name
 abbrev pub object_member : List ℕ → List Token → List Token
@@ -54,22 +54,22 @@ hint_items uri r (h ∷ hs) = hint_item uri r (hint_text h) ++ hint_items uri r 
 
 -- the members of an error or a warning of a file, by a rule: how grave it is, what it says and
 -- where it is
-abbrev pub told_members : List ℕ → List ℕ → Told → List Token
-told_members uri rule t =
+abbrev pub finding_members : List ℕ → List ℕ → NdjsonFinding → List Token
+finding_members uri rule t =
     text_member (codes "ruleId") rule ++ (text_member (codes "level") t.severity.now ++ (message_member t.message.now ++ list_member (codes "locations") (object_item (place_member uri t.region))))
 
 -- a result: a finding, and then its hints
-abbrev pub result_item : List ℕ → List ℕ → Told → List Json → List Token
-result_item uri rule t hs = object_item (told_members uri rule t ++ list_member (codes "relatedLocations") (hint_items uri t.region hs))
+abbrev pub result_item : List ℕ → List ℕ → NdjsonFinding → List Json → List Token
+result_item uri rule t hs = object_item (finding_members uri rule t ++ list_member (codes "relatedLocations") (hint_items uri t.region hs))
 
 -- A RESULT of the file of that address: what a line of `ndjson` says, with its hints, by some rule
 pub record IsResult (uri : List ℕ) (line : Json) (result : List Token) : Type 0 where
-  pub told : Told
-  pub read : IsToldBy line told
+  pub finding : NdjsonFinding
+  pub read : IsWrittenAs line finding
   pub hints : List Json
   pub listed : get (codes "hints") line ≡ Some (array (items_of hints))
   pub rule : List ℕ
-  pub is : result ≡ result_item uri rule told hints
+  pub is : result ≡ result_item uri rule finding hints
 
 -- tokens with a result after them
 pub record WritesResult (uri : List ℕ) (line : Json) (old new : List Token) : Type 0 where

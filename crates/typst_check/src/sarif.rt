@@ -4,11 +4,11 @@ ghost use Rattle.std.specs.Prelude.{◌≡◌, ◌≢◌, ◌≤◌, IfOk, IfSom
 ghost use Rattle.std.specs.Io.KnownBytes.{Appends};
 ghost use Rattle.json.specs.Value.{value_view};
 ghost use Rattle.typst_check.specs.Sarif.{AppendsResult};
-ghost use Rattle.typst_cli.specs.Told.{fails};
+ghost use Rattle.typst_cli.specs.Reported.{fails};
 
+mod finding;
 mod objects;
 mod rules;
-mod told;
 mod uri;
 
 use json::{Error, Scratch, Value, Writer};

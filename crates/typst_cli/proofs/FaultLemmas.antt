@@ -36,7 +36,7 @@ pub answered_by : (a : Asked) (asked : Option Asked) (text answer : List ℕ) (i
     → Prints a text answer → Appends old new answer → IsAnswered asked input old new
 answered_by a asked text answer input old new is u e p w = subst (λ o. IsAnswered o input old new) is (gives-asked a text answer input old new u e p w)
 
--- what an edit is refused for is told: want of memory, or that numbers lack
+-- why an edit is refused is said: memory or numbers are lacking
 pub edit-refused : {X : Type 0} (r : Result X Failure) (e : SourceError) (a : Asked) (text : List ℕ) → IsErrAnd r (λ fault. fault ≡ failure_from e)
     → (e ≡ source_error.SpanNumbers → IsAnswerFault OutOfSpanNumbers a text) → IfErr r (λ fault. IsAnswerFault fault a text)
 edit-refused (Ok x) e a text h lacks = tt

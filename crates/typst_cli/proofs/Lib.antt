@@ -3,7 +3,7 @@
 --   lines printed                PrintedLemmas: rows one after another
 --   trees printed                Printing: messages, character by character
 --   words                        WordLemmas: how many ask for something, the numbers among them
---   what a run tells and gives    FaultLemmas: from an answer's faults to a run's
+--   what a run says and gives     FaultLemmas: from an answer's faults to a run's
 --   print_node                   RowLemmas: what is left of rows of trees, and its indentation
 --   findings, lines_of of trees  VisitLemmas: what a walk comes to, one node after the other
 --   edits printed                SpansAside: spans aside, trees are printed the same
@@ -11,7 +11,7 @@
 --   base, line_start             PlaceLemmas: columns counted from another place of the line
 --   locate                       PlacedLemmas: one more finding with its places
 --   lines_of, commands_of        LineLemmas: the lines of one more finding
---   write_numbers, write_told    TokenLemmas: tokens one after another
+--   write_numbers, write_reported  TokenLemmas: tokens one after another
 mod PrintedLemmas
 mod Printing
 mod StreamLemmas

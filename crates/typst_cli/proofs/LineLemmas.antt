@@ -3,7 +3,7 @@ use Rattle.std.proofs.Common.{◌≡◌, ℕ, ◌+◌, ◌<◌, List, ◌∷◌,
 use Rattle.std.proofs.lemmas.List.{at_drop_more}
 use Rattle.typst_cli.specs.declared.located.Located.{Located}
 
--- behind what stands before, the lines of one element and then of those behind it are those of all
+-- after what stands before, the lines of one element and then of those after it are those of all
 pub lines_more : (lines : List Located → List ℕ) (line : Located → List ℕ) (xs : List Located) (i : ℕ) (x : Located) (before after all : List ℕ) → ((y : Located) (ys : List Located) → lines (y ∷ ys) ≡ line y ++ lines ys)
     → i < length xs → x ≡ get_or xs i x → after ≡ before ++ line x → before ++ lines (drop i xs) ≡ all → after ++ lines (drop (i + 1) xs) ≡ all
 lines_more lines line xs i x before after all step within is grown known =

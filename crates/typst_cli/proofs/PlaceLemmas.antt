@@ -10,7 +10,7 @@ use Rattle.typst_lines.specs.Lines.{IsLineOf, column_of, line_of, line_table, un
 use Rattle.typst_lines.proofs.LineTable.{chars-range, bytes-front, units-front, units-le, bytes-text, width-positive}
 use Rattle.typst_lines.proofs.RoundTrip.{column-is, start-is, units-range, line-boundary}
 use Rattle.typst_lines.proofs.TableOrder.{get-some, line_of-before, table-some}
-use Rattle.typst_cli.specs.declared.place.Place.{Place}
+use Rattle.typst_cli.specs.declared.place.LineColumn.{LineColumn}
 use Rattle.typst_cli.specs.Places.{IsBase, IsPlace, line_begin, units_in_line}
 
 -- ---- counting characters and units
@@ -65,7 +65,7 @@ base_line s v b end l of start line e n =
       utf16_column = omega (arith, counted, ap (utf16_before s) (begin-is s b v end l of));
     })
 
-base_of : (s : List ℕ) (v : IsUtf8 s) (b : ℕ) (end : IsCharBoundary s b) (l : Line) (of : IsLineOf s b l) (p : Place) → IsPlace s p → line_of s p.byte ≡ line_of s b → p.byte ≤ b → IsBase s b p
+base_of : (s : List ℕ) (v : IsUtf8 s) (b : ℕ) (end : IsCharBoundary s b) (l : Line) (of : IsLineOf s b l) (p : LineColumn) → IsPlace s p → line_of s p.byte ≡ line_of s b → p.byte ≤ b → IsBase s b p
 base_of s v b end l of p known same before =
     let start : IsCharBoundary s l.byte_idx = line-boundary s s v refl b end l of in
     let there : slice_get (line_table s) (line_of s p.byte) ≡ Some l = ap (slice_get (line_table s)) same ∙ of.at in
@@ -91,7 +91,7 @@ base_of s v b end l of p known same before =
     }
 
 -- a place of the same line
-pub base_self : (s : List ℕ) (v : IsUtf8 s) (b : ℕ) (end : IsCharBoundary s b) (p : Place) → IsPlace s p → (n : ℕ) → p.line - 1 ≡ n → n ≡ line_of s b → p.byte ≤ b → IsBase s b p
+pub base_self : (s : List ℕ) (v : IsUtf8 s) (b : ℕ) (end : IsCharBoundary s b) (p : LineColumn) → IsPlace s p → (n : ℕ) → p.line - 1 ≡ n → n ≡ line_of s b → p.byte ≤ b → IsBase s b p
 base_self s v b end p known n here is before =
     let line : p.line ≡ line_of s p.byte + 1 = ap (λ q. q.line) known.at in
     let found = some_line s b in

@@ -5,11 +5,11 @@ use Rattle.std.proofs.lemmas.Str.{IsCharBoundary-before_ascii}
 use Rattle.std.specs.Str.{IsCharBoundary}
 use Rattle.typst_parser.specs.Tree.{Tree, forest, count, joined, text_of}
 use Rattle.typst_cli.specs.PrintedTree.{deeper, head_lines, lines, node_lines}
-use Rattle.typst_cli.specs.declared.tree.Row.{Row}
+use Rattle.typst_cli.specs.declared.tree.Siblings.{Siblings}
 
 -- ---- indentations
 
--- the indentation so many levels below one
+-- the indentation a given number of levels below one
 abbrev pub indented : List ℕ → ℕ → List ℕ
 indented indent zero = indent
 indented indent (suc n) = indented (deeper indent) n
@@ -19,13 +19,13 @@ indented_deeper indent zero = refl
 indented_deeper indent (suc n) = indented_deeper (deeper indent) n
 
 -- an indentation ends with that of the last of its levels
-pub last_level : (indent bytes : List ℕ) (all rows : List Row) (r : Row) → bytes ≡ indented indent (length all) → all ≡ rows ++ r ∷ [] → bytes ≡ deeper (indented indent (length rows))
+pub last_level : (indent bytes : List ℕ) (all rows : List Siblings) (r : Siblings) → bytes ≡ indented indent (length all) → all ≡ rows ++ r ∷ [] → bytes ≡ deeper (indented indent (length rows))
 last_level indent bytes all rows r known is =
     let number : length all ≡ suc (length rows) = ap length is ∙ omega (arith, length_push rows r) in
     known ∙ ap (indented indent) number ∙ indented_deeper indent (length rows)
 
 -- the indentation that is a level deeper than that of the last row
-pub next_level : (indent bytes : List ℕ) (all new : List Row) → bytes ≡ indented indent (length all) → length new ≡ suc (length all) → deeper bytes ≡ indented indent (length new)
+pub next_level : (indent bytes : List ℕ) (all new : List Siblings) → bytes ≡ indented indent (length all) → length new ≡ suc (length all) → deeper bytes ≡ indented indent (length new)
 next_level indent bytes all new known number = ap deeper known ∙ sym (ap (indented indent) number ∙ indented_deeper indent (length all))
 
 -- an indentation of two spaces more than another
@@ -48,22 +48,22 @@ module _ (bytes above : List ℕ) (is : bytes ≡ deeper above) where
 -- ---- rows
 
 -- the lines of a row that is left
-abbrev pub row_lines : List ℕ → Row → List ℕ
+abbrev pub row_lines : List ℕ → Siblings → List ℕ
 row_lines indent r = lines indent r.start (forest r.trees.now)
 
 -- the lines of all rows, each a level below the one before it: the last row's come first
-abbrev pub left_lines : List ℕ → List Row → List ℕ
+abbrev pub left_lines : List ℕ → List Siblings → List ℕ
 left_lines indent [] = []
 left_lines indent (r ∷ rs) = left_lines (deeper indent) rs ++ row_lines indent r
 
-left_pushed : (indent : List ℕ) (rs : List Row) (r : Row) → left_lines indent (rs ++ r ∷ []) ≡ row_lines (indented indent (length rs)) r ++ left_lines indent rs
+left_pushed : (indent : List ℕ) (rs : List Siblings) (r : Siblings) → left_lines indent (rs ++ r ∷ []) ≡ row_lines (indented indent (length rs)) r ++ left_lines indent rs
 left_pushed indent [] r = sym (append-nil (row_lines indent r))
 left_pushed indent (x ∷ rs) r =
     ap (λ ys. ys ++ row_lines indent x) (left_pushed (deeper indent) rs r)
     ∙ append_assoc (row_lines (indented (deeper indent) (length rs)) r) (left_lines (deeper indent) rs) (row_lines indent x)
 
 -- at first a row of one tree is left
-pub left_first : (indent : List ℕ) (start : ℕ) (t : Tree) (r : Row) → r.trees.now ≡ t ∷ [] → r.start ≡ start → left_lines indent (r ∷ []) ≡ node_lines indent start t
+pub left_first : (indent : List ℕ) (start : ℕ) (t : Tree) (r : Siblings) → r.trees.now ≡ t ∷ [] → r.start ≡ start → left_lines indent (r ∷ []) ≡ node_lines indent start t
 left_first indent start t r trees begins =
     ap (λ ts. lines indent r.start (forest ts)) trees ∙ ap (λ s. lines indent s (forest (t ∷ []))) begins
     ∙ ap (λ ys. head_lines indent start (start + length (text_of t)) t.head ++ ys) (append-nil (lines (deeper indent) start t.kids))
@@ -73,13 +73,13 @@ row_of_none indent start [] e = refl
 row_of_none indent start (t ∷ ts) e = absurd (omega (arith, e))
 
 -- nothing is left of a row that is passed
-pub left_passed : (indent : List ℕ) (all rows : List Row) (r : Row) → all ≡ rows ++ r ∷ [] → length r.trees.now ≡ 0 → left_lines indent all ≡ left_lines indent rows
+pub left_passed : (indent : List ℕ) (all rows : List Siblings) (r : Siblings) → all ≡ rows ++ r ∷ [] → length r.trees.now ≡ 0 → left_lines indent all ≡ left_lines indent rows
 left_passed indent all rows r is passed =
     ap (left_lines indent) is ∙ left_pushed indent rows r
     ∙ ap (λ ys. ys ++ left_lines indent rows) (row_of_none (indented indent (length rows)) r.start r.trees.now passed)
 
--- the lines of a row's first node, and then of the nodes below it and those behind it
-pub left_more : (indent : List ℕ) (all rows new : List Row) (r behind below : Row) (t : Tree) (ts : List Tree) (end : ℕ) → all ≡ rows ++ r ∷ [] → new ≡ (rows ++ behind ∷ []) ++ below ∷ [] → r.trees.now ≡ t ∷ ts
+-- the lines of a row's first node, and then of the nodes below it and those after it
+pub left_more : (indent : List ℕ) (all rows new : List Siblings) (r behind below : Siblings) (t : Tree) (ts : List Tree) (end : ℕ) → all ≡ rows ++ r ∷ [] → new ≡ (rows ++ behind ∷ []) ++ below ∷ [] → r.trees.now ≡ t ∷ ts
     → behind.trees.now ≡ ts → behind.start ≡ end → forest below.trees.now ≡ t.kids → below.start ≡ r.start → end ≡ r.start + length (text_of t)
     → left_lines indent all ≡ head_lines (indented indent (length rows)) r.start end t.head ++ left_lines indent new
 left_more indent all rows new r behind below t ts end is grown trees rest begins kids begins_below ends =
@@ -101,38 +101,38 @@ left_more indent all rows new r behind below t ts end is grown trees rest begins
     ∙ ap (λ ys. head_lines I r.start end t.head ++ ys) (append_assoc (lines (deeper I) r.start t.kids) (lines I end (forest ts)) (left_lines indent rows) ∙ sym after)
 
 -- how many turns printing still takes: one for each node and two for each row
-abbrev pub steps : List Row → ℕ
+abbrev pub steps : List Siblings → ℕ
 steps [] = 0
 steps (r ∷ rs) = 1 + 2 * count (forest r.trees.now) + steps rs
 
-pub steps_pushed : (rs : List Row) (r : Row) → steps (rs ++ r ∷ []) ≡ steps rs + (1 + 2 * count (forest r.trees.now))
+pub steps_pushed : (rs : List Siblings) (r : Siblings) → steps (rs ++ r ∷ []) ≡ steps rs + (1 + 2 * count (forest r.trees.now))
 steps_pushed [] r = omega arith
 steps_pushed (x ∷ rs) r = omega (arith, steps_pushed rs r)
 
 -- a row that is passed takes a turn
-pub steps_passed : (all rows : List Row) (r : Row) → all ≡ rows ++ r ∷ [] → steps rows < steps all
+pub steps_passed : (all rows : List Siblings) (r : Siblings) → all ≡ rows ++ r ∷ [] → steps rows < steps all
 steps_passed all rows r is = omega (arith, ap steps is, steps_pushed rows r)
 
 -- a node takes one
-pub steps_more : (all rows new : List Row) (r behind below : Row) (t : Tree) (ts : List Tree) → all ≡ rows ++ r ∷ [] → new ≡ (rows ++ behind ∷ []) ++ below ∷ [] → r.trees.now ≡ t ∷ ts
+pub steps_more : (all rows new : List Siblings) (r behind below : Siblings) (t : Tree) (ts : List Tree) → all ≡ rows ++ r ∷ [] → new ≡ (rows ++ behind ∷ []) ++ below ∷ [] → r.trees.now ≡ t ∷ ts
     → behind.trees.now ≡ ts → forest below.trees.now ≡ t.kids → steps new < steps all
 steps_more all rows new r behind below t ts is grown trees rest kids =
     omega (arith, ap steps is, ap steps grown, steps_pushed rows r, steps_pushed rows behind, steps_pushed (rows ++ behind ∷ []) below, ap (λ xs. count (forest xs)) trees, ap (λ xs. count (forest xs)) rest, ap count kids)
 
 -- a row's trees end below 2^64
-abbrev pub Fits : Row → Type 0
+abbrev pub Fits : Siblings → Type 0
 Fits r = r.start + length (joined (forest r.trees.now)) < 2 ^ 64
 
--- so do its first tree, the trees behind that and the trees below its root
-module _ (r : Row) (t : Tree) (ts : List Tree) (fits : Fits r) (trees : r.trees.now ≡ t ∷ ts) where
+-- so do its first tree, the trees after that and the trees below its root
+module _ (r : Siblings) (t : Tree) (ts : List Tree) (fits : Fits r) (trees : r.trees.now ≡ t ∷ ts) where
   first_ends : r.start + (length (text_of t) + length (joined (forest ts))) < 2 ^ 64
   first_ends = omega (arith, fits, ap (λ xs. length (joined (forest xs))) trees, length-append t.head.text (joined t.kids ++ joined (forest ts)), length-append (joined t.kids) (joined (forest ts)), length-append t.head.text (joined t.kids))
 
   pub first_fits : r.start + length (text_of t) < 2 ^ 64
   first_fits = omega (arith, first_ends)
 
-  pub behind_fits : (behind : Row) → behind.trees.now ≡ ts → behind.start ≡ r.start + length (text_of t) → Fits behind
-  behind_fits behind rest begins = omega (arith, first_ends, begins, ap (λ xs. length (joined (forest xs))) rest)
+  pub after_fits : (behind : Siblings) → behind.trees.now ≡ ts → behind.start ≡ r.start + length (text_of t) → Fits behind
+  after_fits behind rest begins = omega (arith, first_ends, begins, ap (λ xs. length (joined (forest xs))) rest)
 
-  pub below_fits : (below : Row) → forest below.trees.now ≡ t.kids → below.start ≡ r.start → Fits below
+  pub below_fits : (below : Siblings) → forest below.trees.now ≡ t.kids → below.start ≡ r.start → Fits below
   below_fits below kids begins = omega (arith, first_ends, begins, ap (λ f. length (joined f)) kids, length-append t.head.text (joined t.kids))

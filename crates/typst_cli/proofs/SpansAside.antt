@@ -1,4 +1,4 @@
--- What is printed of a tree doesn't tell its spans.
+-- What is printed of a tree doesn't depend on its spans.
 use Rattle.std.proofs.Common.{◌≡◌, ℕ, ◌+◌, List, ◌++◌, length, refl, sym, ap, ◌∙◌}
 use Rattle.typst_parser.specs.Head.{Head}
 use Rattle.typst_parser.specs.Tree.{Forest, none, more, Tree, bare, bare_forest, joined, text_of}
@@ -23,7 +23,7 @@ node-bare indent start t = rw (joined_bare t.kids, lines-bare (deeper indent) st
 pub same-printed : (indent : List ℕ) (start : ℕ) (t u : Tree) → bare t ≡ bare u → node_lines indent start t ≡ node_lines indent start u
 same-printed indent start t u e = sym (node-bare indent start t) ∙ ap (node_lines indent start) e ∙ node-bare indent start u
 
--- a range, and behind it a tree that is, spans aside, the tree of the new text
+-- a range, and after it a tree that is, spans aside, the tree of the new text
 pub whole-answer : (parsed : Range ℕ) (new wanted b0 b1 b2 : List ℕ) (shown root : Tree) → new ≡ wanted → bare root ≡ bare (tree unicode_classes (chars new)) → shown ≡ root
     → b0 ≡ [] → b1 ≡ b0 ++ range_line parsed → b2 ≡ b1 ++ node_lines [] 0 shown → b2 ≡ edit_printed parsed wanted
 whole-answer parsed new wanted b0 b1 b2 shown root e same is empty line node =

@@ -17,7 +17,7 @@ use Rattle.typst_cli.specs.Ndjson as ndjson
 use Rattle.typst_cli.specs.Placed.{ArePlaced, Placed}
 use Rattle.typst_cli.specs.Short.{short_lines}
 use Rattle.typst_cli.specs.Tally.{with_file}
-use Rattle.typst_cli.specs.Told.{Told, error_count, fails, first, told}
+use Rattle.typst_cli.specs.Reported.{Reported, error_count, fails, first, reported}
 use Rattle.typst_cli.specs.TreeLines.{tree_lines}
 
 -- the findings of a file of that name, in each format
@@ -27,26 +27,26 @@ formatted format.Ndjson name placed = ndjson.lines name placed
 formatted format.Github name placed = github.commands name placed
 
 -- the findings of a text, printed in a format with their places
-pub record PrintsTold (f : Format) (name text : List ℕ) (all : List Told) (printed : List ℕ) : Type 0 where
+pub record PrintsReported (f : Format) (name text : List ℕ) (all : List Reported) (printed : List ℕ) : Type 0 where
   pub placed : List Placed
   pub places : ArePlaced text all placed
   pub shown : printed ≡ formatted f name placed
 
 -- what a form prints about a text with that tree, if these findings are shown; of a page nothing is
 -- said
-abbrev pub PrintsShown : Form → List ℕ → List ℕ → List Told → Tree → List ℕ → Type 0
-PrintsShown (form.Findings f) name text shown root printed = PrintsTold f name text shown printed
+abbrev pub PrintsShown : Form → List ℕ → List ℕ → List Reported → Tree → List ℕ → Type 0
+PrintsShown (form.Findings f) name text shown root printed = PrintsReported f name text shown printed
 PrintsShown form.Tree name text shown root printed = printed ≡ tree_lines root
 PrintsShown form.Page name text shown root printed = ⊤
 PrintsShown form.Nothing name text shown root printed = printed ≡ []
 
 -- what a form prints about a text with that tree, with all its findings
 abbrev pub Prints : Form → List ℕ → List ℕ → Tree → List ℕ → Type 0
-Prints f name text root printed = PrintsShown f name text (told root) root printed
+Prints f name text root printed = PrintsShown f name text (reported root) root printed
 
 -- what a form prints about a text with that tree, with so many of its findings at most
 abbrev pub PrintsUpTo : Form → Option ℕ → List ℕ → List ℕ → Tree → List ℕ → Type 0
-PrintsUpTo f most name text root printed = PrintsShown f name text (first most (told root)) root printed
+PrintsUpTo f most name text root printed = PrintsShown f name text (first most (reported root)) root printed
 
 -- whether the text fails is known, and the output grew by all that the form prints about it
 pub record IsChecked (o : Options) (name text : List ℕ) (failing : Bool) (old new : Option (List ℕ)) : Type 0 where
@@ -57,9 +57,9 @@ pub record IsChecked (o : Options) (name text : List ℕ) (failing : Bool) (old 
 
 -- how many errors a text has, and how many findings
 pub record IsCounted (text : List ℕ) (counts : Counts) : Type 0 where
-  pub errors : counts.errors ≡ error_count (told (tree unicode_classes (chars text)))
-  pub findings : counts.findings ≡ length (told (tree unicode_classes (chars text)))
+  pub errors : counts.errors ≡ error_count (reported (tree unicode_classes (chars text)))
+  pub findings : counts.findings ≡ length (reported (tree unicode_classes (chars text)))
 
 -- a tally with one more file, of that text
 abbrev pub tallied : Tally → List ℕ → Tally
-tallied t text = with_file t (error_count (told (tree unicode_classes (chars text)))) (length (told (tree unicode_classes (chars text))))
+tallied t text = with_file t (error_count (reported (tree unicode_classes (chars text)))) (length (reported (tree unicode_classes (chars text))))

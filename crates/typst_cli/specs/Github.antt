@@ -4,17 +4,17 @@ use Rattle.std.specs.Fmt.{decimal}
 use Rattle.std.specs.Str.{chars}
 use Rattle.typst_parser.specs.Diagnostic.{Hint}
 use Rattle.typst_cli.specs.declared.escape.Target.TheVariants as target
-use Rattle.typst_cli.specs.declared.place.Place.{Place}
+use Rattle.typst_cli.specs.declared.place.LineColumn.{LineColumn}
 use Rattle.typst_cli.specs.Escapes.{escaped}
 use Rattle.typst_cli.specs.Placed.{Placed}
-use Rattle.typst_cli.specs.Told.{severity_word}
+use Rattle.typst_cli.specs.Reported.{severity_word}
 
 -- the command's name and the file
 abbrev pub file_part : List ℕ → List ℕ → List ℕ
 file_part word name = codes "::" ++ (word ++ (codes " file=" ++ escaped target.Property (chars name)))
 
 -- the lines and columns between two places
-abbrev pub range_part : Place → Place → List ℕ
+abbrev pub range_part : LineColumn → LineColumn → List ℕ
 range_part start end =
     codes ",line=" ++ (decimal start.line ++ (codes ",endLine=" ++ (decimal end.line ++ (codes ",col=" ++ (decimal start.column ++ (codes ",endColumn=" ++ (decimal end.column ++ codes "::")))))))
 
@@ -26,7 +26,7 @@ hint_parts (h ∷ hs) = codes "%0Ahint: " ++ (escaped target.Message (chars h.me
 -- the command of a finding, which is a line
 abbrev pub command : List ℕ → Placed → List ℕ
 command name p =
-    let d = p.told.diagnostic in
+    let d = p.reported.diagnostic in
     file_part (severity_word d.severity) name ++ (range_part p.start p.end ++ (escaped target.Message (chars d.message) ++ (hint_parts d.hints ++ codes "\n")))
 
 -- the commands of all findings

@@ -14,7 +14,7 @@ pub mod PrintedHtml
 pub mod PrintedTree
 pub mod Short
 pub mod Tally
-pub mod Told
+pub mod Reported
 pub mod TreeLines
 pub mod Variants
 -- What the crates above name of those below.

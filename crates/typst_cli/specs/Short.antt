@@ -6,12 +6,12 @@ use Rattle.typst_parser.specs.Severity.{Severity}
 use Rattle.typst_parser.specs.Severity.TheVariants as severity
 use Rattle.typst_parser.specs.Diagnostic.{Hint}
 use Rattle.typst_cli.specs.declared.escape.Target.TheVariants as target
-use Rattle.typst_cli.specs.declared.place.Place.{Place}
+use Rattle.typst_cli.specs.declared.place.LineColumn.{LineColumn}
 use Rattle.typst_cli.specs.declared.short.Paint.{Paint}
 use Rattle.typst_cli.specs.declared.short.Paint.TheVariants as paint
 use Rattle.typst_cli.specs.Escapes.{escaped}
 use Rattle.typst_cli.specs.Placed.{Placed}
-use Rattle.typst_cli.specs.Told.{severity_word}
+use Rattle.typst_cli.specs.Reported.{severity_word}
 
 -- the paint of the word for how grave a finding is
 abbrev pub paint_of : Severity → Paint
@@ -36,7 +36,7 @@ finish true = 27 ∷ codes "[0m"
 finish false = []
 
 -- a file's name, a line and a column
-abbrev pub place_part : Bool → List ℕ → Place → List ℕ
+abbrev pub place_part : Bool → List ℕ → LineColumn → List ℕ
 place_part color name p =
     begin color paint.Place ++ (escaped target.Line (chars name) ++ (codes ":" ++ (decimal p.line ++ (codes ":" ++ (decimal p.column ++ (codes ":" ++ (finish color ++ codes " ")))))))
 
@@ -56,7 +56,7 @@ hint_lines color (h ∷ hs) = codes "  " ++ (word_part color paint.Hint (codes "
 -- the line of an error or a warning, and those of its hints
 abbrev pub short_line : Bool → List ℕ → Placed → List ℕ
 short_line color name p =
-    let d = p.told.diagnostic in
+    let d = p.reported.diagnostic in
     place_part color name p.start ++ (word_part color (paint_of d.severity) (severity_word d.severity) ++ (message_part d.message ++ hint_lines color d.hints))
 
 -- the lines of all findings

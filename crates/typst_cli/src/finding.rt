@@ -2,8 +2,8 @@
 
 ghost use Rattle.std.specs.Prelude.{◌≡◌, ◌+◌, ◌++◌, IfOk, OnOk, length, map};
 ghost use Rattle.typst_parser.specs.Tree.{saturated, text_of};
-ghost use Rattle.typst_cli.specs.Found.{as_told};
-ghost use Rattle.typst_cli.specs.Told as spec;
+ghost use Rattle.typst_cli.specs.Found.{as_reported};
+ghost use Rattle.typst_cli.specs.Reported as spec;
 
 use std::alloc::{AllocError, Global};
 use typst_parser::{Diagnostic, Hint, Severity, SubRange, SyntaxNode};
@@ -18,7 +18,7 @@ pub struct Finding<'t> {
 
 impl<'t> Finding<'t> {
     ghost use Rattle.std.specs.Prelude.{◌≡◌};
-    ghost use Rattle.typst_cli.specs.Told as spec;
+    ghost use Rattle.typst_cli.specs.Reported as spec;
 
     /// Whether the finding is an error.
     pub fn is_error(&self) -> bool
@@ -49,13 +49,14 @@ impl<'t> Finding<'t> {
     }
 }
 
-/// All errors and warnings of a tree, each node's before those below it. Goes through the tree once.
+/// All errors and warnings of a tree, each node's before those below it. Looks at the nodes that have some, at
+/// them or below them, and at their children.
 pub fn findings<'t>(alloc: Global, root: &'t SyntaxNode) -> Result<Vec<Finding<'t>>, AllocError>
-    ensures { IfOk result (λ found. map as_told found.items ≡ spec.told root.now) }
+    ensures { IfOk result (λ found. map as_reported found.items ≡ spec.reported root.now) }
 {
     let mut found = Vec::new(alloc);
     let mut walk = root.preorder(alloc);
-    while let Some(visit) = walk.next()? {
+    while let Some(visit) = walk.next_diagnosed()? {
         add_own(&mut found, visit.node, visit.offset)?;
     }
     Ok(found)
@@ -67,7 +68,7 @@ fn add_own<'t>(
     node: &'t SyntaxNode,
     start: usize,
 ) -> Result<(), AllocError>
-    ensures { OnOk result (map as_told found.new.items ≡ map as_told found.old.items ++ spec.told_of start (saturated (start + length (text_of node.now))) node.now.head.diagnostics) }
+    ensures { OnOk result (map as_reported found.new.items ≡ map as_reported found.old.items ++ spec.reported_of start (saturated (start + length (text_of node.now))) node.now.head.diagnostics) }
 {
     let end = start.saturating_add(node.len());
     for diagnostic in node.diagnostics() {

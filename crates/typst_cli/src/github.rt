@@ -6,7 +6,7 @@ ghost use Rattle.typst_cli.specs.Placed.{as_placed};
 
 use crate::escape::{Target, push_escaped};
 use crate::located::Located;
-use crate::place::Place;
+use crate::place::LineColumn;
 use std::alloc::{AllocError, Global};
 use typst_parser::Hint;
 
@@ -41,7 +41,7 @@ fn push_file(printed: &mut String, word: &str, name: &str) -> Result<(), AllocEr
     push_escaped(printed, name, Target::Property)
 }
 
-fn push_range(printed: &mut String, start: Place, end: Place) -> Result<(), AllocError>
+fn push_range(printed: &mut String, start: LineColumn, end: LineColumn) -> Result<(), AllocError>
     ensures { OnOk result (string_bytes printed.new ≡ string_bytes printed.old ++ spec.range_part start end) }
 {
     let (line, end_line) = (start.line, end.line);

@@ -1,11 +1,11 @@
 //! The errors and warnings of a text, with their lines and columns.
 
 ghost use Rattle.std.specs.Prelude.{IfOk, map};
-ghost use Rattle.typst_cli.specs.Found.{as_told};
+ghost use Rattle.typst_cli.specs.Found.{as_reported};
 ghost use Rattle.typst_cli.specs.Placed.{ArePlaced, as_placed};
 
 use crate::finding::Finding;
-use crate::place::Place;
+use crate::place::LineColumn;
 use std::alloc::{AllocError, Global};
 use typst_parser::Lines;
 
@@ -13,8 +13,8 @@ use typst_parser::Lines;
 #[derive(Clone, Copy)]
 pub struct Located<'t> {
     pub finding: Finding<'t>,
-    pub start: Place,
-    pub end: Place,
+    pub start: LineColumn,
+    pub end: LineColumn,
 }
 
 /// Finds the places of findings. If one is in the line of the last and after it, only what is between them is
@@ -24,13 +24,13 @@ pub fn locate<'t>(
     lines: &Lines<&str>,
     found: &[Finding<'t>],
 ) -> Result<Vec<Located<'t>>, AllocError>
-    ensures { IfOk result (λ located. ArePlaced lines.now (map as_told found.now) (map as_placed located.items)) }
+    ensures { IfOk result (λ located. ArePlaced lines.now (map as_reported found.now) (map as_placed located.items)) }
 {
     let mut all = Vec::new(alloc);
     let (mut last_start, mut last_end) = (None, None);
     for finding in found {
-        let start = Place::of_byte(lines, finding.start, last_start);
-        let end = Place::of_byte(lines, finding.end, last_end);
+        let start = LineColumn::of_byte(lines, finding.start, last_start);
+        let end = LineColumn::of_byte(lines, finding.end, last_end);
         all.push(Located {
             finding: *finding,
             start,

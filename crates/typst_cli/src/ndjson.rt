@@ -6,7 +6,7 @@ ghost use Rattle.typst_cli.specs.Placed.{as_placed};
 
 use crate::finding::Finding;
 use crate::located::Located;
-use crate::place::Place;
+use crate::place::LineColumn;
 use json::Writer;
 use std::alloc::{AllocError, Global};
 use typst_parser::Hint;
@@ -45,15 +45,15 @@ fn write_finding(writer: &mut Writer, name: &str, located: &Located) -> Result<(
     ensures tokens { OnOk result (writer.new.tokens ≡ writer.old.tokens ++ spec.finding name.now (as_placed located.now)) }
 {
     writer.begin_object()?;
-    write_told(writer, name, &located.finding)?;
+    write_reported(writer, name, &located.finding)?;
     write_places(writer, located.start, located.end)?;
     writer.end_object()
 }
 
 /// Writes what a finding in the file of that name says.
-fn write_told(writer: &mut Writer, name: &str, finding: &Finding) -> Result<(), AllocError>
+fn write_reported(writer: &mut Writer, name: &str, finding: &Finding) -> Result<(), AllocError>
     ensures before { OnOk result (writer.new.before ≡ writer.old.before) }
-    ensures tokens { OnOk result (writer.new.tokens ≡ writer.old.tokens ++ spec.told_members name.now finding.now.diagnostic.now) }
+    ensures tokens { OnOk result (writer.new.tokens ≡ writer.old.tokens ++ spec.reported_members name.now finding.now.diagnostic.now) }
 {
     write_text(writer, "file", name)?;
     write_text(writer, "severity", finding.severity())?;
@@ -99,7 +99,7 @@ fn write_messages(writer: &mut Writer, hints: &[Hint]) -> Result<(), AllocError>
     Ok(())
 }
 
-fn write_places(writer: &mut Writer, start: Place, end: Place) -> Result<(), AllocError>
+fn write_places(writer: &mut Writer, start: LineColumn, end: LineColumn) -> Result<(), AllocError>
     ensures before { OnOk result (writer.new.before ≡ writer.old.before) }
     ensures tokens { OnOk result (writer.new.tokens ≡ writer.old.tokens ++ spec.places_members start end) }
 {
@@ -108,7 +108,7 @@ fn write_places(writer: &mut Writer, start: Place, end: Place) -> Result<(), All
 }
 
 /// Writes a place under its name.
-fn write_place(writer: &mut Writer, name: &str, place: Place) -> Result<(), AllocError>
+fn write_place(writer: &mut Writer, name: &str, place: LineColumn) -> Result<(), AllocError>
     ensures before { OnOk result (writer.new.before ≡ writer.old.before) }
     ensures tokens { OnOk result (writer.new.tokens ≡ writer.old.tokens ++ spec.place_member name.now place) }
 {
@@ -118,7 +118,7 @@ fn write_place(writer: &mut Writer, name: &str, place: Place) -> Result<(), Allo
     writer.end_object()
 }
 
-fn write_numbers(writer: &mut Writer, place: Place) -> Result<(), AllocError>
+fn write_numbers(writer: &mut Writer, place: LineColumn) -> Result<(), AllocError>
     ensures before { OnOk result (writer.new.before ≡ writer.old.before) }
     ensures tokens { OnOk result (writer.new.tokens ≡ writer.old.tokens ++ spec.numbers place) }
 {

@@ -135,7 +135,7 @@ impl<'p, 'l, 't> Page<'p, 'l, 't> {
     /// finding begins, or an open finding ends.
     fn next_cut(&self, at: usize, end: usize) -> usize
         requires { at < end }
-        ensures behind { at < result }
+        ensures after { at < result }
         ensures within { result ≤ end }
     {
         let mut cut = end;
@@ -204,7 +204,7 @@ impl<'p, 'l, 't> Page<'p, 'l, 't> {
 /// The earlier of two places after a byte, of which the second may not be after it.
 fn earlier(at: usize, cut: usize, other: usize) -> usize
     requires { at < cut }
-    ensures behind { at < result }
+    ensures after { at < result }
     ensures within { result ≤ cut }
 {
     if at < other && other < cut {

@@ -6,9 +6,9 @@ ghost use Rattle.typst_lines.specs.Lines.{units};
 
 use typst_parser::Lines;
 
-/// A place in a text. Lines and columns are counted from 1.
+/// A place in a text by its line and its column, each counted from 1.
 #[derive(Debug, Clone, Copy, PartialEq, Eq)]
-pub struct Place {
+pub struct LineColumn {
     /// The bytes before it.
     pub byte: usize,
     pub line: usize,
@@ -18,7 +18,7 @@ pub struct Place {
     pub utf16_column: usize,
 }
 
-impl Place {
+impl LineColumn {
     ghost use Rattle.std.specs.Prelude.{◌≡◌, IfSome};
     ghost use Rattle.std.specs.Str.{IsCharBoundary};
     ghost use Rattle.typst_lines.specs.Lines.{line_of};
@@ -26,16 +26,16 @@ impl Place {
 
     /// The place of a byte, or of the character that holds it. If it is in the line of the last place and after
     /// that, only what is between them is looked at, and else the line up to there.
-    pub fn of_byte(lines: &Lines<&str>, byte: usize, last: Option<Place>) -> Place
+    pub fn of_byte(lines: &Lines<&str>, byte: usize, last: Option<LineColumn>) -> LineColumn
         requires { IfSome last (IsPlace lines.now) }
         ensures { IsPlaceOf lines.now byte result }
     {
         let text = lines.text();
         let byte = text.floor_char_boundary(byte);
         let number = lines.byte_to_line(byte).unwrap_or(0);
-        let base = Place::base(lines, number, byte, last);
+        let base = LineColumn::base(lines, number, byte, last);
         let (characters, units) = count(&text[base.byte..byte]);
-        Place {
+        LineColumn {
             byte,
             line: base.line,
             column: base.column + characters,
@@ -44,7 +44,7 @@ impl Place {
     }
 
     /// The last place, if it is in the line of that number and not after the byte, or else the line's start.
-    fn base(lines: &Lines<&str>, number: usize, byte: usize, last: Option<Place>) -> Place
+    fn base(lines: &Lines<&str>, number: usize, byte: usize, last: Option<LineColumn>) -> LineColumn
         requires known { IfSome last (IsPlace lines.now) }
         requires boundary { IsCharBoundary lines.now byte }
         requires number { number ≡ line_of lines.now byte }
@@ -53,12 +53,12 @@ impl Place {
         let _text = lines.text();
         match last {
             Some(place) if place.line - 1 == number && place.byte <= byte => place,
-            _ => Place::line_start(lines, number, byte),
+            _ => LineColumn::line_start(lines, number, byte),
         }
     }
 
     /// Where the line of that number starts.
-    fn line_start(lines: &Lines<&str>, number: usize, byte: usize) -> Place
+    fn line_start(lines: &Lines<&str>, number: usize, byte: usize) -> LineColumn
         requires boundary { IsCharBoundary lines.now byte }
         requires number { number ≡ line_of lines.now byte }
         ensures { IsBase lines.now byte result }
@@ -68,7 +68,7 @@ impl Place {
             Some(line) => (line.byte_idx(), number + 1),
             None => (0, 1),
         };
-        Place {
+        LineColumn {
             byte,
             line,
             column: 1,

@@ -1,9 +1,9 @@
 //! What is printed about a text.
 
 ghost use Rattle.std.specs.Prelude.{◌≡◌, IfOk, map};
-ghost use Rattle.typst_cli.specs.Found.{as_told};
-ghost use Rattle.typst_cli.specs.Checked.{PrintsShown, PrintsTold};
-ghost use Rattle.typst_cli.specs.Told.{any_error, error_count, first};
+ghost use Rattle.typst_cli.specs.Found.{as_reported};
+ghost use Rattle.typst_cli.specs.Checked.{PrintsShown, PrintsReported};
+ghost use Rattle.typst_cli.specs.Reported.{any_error, error_count, first};
 
 use crate::finding::{Finding, findings};
 use crate::form::{Form, Format};
@@ -25,7 +25,7 @@ impl Report {
     ghost use Rattle.std.specs.Prelude.{◌≡◌, ◌&&◌, ◌||◌, nat_lt, IfOk};
     ghost use Rattle.std.specs.Str.{chars};
     ghost use Rattle.typst_cli.specs.Checked.{IsCounted, Prints, PrintsUpTo};
-    ghost use Rattle.typst_cli.specs.Told.{has_error};
+    ghost use Rattle.typst_cli.specs.Reported.{has_error};
     ghost use Rattle.typst_parser.specs.UnicodeTables.{unicode_classes};
     ghost use Rattle.typst_parser.specs.Grammar.{tree};
 
@@ -73,7 +73,7 @@ impl Report {
 
 /// The first of the findings, so many at most.
 fn first<'f, 't>(found: &'f [Finding<'t>], most: Option<usize>) -> &'f [Finding<'t>]
-    ensures { map as_told result.now ≡ first most (map as_told found.now) }
+    ensures { map as_reported result.now ≡ first most (map as_reported found.now) }
 {
     match most {
         None => found,
@@ -83,7 +83,7 @@ fn first<'f, 't>(found: &'f [Finding<'t>], most: Option<usize>) -> &'f [Finding<
 
 /// How many errors are among the findings.
 fn count_errors(found: &[Finding]) -> usize
-    ensures { result ≡ error_count (map as_told found.now) }
+    ensures { result ≡ error_count (map as_reported found.now) }
 {
     let mut errors = 0;
     for finding in found {
@@ -94,7 +94,7 @@ fn count_errors(found: &[Finding]) -> usize
 
 /// Whether an error is among the findings.
 fn any_error(found: &[Finding]) -> bool
-    ensures { result ≡ any_error (map as_told found.now) }
+    ensures { result ≡ any_error (map as_reported found.now) }
 {
     for finding in found {
         if finding.is_error() {
@@ -113,7 +113,7 @@ fn print(
     lines: &Lines<&str>,
     found: &[Finding],
 ) -> Result<Vec<u8>, AllocError>
-    ensures { IfOk result (λ printed. PrintsShown form name.now lines.now (map as_told found.now) root.now printed.items) }
+    ensures { IfOk result (λ printed. PrintsShown form name.now lines.now (map as_reported found.now) root.now printed.items) }
 {
     match form {
         Form::Findings(format) => print_findings(alloc, format, name, lines, found),
@@ -131,7 +131,7 @@ fn print_findings(
     lines: &Lines<&str>,
     found: &[Finding],
 ) -> Result<Vec<u8>, AllocError>
-    ensures { IfOk result (λ printed. PrintsTold format name.now lines.now (map as_told found.now) printed.items) }
+    ensures { IfOk result (λ printed. PrintsReported format name.now lines.now (map as_reported found.now) printed.items) }
 {
     let located = locate(alloc, lines, found)?;
     match format {

@@ -7,7 +7,7 @@ ghost use Rattle.typst_cli.specs.Short as spec;
 use crate::escape::{Target, push_escaped};
 use crate::finding::Finding;
 use crate::located::Located;
-use crate::place::Place;
+use crate::place::LineColumn;
 use std::alloc::{AllocError, Global};
 use typst_parser::Hint;
 
@@ -91,7 +91,12 @@ fn push_line(
     push_hints(printed, finding.hints(), color)
 }
 
-fn push_place(printed: &mut String, name: &str, place: Place, color: bool) -> Result<(), AllocError>
+fn push_place(
+    printed: &mut String,
+    name: &str,
+    place: LineColumn,
+    color: bool,
+) -> Result<(), AllocError>
     ensures { OnOk result (string_bytes printed.new ≡ string_bytes printed.old ++ spec.place_part color name.now place) }
 {
     let (begin, end) = (Paint::Place.begin(color), finish(color));

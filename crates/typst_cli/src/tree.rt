@@ -44,9 +44,9 @@ pub fn answer_math<C: Classes>(alloc: Global, text: &str, classes: &C) -> Result
     Ok(printed)
 }
 
-/// Trees that are side by side and are still to be printed, and where the first one begins, in bytes.
+/// Nodes side by side that are still to be printed, and where the first one begins, in bytes.
 #[derive(Clone, Copy)]
-struct Row<'a> {
+struct Siblings<'a> {
     trees: &'a [SyntaxNode],
     start: usize,
 }
@@ -65,13 +65,13 @@ pub fn print_node(
 {
     let mut deeper = format!(in alloc; "{indent}  ")?;
     let mut rows = Vec::new(alloc);
-    rows.push(Row {
+    rows.push(Siblings {
         trees: slice::from_ref(node),
         start,
     })?;
     while let Some(row) = rows.pop() {
         let width = deeper.len() - 2;
-        let Some((node, behind)) = row.trees.split_first() else {
+        let Some((node, after)) = row.trees.split_first() else {
             deeper.truncate(width);
             continue;
         };
@@ -83,11 +83,11 @@ pub fn print_node(
             deeper.as_str(),
             row.start..end,
         )?;
-        rows.push(Row {
-            trees: behind,
+        rows.push(Siblings {
+            trees: after,
             start: end,
         })?;
-        rows.push(Row {
+        rows.push(Siblings {
             trees: node.children(),
             start: row.start,
         })?;

@@ -23,7 +23,7 @@ use Rattle.typst_language.proofs.Leaves.{text-made}
 use Rattle.typst_language.proofs.TokenTexts.{text-token}
 use Rattle.typst_code.specs.Patterns.{name_and_colon}
 
--- ---- behind a token
+-- ---- after a token
 
 -- the token at hand takes no more characters than there are
 hand-within : (l : Level) (held : Reading) (known : Option Trivia) (z : Place) → (hand_at l.classes held known z).len ≤ length (moved (hand_at l.classes held known z).gap z).ahead
@@ -39,7 +39,7 @@ no-empties : (b : Bool) (text : List ℕ) (s : Point) → count_empty text ≡ 0
 no-empties true text s e = e
 no-empties false text s e = refl
 
--- behind a token that isn't the end no empty error stands
+-- after a token that isn't the end no empty error stands
 pub eaten-some : {l : Level} {v : View} → Fits l v → is_end v.hand.kind ≡ false → (at l eat v).state.empties ≡ 0
 unfolding run eat eat_making
 eaten-some {l = l} {v = v} c e =

@@ -5,8 +5,8 @@ use Rattle.typst_kinds.specs.declared.kind.SyntaxKind.{SyntaxKind}
 use Rattle.typst_kinds.specs.declared.kind.SyntaxKind.TheVariants as kind
 use Rattle.typst_language.specs.declared.calls.Block.TheVariants as block
 use Rattle.typst_language.specs.declared.reading.AtNewline.TheVariants as newline
-use Rattle.typst_language.specs.Shape.{Change, Shape, encloses}
-use Rattle.typst_language.specs.Shape.Change.{stays, is_not}
+use Rattle.typst_language.specs.Shape.{NodeChange, Shape, encloses}
+use Rattle.typst_language.specs.Shape.NodeChange.{stays, is_not}
 use Rattle.typst_language.specs.Shape.Shape.{keeps, holds}
 use Rattle.typst_language.specs.Syntax.{Parser, ◌>>=◌, ◌>>◌}
 use Rattle.typst_language.specs.Syntax.Op.{advises}
@@ -28,7 +28,7 @@ abbrev pub calls_directly : SyntaxKind → Bool → Bool
 calls_directly k has_trivia = opens_arguments k && not has_trivia
 
 -- what is done to what is before a colon: it has to be a name, one that wasn't seen
-abbrev pub name_change : List (List ℕ) → Key → Change
+abbrev pub name_change : List (List ℕ) → Key → NodeChange
 name_change names (key.Name name) = when_named names name
 name_change names (key.Str text) = is_not (codes "identifier")
 name_change names key.Other = is_not (codes "identifier")

@@ -151,8 +151,8 @@ not_in = do
 -- atomic expression
 unfoldable pub direct_field : Parser (Option Shape × Unit {0})
 direct_field = do
-  behind ← does further
-  pick (same kind.Ident behind) field (gives (None, tt))
+  after ← does further
+  pick (same kind.Ident after) field (gives (None, tt))
 
 -- the arguments of a call, which all goes into
 unfoldable pub call_tail : Parser (Option Shape × Unit {0})

@@ -4,8 +4,8 @@ use Rattle.typst_kinds.specs.Kinds.{same, is_terminator}
 use Rattle.typst_kinds.specs.declared.kind.SyntaxKind.{SyntaxKind}
 use Rattle.typst_kinds.specs.declared.kind.SyntaxKind.TheVariants as kind
 use Rattle.typst_language.specs.declared.reading.AtNewline.TheVariants as newline
-use Rattle.typst_language.specs.Shape.{Change, Shape, becomes, encloses}
-use Rattle.typst_language.specs.Shape.Change.{stays, turns_wrong, is_not}
+use Rattle.typst_language.specs.Shape.{NodeChange, Shape, becomes, encloses}
+use Rattle.typst_language.specs.Shape.NodeChange.{stays, turns_wrong, is_not}
 use Rattle.typst_language.specs.Shape.Shape.{keeps, holds}
 use Rattle.typst_language.specs.Syntax.{Parser, ◌>>=◌, ◌>>◌}
 use Rattle.typst_language.specs.Syntax.Parser.{gives, pick, repeat}
@@ -13,7 +13,7 @@ use Rattle.typst_language.specs.Steps.{peek, eat, eat_if, unexpected, within, no
 use Rattle.typst_language.specs.Expected.{seeing}
 use Rattle.typst_markup.specs.Markup.{at_newline}
 use Rattle.typst_markup.specs.Starts.{begins_code}
-use Rattle.typst_code.specs.declared.listing.Items.{Items}
+use Rattle.typst_code.specs.declared.listing.ParenItems.{ParenItems}
 use Rattle.typst_markup.specs.declared.keys.Key.{Key}
 use Rattle.typst_markup.specs.declared.keys.Key.TheVariants as key
 use Rattle.typst_markup.specs.Keys.{key_of}
@@ -41,11 +41,11 @@ pair = do
 -- ---- items of arrays and dictionaries
 
 -- a key that was seen becomes an error
-abbrev pub when_seen : List (List ℕ) → List ℕ → Change
+abbrev pub when_seen : List (List ℕ) → List ℕ → NodeChange
 when_seen keys key = if has_name keys key then turns_wrong (codes "duplicate key: " ++ key) else stays
 
 -- what is done to the key of a pair
-abbrev pub key_change : List (List ℕ) → Key → Change
+abbrev pub key_change : List (List ℕ) → Key → NodeChange
 key_change keys (key.Name name) = when_seen keys name
 key_change keys (key.Str text) = when_seen keys text
 key_change keys key.Other = stays
@@ -63,7 +63,7 @@ item_shape keys (Some key) = holds (key_change keys key) (pair_kind key)
 
 -- what is done to an item that doesn't fit the others: a pair in an array becomes an error, and so
 -- does what isn't a pair in a dictionary
-abbrev pub misfit : Option Bool → Bool → Change
+abbrev pub misfit : Option Bool → Bool → NodeChange
 misfit None is_pair = stays
 misfit (Some true) is_pair = if is_pair then stays else is_not (codes "named or keyed pair")
 misfit (Some false) is_pair = if is_pair then is_not (codes "expression") else stays
@@ -85,7 +85,7 @@ decided None is_pair = Some is_pair
 decided (Some pairs) is_pair = Some pairs
 
 -- what was found of the items so far, with one more
-abbrev pub with_item : Items → Option Key → Items
+abbrev pub with_item : ParenItems → Option Key → ParenItems
 with_item items key = record {
   any = true;
   is_plain = items.is_plain && not items.any && not (is_some key);
@@ -94,15 +94,15 @@ with_item items key = record {
 }
 
 -- what was found of the items so far, with a spread
-abbrev pub with_spread : Items → Items
+abbrev pub with_spread : ParenItems → ParenItems
 with_spread items = record items { any = true; is_plain = false }
 
 -- what was found of the items so far, after a comma or none
-abbrev pub with_comma : Bool → Items → Items
+abbrev pub with_comma : Bool → ParenItems → ParenItems
 with_comma comma items = record items { is_plain = items.is_plain && not comma }
 
 -- one item; answers what was found of the items so far
-unfoldable pub item : Items → Parser Items
+unfoldable pub item : ParenItems → Parser ParenItems
 item items = do
   ahead ← peek
   pick (same kind.Dots ahead.kind) (spread >> gives (with_spread items)) (do
@@ -110,7 +110,7 @@ item items = do
     gives (with_item items key))
 
 -- an item and what separates it from the next, unless the list ends
-unfoldable pub group_turn : Items → Parser (Bool × Items)
+unfoldable pub group_turn : ParenItems → Parser (Bool × ParenItems)
 group_turn items = do
   ahead ← peek
   pick (is_terminator ahead.kind) (gives (false, items)) (pick (begins_item ahead.kind) (do
@@ -120,7 +120,7 @@ group_turn items = do
       (unexpected [] >> gives (true, items)))
 
 -- what is known before the first item; a colon first makes the items a dictionary's
-abbrev pub no_items : Bool → Items
+abbrev pub no_items : Bool → ParenItems
 no_items colon = record { any = false; is_plain = true; are_pairs = if colon then Some true else None; keys = [] }
 
 -- what a list of pairs is, or of other items; without an item or with spreads alone it is an array
@@ -130,7 +130,7 @@ list_kind (Some true) = kind.Dict
 list_kind (Some false) = kind.Array
 
 -- what the items in parens are; one item alone is an expression in parens
-abbrev pub group_kind : Items → SyntaxKind
+abbrev pub group_kind : ParenItems → SyntaxKind
 group_kind items = if items.any && items.is_plain then kind.Parenthesized else list_kind items.are_pairs
 
 -- what is in parens as a node, whose second paren may be missing

@@ -4,7 +4,7 @@ use Rattle.typst_kinds.specs.Kinds.{same, is_terminator}
 use Rattle.typst_kinds.specs.declared.kind.SyntaxKind.TheVariants as kind
 use Rattle.typst_language.specs.declared.reading.AtNewline.TheVariants as newline
 use Rattle.typst_language.specs.Shape.{Shape, becomes}
-use Rattle.typst_language.specs.Shape.Change.{stays, turns_wrong}
+use Rattle.typst_language.specs.Shape.NodeChange.{stays, turns_wrong}
 use Rattle.typst_language.specs.Shape.Shape.{keeps}
 use Rattle.typst_language.specs.Syntax.{Parser, ◌>>=◌, ◌>>◌}
 use Rattle.typst_language.specs.Syntax.Parser.{gives, pick, repeat}
@@ -20,7 +20,7 @@ path_turn x = do
   name ← pick dot expect_identifier (gives false)
   gives (dot, tt)
 
--- a name; another token in its place is unexpected
+-- a name; any other token is unexpected
 unfoldable pub import_name : Parser (Unit {0})
 import_name = do
   ahead ← peek

@@ -18,10 +18,10 @@ pub record Blocks (l : Level) : Type 0 where
   -- what is known of first readings is what they find
   pub guess : (z : Place) (outer : Reading) → l.guess l.levels z outer ≡ guess_of l z outer
 
--- `Means`, where no block is being read
+-- `Means`, at a level where blocks may be read
 abbrev pub MeansAround : {A : Type 0} → Frame → Parser A → View → Result A AllocError → View → Type 0
 MeansAround f q old r new = (l : Level) → Fills l f → Blocks l → Reads l q old r new
 
--- `MeansBy`, where no block is being read
+-- `MeansBy`, at a level where blocks may be read
 abbrev pub MeansAroundBy : {A B : Type 0} → Frame → (B → A) → Parser A → View → Result B AllocError → View → Type 0
 MeansAroundBy f told q old r new = (l : Level) → Fills l f → Blocks l → ReadsBy l told q old r new

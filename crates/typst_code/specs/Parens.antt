@@ -13,8 +13,8 @@ use Rattle.typst_language.specs.declared.reading.AtNewline.TheVariants as newlin
 use Rattle.typst_language.specs.declared.reading.Reading.{Reading}
 use Rattle.typst_lines.specs.Place.{Place}
 use Rattle.typst_language.specs.Expected.{expects}
-use Rattle.typst_language.specs.declared.calls.Behind.{Behind}
-use Rattle.typst_language.specs.declared.calls.Behind.TheVariants as behind
+use Rattle.typst_language.specs.declared.calls.AfterName.{AfterName}
+use Rattle.typst_language.specs.declared.calls.AfterName.TheVariants as after
 use Rattle.typst_code.specs.Closures.{closure_shape}
 use Rattle.typst_code.specs.Params.{params}
 use Rattle.typst_code.specs.Parts.{expression_if}
@@ -23,62 +23,62 @@ use Rattle.typst_code.specs.Groups.{group, group_rest}
 
 -- what comes after a group: an arrow makes parameters of it; an equals sign makes it what is
 -- assigned to, unless it is one expression in parens
-abbrev pub behind_group : SyntaxKind → SyntaxKind → Behind
-behind_group group k =
-    if same kind.Arrow k then behind.Arrow
-    else (if same kind.Eq k && not (same kind.Parenthesized group) then behind.Eq else behind.Nothing)
+abbrev pub after_group : SyntaxKind → SyntaxKind → AfterName
+after_group group k =
+    if same kind.Arrow k then after.Arrow
+    else (if same kind.Eq k && not (same kind.Parenthesized group) then after.Eq else after.Nothing)
 
 -- the first reading: a group; answers what comes after it
-unfoldable pub as_group : Parser Behind
+unfoldable pub as_group : Parser AfterName
 as_group = do
   read ← group
   ahead ← peek
-  gives (behind_group read ahead.kind)
+  gives (after_group read ahead.kind)
 
 -- the first reading from after its paren on; answers what comes after the group
-unfoldable pub after_paren : Parser Behind
+unfoldable pub after_paren : Parser AfterName
 after_paren = do
   x ← within (at_newline newline.Continue) (peek >> group_rest)
   ahead ← peek
-  gives (behind_group x.1 ahead.kind)
+  gives (after_group x.1 ahead.kind)
 
 -- what a first reading finds, by where it goes on after its paren and how it is read outside
 abbrev pub guess_of : Level → Place → Reading → Guess
 guess_of l z outer =
     let o = run l after_paren z (record (start_point outer) { held = at_newline newline.Continue outer }) in
-    record { behind = o.value; asks = o.asks }
+    record { after = o.value; asks = o.asks }
 
 -- an arrow comes
-abbrev pub is_arrow : Behind → Bool
-is_arrow behind.Arrow = true
-is_arrow behind.Eq = false
-is_arrow behind.Nothing = false
+abbrev pub is_arrow : AfterName → Bool
+is_arrow after.Arrow = true
+is_arrow after.Eq = false
+is_arrow after.Nothing = false
 
 -- an equals sign comes
-abbrev pub is_eq : Behind → Bool
-is_eq behind.Arrow = false
-is_eq behind.Eq = true
-is_eq behind.Nothing = false
+abbrev pub is_eq : AfterName → Bool
+is_eq after.Arrow = false
+is_eq after.Eq = true
+is_eq after.Nothing = false
 
 -- a first reading, which is given up if what comes after it asks for a second one
-abbrev pub either_reading : Parser Behind
-either_reading = either (either as_group is_arrow (params >> gives behind.Arrow)) is_eq (destructuring role.Target [] >> gives behind.Eq)
+abbrev pub either_reading : Parser AfterName
+either_reading = either (either as_group is_arrow (params >> gives after.Arrow)) is_eq (destructuring role.Target [] >> gives after.Eq)
 
 -- the reading of a group, which only with parens may be a second one
-unfoldable pub readings : Parser Behind
+unfoldable pub readings : Parser AfterName
 readings = do
   ahead ← peek
   pick (same kind.LeftParen ahead.kind) either_reading as_group
 
 -- what came after a group, if its sign did, and else nothing
-abbrev pub behind_if : Bool → Behind → Behind
-behind_if came b = if came then b else behind.Nothing
+abbrev pub after_if : Bool → AfterName → AfterName
+after_if came b = if came then b else after.Nothing
 
 -- the arrow or the equals sign after a second reading; answers whether it came
-abbrev pub sign : Behind → Parser Bool
-sign behind.Arrow = expects (same kind.Arrow) (codes "arrow")
-sign behind.Eq = expects (same kind.Eq) (codes "equals sign")
-sign behind.Nothing = gives false
+abbrev pub sign : AfterName → Parser Bool
+sign after.Arrow = expects (same kind.Arrow) (codes "arrow")
+sign after.Eq = expects (same kind.Eq) (codes "equals sign")
+sign after.Nothing = gives false
 
 -- a group, and after a second reading its sign and an expression, which aren't given up
 unfoldable pub parens : Parser (Unit {0})
@@ -87,5 +87,5 @@ parens = do
     follows ← readings
     came ← sign follows
     rest ← expression_if came
-    gives (behind_if came follows))
+    gives (after_if came follows))
   gives tt

@@ -8,8 +8,8 @@ use Rattle.typst_kinds.specs.SeenNames.{has_name, with_name}
 use Rattle.typst_language.specs.Calls.Call.{Pattern}
 use Rattle.typst_language.specs.declared.calls.Role.{Role}
 use Rattle.typst_language.specs.declared.calls.Role.TheVariants as role
-use Rattle.typst_language.specs.Shape.{Change, Shape, Seen, becomes, encloses}
-use Rattle.typst_language.specs.Shape.Change.{stays, turns_wrong, is_not}
+use Rattle.typst_language.specs.Shape.{NodeChange, Shape, Seen, becomes, encloses}
+use Rattle.typst_language.specs.Shape.NodeChange.{stays, turns_wrong, is_not}
 use Rattle.typst_language.specs.Shape.Making.{wanted}
 use Rattle.typst_language.specs.Shape.Seen.{leaf_seen, inner_seen}
 use Rattle.typst_language.specs.Shape.Shape.{keeps, holds, fails}
@@ -43,11 +43,11 @@ duplicate role.Parameter = codes "duplicate parameter: "
 duplicate _ = codes "duplicate binding: "
 
 -- a name that is bound becomes an error if it was seen
-abbrev pub when_bound : Role → List (List ℕ) → List ℕ → Change
+abbrev pub when_bound : Role → List (List ℕ) → List ℕ → NodeChange
 when_bound role names name = if has_name names name then turns_wrong (duplicate role ++ name) else stays
 
 -- what is done to what is bound: it has to be a name, one that wasn't seen
-abbrev pub bound_change : Role → List (List ℕ) → Option (List ℕ) → Change
+abbrev pub bound_change : Role → List (List ℕ) → Option (List ℕ) → NodeChange
 bound_change role names (Some name) = when_bound role names name
 bound_change role names None = is_not (codes "pattern")
 
@@ -56,7 +56,7 @@ abbrev pub with_bound : List (List ℕ) → Option (List ℕ) → List (List ℕ
 with_bound names (Some name) = with_name names name
 with_bound names None = names
 
--- a name that is bound; an expression is read in its place, so that all of it becomes one error
+-- a name that is bound; an expression is read instead, so that all of it becomes one error
 unfoldable pub bound_name : Role → List (List ℕ) → Parser (List (List ℕ))
 bound_name role names = do
   name ← node (λ name. keeps (bound_change role names name)) (do
@@ -70,7 +70,7 @@ is_target role.Target = true
 is_target role.Binding = false
 is_target role.Parameter = false
 
--- a token that begins a name, or an expression in its place
+-- a token that begins a name, or an expression instead of one
 abbrev pub begins_leaf : SyntaxKind → Bool
 begins_leaf k = among set.pattern_leaf k
 
@@ -99,8 +99,8 @@ sink_shape message again = if again then fails message else becomes kind.Spread
 unfoldable pub name_and_colon : Parser Bool
 name_and_colon = do
   name ← eat
-  behind ← peek
-  gives (same kind.Colon behind.kind)
+  after ← peek
+  gives (same kind.Colon after.kind)
 
 -- a name before a colon; answers whether it was taken. If no colon comes the name is given up
 unfoldable pub key : Parser Bool

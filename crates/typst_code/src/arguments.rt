@@ -14,7 +14,7 @@ use crate::separator;
 use crate::sequences::read_content;
 use std::alloc::AllocError;
 use typst_kinds::{Names, SyntaxKind};
-use typst_language::{AtNewline, Change, Levels, Parser};
+use typst_language::{AtNewline, Levels, NodeChange, Parser};
 use typst_markup::{Key, opens_directly, with_argument, wrap_named};
 
 /// Makes one node of a named argument: its key has to be a name, one that wasn't seen.
@@ -27,9 +27,9 @@ fn wrap_argument(
     ensures { OnOk result (Rewrapped from (spec.argument_shape names.now key.now) p.old p.new) }
 {
     match key {
-        None => p.change(from, Change::Stays)?,
+        None => p.change(from, NodeChange::Stays)?,
         Some(Key::Name(name)) => wrap_named(p, from, names, name.as_str())?,
-        Some(_) => p.wrap_changed(from, Change::IsNot("identifier"), SyntaxKind::Named)?,
+        Some(_) => p.wrap_changed(from, NodeChange::IsNot("identifier"), SyntaxKind::Named)?,
     }
     Ok(())
 }

@@ -8,7 +8,7 @@ use crate::parameters::params;
 use crate::parts::expression_if;
 use std::alloc::AllocError;
 use typst_kinds::{Names, SyntaxKind};
-use typst_language::{Change, Levels, Parser, Role, deeper_pattern};
+use typst_language::{Levels, NodeChange, Parser, Role, deeper_pattern};
 
 /// What is bound.
 #[derive(Debug, Clone, Copy, PartialEq, Eq)]
@@ -70,11 +70,11 @@ fn wrap_bound(p: &mut Parser<'_>, from: usize, bound: Bound) -> Result<(), Alloc
     ensures { OnOk result (Rewrapped from (spec.bound_shape bound) p.old p.new) }
 {
     match bound {
-        Bound::Name => p.change(from, Change::Stays)?,
+        Bound::Name => p.change(from, NodeChange::Stays)?,
         Bound::Function => {
             p.wrap(from, SyntaxKind::Closure)?;
         }
-        Bound::Names => p.change(from, Change::Stays)?,
+        Bound::Names => p.change(from, NodeChange::Stays)?,
     }
     Ok(())
 }

@@ -7,90 +7,90 @@ ghost use Rattle.typst_code.specs.Closures as spec;
 use crate::parts::code_expression;
 use std::alloc::AllocError;
 use typst_kinds::SyntaxKind;
-use typst_language::{Behind, Change, Levels, Parser};
+use typst_language::{AfterName, Levels, NodeChange, Parser};
 
 /// What comes after a name: only an arrow counts.
-fn behind_name(kind: SyntaxKind) -> Behind
-    ensures { result ≡ spec.behind_name kind }
+fn after_name(kind: SyntaxKind) -> AfterName
+    ensures { result ≡ spec.after_name kind }
 {
     if kind == SyntaxKind::Arrow {
-        return Behind::Arrow;
+        return AfterName::Arrow;
     }
-    Behind::Nothing
+    AfterName::Nothing
 }
 
 /// What comes after an underscore: an arrow or an equals sign counts.
-fn behind_underscore(kind: SyntaxKind) -> Behind
-    ensures { result ≡ spec.behind_underscore kind }
+fn after_underscore(kind: SyntaxKind) -> AfterName
+    ensures { result ≡ spec.after_underscore kind }
 {
     if kind == SyntaxKind::Arrow {
-        return Behind::Arrow;
+        return AfterName::Arrow;
     }
     if kind == SyntaxKind::Eq {
-        return Behind::Eq;
+        return AfterName::Eq;
     }
-    Behind::Nothing
+    AfterName::Nothing
 }
 
 /// Makes parameters of a name before an arrow.
-fn wrap_name(p: &mut Parser<'_>, from: usize, behind: Behind) -> Result<(), AllocError>
-    ensures { OnOk result (Rewrapped from (spec.name_shape behind) p.old p.new) }
+fn wrap_name(p: &mut Parser<'_>, from: usize, after: AfterName) -> Result<(), AllocError>
+    ensures { OnOk result (Rewrapped from (spec.name_shape after) p.old p.new) }
 {
-    match behind {
-        Behind::Arrow => {
+    match after {
+        AfterName::Arrow => {
             p.wrap(from, SyntaxKind::Params)?;
         }
-        Behind::Eq => p.change(from, Change::Stays)?,
-        Behind::Nothing => p.change(from, Change::Stays)?,
+        AfterName::Eq => p.change(from, NodeChange::Stays)?,
+        AfterName::Nothing => p.change(from, NodeChange::Stays)?,
     }
     Ok(())
 }
 
 /// Makes parameters of an underscore before an arrow, and an error of one that is alone.
-fn wrap_underscore(p: &mut Parser<'_>, from: usize, behind: Behind) -> Result<(), AllocError>
-    ensures { OnOk result (Rewrapped from (spec.underscore_shape behind) p.old p.new) }
+fn wrap_underscore(p: &mut Parser<'_>, from: usize, after: AfterName) -> Result<(), AllocError>
+    ensures { OnOk result (Rewrapped from (spec.underscore_shape after) p.old p.new) }
 {
-    match behind {
-        Behind::Arrow => {
+    match after {
+        AfterName::Arrow => {
             p.wrap(from, SyntaxKind::Params)?;
         }
-        Behind::Eq => p.change(from, Change::Stays)?,
-        Behind::Nothing => p.change(from, Change::IsNot("expression"))?,
+        AfterName::Eq => p.change(from, NodeChange::Stays)?,
+        AfterName::Nothing => p.change(from, NodeChange::IsNot("expression"))?,
     }
     Ok(())
 }
 
 /// Makes a closure or an assignment of all that was read.
-pub fn wrap_closure(p: &mut Parser<'_>, from: usize, behind: Behind) -> Result<(), AllocError>
-    ensures { OnOk result (Rewrapped from (spec.closure_shape behind) p.old p.new) }
+pub fn wrap_closure(p: &mut Parser<'_>, from: usize, after: AfterName) -> Result<(), AllocError>
+    ensures { OnOk result (Rewrapped from (spec.closure_shape after) p.old p.new) }
 {
-    match behind {
-        Behind::Arrow => {
+    match after {
+        AfterName::Arrow => {
             p.wrap(from, SyntaxKind::Closure)?;
         }
-        Behind::Eq => {
+        AfterName::Eq => {
             p.wrap(from, SyntaxKind::DestructAssignment)?;
         }
-        Behind::Nothing => p.change(from, Change::Stays)?,
+        AfterName::Nothing => p.change(from, NodeChange::Stays)?,
     }
     Ok(())
 }
 
 /// Reads the arrow or the equals sign, and an expression.
-fn right_side<L: Levels>(g: &L, p: &mut Parser<'_>, behind: Behind) -> Result<(), AllocError>
+fn right_side<L: Levels>(g: &L, p: &mut Parser<'_>, after: AfterName) -> Result<(), AllocError>
     requires { L.may_call g.now }
-    ensures { Means (L.frame g.now) (spec.right_side behind) p.old result p.new }
+    ensures { Means (L.frame g.now) (spec.right_side after) p.old result p.new }
 {
-    match behind {
-        Behind::Arrow => {
+    match after {
+        AfterName::Arrow => {
             p.eat(g)?;
             code_expression(g, p)?;
         }
-        Behind::Eq => {
+        AfterName::Eq => {
             p.eat(g)?;
             code_expression(g, p)?;
         }
-        Behind::Nothing => {}
+        AfterName::Nothing => {}
     }
     Ok(())
 }
@@ -102,10 +102,10 @@ pub fn named<L: Levels>(g: &L, p: &mut Parser<'_>) -> Result<(), AllocError>
 {
     let from = p.marker();
     p.eat(g)?;
-    let behind = behind_name(p.current());
-    wrap_name(p, from, behind)?;
-    right_side(g, p, behind)?;
-    wrap_closure(p, from, behind)?;
+    let after = after_name(p.current());
+    wrap_name(p, from, after)?;
+    right_side(g, p, after)?;
+    wrap_closure(p, from, after)?;
     Ok(())
 }
 
@@ -116,9 +116,9 @@ pub fn placeholder<L: Levels>(g: &L, p: &mut Parser<'_>) -> Result<(), AllocErro
 {
     let from = p.marker();
     p.eat(g)?;
-    let behind = behind_underscore(p.current());
-    wrap_underscore(p, from, behind)?;
-    right_side(g, p, behind)?;
-    wrap_closure(p, from, behind)?;
+    let after = after_underscore(p.current());
+    wrap_underscore(p, from, after)?;
+    right_side(g, p, after)?;
+    wrap_closure(p, from, after)?;
     Ok(())
 }

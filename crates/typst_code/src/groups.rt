@@ -8,11 +8,11 @@ ghost use Rattle.typst_language.specs.Changes.{IsFine, meant};
 ghost use Rattle.typst_language.specs.View.{Means, Rewrapped};
 ghost use Rattle.typst_code.specs.Groups as spec;
 
-use crate::listing::Items;
+use crate::listing::ParenItems;
 use crate::{code_expression, separator};
 use std::alloc::AllocError;
 use typst_kinds::{Names, SyntaxKind};
-use typst_language::{AtNewline, Change, Levels, Parser};
+use typst_language::{AtNewline, Levels, NodeChange, Parser};
 use typst_markup::{Key, begins_code, key_of};
 
 /// Whether an item begins at this token.
@@ -41,7 +41,7 @@ pub(crate) fn pair<L: Levels>(g: &L, p: &mut Parser<'_>) -> Result<Option<Key>, 
 {
     let from = p.marker();
     code_expression(g, p)?;
-    p.change(from, Change::Stays)?;
+    p.change(from, NodeChange::Stays)?;
     if p.current() != SyntaxKind::Colon {
         return Ok(None);
     }
@@ -61,10 +61,10 @@ fn wrap_item(
     ensures { OnOk result (Rewrapped from (spec.item_shape keys.now key.now) p.old p.new) }
 {
     match key {
-        None => p.change(from, Change::Stays)?,
+        None => p.change(from, NodeChange::Stays)?,
         Some(Key::Name(name)) => wrap_pair(p, from, keys, name.as_str(), SyntaxKind::Named)?,
         Some(Key::Str(text)) => wrap_pair(p, from, keys, text.as_str(), SyntaxKind::Keyed)?,
-        Some(Key::Other) => p.wrap_changed(from, Change::Stays, SyntaxKind::Keyed)?,
+        Some(Key::Other) => p.wrap_changed(from, NodeChange::Stays, SyntaxKind::Keyed)?,
     }
     Ok(())
 }
@@ -81,28 +81,28 @@ fn wrap_pair(
     ensures { OnOk result (Rewrapped from (holds (spec.when_seen keys.now key.now) kind) p.old p.new) }
 {
     if !keys.has(key) {
-        p.wrap_changed(from, Change::Stays, kind)?;
+        p.wrap_changed(from, NodeChange::Stays, kind)?;
         return Ok(());
     }
     let message = format!(in p.alloc(); "duplicate key: {key}")?;
-    p.wrap_changed(from, Change::TurnsWrong(message.as_str()), kind)?;
+    p.wrap_changed(from, NodeChange::TurnsWrong(message.as_str()), kind)?;
     Ok(())
 }
 
 /// What is done to an item that doesn't fit the others.
-fn misfit(are_pairs: Option<bool>, is_pair: bool) -> Change<'static>
+fn misfit(are_pairs: Option<bool>, is_pair: bool) -> NodeChange<'static>
     ensures meant { meant result ≡ spec.misfit are_pairs is_pair }
     ensures fine { IsFine result }
 {
     match are_pairs {
-        Some(true) if !is_pair => Change::IsNot("named or keyed pair"),
-        Some(false) if is_pair => Change::IsNot("expression"),
-        _ => Change::Stays,
+        Some(true) if !is_pair => NodeChange::IsNot("named or keyed pair"),
+        Some(false) if is_pair => NodeChange::IsNot("expression"),
+        _ => NodeChange::Stays,
     }
 }
 
 /// Reads one item; answers what was found of the items so far.
-fn item<L: Levels>(g: &L, p: &mut Parser<'_>, items: Items) -> Result<Items, AllocError>
+fn item<L: Levels>(g: &L, p: &mut Parser<'_>, items: ParenItems) -> Result<ParenItems, AllocError>
     requires { L.may_call g.now }
     ensures { Means (L.frame g.now) (spec.item items) p.old result p.new }
 {
@@ -121,8 +121,8 @@ fn item<L: Levels>(g: &L, p: &mut Parser<'_>, items: Items) -> Result<Items, All
 fn group_turn<L: Levels>(
     g: &L,
     p: &mut Parser<'_>,
-    items: Items,
-) -> Result<(bool, Items), AllocError>
+    items: ParenItems,
+) -> Result<(bool, ParenItems), AllocError>
     requires { L.may_call g.now }
     ensures { Means (L.frame g.now) (spec.group_turn items) p.old result p.new }
 {
@@ -139,7 +139,11 @@ fn group_turn<L: Levels>(
 }
 
 /// Reads the items in parens; answers what was found of them.
-fn group_items<L: Levels>(g: &L, p: &mut Parser<'_>, items: Items) -> Result<Items, AllocError>
+fn group_items<L: Levels>(
+    g: &L,
+    p: &mut Parser<'_>,
+    items: ParenItems,
+) -> Result<ParenItems, AllocError>
     requires { L.may_call g.now }
     ensures { Means (L.frame g.now) (repeat spec.group_turn items) p.old result p.new }
 {
@@ -163,7 +167,7 @@ pub(crate) fn group<L: Levels>(g: &L, p: &mut Parser<'_>) -> Result<SyntaxKind, 
     let outer = p.enter_rule(AtNewline::Continue);
     p.eat(g)?;
     let colon = p.eat_if(p.current() == SyntaxKind::Colon, g)?;
-    let items = group_items(g, p, Items::new(p.alloc(), colon))?;
+    let items = group_items(g, p, ParenItems::new(p.alloc(), colon))?;
     let closed = p.eat_if(p.current() == SyntaxKind::RightParen, g)?;
     p.leave(outer, g)?;
     let kind = items.kind();

@@ -8,7 +8,7 @@ ghost use Rattle.typst_code.specs.Imports as spec;
 use crate::{code_expression, separator};
 use std::alloc::AllocError;
 use typst_kinds::SyntaxKind;
-use typst_language::{AtNewline, Change, Levels, Parser};
+use typst_language::{AtNewline, Levels, NodeChange, Parser};
 
 /// Reads a dot and a name; answers whether they came.
 fn path_turn<L: Levels>(g: &L, p: &mut Parser<'_>) -> Result<bool, AllocError>
@@ -33,7 +33,7 @@ fn path_turns<L: Levels>(g: &L, p: &mut Parser<'_>) -> Result<(), AllocError>
     }
 }
 
-/// Reads a name; another token in its place is unexpected.
+/// Reads a name; any other token is unexpected.
 fn import_name<L: Levels>(g: &L, p: &mut Parser<'_>) -> Result<(), AllocError>
     ensures { Means (L.frame g.now) spec.import_name p.old result p.new }
 {
@@ -90,7 +90,7 @@ fn wrap_import(p: &mut Parser<'_>, from: usize, renamed: bool) -> Result<(), All
         p.wrap(from, SyntaxKind::RenamedImportItem)?;
         return Ok(());
     }
-    p.change(from, Change::Stays)?;
+    p.change(from, NodeChange::Stays)?;
     Ok(())
 }
 
@@ -135,10 +135,10 @@ fn close_parens(p: &mut Parser<'_>, from: usize, closed: bool) -> Result<(), All
     ensures { OnOk result (Rewrapped from (spec.parens_shape closed) p.old p.new) }
 {
     if closed {
-        p.change(from, Change::Stays)?;
+        p.change(from, NodeChange::Stays)?;
         return Ok(());
     }
-    p.change(from, Change::TurnsWrong("unclosed delimiter"))?;
+    p.change(from, NodeChange::TurnsWrong("unclosed delimiter"))?;
     Ok(())
 }
 

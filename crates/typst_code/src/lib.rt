@@ -22,7 +22,7 @@ pub use bindings::{Bound, let_binding};
 pub use closures::{named, placeholder, wrap_closure};
 pub use expressions::code_expr;
 pub use heads::{CodeHead, CodeTail};
-pub use listing::Items;
+pub use listing::ParenItems;
 pub use parameters::params;
 pub use parts::{code_expression, expression_if, separator};
 pub use parts_listing::Parts;

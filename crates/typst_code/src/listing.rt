@@ -1,4 +1,4 @@
-//! What the items in parens were found to be.
+//! What is known of the items in parens.
 
 ghost use Rattle.std.specs.Prelude.{◌≡◌, Some, IfOk, OnOk, IsTrue, false};
 ghost use Rattle.typst_kinds.specs.Kinds.{is_error};
@@ -8,9 +8,10 @@ use std::alloc::{AllocError, Global};
 use typst_kinds::{Names, SyntaxKind};
 use typst_markup::Key;
 
-/// What the items in parens were found to be so far.
+/// What is known of the items in parens so far, which decides what the parens are: an array, a dictionary or an
+/// expression in parens.
 #[derive(Drop)]
-pub struct Items {
+pub struct ParenItems {
     /// Whether there is any.
     pub any: bool,
     /// Whether they may be one expression in parens: no comma, no spread, no pair, no second item.
@@ -21,12 +22,12 @@ pub struct Items {
     pub keys: Names,
 }
 
-impl Items {
+impl ParenItems {
     /// What is known before the first item; a colon first makes the items a dictionary's.
-    pub(crate) fn new(alloc: Global, colon: bool) -> Items
+    pub(crate) fn new(alloc: Global, colon: bool) -> ParenItems
         ensures { result ≡ spec.no_items colon }
     {
-        Items {
+        ParenItems {
             any: false,
             is_plain: true,
             are_pairs: if colon { Some(true) } else { None },
@@ -35,7 +36,7 @@ impl Items {
     }
 
     /// What was found, with a spread.
-    pub(crate) fn with_spread(self) -> Items
+    pub(crate) fn with_spread(self) -> ParenItems
         ensures { result ≡ spec.with_spread self }
     {
         let mut items = self;
@@ -45,7 +46,7 @@ impl Items {
     }
 
     /// What was found, with one more item, which has a key if it is a pair.
-    pub(crate) fn with_item(self, key: Option<Key>) -> Result<Items, AllocError>
+    pub(crate) fn with_item(self, key: Option<Key>) -> Result<ParenItems, AllocError>
         ensures { IfOk result (λ items. items ≡ spec.with_item self key) }
     {
         let mut items = self;
@@ -61,7 +62,7 @@ impl Items {
     }
 
     /// What was found, after a comma or none.
-    pub(crate) fn with_comma(self, comma: bool) -> Items
+    pub(crate) fn with_comma(self, comma: bool) -> ParenItems
         ensures { result ≡ spec.with_comma comma self }
     {
         let mut items = self;

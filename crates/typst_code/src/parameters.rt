@@ -11,7 +11,7 @@ use crate::parts::{code_expression, separator};
 use crate::patterns::{sink, wrap_named, wrap_sink};
 use std::alloc::AllocError;
 use typst_kinds::{Names, SyntaxKind, set};
-use typst_language::{AtNewline, Change, Levels, Parser, Role, deeper_pattern};
+use typst_language::{AtNewline, Levels, NodeChange, Parser, Role, deeper_pattern};
 use typst_tree::SyntaxNode;
 
 /// Whether the first of some nodes is a name.
@@ -46,7 +46,7 @@ fn defaulted<L: Levels>(
 {
     let from = p.marker();
     let seen = deeper_pattern(g, p, Role::Parameter, names)?;
-    p.change(from, Change::Stays)?;
+    p.change(from, NodeChange::Stays)?;
     if p.current() != SyntaxKind::Colon {
         return Ok((None, seen));
     }

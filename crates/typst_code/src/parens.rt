@@ -10,62 +10,62 @@ use crate::groups::group;
 use crate::{destructuring, expression_if, params, wrap_closure};
 use std::alloc::AllocError;
 use typst_kinds::{Names, SyntaxKind};
-use typst_language::{Behind, Levels, Parser, Role};
+use typst_language::{AfterName, Levels, Parser, Role};
 
 /// What comes after a group of this kind: an arrow, or an equals sign that asks for a second reading.
-fn behind_group(group: SyntaxKind, kind: SyntaxKind) -> Behind
-    ensures { result ≡ spec.behind_group group kind }
+fn after_group(group: SyntaxKind, kind: SyntaxKind) -> AfterName
+    ensures { result ≡ spec.after_group group kind }
 {
     if kind == SyntaxKind::Arrow {
-        return Behind::Arrow;
+        return AfterName::Arrow;
     }
     if kind == SyntaxKind::Eq && group != SyntaxKind::Parenthesized {
-        return Behind::Eq;
+        return AfterName::Eq;
     }
-    Behind::Nothing
+    AfterName::Nothing
 }
 
 /// Reads a group; answers what comes after it.
-fn as_group<L: Levels>(g: &L, p: &mut Parser<'_>) -> Result<Behind, AllocError>
+fn as_group<L: Levels>(g: &L, p: &mut Parser<'_>) -> Result<AfterName, AllocError>
     requires { L.may_call g.now }
     ensures { Means (L.frame g.now) spec.as_group p.old result p.new }
 {
     let kind = group(g, p)?;
-    Ok(behind_group(kind, p.current()))
+    Ok(after_group(kind, p.current()))
 }
 
 /// Reads a group; if what comes after it asks for that, goes back and reads parameters or what is assigned to.
-fn guess<L: Levels>(g: &L, p: &mut Parser<'_>) -> Result<Behind, AllocError>
+fn guess<L: Levels>(g: &L, p: &mut Parser<'_>) -> Result<AfterName, AllocError>
     requires may { L.may_call g.now }
     requires paren { p.old.hand.kind ≡ kind.LeftParen }
     ensures { MeansAround (L.frame g.now) spec.either_reading p.old result p.new }
 {
     let aside = p.begin_guess();
     let place = p.checkpoint();
-    let behind = as_group(g, p)?;
-    match behind {
-        Behind::Arrow => {
+    let after = as_group(g, p)?;
+    match after {
+        AfterName::Arrow => {
             p.restore(place)?;
-            p.remember(behind, g)?;
+            p.remember(after, g)?;
             p.look_too(aside);
             params(g, p)?;
             p.drop_notes(place);
         }
-        Behind::Eq => {
+        AfterName::Eq => {
             p.restore(place)?;
-            p.remember(behind, g)?;
+            p.remember(after, g)?;
             p.look_too(aside);
             destructuring(g, p, Role::Target, Names::new(p.alloc()))?;
             p.drop_notes(place);
         }
-        Behind::Nothing => p.look_before(place, aside),
+        AfterName::Nothing => p.look_before(place, aside),
     }
-    Ok(behind)
+    Ok(after)
 }
 
 /// Reads a group, or in a second reading parameters or what is assigned to; answers what comes after it. If it is
 /// remembered that a second reading is asked for, there is no first one.
-fn readings<L: Levels>(g: &L, p: &mut Parser<'_>) -> Result<Behind, AllocError>
+fn readings<L: Levels>(g: &L, p: &mut Parser<'_>) -> Result<AfterName, AllocError>
     requires { L.may_call g.now }
     ensures { MeansAround (L.frame g.now) spec.readings p.old result p.new }
 {
@@ -74,44 +74,44 @@ fn readings<L: Levels>(g: &L, p: &mut Parser<'_>) -> Result<Behind, AllocError>
     }
     let place = p.checkpoint();
     match p.guessed(g) {
-        Some((Behind::Arrow, hull)) => {
+        Some((AfterName::Arrow, hull)) => {
             p.look_too(hull);
             params(g, p)?;
             p.drop_notes(place);
-            return Ok(Behind::Arrow);
+            return Ok(AfterName::Arrow);
         }
-        Some((Behind::Eq, hull)) => {
+        Some((AfterName::Eq, hull)) => {
             p.look_too(hull);
             destructuring(g, p, Role::Target, Names::new(p.alloc()))?;
             p.drop_notes(place);
-            return Ok(Behind::Eq);
+            return Ok(AfterName::Eq);
         }
         _ => {}
     }
-    let behind = guess(g, p)?;
+    let after = guess(g, p)?;
     p.end_guess();
-    Ok(behind)
+    Ok(after)
 }
 
 /// Takes the arrow or the equals sign after a second reading; answers whether it came.
-fn sign<L: Levels>(g: &L, p: &mut Parser<'_>, behind: Behind) -> Result<bool, AllocError>
-    ensures { Means (L.frame g.now) (spec.sign behind) p.old result p.new }
+fn sign<L: Levels>(g: &L, p: &mut Parser<'_>, after: AfterName) -> Result<bool, AllocError>
+    ensures { Means (L.frame g.now) (spec.sign after) p.old result p.new }
 {
-    match behind {
-        Behind::Arrow => Ok(p.expects(p.current() == SyntaxKind::Arrow, "arrow", g)?),
-        Behind::Eq => Ok(p.expects(p.current() == SyntaxKind::Eq, "equals sign", g)?),
-        Behind::Nothing => Ok(false),
+    match after {
+        AfterName::Arrow => Ok(p.expects(p.current() == SyntaxKind::Arrow, "arrow", g)?),
+        AfterName::Eq => Ok(p.expects(p.current() == SyntaxKind::Eq, "equals sign", g)?),
+        AfterName::Nothing => Ok(false),
     }
 }
 
 /// What came after a group, if its sign did, and else nothing.
-fn behind_if(came: bool, behind: Behind) -> Behind
-    ensures { result ≡ spec.behind_if came behind }
+fn after_if(came: bool, after: AfterName) -> AfterName
+    ensures { result ≡ spec.after_if came after }
 {
     if came {
-        return behind;
+        return after;
     }
-    Behind::Nothing
+    AfterName::Nothing
 }
 
 /// Reads a group, a closure or an assignment.
@@ -120,9 +120,9 @@ pub(crate) fn parens<L: Levels>(g: &L, p: &mut Parser<'_>) -> Result<(), AllocEr
     ensures { MeansAround (L.frame g.now) spec.parens p.old result p.new }
 {
     let from = p.marker();
-    let behind = readings(g, p)?;
-    let came = sign(g, p, behind)?;
+    let after = readings(g, p)?;
+    let came = sign(g, p, after)?;
     expression_if(g, p, came)?;
-    wrap_closure(p, from, behind_if(came, behind))?;
+    wrap_closure(p, from, after_if(came, after))?;
     Ok(())
 }

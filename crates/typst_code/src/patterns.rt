@@ -11,7 +11,7 @@ use crate::parts::{atomic_expression, separator};
 use crate::parts_listing::Parts;
 use std::alloc::{AllocError, Global};
 use typst_kinds::{Names, SyntaxKind, Text, set};
-use typst_language::{AtNewline, Change, Levels, Parser, Role, deeper_pattern};
+use typst_language::{AtNewline, Levels, NodeChange, Parser, Role, deeper_pattern};
 use typst_tree::SyntaxNode;
 
 /// The name that the first of some nodes is.
@@ -59,7 +59,7 @@ fn change_bound(
 {
     match name {
         Some(name) => change_seen(p, from, role, names, name.as_str())?,
-        None => p.change(from, Change::IsNot("pattern"))?,
+        None => p.change(from, NodeChange::IsNot("pattern"))?,
     }
     Ok(())
 }
@@ -75,12 +75,12 @@ fn change_seen(
     ensures { OnOk result (Rewrapped from (keeps (spec.when_bound role names.now name.now)) p.old p.new) }
 {
     if !names.has(name) {
-        p.change(from, Change::Stays)?;
+        p.change(from, NodeChange::Stays)?;
         return Ok(());
     }
     let mut message = String::from_str(p.alloc(), duplicate(role))?;
     message.push_str(name)?;
-    p.change(from, Change::TurnsWrong(message.as_str()))?;
+    p.change(from, NodeChange::TurnsWrong(message.as_str()))?;
     Ok(())
 }
 
@@ -107,7 +107,7 @@ fn bound_name<L: Levels>(
 {
     let from = p.marker();
     atomic_expression(g, p)?;
-    p.change(from, Change::Stays)?;
+    p.change(from, NodeChange::Stays)?;
     let name = name_of(p.alloc(), p.given_since(from))?;
     change_bound(p, from, role, &names, &name)?;
     Ok(with_bound(names, name)?)
@@ -149,7 +149,7 @@ fn pattern_leaf<L: Levels>(
     Ok(bound_name(g, p, role, names)?)
 }
 
-/// Whether a name or an expression in its place begins at this token.
+/// Whether a name, or an expression instead of one, begins at this token.
 fn begins_leaf(kind: SyntaxKind) -> bool
     ensures { result ≡ spec.begins_leaf kind }
 {
@@ -263,9 +263,9 @@ pub(crate) fn wrap_named(
     ensures { OnOk result (Rewrapped from (spec.named_shape is_name) p.old p.new) }
 {
     match is_name {
-        None => p.change(from, Change::Stays)?,
-        Some(true) => p.wrap_changed(from, Change::Stays, SyntaxKind::Named)?,
-        Some(false) => p.wrap_changed(from, Change::IsNot("identifier"), SyntaxKind::Named)?,
+        None => p.change(from, NodeChange::Stays)?,
+        Some(true) => p.wrap_changed(from, NodeChange::Stays, SyntaxKind::Named)?,
+        Some(false) => p.wrap_changed(from, NodeChange::IsNot("identifier"), SyntaxKind::Named)?,
     }
     Ok(())
 }

@@ -2,7 +2,7 @@
 
 ghost use Rattle.std.specs.Prelude.{◌≡◌, OnOk, IfOk, IfSome, false};
 ghost use Rattle.typst_kinds.specs.Kinds.{is_error};
-ghost use Rattle.typst_language.specs.Hand.{told};
+ghost use Rattle.typst_language.specs.Hand.{as_at_hand};
 ghost use Rattle.typst_language.specs.View.{Means, MeansBy, Rewrapped, bare_growth};
 ghost use Rattle.typst_code.specs.Statements as spec;
 ghost use Rattle.typst_code.specs.Outside.{MeansAround, MeansAroundBy};

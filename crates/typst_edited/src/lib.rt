@@ -8,4 +8,4 @@ mod whole;
 
 pub use draws::{Draws, boundary};
 pub use edit::{Edit, Made, edit_of};
-pub use whole::{Wanted, are_alike, are_same, are_same_lines, fault};
+pub use whole::{Wanted, are_alike, are_same, are_same_lines, fault, nodes};

@@ -12,13 +12,14 @@ pub struct Wanted {
 }
 
 impl Wanted {
+    /// The tree and the lines of a text.
     pub fn of<C: Classes>(alloc: Global, text: &str, classes: &C) -> Result<Wanted, AllocError> {
         let tree = parse(alloc, text, classes)?;
         let lines = Lines::new(alloc, String::from_str(alloc, text)?)?;
         Ok(Wanted { tree, lines })
     }
 
-    /// Those of a text after an edit; nothing where its range isn't one of the text.
+    /// The tree and the lines of a text after an edit; nothing where its range isn't one of the text.
     pub fn after<C: Classes>(
         alloc: Global,
         text: &str,
@@ -104,7 +105,7 @@ pub fn are_same_lines(one: &Lines<String>, other: &Lines<String>) -> bool {
 }
 
 /// The nodes of a tree, each before its children.
-fn nodes(alloc: Global, root: &SyntaxNode) -> Result<Vec<&SyntaxNode>, AllocError> {
+pub fn nodes(alloc: Global, root: &SyntaxNode) -> Result<Vec<&SyntaxNode>, AllocError> {
     let (mut all, mut left) = (Vec::new(alloc), Vec::new(alloc));
     left.push(root)?;
     for _ in 0..root.descendants() {
@@ -132,10 +133,10 @@ fn take_next<'a>(
 fn have_text(nodes: &[&SyntaxNode], text: &str) -> bool {
     let mut rest = text;
     for node in nodes {
-        let Some(behind) = rest.strip_prefix(node.leaf_text()) else {
+        let Some(after) = rest.strip_prefix(node.leaf_text()) else {
             return false;
         };
-        rest = behind;
+        rest = after;
     }
     rest.is_empty()
 }

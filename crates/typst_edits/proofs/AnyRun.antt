@@ -12,10 +12,10 @@ use Rattle.typst_language.specs.Point.{Trivia, gap_of}
 use Rattle.typst_language.specs.declared.calls.Note.{Note}
 use Rattle.typst_language.proofs.Places.{moved-min, ahead-left}
 use Rattle.typst_candidates.specs.declared.entry.Entry.{Entry}
-use Rattle.typst_candidates.specs.declared.entry.Tag.{Tag}
-use Rattle.typst_candidates.specs.declared.entry.Tag.TheVariants as tag
+use Rattle.typst_candidates.specs.declared.entry.EntryKind.{EntryKind}
+use Rattle.typst_candidates.specs.declared.entry.EntryKind.TheVariants as entry_kind
 use Rattle.typst_candidates.specs.Candidates.{Candidate, begins}
-use Rattle.typst_candidates.proofs.Rows.{begins_order}
+use Rattle.typst_candidates.proofs.Edges.{begins_order}
 use Rattle.typst_candidates.specs.Entries.{entries_by, units_of, spliced}
 use Rattle.typst_grammar.specs.declared.part.RunKind.{RunKind}
 use Rattle.typst_grammar.specs.declared.part.RunKind.TheVariants as of
@@ -24,15 +24,15 @@ use Rattle.typst_grammar.specs.Pieces.{run_level, stops_of, end_on}
 use Rattle.typst_edits.specs.BlockTest.{entries_in, front_in, rear_in}
 use Rattle.typst_edits.specs.CandidateRuns.{IsPieces}
 use Rattle.typst_edits.specs.Edit.{text_with}
-use Rattle.typst_edits.specs.Frame.{Run, read_as, opened_by, end_by, cut_at, is_over, nodes_now, path_to, Agrees, Before, Behind, PassesPieces, Gives, of_pieces}
-use Rattle.typst_edits.specs.Joint.{Meets as MeetsBehind}
+use Rattle.typst_edits.specs.Frame.{Run, read_as, opened_by, end_by, cut_at, is_over, nodes_now, path_to, Agrees, Before, After, PassesPieces, Gives, of_pieces}
+use Rattle.typst_edits.specs.Joint.{Meets as MeetsAfter}
 use Rattle.typst_edits.specs.KeptNodes.{kids_of_run, run_from, StandsBetween}
 use Rattle.typst_edits.specs.Leading.{bytes_of}
 use Rattle.typst_edits.specs.OneReading.{TakesNone, ServesMore}
 use Rattle.typst_edits.specs.PieceNotes.{listed}
 use Rattle.typst_edits.specs.RootPieces.{StandsAt}
 use Rattle.typst_edits.specs.Runs.{AllGo, End}
-use Rattle.typst_edits.specs.RunTest.{Reading, reading_on, read_by, carried_by, byte_behind, nodes_by, notes_by, SaysPiece, IsLast, BeginsAt, Ends, LooksFrom, Meets, PassesRead, FoundRun}
+use Rattle.typst_edits.specs.RunTest.{Reading, reading_on, read_by, carried_by, byte_after, nodes_by, notes_by, SaysPiece, IsLast, BeginsAt, Ends, LooksFrom, Meets, PassesRead, FoundRun}
 use Rattle.typst_edits.specs.RunTest.Ends.{some as apart, none as at_once}
 use Rattle.typst_edits.specs.RunTest.LooksFrom.{pieces as from_pieces, closing as from_closing, nothing as from_nothing}
 use Rattle.typst_edits.specs.Sequence.{Sequence, first_of, first_end, then_of, then_end, then_place}
@@ -99,15 +99,15 @@ one-seat front old at ts c d s o same both =
 
 -- ---- what entries say
 
-abbrev line_in : Bool → Tag → Bool
-line_in b (tag.Piece line) = line
+abbrev line_in : Bool → EntryKind → Bool
+line_in b (entry_kind.Piece line) = line
 line_in b _ = b
 
 -- An entry says one thing.
 says-once : (es : List Entry) (a b : ℕ) (x y : Bool × ℕ) → SaysPiece es a x → SaysPiece es b y → a ≡ b → x ≡ y
 says-once es a b x y s o e =
     let same : s.entry ≡ o.entry = ap (some_or s.entry) (sym s.is ∙ ap (slice_get es) e ∙ o.is) in
-    let line : x.0 ≡ y.0 = ap (line_in x.0) (sym s.tag ∙ ap (λ (n : Entry). n.tag) same ∙ o.tag) in
+    let line : x.0 ≡ y.0 = ap (line_in x.0) (sym s.kind ∙ ap (λ (n : Entry). n.kind) same ∙ o.kind) in
     let count : x.1 ≡ y.1 = sym s.count ∙ ap (λ (n : Entry). n.count) same ∙ o.count in
     (λ j. (line j, count j))
 
@@ -173,12 +173,12 @@ same-end q i n j m sum =
     }
 
 -- What agrees after them in two texts agrees however they are counted.
-pub meets-too : (r : Sequence) (y x : Place) (e o f g : End (Bool × ℕ)) (t u : Trivia) → y ≡ x → e.value ≡ o.value → e.state ≡ o.state → f.value ≡ g.value → f.state ≡ g.state → MeetsBehind r y e f t u → MeetsBehind r x o g t u
+pub meets-too : (r : Sequence) (y x : Place) (e o f g : End (Bool × ℕ)) (t u : Trivia) → y ≡ x → e.value ≡ o.value → e.state ≡ o.state → f.value ≡ g.value → f.state ≡ g.state → MeetsAfter r y e f t u → MeetsAfter r x o g t u
 meets-too r y x e o f g t u place value state value_now state_now h =
-    let there = subst (λ p. MeetsBehind r p e f t u) place h in
-    let two = subst (λ s. MeetsBehind r x (record e { value = o.value; state = s }) f t u) state (subst (λ v. MeetsBehind r x (record e { value = v }) f t u) value there) in
-    let three = subst (λ v. MeetsBehind r x (record e { value = o.value; state = o.state }) (record f { value = v }) t u) value_now two in
-    let four = subst (λ s. MeetsBehind r x (record e { value = o.value; state = o.state }) (record f { value = g.value; state = s }) t u) state_now three in
+    let there = subst (λ p. MeetsAfter r p e f t u) place h in
+    let two = subst (λ s. MeetsAfter r x (record e { value = o.value; state = s }) f t u) state (subst (λ v. MeetsAfter r x (record e { value = v }) f t u) value there) in
+    let three = subst (λ v. MeetsAfter r x (record e { value = o.value; state = o.state }) (record f { value = v }) t u) value_now two in
+    let four = subst (λ s. MeetsAfter r x (record e { value = o.value; state = o.state }) (record f { value = g.value; state = s }) t u) state_now three in
     record { known = four.known; known_now = four.known_now; value = four.value; over = four.over; errors = four.errors }
 
 -- ---- a run, read by itself
@@ -276,8 +276,8 @@ module _ (k : CharClasses) (front old new rest : List ℕ) (r : Run k (front ++ 
     pub further : (i m j : ℕ) → m < j → AllGo (read_by k (read_from i) j) → far_by i m < far_by i j
     -- of a candidate that is pieces of it
     pub before : (c : Candidate) (i n past : ℕ) (t : Trivia) → IsPieces k front old rest r c i n past t → number i < front_in k front old rest ↔ Before k front old rest r i
-    pub behind : (c : Candidate) (i n past : ℕ) (t : Trivia) → IsPieces k front old rest r c i n past t → 0 < n → rear_in k front old rest ≤ number (i + n) ↔ Behind k front old rest r i n past t
-    pub alone_behind : (c : Candidate) (i n past : ℕ) (t : Trivia) → IsPieces k front old rest r c i n past t → n ≡ 0 → rear_in k front old rest ≤ alone ↔ Behind k front old rest r i n past t
+    pub behind : (c : Candidate) (i n past : ℕ) (t : Trivia) → IsPieces k front old rest r c i n past t → 0 < n → rear_in k front old rest ≤ number (i + n) ↔ After k front old rest r i n past t
+    pub alone_behind : (c : Candidate) (i n past : ℕ) (t : Trivia) → IsPieces k front old rest r c i n past t → n ≡ 0 → rear_in k front old rest ≤ alone ↔ After k front old rest r i n past t
     pub reads : (c : Candidate) (i n past : ℕ) (t : Trivia) → IsPieces k front old rest r c i n past t → Before k front old rest r i → ReadsFrom i
 
   -- What is known of one candidate that is pieces of the run.
@@ -289,13 +289,13 @@ module _ (k : CharClasses) (front old new rest : List ℕ) (r : Run k (front ++ 
     -- However it passes, its pieces are these.
     pub passes : (ts : List Tree) → Gives k front old new rest c ts → ((m : ℕ) × (u : Trivia) × PassesPieces k front old new rest r i n m past t u × (ts ≡ nodes_now r i m u w))
     -- Where it passes and the pieces after d more are read by themselves, the entries from there on are exchanged.
-    pub units : (first : Candidate) (d left m : ℕ) (u : Trivia) → 0 < d → n ≡ d + left → 0 < left → IsPieces k front old rest r first (i + d) left past t → Before k front old rest r (i + d) → Behind k front old rest r (i + d) left past t
+    pub units : (first : Candidate) (d left m : ℕ) (u : Trivia) → 0 < d → n ≡ d + left → 0 < left → IsPieces k front old rest r first (i + d) left past t → Before k front old rest r (i + d) → After k front old rest r (i + d) left past t
         → AllGo (then_of (i + d) m v) → (then_end (i + d) m v).state.known ≡ Some u → PassesPieces k front old new rest r i n (d + m) past t u
         → units_of (log k now) ≡ spliced (e.number (i + d)) (e.number (i + n)) (entries_by first.start (notes_by k (read_from (i + d)) m)) (units_of (log k text))
 
   -- ---- bytes
 
-  byte-is : (i m : ℕ) → byte_behind k (read_from i) m ≡ width (take (far_by i m) now)
+  byte-is : (i m : ℕ) → byte_after k (read_from i) m ≡ width (take (far_by i m) now)
   byte-is i m =
       let x = read_from i in
       let e = end_on (run_level k levels which) (stops_of which) x.carried m x.place in
@@ -312,11 +312,11 @@ module _ (k : CharClasses) (front old new rest : List ℕ) (r : Run k (front ++ 
         let at = ap width (take-past front new rest past ((length front + length new) + past) refl) in
         omega (arith, at, width-append front (new ++ take past rest), width-append new (take past rest), width-append front (old ++ take past rest), width-append old (take past rest), end)
 
-    to-shifted : (i m : ℕ) → far_by i m ≡ (length front + length new) + past → byte_behind k (read_from i) m + width old ≡ c.end + width new
+    to-shifted : (i m : ℕ) → far_by i m ≡ (length front + length new) + past → byte_after k (read_from i) m + width old ≡ c.end + width new
     to-shifted i m e =
         omega (arith, byte-is i m ∙ ap (λ j. width (take j now)) e, stop-width)
 
-    from-shifted : (i m : ℕ) → cut_at r i z ≤ length front → past ≤ length rest → byte_behind k (read_from i) m + width old ≡ c.end + width new → far_by i m ≡ (length front + length new) + past
+    from-shifted : (i m : ℕ) → cut_at r i z ≤ length front → past ≤ length rest → byte_after k (read_from i) m + width old ≡ c.end + width new → far_by i m ≡ (length front + length new) + past
     from-shifted i m early room e =
         let one = length-append front (new ++ rest) in
         take-same (far_by i m) ((length front + length new) + past) now (far-within i m early) (omega (arith, room, one, length-append new rest)) (omega (arith, byte-is i m, stop-width, e))
@@ -425,7 +425,7 @@ module _ (k : CharClasses) (front old new rest : List ℕ) (r : Run k (front ++ 
         subst (λ j. LooksFrom es which (e.number j) (e.number (i + n)) e.alone) (sym count ∙ sym none.0) (e.alone_from (e.number (i + n)))
     looks-of (suc d) is = let all = fits in from_pieces (e.not_last i (omega (arith, all, is)))
 
-    behind-is : (d : ℕ) → n ≡ d → rear_in k front old rest ≤ looks_by d e.alone (e.number (i + n)) ↔ Behind k front old rest r i n past t
+    behind-is : (d : ℕ) → n ≡ d → rear_in k front old rest ≤ looks_by d e.alone (e.number (i + n)) ↔ After k front old rest r i n past t
     behind-is zero is = e.alone_behind c i n past t p is
     behind-is (suc d) is = e.behind c i n past t p (omega (arith, is))
 
@@ -512,7 +512,7 @@ module _ (k : CharClasses) (front old new rest : List ℕ) (r : Run k (front ++ 
           x.nodes,
         )
 
-    rises-by : e.number i < front_in k front old rest → (m j : ℕ) → m < j → AllGo (read_by k (read_from i) j) → byte_behind k (read_from i) m < byte_behind k (read_from i) j
+    rises-by : e.number i < front_in k front old rest → (m j : ℕ) → m < j → AllGo (read_by k (read_from i) j) → byte_after k (read_from i) m < byte_after k (read_from i) j
     rises-by early m j l go =
         omega (arith, byte-is i m, byte-is i j, take-longer (far_by i m) (far_by i j) now (e.further i m j l go) (far-within i j p.early))
 
@@ -717,7 +717,7 @@ module _ (k : CharClasses) (front old new rest : List ℕ) (r : Run k (front ++ 
           x.nodes,
         )
 
-    behind-rest : Behind k front old rest r i n past t → Behind k front old rest r mid left past t
+    behind-rest : After k front old rest r i n past t → After k front old rest r mid left past t
     behind-rest h = (e.behind rest_of_it mid left past t rest-is left-some).0 (subst (λ x. rear_in k front old rest ≤ e.number x) (sym sum-is) ((e.behind c i n past t a.is some-n).1 h))
 
     -- ---- the tree

@@ -8,7 +8,7 @@ use Rattle.typst_tree.specs.Tree.{Forest, none, more, Tree, forest, trees, text_
 use Rattle.typst_kinds.specs.Head.{Head}
 use Rattle.typst_tree.proofs.Numbering.{joined_bare}
 use Rattle.typst_tree.proofs.ReplacesChildren.{text_bare}
-use Rattle.typst_candidates.specs.Candidates.{Child, laid, begun, ended, first_near, end_near, clings, is_hash, leads, child_at, holds_at, back_past, on_past, Stretch, from_of, to_of, around, is_all, stretches, Candidate, begins, of_children, of_stretches, of_run, covers, run_in, of_block, candidates_at, candidates}
+use Rattle.typst_candidates.specs.Candidates.{Child, laid, begun, ended, first_near, end_near, clings, is_hash, leads, child_at, holds_at, back_past, on_past, ChildRange, from_of, to_of, around, is_all, child_ranges, Candidate, begins, of_children, of_child_ranges, of_run, covers, run_in, of_block, candidates_at, candidates}
 use Rattle.typst_candidates.specs.Units.{top_cuts}
 use Rattle.typst_edits.proofs.Replaced.{trees-bare}
 use Rattle.typst_edits.specs.BareCandidates.{BareCandidatesLaw}
@@ -62,20 +62,20 @@ to-bare cuts cs i x =
 around-bare : (cuts : List ℕ) (cs : List Child) (i j x : ℕ) → around cuts (map bare_child cs) i j x ≡ around cuts cs i j x
 around-bare cuts cs i j x = λ n. record { from = from-bare cuts cs i x n; to = to-bare cuts cs j x n }
 
-stretches-bare : (cuts : List ℕ) (cs : List Child) (i j tries x : ℕ) → stretches cuts (map bare_child cs) i j tries x ≡ stretches cuts cs i j tries x
-stretches-bare cuts cs i j zero x = refl
-stretches-bare cuts cs i j (suc tries) x =
+child_ranges-bare : (cuts : List ℕ) (cs : List Child) (i j tries x : ℕ) → child_ranges cuts (map bare_child cs) i j tries x ≡ child_ranges cuts cs i j tries x
+child_ranges-bare cuts cs i j zero x = refl
+child_ranges-bare cuts cs i j (suc tries) x =
     let s : around cuts (map bare_child cs) i j x ≡ around cuts cs i j x = around-bare cuts cs i j x in
     let all : is_all (map bare_child cs) (around cuts (map bare_child cs) i j x) ≡ is_all cs (around cuts cs i j x) = λ n. (s n).from == 0 && (s n).to == length-map cs bare_child n in
-    λ n. s n ∷ (if all n then [] else stretches-bare cuts cs i j tries (2 * x) n)
+    λ n. s n ∷ (if all n then [] else child_ranges-bare cuts cs i j tries (2 * x) n)
 
 children-bare : (is_block : Bool) (path : List ℕ) (at : ℕ) (ts : List Tree) (from to : ℕ) → of_children is_block path at (map bare ts) from to ≡ of_children is_block path at ts from to
 children-bare is_block path at ts from to =
     λ i. record { is_block = is_block; path = path; from = from; to = to; start = begins-bare at ts from i; end = begins-bare at ts to i }
 
-of-stretches-bare : (path : List ℕ) (at : ℕ) (ts : List Tree) (ss : List Stretch) → of_stretches path at (map bare ts) ss ≡ of_stretches path at ts ss
-of-stretches-bare path at ts [] = refl
-of-stretches-bare path at ts (s ∷ ss) = λ i. children-bare false path at ts s.from s.to i ∷ of-stretches-bare path at ts ss i
+of-child_ranges-bare : (path : List ℕ) (at : ℕ) (ts : List Tree) (ss : List ChildRange) → of_child_ranges path at (map bare ts) ss ≡ of_child_ranges path at ts ss
+of-child_ranges-bare path at ts [] = refl
+of-child_ranges-bare path at ts (s ∷ ss) = λ i. children-bare false path at ts s.from s.to i ∷ of-child_ranges-bare path at ts ss i
 
 -- the children with their bytes, and those near the replaced bytes
 record Near (rs re at : ℕ) (ts : List Tree) : Type 0 where
@@ -94,9 +94,9 @@ run-bare rs re path at ts (Some cuts) =
     let near = near-bare rs re at ts in
     let i = first_near rs (laid at ts) in
     let j = end_near re (laid at ts) in
-    let placed : stretches cuts (laid at (map bare ts)) (first_near rs (laid at (map bare ts))) (end_near re (laid at (map bare ts))) (suc (length (map bare ts))) 1 ≡ stretches cuts (map bare_child (laid at ts)) i j (suc (length ts)) 1 =
-    λ n. stretches cuts (laid-bare at ts n) (near.first n) (near.end n) (suc (length-map ts bare n)) 1 in
-    ap (of_stretches path at (map bare ts)) (placed ∙ stretches-bare cuts (laid at ts) i j (suc (length ts)) 1) ∙ of-stretches-bare path at ts (stretches cuts (laid at ts) i j (suc (length ts)) 1)
+    let placed : child_ranges cuts (laid at (map bare ts)) (first_near rs (laid at (map bare ts))) (end_near re (laid at (map bare ts))) (suc (length (map bare ts))) 1 ≡ child_ranges cuts (map bare_child (laid at ts)) i j (suc (length ts)) 1 =
+    λ n. child_ranges cuts (laid-bare at ts n) (near.first n) (near.end n) (suc (length-map ts bare n)) 1 in
+    ap (of_child_ranges path at (map bare ts)) (placed ∙ child_ranges-bare cuts (laid at ts) i j (suc (length ts)) 1) ∙ of-child_ranges-bare path at ts (child_ranges cuts (laid at ts) i j (suc (length ts)) 1)
 
 child-bare : (cs : List Child) (n : ℕ) → child_at (map bare_child cs) n ≡ option_map bare_child (child_at cs n)
 child-bare [] n = refl

@@ -1,7 +1,7 @@
 -- What is logged of a block that is read by itself is what is logged of it where it stands.
 use Rattle.std.proofs.Common.{◌≡◌, ℕ, zero, suc, ◌+◌, ◌-◌, ◌<◌, ◌^◌, List, [], ◌∷◌, ◌++◌, Option, None, Some, refl, ap, sym, ◌∙◌, subst, arith}
 use Rattle.typst_candidates.specs.Entries.{back_of, entries_by, entry_of, last_start}
-use Rattle.typst_candidates.specs.declared.entry.Tag.TheVariants as tag
+use Rattle.typst_candidates.specs.declared.entry.EntryKind.TheVariants as entry_kind
 use Rattle.typst_lines.specs.Place.{Place, moved, moved_from}
 use Rattle.typst_tokens.specs.Sight.{hull_of, position, width}
 use Rattle.typst_language.specs.declared.calls.Mark.TheVariants as mark
@@ -46,7 +46,7 @@ block-part-law text c u ns e =
     let noted : (block_log text c u).notes ≡ Some (ns ++ note (moved (c.at + u.taken) z) ∷ []) = ap (λ (l : Log). l.notes) all ∙ ap (λ (o : Option (List Note)). elim o as (λ _. Option (List Note)) [ None ↦ None | Some ms ↦ Some (ms ++ note (moved (c.at + u.taken) z) ∷ []) ]) e in
     ap (entries_from start) noted ∙ entries-more start ns (note (moved (c.at + u.taken) z))
     ∙ ap (λ (p : Place). entries_by start ns ++ entry_of (last_start start ns) (note p) ∷ []) (moved-sum c.at u.taken z)
-    ∙ ap (λ (g : ℕ). entries_by start ns ++ record { tag = tag.Closes; step = position (moved u.taken (moved c.at z)) - last_start start ns; gap = g; forth = h.reach - position (moved u.taken (moved c.at z)); back = back_of (last_start start ns) h.least; count = 0 } ∷ []) (omega arith)
+    ∙ ap (λ (g : ℕ). entries_by start ns ++ record { kind = entry_kind.Closes; step = position (moved u.taken (moved c.at z)) - last_start start ns; gap = g; forth = h.reach - position (moved u.taken (moved c.at z)); back = back_of (last_start start ns) h.least; count = 0 } ∷ []) (omega arith)
 
 -- ---- places
 

@@ -20,11 +20,11 @@ use Rattle.typst_language.specs.Meaning.{Outcome, start_point}
 use Rattle.typst_language.specs.Point.{point_of}
 use Rattle.typst_language.proofs.Places.{moved-sum, ahead-left}
 use Rattle.typst_candidates.specs.declared.entry.Entry.{Entry}
-use Rattle.typst_candidates.specs.declared.entry.Tag.{Tag}
-use Rattle.typst_candidates.specs.declared.entry.Tag.TheVariants as tag
+use Rattle.typst_candidates.specs.declared.entry.EntryKind.{EntryKind}
+use Rattle.typst_candidates.specs.declared.entry.EntryKind.TheVariants as entry_kind
 use Rattle.typst_candidates.specs.Candidates.{Candidate}
 use Rattle.typst_candidates.specs.Cursors.{closing_of}
-use Rattle.typst_candidates.specs.Entries.{block_end, count_of, tag_of, entry_of, entries_by, last_start, back_of, front_of, rear_of, units_of, spliced}
+use Rattle.typst_candidates.specs.Entries.{block_end, count_of, entry_kind_of, entry_of, entries_by, last_start, back_of, front_of, rear_of, units_of, spliced}
 use Rattle.typst_candidates.specs.Nested.{Nested}
 use Rattle.typst_candidates.specs.Records.{opening_of, IsRising}
 use Rattle.typst_candidates.proofs.Looks.{front-law, rear-law}
@@ -142,7 +142,7 @@ module _ (in_order : InOrderLaw) (k : CharClasses) (front old rest : List ℕ) w
       let says : SaysBlock (entries_by 0 all) from to (max_depth - s.fewer) s.name s.start.held.mode = record {
         entry = entry_of (last_start 0 d.earlier) d.opens;
         is = got-entry 0 d.earlier d.opens tail;
-        tag = (λ i. tag_of (d.name i) (d.state i));
+        kind = (λ i. entry_kind_of (d.name i) (d.state i));
         count = (λ i. count_of (d.name i) (d.levels i));
         closes = closes;
       } in
@@ -291,23 +291,23 @@ record Key : Type 0 where
   mode : SyntaxMode
   at : ℕ
 
-abbrev name_in : Block → Tag → Block
-name_in b (tag.Piece at_start) = b
-name_in b (tag.Opens c m) = c
-name_in b tag.Closes = b
+abbrev name_in : Block → EntryKind → Block
+name_in b (entry_kind.Piece at_start) = b
+name_in b (entry_kind.Opens c m) = c
+name_in b entry_kind.Closes = b
 
-abbrev mode_in : SyntaxMode → Tag → SyntaxMode
-mode_in m (tag.Piece at_start) = m
-mode_in m (tag.Opens c n) = n
-mode_in m tag.Closes = m
+abbrev mode_in : SyntaxMode → EntryKind → SyntaxMode
+mode_in m (entry_kind.Piece at_start) = m
+mode_in m (entry_kind.Opens c n) = n
+mode_in m entry_kind.Closes = m
 
 says-same : (es : List Entry) (at_one at_two : ℕ) (from to levels : ℕ) (b : Block) (m : SyntaxMode) (first last more : ℕ) (d : Block) (n : SyntaxMode) → SaysBlock es from to levels b m → SaysBlock es first last more d n → from ≡ first → at_one ≡ at_two
     → ◌≡◌ {A = Key} (record { from = from; to = to; levels = levels; name = b; mode = m; at = at_one }) (record { from = first; to = last; levels = more; name = d; mode = n; at = at_two })
 says-same es at_one at_two from to levels b m first last more d n h k e f =
     let same : h.entry ≡ k.entry = ap (some_or h.entry) (sym h.is ∙ ap (slice_get es) e ∙ k.is) in
-    let tags = sym h.tag ∙ ap (λ (x : Entry). x.tag) same ∙ k.tag in
-    let name_is : b ≡ d = ap (name_in b) tags in
-    let mode_is : m ≡ n = ap (mode_in m) tags in
+    let kinds = sym h.kind ∙ ap (λ (x : Entry). x.kind) same ∙ k.kind in
+    let name_is : b ≡ d = ap (name_in b) kinds in
+    let mode_is : m ≡ n = ap (mode_in m) kinds in
     let levels_is : levels ≡ more = sym h.count ∙ ap (λ (x : Entry). x.count) same ∙ k.count in
     let to_is : to ≡ last = some-number to last (sym h.closes ∙ ap (λ i. closing_of 0 (suc i) (drop (suc i) es)) e ∙ k.closes) in
     (λ i. record { from = e i; to = to_is i; levels = levels_is i; name = name_is i; mode = mode_is i; at = f i })

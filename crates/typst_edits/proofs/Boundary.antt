@@ -1,5 +1,6 @@
 -- The notes where pieces of a run end, and what their numbers say.
 use Rattle.std.proofs.Common.{◌≡◌, ◌==◌, ℕ, zero, suc, ◌+◌, ◌-◌, ◌<◌, ◌≤◌, ◌^◌, max, Bool, true, false, ◌&&◌, nat_lt, List, [], ◌∷◌, ◌++◌, length, take, append_assoc, append-nil, Some, refl, ap, sym, ◌∙◌, subst, arith}
+use Rattle.std.proofs.lemmas.Bool.{and_parts}
 use Rattle.std.proofs.lemmas.List.{map-append}
 use Rattle.typst_kinds.specs.declared.kind.SyntaxKind.{SyntaxKind}
 use Rattle.typst_lines.specs.Place.{Place, moved}
@@ -13,7 +14,7 @@ use Rattle.typst_language.specs.declared.reading.State.{State}
 use Rattle.typst_language.specs.Ask.{Ask, shift, shift_one, sunk}
 use Rattle.typst_language.specs.Ask.Ask.{looked, marked}
 use Rattle.typst_language.specs.Depth.{deeper}
-use Rattle.typst_language.specs.Hand.{AtHand, told, known_by}
+use Rattle.typst_language.specs.Hand.{AtHand, as_at_hand, known_by}
 use Rattle.typst_language.specs.Log.{Log, no_log, with_note, logged}
 use Rattle.typst_language.specs.Meaning.{Outcome, Meaning, Level, plain, joined, as_last, repeated, hand_of, hand_asks_of, asked, start_point, run}
 use Rattle.typst_language.specs.Point.{Trivia, Point, gap_of, state_of}
@@ -22,7 +23,6 @@ use Rattle.typst_language.proofs.Ends.{hand-again}
 use Rattle.typst_language.proofs.Places.{moved-sum}
 use Rattle.typst_grammar.specs.Markup.{ends, note_piece, markup_turn, markup_reading}
 use Rattle.typst_grammar.specs.Grammar.{rules, max_depth, start_of, whole, parsed, log}
-pub use Rattle.typst_grammar.proofs.Fine.{and-left as first-of}
 use Rattle.typst_edits.specs.Bytes.{highest, lowest}
 use Rattle.typst_edits.specs.Edit.{AllEndBy}
 use Rattle.typst_edits.specs.Runs.{made, AllGo, end_of, asks_of, chain}
@@ -36,6 +36,10 @@ use Rattle.typst_edits.proofs.Widths.{width-moved}
 use Rattle.typst_edits.proofs.Within.{AllAt, at-first, at-second, in-level}
 use Rattle.typst_language.proofs.Within.{on_both}
 use Rattle.typst_grammar.proofs.Pieces.{end-append, go-append, made-sum}
+
+-- the first of two tests that both pass
+pub first-of : (a b : Bool) → (a && b) ≡ true → a ≡ true
+first-of a b both = (and_parts a b both).0
 
 -- some trivia are known at a point
 pub record KnownAt (s : Point) : Type 0 where
@@ -55,7 +59,7 @@ pub record Ends (asks : List Ask) (at : ℕ) (x : Bool × ℕ) (s : Point) (look
 
 module _ (l : Level) (stops : SyntaxKind → Bool) (x : Bool × ℕ) (z : Place) (s : Point) where
   abbrev ahead : AtHand
-  ahead = told (hand_of l z s)
+  ahead = as_at_hand (hand_of l z s)
 
   -- a piece, by what is read one level deeper
   abbrev deep : Outcome ℕ
@@ -68,7 +72,7 @@ module _ (l : Level) (stops : SyntaxKind → Bool) (x : Bool × ℕ) (z : Place)
   after = asked (hand_of l there deep.state) deep.state
 
   abbrev carried : Bool × ℕ
-  carried = ((told (hand_of l there deep.state)).newlines.any, deep.value)
+  carried = ((as_at_hand (hand_of l there deep.state)).newlines.any, deep.value)
 
   again : asked (hand_of l there after) after ≡ after
   again = ap (λ h. record deep.state { known = known_by h }) (hand-again l.classes deep.state.held deep.state.known there)
@@ -78,7 +82,7 @@ module _ (l : Level) (stops : SyntaxKind → Bool) (x : Bool × ℕ) (z : Place)
   last = asked (hand_of l there (asked (hand_of l there after) after)) (asked (hand_of l there after) after)
 
   abbrev peeked : Place → Point → Outcome AtHand
-  peeked w r = record (plain (told (hand_of l w r)) (asked (hand_of l w r) r)) { asks = hand_asks_of l w r }
+  peeked w r = record (plain (as_at_hand (hand_of l w r)) (asked (hand_of l w r) r)) { asks = hand_asks_of l w r }
 
   abbrev noting : Outcome (Unit {0})
   noting =
@@ -412,7 +416,7 @@ module _ (r : Sequence) (first : Point) (same : state_of first ≡ state_of r.po
 -- ---- a note of a text, and what its numbers say of what was asked before it and after it
 
 module _ (k : CharClasses) (text : List ℕ) where
-  pub record Told (early behind : List Ask) (at gap fewer : ℕ) (m : Mark) (s : State) : Type 0 where
+  pub record NotedAt (early behind : List Ask) (at gap fewer : ℕ) (m : Mark) (s : State) : Type 0 where
     pub earlier : List Note
     pub note : Note
     pub later : List Note
@@ -433,9 +437,9 @@ module _ (k : CharClasses) (text : List ℕ) where
   early-ends front more early t same a h =
       end-by front more early (subst (λ u. AllAt (length u) early) same a) (subst (λ u. AllReach (width front) (start_of u) early) same h)
 
-  pub told-at : (early behind : List Ask) (at gap fewer : ℕ) (m : Mark) (s : State) → (parsed k max_depth text).asks ≡ early ++ marked at gap fewer m s ∷ behind → Told early behind at gap fewer m s
+  pub noted-at : (early behind : List Ask) (at gap fewer : ℕ) (m : Mark) (s : State) → (parsed k max_depth text).asks ≡ early ++ marked at gap fewer m s ∷ behind → NotedAt early behind at gap fewer m s
   unfolding log position
-  told-at early behind at gap fewer m s is =
+  noted-at early behind at gap fewer m s is =
       let z = start_of text in
       let b = one-note max_depth z early behind at gap fewer m s in
       let log_is : logged max_depth z no_log (parsed k max_depth text).asks ≡ log_all max_depth z early behind at gap fewer m s = ap (logged max_depth z no_log) is in

@@ -9,7 +9,7 @@ use Rattle.typst_language.specs.declared.calls.Note.{Note}
 use Rattle.typst_language.specs.declared.reading.State.{State}
 use Rattle.typst_language.specs.Ask.{Ask, shift}
 use Rattle.typst_language.specs.Ask.Ask.{looked, marked}
-use Rattle.typst_language.specs.Log.{Log, no_log, least_behind, reach_behind, with_more, with_hull, with_note, logged}
+use Rattle.typst_language.specs.Log.{Log, no_log, least_after, reach_after, with_more, with_hull, with_note, logged}
 use Rattle.typst_language.specs.Meaning.{start_point}
 use Rattle.typst_language.specs.Point.{state_of}
 use Rattle.typst_grammar.specs.Markup.{markup_reading}
@@ -93,8 +93,8 @@ both-to : (b m n : ℕ) → m ≤ b → n ≤ b → max m n ≤ b
 both-to b m n h k = omega (arith, h, k)
 
 -- Since a note nothing has been looked at yet.
-none-yet : (b : ℕ) (notes : Option (List Note)) (ns : List Note) (reach : ℕ) → notes ≡ Some ns → reach_behind notes reach ≤ b
-none-yet b notes ns reach e = subst (λ o. reach_behind o reach ≤ b) (sym e) (omega arith)
+none-yet : (b : ℕ) (notes : Option (List Note)) (ns : List Note) (reach : ℕ) → notes ≡ Some ns → reach_after notes reach ≤ b
+none-yet b notes ns reach e = subst (λ o. reach_after o reach ≤ b) (sym e) (omega arith)
 
 pub reached-by : (lv : ℕ) (z : Place) (asks : List Ask) (h : Log) (ns : List Note) → h.notes ≡ Some ns → Reached lv z h ns asks
 reached-by lv z [] h ns e = record { more = []; is = e ∙ ap Some (sym (append-nil ns)); count = refl; before = λ b l. l; all = λ b l. tt; back = λ b l f. l }
@@ -160,8 +160,8 @@ above : (b m n : ℕ) → b < m → b < n → b < min m n
 above b m n h k = omega (arith, h, k)
 
 -- Since a note nothing has been looked at yet.
-pub newly : (b : ℕ) (notes : Option (List Note)) (ns : List Note) (least : ℕ) → notes ≡ Some ns → b < 2 ^ 64 - 1 → b < least_behind notes least
-newly b notes ns least e big = subst (λ o. b < least_behind o least) (sym e) big
+pub newly : (b : ℕ) (notes : Option (List Note)) (ns : List Note) (least : ℕ) → notes ≡ Some ns → b < 2 ^ 64 - 1 → b < least_after notes least
+newly b notes ns least e big = subst (λ o. b < least_after o least) (sym e) big
 
 pub least-by : (lv : ℕ) (z : Place) (asks : List Ask) (h : Log) (ns : List Note) → h.notes ≡ Some ns → Least lv z h ns asks
 least-by lv z [] h ns e = record { more = []; is = e ∙ ap Some (sym (append-nil ns)); before = λ b l. l; all = λ b l. tt; back = λ b big l f. l }

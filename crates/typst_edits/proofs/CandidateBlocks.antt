@@ -5,7 +5,7 @@ use Rattle.typst_kinds.specs.Kinds.{is_block}
 use Rattle.typst_language.specs.declared.calls.Note.{Note}
 use Rattle.typst_language.proofs.Leaves.{texts}
 use Rattle.typst_tree.specs.Tree.{Forest, none, more, Tree, forest, trees, text_of, joined}
-use Rattle.typst_candidates.proofs.Rows.{begins_first}
+use Rattle.typst_candidates.proofs.Edges.{begins_first}
 use Rattle.typst_candidates.specs.Candidates.{Child, laid, first_near, child_at, Candidate, begins, of_children, run_in, candidates_at}
 use Rattle.typst_edits.specs.Every.{Every}
 use Rattle.typst_edits.specs.Hole.{Hole, plug, path_of}

@@ -3,7 +3,7 @@ use Rattle.std.proofs.Common.{◌≡◌, ℕ, zero, suc, ◌+◌, ◌-◌, ◌<�
 use Rattle.std.specs.Prelude.{nat_lt, nat_le}
 use Rattle.std.proofs.lemmas.Bool.Decides.{nat_tests}
 use borrow.Author.Tests.{ltb-true, lt-ltb}
-use Rattle.std.proofs.lemmas.Bool.{false_from_ne_true, or_parts, ltb-false}
+use Rattle.std.proofs.lemmas.Bool.{and_parts, false_from_ne_true, or_parts, ltb-false}
 use Rattle.typst_kinds.specs.Kinds.{same, is_trivia, is_error}
 use Rattle.typst_kinds.specs.declared.kind.SyntaxKind.TheVariants as kind
 use Rattle.typst_tree.specs.Tree.{Tree, text_of}
@@ -11,13 +11,13 @@ use Rattle.typst_language.specs.Meaning.{Outcome, plain, less}
 use Rattle.typst_language.specs.Point.{Trivia, Point, pending}
 use Rattle.typst_language.proofs.Places.{less-none}
 use Rattle.typst_candidates.specs.Candidates as candidate
-use Rattle.typst_candidates.specs.Candidates.{Child, laid, ended, first_near, end_near, clings, is_sign, is_hash, is_among, leads, holds_at, back_past, on_past, with_hash, Stretch, around, begins}
-use Rattle.typst_candidates.proofs.Rows.{begins_least as begins-from}
+use Rattle.typst_candidates.specs.Candidates.{Child, laid, ended, first_near, end_near, clings, is_sign, is_hash, is_among, leads, holds_at, back_past, on_past, with_hash, ChildRange, around, begins}
+use Rattle.typst_candidates.proofs.Edges.{begins_least as begins-from}
 use Rattle.typst_grammar.proofs.Missing.{error-kind as error-is}
 use Rattle.typst_edits.specs.Children.{together}
 use Rattle.typst_edits.specs.Every.{Every}
 use Rattle.typst_edits.specs.Frame.{is_over}
-use Rattle.typst_edits.specs.Heads.{begins_wrong, minds_at, first_place, read_by, onwards_by, behind_known, StartsWell, GoesOnWell}
+use Rattle.typst_edits.specs.Heads.{begins_wrong, minds_at, first_place, read_by, onwards_by, after_known, StartsWell, GoesOnWell}
 use Rattle.typst_edits.specs.Leading.{bytes_of, LeadsAt}
 use Rattle.typst_edits.specs.RootPieces.{StandsAt}
 use Rattle.typst_edits.specs.Sequence.{Sequence, turn_of, first_end, then_end}
@@ -29,7 +29,6 @@ use Rattle.typst_edits.proofs.NoteNumbers.{neither}
 use Rattle.typst_edits.proofs.RootPieces.{same-place}
 use Rattle.typst_edits.proofs.RunTrees.{standing-still}
 use Rattle.typst_edits.proofs.Every.{first_or}
-use Rattle.typst_grammar.proofs.Fine.{and-right}
 
 -- ---- children
 
@@ -245,7 +244,7 @@ module _ (cuts : List ℕ) (from : ℕ) (ts : List Tree) (rs re x : ℕ) (order 
   abbrev cs : List Child
   cs = laid from ts
 
-  abbrev pub stretch : Stretch
+  abbrev pub stretch : ChildRange
   stretch = around cuts cs (first_near rs cs) (end_near re cs) x
 
   abbrev leading : Child → Bool
@@ -374,7 +373,7 @@ module _ (cuts : List ℕ) (from : ℕ) (ts : List Tree) (rs re x : ℕ) (order 
       by-test : (b : Bool) → (nat_lt 0 clung && holds_at hash cs (clung - 1)) ≡ b → ⊥
       by-test true t =
           let is : clung - 1 ≡ hashed = sym (ap (λ (c : Bool). if c then clung - 1 else clung) t) in
-          let d : true ≡ false = sym (and-right (nat_lt 0 clung) (holds_at hash cs (clung - 1)) t) ∙ (quiet (clung - 1) is).1 in
+          let d : true ≡ false = sym (and_parts (nat_lt 0 clung) (holds_at hash cs (clung - 1)) t).1 ∙ (quiet (clung - 1) is).1 in
           cc
       by-test false t =
           let is : clung ≡ hashed = sym (ap (λ (c : Bool). if c then clung - 1 else clung) t) in
@@ -395,7 +394,7 @@ pub record FollowsAt (r : Sequence) (i n : ℕ) (from : ℕ) (ts : List Tree) (a
   pub back : List Tree
   pub is : ts ≡ front ++ back
   pub leads : LeadsAt from ts at (length front)
-  pub wrong : begins_wrong (behind_known (then_end i n r).state (onwards_by i n r).nodes) ≡ begins_wrong back
+  pub wrong : begins_wrong (after_known (then_end i n r).state (onwards_by i n r).nodes) ≡ begins_wrong back
 
 -- What n pieces that follow the first i say of the nodes that their run gives, the first of which begins at a byte; they begin and end at two others. What is said of their end may count on pieces being there if some stand before them.
 pub record Parted (r : Sequence) (cuts : List ℕ) (from : ℕ) (ts : List Tree) (i n start end : ℕ) : Type 0 where
@@ -405,7 +404,7 @@ pub record Parted (r : Sequence) (cuts : List ℕ) (from : ℕ) (ts : List Tree)
   pub last : (0 < i → 0 < n) → is_over i n r ≡ true → end ≡ from + bytes_of ts
 
 -- A stretch of the nodes begins well.
-pub record Begun (r : Sequence) (from : ℕ) (ts : List Tree) (i n start end : ℕ) (s : Stretch) : Type 0 where
+pub record Begun (r : Sequence) (from : ℕ) (ts : List Tree) (i n start end : ℕ) (s : ChildRange) : Type 0 where
   pub starts : StartsWell i n r
   pub goes_on : GoesOnWell i n r
   pub first : 0 < i → StandsAt from ts s.from start
@@ -420,7 +419,7 @@ same-behind : (xs ys us vs : List Tree) → xs ++ ys ≡ us ++ vs → length xs 
 same-behind xs ys us vs e l = sym (drop-front xs ys (length xs) refl) ∙ ap (λ ws. drop (length xs) ws) e ∙ drop-front us vs (length xs) l
 
 module _ (cuts : List ℕ) (from : ℕ) (ts : List Tree) (rs re x : ℕ) (order : rs ≤ re) (r : Sequence) (i n start end : ℕ) (p : Parted r cuts from ts i n start end) where
-  abbrev s : Stretch
+  abbrev s : ChildRange
   s = stretch cuts from ts rs re x order
 
   module _ (led : 0 < i → 0 < s.from) (start_is : 0 < i → start ≡ begins from ts s.from) (end_is : end ≡ begins from ts s.to) where
@@ -445,7 +444,7 @@ module _ (cuts : List ℕ) (from : ℕ) (ts : List Tree) (rs re x : ℕ) (order 
     next : is_over i n r ≡ false → StandsAt from ts s.to end
     next over = let f = p.next some over in subst (λ b. StandsAt from ts s.to b) (sym end_is) (to-stands cuts from ts rs re x order (to-more end (length f.front) f.leads refl))
 
-    goes-on : is_over i n r ≡ false → begins_wrong (behind_known (then_end i n r).state (onwards_by i n r).nodes) ≡ false
+    goes-on : is_over i n r ≡ false → begins_wrong (after_known (then_end i n r).state (onwards_by i n r).nodes) ≡ false
     goes-on over =
         let f = p.next some over in
         let more = to-more end (length f.front) f.leads refl in

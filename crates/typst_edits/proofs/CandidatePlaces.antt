@@ -1,6 +1,7 @@
 -- Candidates stand in the tree: along a path of inner nodes, as children that are there.
 use Rattle.std.proofs.Common.{◌≡◌, ℕ, zero, suc, ◌+◌, ◌-◌, ◌*◌, ◌≤◌, ◌<◌, max, min, Bool, true, false, not, ◌||◌, ◌&&◌, IsTrue, List, [], ◌∷◌, ◌++◌, length, take, Option, Some, None, refl, ap, sym, subst, ◌∙◌, arith, append_assoc, length-append}
 use Rattle.std.specs.Prelude.{◌==◌, nat_lt, nat_le, option_map, slice_get, if◌then◌else◌}
+use Rattle.std.proofs.lemmas.Bool.{and_parts}
 use Rattle.std.proofs.lemmas.Bool.Decides.{nat_tests}
 use Rattle.std.proofs.lemmas.Option.{slice_get_within}
 use Rattle.std.proofs.lemmas.List.{append-nil}
@@ -11,17 +12,16 @@ use Rattle.typst_language.specs.declared.calls.Note.{Note}
 use Rattle.typst_tree.specs.Tree.{Forest, none, more, Tree, forest, trees, text_of, joined}
 use Rattle.typst_tree.specs.Replace.{At, Reaches}
 use Rattle.typst_tree.specs.Laws.{start_at, or_none}
-use Rattle.typst_candidates.proofs.Rows.{begun_none}
+use Rattle.typst_candidates.proofs.Edges.{begun_none}
 use Rattle.typst_candidates.specs.Units.{top_cuts}
-use Rattle.typst_candidates.specs.Candidates.{Child, laid, begun, ended, first_near, end_near, clings, is_hash, leads, child_at, holds_at, back_past, on_past, with_hash, Stretch, from_of, to_of, around, is_all, stretches, Candidate, begins, of_children, of_stretches, of_run, covers, run_in, of_block, candidates_at, candidates}
-pub use Rattle.typst_candidates.proofs.Rows.{laid_length as length-laid}
+use Rattle.typst_candidates.specs.Candidates.{Child, laid, begun, ended, first_near, end_near, clings, is_hash, leads, child_at, holds_at, back_past, on_past, with_hash, ChildRange, from_of, to_of, around, is_all, child_ranges, Candidate, begins, of_children, of_child_ranges, of_run, covers, run_in, of_block, candidates_at, candidates}
+pub use Rattle.typst_candidates.proofs.Edges.{laid_length as length-laid}
 use Rattle.typst_edits.proofs.Edit.{among}
 use Rattle.typst_edits.proofs.Replaced.{replaced-law}
 use Rattle.typst_edits.proofs.Every.{every-append, every-by, every-if}
 use Rattle.typst_edits.specs.Every.{Every}
 use Rattle.typst_edits.specs.CandidatePlaces.{StandsIn, CandidatePlacesLaw, CandidateTreeLaw}
 use Rattle.typst_language.proofs.Within.{on_both}
-use Rattle.typst_grammar.proofs.Fine.{and-right}
 
 -- ---- bytes of children
 
@@ -71,7 +71,7 @@ begun-ended at rs re (t ∷ ts) h = by-test (nat_lt at rs) (nat_le (at + length 
         omega (arith, begun_none rs (at + length (text_of t)) ts (omega (arith, past, h)))
 
 -- a stretch is of children that are there
-record Within (len : ℕ) (s : Stretch) : Type 0 where
+record Within (len : ℕ) (s : ChildRange) : Type 0 where
   pub order : s.from ≤ s.to
   pub there : s.to ≤ len
 
@@ -86,10 +86,10 @@ around-within cuts cs i j x order there =
     let most : to_of cuts cs j x ≤ min (j + x) (length cs) + limit = on-le test limit (min (j + x) (length cs)) in
     record { order = omega (arith, from, least, order, there); there = omega (arith, most) }
 
-stretches-within : (cuts : List ℕ) (cs : List Child) (i j tries x : ℕ) → i ≤ j → j ≤ length cs → Every (Within (length cs)) (stretches cuts cs i j tries x)
-stretches-within cuts cs i j zero x order there = tt
-stretches-within cuts cs i j (suc tries) x order there =
-    (around-within cuts cs i j x order there, every-if (Within (length cs)) (is_all cs (around cuts cs i j x)) [] (stretches cuts cs i j tries (2 * x)) (λ e. tt) (λ e. stretches-within cuts cs i j tries (2 * x) order there))
+child_ranges-within : (cuts : List ℕ) (cs : List Child) (i j tries x : ℕ) → i ≤ j → j ≤ length cs → Every (Within (length cs)) (child_ranges cuts cs i j tries x)
+child_ranges-within cuts cs i j zero x order there = tt
+child_ranges-within cuts cs i j (suc tries) x order there =
+    (around-within cuts cs i j x order there, every-if (Within (length cs)) (is_all cs (around cuts cs i j x)) [] (child_ranges cuts cs i j tries (2 * x)) (λ e. tt) (λ e. child_ranges-within cuts cs i j tries (2 * x) order there))
 
 -- ---- candidates at a node
 
@@ -115,10 +115,10 @@ children-stand path at h ks alone from to inner order there = record {
   end = omega (arith, begins-at (at + length h.text) (trees ks) to);
 }
 
-of-stretches-stand : (path : List ℕ) (at : ℕ) (h : Head) (ks : Forest) → IsTrue h.is_inner → (ss : List Stretch) → Every (Within (length (trees ks))) ss
-    → Every (StandsAt path at (Some (node h ks))) (of_stretches path (at + length h.text) (trees ks) ss)
-of-stretches-stand path at h ks inner [] w = tt
-of-stretches-stand path at h ks inner (s ∷ ss) w = (children-stand path at h ks false s.from s.to inner w.0.order w.0.there, of-stretches-stand path at h ks inner ss w.1)
+of-child_ranges-stand : (path : List ℕ) (at : ℕ) (h : Head) (ks : Forest) → IsTrue h.is_inner → (ss : List ChildRange) → Every (Within (length (trees ks))) ss
+    → Every (StandsAt path at (Some (node h ks))) (of_child_ranges path (at + length h.text) (trees ks) ss)
+of-child_ranges-stand path at h ks inner [] w = tt
+of-child_ranges-stand path at h ks inner (s ∷ ss) w = (children-stand path at h ks false s.from s.to inner w.0.order w.0.there, of-child_ranges-stand path at h ks inner ss w.1)
 
 run-stands : (rs re : ℕ) (path : List ℕ) (at : ℕ) (h : Head) (ks : Forest) (run : Option (List ℕ)) → IsTrue h.is_inner → rs ≤ re → Every (StandsAt path at (Some (node h ks))) (of_run rs re path (at + length h.text) (trees ks) run)
 run-stands rs re path at h ks None inner le = tt
@@ -129,9 +129,9 @@ run-stands rs re path at h ks (Some cuts) inner le =
     let j = end_near re cs in
     let order : i ≤ j = omega (arith, begun-le rs cs, begun-ended inside rs re (trees ks) le) in
     let there : j ≤ length cs = omega arith in
-    let w : Every (Within (length (trees ks))) (stretches cuts cs i j (suc (length (trees ks))) 1) =
-    subst (λ n. Every (Within n) (stretches cuts cs i j (suc (length (trees ks))) 1)) (length-laid inside (trees ks)) (stretches-within cuts cs i j (suc (length (trees ks))) 1 order there) in
-    of-stretches-stand path at h ks inner (stretches cuts cs i j (suc (length (trees ks))) 1) w
+    let w : Every (Within (length (trees ks))) (child_ranges cuts cs i j (suc (length (trees ks))) 1) =
+    subst (λ n. Every (Within n) (child_ranges cuts cs i j (suc (length (trees ks))) 1)) (length-laid inside (trees ks)) (child_ranges-within cuts cs i j (suc (length (trees ks))) 1 order there) in
+    of-child_ranges-stand path at h ks inner (child_ranges cuts cs i j (suc (length (trees ks))) 1) w
 
 -- what stands in a child stands in the node
 in-child : (path : List ℕ) (at : ℕ) (h : Head) (ks : Forest) (i : ℕ) (c : Candidate) → StandsAt (path ++ i ∷ []) (begins (at + length h.text) (trees ks) i) (slice_get (trees ks) i) c
@@ -148,7 +148,7 @@ in-child path at h ks i c s = record {
 covering-inner : (rs re : ℕ) (cs : List Child) (i : ℕ) (c : Child) → covers rs re cs i c ≡ true → IsTrue c.node.head.is_inner
 covering-inner rs re cs i c e =
     let inner = nat_lt re c.end && c.node.head.is_inner in
-    and-right (nat_lt re c.end) c.node.head.is_inner (and-right (nat_lt c.start rs) inner (and-right (end_near re cs == suc i) (nat_lt c.start rs && inner) e))
+    (and_parts (nat_lt re c.end) c.node.head.is_inner (and_parts (nat_lt c.start rs) inner (and_parts (end_near re cs == suc i) (nat_lt c.start rs && inner) e).1).1).1
 
 -- a block alone stands in the node
 block-stands : (path : List ℕ) (at : ℕ) (h : Head) (ks : Forest) (i : ℕ) (kind : SyntaxKind) → IsTrue h.is_inner → i < length (trees ks)

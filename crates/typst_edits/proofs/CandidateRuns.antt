@@ -7,13 +7,13 @@ use Rattle.typst_lines.specs.Classes.{CharClasses}
 use Rattle.typst_tree.specs.Tree.{Tree}
 use Rattle.typst_tokens.specs.Sight.{width}
 use Rattle.typst_language.specs.Point.{Trivia, gap_of}
-use Rattle.typst_candidates.specs.Candidates.{is_among, Stretch, Candidate, begins}
+use Rattle.typst_candidates.specs.Candidates.{is_among, ChildRange, Candidate, begins}
 use Rattle.typst_edits.specs.CandidateRuns.{IsPieces}
 use Rattle.typst_edits.specs.Edit.{text_with}
 use Rattle.typst_edits.specs.Frame.{Run, read_as, opened_by, end_by, cut_at, is_over}
 use Rattle.typst_edits.specs.Heads.{first_place, minds_at}
 use Rattle.typst_edits.specs.Leading.{bytes_of, token_byte}
-use Rattle.typst_edits.specs.NumberedNotes.{cut_behind}
+use Rattle.typst_edits.specs.NumberedNotes.{cut_after}
 use Rattle.typst_edits.specs.Runs.{AllGo, End}
 use Rattle.typst_edits.specs.Sequence.{Sequence, first_of, first_end, then_of, then_end}
 use Rattle.typst_edits.proofs.BlockPlaces.{early-by as sooner}
@@ -34,7 +34,7 @@ pub record IsCut (byte : ℕ → ℕ) (count b : ℕ) : Type 0 where
   pub few : index ≤ count
   pub is : b ≡ byte index
 
-pub cut-token : (i : ℕ) (e : End (Bool × ℕ)) → 0 < i → cut_behind i e ≡ e.taken + gap_of e.state.known
+pub cut-token : (i : ℕ) (e : End (Bool × ℕ)) → 0 < i → cut_after i e ≡ e.taken + gap_of e.state.known
 cut-token zero e l = absurd (omega (arith, l))
 cut-token (suc i) e l = refl
 
@@ -42,7 +42,7 @@ pub is-cut : (text : List ℕ) (e : ℕ → End (Bool × ℕ)) (count b : ℕ) �
 is-cut text e count b c = record { index = c.index; some = c.some; few = c.few; is = c.is ∙ ap (λ d. width (take d text)) (cut-token c.index (e c.index) c.some) }
 
 -- The children of a stretch are the pieces of a run after the first i, up to the j-th; the run has a given number of pieces.
-pub record Picked (byte : ℕ → ℕ) (count from : ℕ) (ts : List Tree) (s : Stretch) : Type 0 where
+pub record Picked (byte : ℕ → ℕ) (count from : ℕ) (ts : List Tree) (s : ChildRange) : Type 0 where
   pub i : ℕ
   pub j : ℕ
   pub order : i ≤ j
@@ -55,7 +55,7 @@ pub record Picked (byte : ℕ → ℕ) (count from : ℕ) (ts : List Tree) (s : 
 
 module _ (cuts : List ℕ) (from : ℕ) (ts : List Tree) (rs re x : ℕ) (order : rs ≤ re) (byte : ℕ → ℕ) (count : ℕ) (each : (b : ℕ) → is_among b cuts ≡ true → IsCut byte count b)
     (rises : (i j : ℕ) → i < j → j ≤ count → byte i < byte j) (all : byte count ≡ from + bytes_of ts) where
-  abbrev s : Stretch
+  abbrev s : ChildRange
   s = stretch cuts from ts rs re x order
 
   record First : Type 0 where

@@ -27,7 +27,7 @@ use Rattle.typst_edits.specs.Runs.{made, piece_at, AllGo, end_of, lead, pieces, 
 use Rattle.typst_edits.proofs.Boundary.{KnownAt, first-of, going-on, known-made}
 use Rattle.typst_edits.proofs.Edit.{trees-of}
 use Rattle.typst_edits.proofs.Joint.{joint-law, onwards-is, known-is, text-taking}
-use Rattle.typst_edits.proofs.Led.{behind_trivia, before_trivia, Led, led-joined, drop-front, take-front, less-behind}
+use Rattle.typst_edits.proofs.Led.{after_trivia, before_trivia, Led, led-joined, drop-front, take-front, less-behind}
 use Rattle.typst_edits.proofs.RunTrees.{standing-chain, standing-still, tree-is}
 use Rattle.typst_edits.proofs.Runs.{chain-state}
 use Rattle.typst_edits.proofs.Turns.{Taking, turn-led}
@@ -69,7 +69,7 @@ module _ (l : Level) (stops : SyntaxKind → Bool) (taking : Taking l stops) whe
       let os = made turn n o.value.1 y o.state in
       let q = together (end_of o.value.1 o.state os).state os in
       let trims = minds (markup_head x.0 x.1 (hand_at l.classes h (Some t) z).kind) in
-      let c = turn x (moved t.gap z) (before_trivia r h e a (behind_trivia t)) in
+      let c = turn x (moved t.gap z) (before_trivia r h e a (after_trivia t)) in
       let one : Led t t.nodes trims o c = turn-led l stops taking x z r h e a t (going-on l stops x z s (first-of o.value.0 (nat_lt 0 o.taken) g.0)) in
       let tidy = tidy-together turn (λ v. (sane-run l taking.calls_sane taking.blocks_sane (markup_turn true stops v)).backs) n o.value.1 y o.state in
       let all = led-joined t t.nodes trims o c q one (subst (λ p. Tidy p q) one.state tidy) in
@@ -177,4 +177,4 @@ back-law k text i n =
     let z = start_of text in
     let e = end_at k i z in
     let tidy = tidy-together (piece_at k) (λ v. (sane-at (rules k) k max_depth (markup_turn true is_end v)).backs) n e.value (moved e.taken z) e.state in
-    record { pieces_back = tidy.back; behind_back = behind-back k i n z }
+    record { pieces_back = tidy.back; after_back = behind-back k i n z }

@@ -13,7 +13,7 @@ use Rattle.typst_tree.specs.Tree.{Tree, forest, inner_of, leaf_of, error_of, all
 use Rattle.typst_tree.specs.Tree.Forest.{none}
 use Rattle.typst_tree.specs.Messages.{made_unexpected, unexpected_message}
 use Rattle.typst_language.specs.Raw.{raw_node, delimited_node, closed_node, block_node, inline_node, delimited, two_delimiters, tag_leaves, is_pair, before_ticks, ticks}
-use Rattle.typst_language.specs.RawLines.{leaf, Row, trimmed, first_line, later_rows, is_blank, dedent, front, closing, line_leaves, first_leaves, block_of, block_leaves, inline_leaves}
+use Rattle.typst_language.specs.RawLines.{leaf, RawLine, trimmed, first_line, later_lines, is_blank, dedent, front, closing, line_leaves, first_leaves, block_of, block_leaves, inline_leaves}
 use Rattle.typst_language.specs.RawTag.{tag, warned, is_whole, only_tag}
 use Rattle.typst_language.specs.Faults.{hints, message}
 use Rattle.typst_language.specs.Fields.{field_node, fields_node, name_node, named_node, names_of, access_node}
@@ -60,7 +60,7 @@ module _ (P : Tree → Type 0) (of : OfTokens P) where
   of-trimmed [] = tt
   of-trimmed (c ∷ cs) = (of.leaves _ _, tt)
 
-  of-lines : (d : ℕ) (held : List ℕ) (rs : List Row) (closing : List ℕ) → All P (line_leaves d held rs closing)
+  of-lines : (d : ℕ) (held : List ℕ) (rs : List RawLine) (closing : List ℕ) → All P (line_leaves d held rs closing)
   of-lines d held [] closing = of-trimmed (held ++ closing)
   of-lines d held (r ∷ rs) closing = (of.leaves _ _, (of.leaves _ _, of-lines d [] rs closing))
 
@@ -70,14 +70,14 @@ module _ (P : Tree → Type 0) (of : OfTokens P) where
 
   of-block : (cs : List ℕ) → All P (block_leaves cs)
   unfolding block_leaves
-  of-block cs = by-parts (dedent cs) (first_line (front cs)) (later_rows (front cs)) (closing cs)
+  of-block cs = by-parts (dedent cs) (first_line (front cs)) (later_lines (front cs)) (closing cs)
     where
-      by-parts : (d : ℕ) (first : List ℕ) (rs : List Row) (closing : List ℕ) → All P (block_of d first rs closing)
+      by-parts : (d : ℕ) (first : List ℕ) (rs : List RawLine) (closing : List ℕ) → All P (block_of d first rs closing)
       by-parts d first rs closing = on_both (All P) (is_blank first) _ _ (of-lines d first rs closing) (all-append P (first_leaves first) (line_leaves d [] rs closing) (of-start first) (of-lines d [] rs closing))
 
   of-inline : (cs : List ℕ) → All P (inline_leaves cs)
   unfolding inline_leaves
-  of-inline cs = (of.leaves _ _, of-lines 0 [] (later_rows cs) [])
+  of-inline cs = (of.leaves _ _, of-lines 0 [] (later_lines cs) [])
 
   of-tag : (cs : List ℕ) → All P (tag_leaves cs)
   of-tag [] = tt

@@ -14,7 +14,7 @@ use Rattle.typst_grammar.specs.Grammar.{rules, max_depth, start_of}
 use Rattle.typst_edits.specs.BlockRuns.{bracket, run_at, opened_at}
 use Rattle.typst_edits.specs.InnerBytes.{inner_end}
 use Rattle.typst_edits.specs.Joint.{text_run}
-use Rattle.typst_edits.specs.NumberedNotes.{cut_behind, CutsLaw, InnerCutsLaw}
+use Rattle.typst_edits.specs.NumberedNotes.{cut_after, CutsLaw, InnerCutsLaw}
 use Rattle.typst_edits.specs.Runs.{AllGo, End, end_at, pieces, start}
 use Rattle.typst_edits.specs.Sequence.{Sequence, turn_of, first_of, first_end}
 use Rattle.typst_edits.specs.Spot.{Spot}
@@ -44,24 +44,24 @@ module _ (r : Sequence) (leads : Leads r) where
       let next = ap (λ n. (first_end n r).taken) one in
       omega (arith, led.some, led.taken, ap gap_of there.is, next, ap (λ (u : End (Bool × ℕ)). u.taken) (made-add turn (looks_in r) (each-ends r) i 1 (true, 0) r.place r.point))
 
-  cut-least : (i : ℕ) (e : End (Bool × ℕ)) → e.taken ≤ cut_behind i e
+  cut-least : (i : ℕ) (e : End (Bool × ℕ)) → e.taken ≤ cut_after i e
   cut-least zero e = omega arith
   cut-least (suc i) e = omega arith
 
-  cut-most : (i : ℕ) (e : End (Bool × ℕ)) → cut_behind i e ≤ e.taken + gap_of e.state.known
+  cut-most : (i : ℕ) (e : End (Bool × ℕ)) → cut_after i e ≤ e.taken + gap_of e.state.known
   cut-most zero e = omega arith
   cut-most (suc i) e = omega arith
 
-  pub tokens-rise : (i j : ℕ) → i < j → AllGo (first_of j r) → (first_end i r).taken + gap_of (first_end i r).state.known < cut_behind j (first_end j r)
+  pub tokens-rise : (i j : ℕ) → i < j → AllGo (first_of j r) → (first_end i r).taken + gap_of (first_end i r).state.known < cut_after j (first_end j r)
   tokens-rise i j l g =
       let next = next-cut i (go-fewer turn (suc i) j (true, 0) r.place r.point (omega (arith, l)) g) in
       omega (arith, next, least-taken turn (suc i) j (true, 0) r.place r.point (omega (arith, l)), cut-least j (first_end j r))
 
-  cuts-rise : (i j : ℕ) → i < j → AllGo (first_of j r) → cut_behind i (first_end i r) < cut_behind j (first_end j r)
+  cuts-rise : (i j : ℕ) → i < j → AllGo (first_of j r) → cut_after i (first_end i r) < cut_after j (first_end j r)
   cuts-rise i j l g =
       omega (arith, tokens-rise i j l g, cut-most i (first_end i r))
 
-  pub cuts-within : (j : ℕ) → cut_behind j (first_end j r) ≤ bound r.place r.point
+  pub cuts-within : (j : ℕ) → cut_after j (first_end j r) ≤ bound r.place r.point
   cuts-within j = let most = turns-within turn within j (true, 0) r.place r.point in let here = cut-most j (first_end j r) in omega (arith, most, here)
 
 pub cuts-law : CutsLaw
@@ -71,18 +71,18 @@ cuts-law k text i j l g =
     let r = text_run k z in
     let leads = text-leads k z in
     let room = (sane-at (rules k) k max_depth peek).within z start in
-    take-longer (cut_behind i (first_end i r)) (cut_behind j (first_end j r)) text (cuts-rise r leads i j l g) (omega (arith, room, cuts-within r leads j))
+    take-longer (cut_after i (first_end i r)) (cut_after j (first_end j r)) text (cuts-rise r leads i j l g) (omega (arith, room, cuts-within r leads j))
 
 -- So does the token after fewer pieces, even after none.
 pub token-cuts : (k : CharClasses) (text : List ℕ) (i j : ℕ) → i < j → AllGo (pieces k j (start_of text))
-    → (let z = start_of text in width (take ((end_at k i z).taken + gap_of (end_at k i z).state.known) text) < width (take (cut_behind j (end_at k j z)) text))
+    → (let z = start_of text in width (take ((end_at k i z).taken + gap_of (end_at k i z).state.known) text) < width (take (cut_after j (end_at k j z)) text))
 unfolding run
 token-cuts k text i j l g =
     let z = start_of text in
     let r = text_run k z in
     let leads = text-leads k z in
     let room = (sane-at (rules k) k max_depth peek).within z start in
-    take-longer ((end_at k i z).taken + gap_of (end_at k i z).state.known) (cut_behind j (first_end j r)) text (tokens-rise r leads i j l g) (omega (arith, room, cuts-within r leads j))
+    take-longer ((end_at k i z).taken + gap_of (end_at k i z).state.known) (cut_after j (first_end j r)) text (tokens-rise r leads i j l g) (omega (arith, room, cuts-within r leads j))
 
 pub inner-cuts-law : InnerCutsLaw
 unfolding run
@@ -98,7 +98,7 @@ inner-cuts-law k levels text c i j l g =
     let long = ap (λ (y : Place). length y.ahead) there in
     let one = cut-from a i (first_end i r) in
     let two = cut-from a j (first_end j r) in
-    take-longer (cut_behind i (inner_end k levels i c z)) (cut_behind j (inner_end k levels j c z)) text (omega (arith, more, one, two)) (omega (arith, room, most, more, ahead-left a z, long, two))
+    take-longer (cut_after i (inner_end k levels i c z)) (cut_after j (inner_end k levels j c z)) text (omega (arith, more, one, two)) (omega (arith, room, most, more, ahead-left a z, long, two))
 
 -- The trivia after pieces of a block's run end in the text.
 pub inner-within : (k : CharClasses) (levels : ℕ) (text : List ℕ) (c : Spot (Unit {0})) (j : ℕ) → opened_at k levels c (start_of text) ≤ length text

@@ -20,7 +20,7 @@ use Rattle.typst_language.specs.Syntax.{Parser, Begin, ◌>>◌}
 use Rattle.typst_language.specs.Syntax.Op.{takes}
 use Rattle.typst_language.specs.Syntax.Parser.{gives, does, next, repeat, wraps, scoped}
 use Rattle.typst_language.proofs.Within.{on_both}
-use Rattle.typst_candidates.specs.Units.{opens_content, is_closing, starts, up_to_end, behind_first, cuts_in}
+use Rattle.typst_candidates.specs.Units.{opens_content, is_closing, starts, up_to_end, after_first, cuts_in}
 use Rattle.typst_grammar.specs.Markup.{ends_block, markup_is_empty, markup_run, content_block, markup_reading}
 use Rattle.typst_grammar.specs.Grammar.{rules, max_depth, start_of, whole, log}
 use Rattle.typst_edits.specs.Edit.{Among}
@@ -157,10 +157,10 @@ some-level apart k text s cuts there name have none =
     let lv = n.opens.levels in
     let before = opens-before apart k text n.opens s.name n.name rest [] n.earlier notes in
     let here : opens_at at n.opens ≡ true = both-on (opens_content n.opens.mark) (at == at) (ap opens_content (n.name ∙ ap mark.Opens name)) (eq-eqb at at refl) in
-    let own : cuts_in at (n.opens ∷ rest) ≡ behind_first (starts lv (up_to_end lv rest)) = if-true (opens_at at n.opens) _ _ here in
+    let own : cuts_in at (n.opens ∷ rest) ≡ after_first (starts lv (up_to_end lv rest)) = if-true (opens_at at n.opens) _ _ here in
     let same_level : n.closes.levels ≡ lv = n.levels_end ∙ sym n.levels_there in
     let ends : up_to_end lv (n.closes ∷ n.later) ≡ [] = if-true (is_closing n.closes.mark && n.closes.levels == lv) _ _ (both-on (is_closing n.closes.mark) (n.closes.levels == lv) (ap is_closing n.name_end) (eq-eqb n.closes.levels lv same_level)) in
-    let nothing_in : behind_first (starts lv (up_to_end lv rest)) ≡ None = ap (λ xs. behind_first (starts lv (up_to_end lv (xs ++ n.closes ∷ n.later)))) empty ∙ ap (λ xs. behind_first (starts lv xs)) ends in
+    let nothing_in : after_first (starts lv (up_to_end lv rest)) ≡ None = ap (λ xs. after_first (starts lv (up_to_end lv (xs ++ n.closes ∷ n.later)))) empty ∙ ap (λ xs. after_first (starts lv xs)) ends in
     let all : cuts_in (width (take s.at text)) (listed (log k text).notes) ≡ None =
     ap (λ x. cuts_in x (listed (log k text).notes)) (sym n.start) ∙ ap (cuts_in at) notes ∙ cuts-past at n.earlier (n.opens ∷ rest) before ∙ own ∙ nothing_in in
     none-some cuts (sym all ∙ have)

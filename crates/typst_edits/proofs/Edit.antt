@@ -7,7 +7,7 @@ use Rattle.typst_language.specs.Ask.{Ask, SameIn}
 use Rattle.typst_language.specs.Ask.Ask.{looked, marked}
 use Rattle.typst_language.specs.Meaning.{Outcome}
 use Rattle.typst_language.proofs.Places.{moved-sum}
-pub use Rattle.typst_candidates.proofs.Rows.{trees_forest as trees-of}
+pub use Rattle.typst_candidates.proofs.Edges.{trees_forest as trees-of}
 use Rattle.typst_edits.specs.Hole.{Deep, fill, Hole, plug, path_in, path_of}
 use Rattle.typst_edits.specs.Hole.Deep.{bare, under}
 use Rattle.typst_edits.specs.Spot.{Spot, Fits, unit_at}

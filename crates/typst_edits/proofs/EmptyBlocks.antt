@@ -17,7 +17,7 @@ use Rattle.typst_language.specs.declared.reading.State.{State}
 use Rattle.typst_language.specs.Ask.{Ask, shift}
 use Rattle.typst_language.specs.Ask.Ask.{looked, marked}
 use Rattle.typst_language.specs.declared.reading.AtNewline.TheVariants as newline
-use Rattle.typst_language.specs.Hand.{Hand, told, hand_at, token_at}
+use Rattle.typst_language.specs.Hand.{Hand, as_at_hand, hand_at, token_at}
 use Rattle.typst_language.specs.Point.{Trivia, Point, point_of, state_of}
 use Rattle.typst_language.specs.Shape.{after_node}
 use Rattle.typst_language.specs.Shape.Making.{itself}
@@ -75,13 +75,13 @@ close-looks l z s h =
     let a = asked (hand_of l z s) s in
     let took = done l (takes false itself) z a in
     let taken = joined took (plain true took.state) in
-    let b = same kind.RightBracket (told (hand_of l z s)).kind in
+    let b = same kind.RightBracket (as_at_hand (hand_of l z s)).kind in
     let in_took = every-append P (hand_asks_of l z a) [] (looks-hand l z a (asked-knows l z 0 s h)).each tt in
     every-append P (hand_asks_of l z s) (shift 0 (if b then taken else plain false a).asks) (looks-hand l z s h).each
     (unmoved (token_look l z) 0 (if b then taken else plain false a).asks refl (on_both (λ (o : Outcome Bool). Every P o.asks) b taken (plain false a) in_took tt))
 
 -- what is taken after the trivia of a run without an expression
-onwards-taken : (r : Sequence) (x : Bool × ℕ) (z : Place) (s : Point) → Knows 0 s → ends r.stops x.1 (told (hand_of r.level z s)).kind ≡ true → (onwards r x z s).taken ≡ 0
+onwards-taken : (r : Sequence) (x : Bool × ℕ) (z : Place) (s : Point) → Knows 0 s → ends r.stops x.1 (as_at_hand (hand_of r.level z s)).kind ≡ true → (onwards r x z s).taken ≡ 0
 unfolding run
 onwards-taken r x z s h e =
     let l = r.level in
@@ -135,7 +135,7 @@ module _ (k : CharClasses) (levels : ℕ) (z : Place) (s : Point) where
       let y = moved t.gap the_run.place in
       let p = passed t the_run.point in
       let h : Knows 0 p = record { held = (run-knows t known).held; trivia = _; known = refl; gap = refl } in
-      let stops : ends ends_block 0 (told (hand_of l y p)).kind ≡ true = ap (ends ends_block 0) (passed-kind l the_run.place t the_run.point known) ∙ e in
+      let stops : ends ends_block 0 (as_at_hand (hand_of l y p)).kind ≡ true = ap (ends ends_block 0) (passed-kind l the_run.place t the_run.point known) ∙ e in
       let o = onwards the_run (true, 0) y p in
       looks-append (token_look l y) o.asks _ (onwards-looks the_run (true, 0) y p h stops)
       (unmoved (token_look l y) o.taken _ (onwards-taken the_run (true, 0) y p h stops) (closing-looks t known e))

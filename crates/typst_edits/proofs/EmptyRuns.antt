@@ -17,7 +17,7 @@ use Rattle.typst_language.specs.Ask.{Ask, shift}
 use Rattle.typst_language.specs.Ask.Ask.{looked, marked}
 use Rattle.typst_language.proofs.Ends.{hand-ends}
 use Rattle.typst_language.specs.Depth.{is_end}
-use Rattle.typst_language.specs.Hand.{AtHand, told, hand_at, hand_asks, column_look}
+use Rattle.typst_language.specs.Hand.{AtHand, as_at_hand, hand_at, hand_asks, column_look}
 use Rattle.typst_language.specs.Log.{no_log, logged}
 use Rattle.typst_language.specs.Point.{Trivia, Point, state_of}
 use Rattle.typst_language.specs.Steps.{flush_trivia}
@@ -114,16 +114,16 @@ unmoved look n asks e h = subst (λ u. Every (λ a. a ≡ looked 0 look) u) (sym
 
 module _ (l : Level) (stops : SyntaxKind → Bool) (x : Bool × ℕ) (z : Place) (s : Point) where
   abbrev peeked : Outcome AtHand
-  peeked = record (plain (told (hand_of l z s)) (asked (hand_of l z s) s)) { asks = hand_asks_of l z s }
+  peeked = record (plain (as_at_hand (hand_of l z s)) (asked (hand_of l z s) s)) { asks = hand_asks_of l z s }
 
   abbrev pub stopped : Outcome (Bool × (Bool × ℕ))
   stopped = joined peeked (plain (false, x) (asked (hand_of l z s) s))
 
-  turn-stopped : ends stops x.1 (told (hand_of l z s)).kind ≡ true → run l (markup_turn true stops x) z s ≡ stopped
+  turn-stopped : ends stops x.1 (as_at_hand (hand_of l z s)).kind ≡ true → run l (markup_turn true stops x) z s ≡ stopped
   unfolding run markup_turn
-  turn-stopped h = ap (joined peeked) (if-true (ends stops x.1 (told (hand_of l z s)).kind) _ _ h)
+  turn-stopped h = ap (joined peeked) (if-true (ends stops x.1 (as_at_hand (hand_of l z s)).kind) _ _ h)
 
-  pub run-stopped : ends stops x.1 (told (hand_of l z s)).kind ≡ true → repeated (λ y. run l (markup_turn true stops y)) x z s ≡ as_last stopped
+  pub run-stopped : ends stops x.1 (as_at_hand (hand_of l z s)).kind ≡ true → repeated (λ y. run l (markup_turn true stops y)) x z s ≡ as_last stopped
   unfolding repeated
   run-stopped h =
       let o = run l (markup_turn true stops x) z s in
@@ -142,7 +142,7 @@ flush-looks l z s h =
     every-append (λ a. a ≡ looked 0 (token_look l z)) (hand_asks_of l z s) (shift hand.gap (hand_asks_of l (moved hand.gap z) p ++ [])) (looks-hand l z s h).each (unmoved (token_look l z) hand.gap _ none again)
 
 -- all that is asked after the trivia of a run without an expression
-pub onwards-looks : (r : Sequence) (x : Bool × ℕ) (z : Place) (s : Point) → Knows 0 s → ends r.stops x.1 (told (hand_of r.level z s)).kind ≡ true → Looks (token_look r.level z) (onwards r x z s).asks
+pub onwards-looks : (r : Sequence) (x : Bool × ℕ) (z : Place) (s : Point) → Knows 0 s → ends r.stops x.1 (as_at_hand (hand_of r.level z s)).kind ≡ true → Looks (token_look r.level z) (onwards r x z s).asks
 unfolding run
 onwards-looks r x z s h e =
     let l = r.level in
@@ -221,7 +221,7 @@ empty-text-law k front old rest past t e known =
     let one = one-note k (front ++ (old ++ rest)) e in
     let r = text_run k z in
     let s = passed t r.point in
-    let stops : ends r.stops 0 (told (hand_of r.level (moved t.gap z) s)).kind ≡ true =
+    let stops : ends r.stops 0 (as_at_hand (hand_of r.level (moved t.gap z) s)).kind ≡ true =
     ap (ends is_end 0) (passed-kind r.level z t r.point known) ∙ e in
     let y = moved t.gap z in
     let h = hand_of r.level z r.point in

@@ -7,7 +7,7 @@ use Rattle.typst_language.specs.declared.calls.Mark.{Mark}
 use Rattle.typst_language.specs.declared.calls.Mark.TheVariants as mark
 use Rattle.typst_language.specs.declared.calls.Note.{Note}
 use Rattle.typst_language.specs.declared.reading.State.{State}
-use Rattle.typst_candidates.specs.Entries.{tag_of, entry_of, entries_by, last_start}
+use Rattle.typst_candidates.specs.Entries.{entry_kind_of, entry_of, entries_by, last_start}
 use Rattle.typst_candidates.specs.Records.{is_opening, opening_of, IsRising, AllEnd, AllBegin}
 use Rattle.typst_edits.specs.Bytes.{highest, lowest}
 use Rattle.typst_edits.proofs.Walk.{first-if as if-on}
@@ -31,7 +31,7 @@ opens (mark.Piece line brackets) = false
 opens (mark.Opens b) = true
 opens mark.Closes = false
 
-opening-is : (m : Mark) (s : State) → is_opening (tag_of m s) ≡ opens m
+opening-is : (m : Mark) (s : State) → is_opening (entry_kind_of m s) ≡ opens m
 opening-is (mark.Piece line brackets) s = refl
 opening-is (mark.Opens b) s = refl
 opening-is mark.Closes s = refl
@@ -52,12 +52,12 @@ if-off false b x y h = refl
 
 step-on : (at start number : ℕ) (n : Note) (ns : List Note) (b : Block) → start ≤ n.before → n.before ≤ n.start → n.mark ≡ mark.Opens b → n.start ≡ at → opening_of at start number (entries_by start (n ∷ ns)) ≡ Some number
 step-on at start number n ns b h k m e =
-    if-on (is_opening (tag_of n.mark n.state)) (here start n == at) _ _ (opening-is n.mark n.state ∙ ap opens m) (ap (λ i. i == at) (here-is start n h k ∙ e) ∙ eq-eqb at at refl)
+    if-on (is_opening (entry_kind_of n.mark n.state)) (here start n == at) _ _ (opening-is n.mark n.state ∙ ap opens m) (ap (λ i. i == at) (here-is start n h k ∙ e) ∙ eq-eqb at at refl)
 
 step-off : (at start number : ℕ) (n : Note) (ns : List Note) → start ≤ n.before → n.before ≤ n.start → ((b : Block) → n.mark ≡ mark.Opens b → n.start ≡ at → ⊥)
     → opening_of at start number (entries_by start (n ∷ ns)) ≡ opening_of at n.start (suc number) (entries_by n.start ns)
 step-off at start number n ns h k other =
-    if-off (is_opening (tag_of n.mark n.state)) (here start n == at) _ _ (λ e f. (let w = which-opens n.mark (sym (opening-is n.mark n.state) ∙ e) in other w.block w.is (sym (here-is start n h k) ∙ eqb-true (here start n) at f)))
+    if-off (is_opening (entry_kind_of n.mark n.state)) (here start n == at) _ _ (λ e f. (let w = which-opens n.mark (sym (opening-is n.mark n.state) ∙ e) in other w.block w.is (sym (here-is start n h k) ∙ eqb-true (here start n) at f)))
     ∙ ap (λ i. opening_of at i (suc number) (entries_by n.start ns)) (here-is start n h k)
 
 pub opening-some : (at start number : ℕ) (ms : List Note) (n : Note) (ls : List Note) (b : Block) → IsRising start (ms ++ n ∷ ls) → n.mark ≡ mark.Opens b → n.start ≡ at → NoneAt at ms

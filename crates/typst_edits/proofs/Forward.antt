@@ -1,5 +1,6 @@
 -- Trivia look only ahead, and so does a token at which a content block's run ends.
 use Rattle.std.proofs.Common.{◌≡◌, ◌+◌, ℕ, zero, suc, Bool, true, false, not, ◌||◌, ◌&&◌, ◌==◌, nat_lt, if◌then◌else◌, List, [], ◌∷◌, ◌++◌, length, slice_get, Some, None, refl, ap, sym, ◌∙◌, subst, arith}
+use Rattle.std.proofs.lemmas.Bool.{and_parts}
 use Rattle.std.specs.Char.{is_ascii_digit, is_whitespace}
 use Rattle.std.specs.Prelude.{is_none, codes}
 use Rattle.typst_kinds.specs.declared.kind.SyntaxKind.{SyntaxKind}
@@ -38,7 +39,7 @@ use Rattle.typst_language.specs.Point.{Trivia, gap_of}
 use Rattle.typst_language.proofs.Places.{moved-sum}
 use Rattle.typst_language.proofs.Within.{on_both}
 use Rattle.typst_grammar.specs.Markup.{ends_block}
-use Rattle.typst_grammar.proofs.Fine.{and-left, or-left as or-first, or-right as or-second}
+use Rattle.typst_grammar.proofs.Fine.{or-left as or-first, or-right as or-second}
 use Rattle.typst_edits.specs.Looks.{AllFrom}
 use Rattle.typst_edits.specs.Runs.{lead}
 
@@ -341,7 +342,7 @@ trivia-by : (k : CharClasses) (z : Place) (b : Bool) (a c : Ahead) (gap : ℕ) (
     → AllAhead (looked 0 (look (token k Markup) z) ∷ (if b then shift (len_at k Markup z) later else []))
 trivia-by k z true a c gap later e f g more h =
     let l = len_at k Markup z in
-    let own = token-fore k z.before z.ahead (and-left (is_trivia (token_at k Markup z).kind) (nat_lt 0 l) e) in
+    let own = token-fore k z.before z.ahead (and_parts (is_trivia (token_at k Markup z).kind) (nat_lt 0 l) e).0 in
     let there : moved a.gap z ≡ moved gap (moved l z) = ap (λ n. moved n z) f ∙ moved-sum l gap z in
     (own, ahead-shift l later (more (subst (λ p. (look (token k Markup) p).back ≡ 0) there h)))
 trivia-by k z false a c gap later e f g more h = (subst (λ n. (look (token k Markup) (moved n z)).back ≡ 0) g h, tt)

@@ -7,12 +7,12 @@ use Rattle.typst_language.specs.declared.calls.Mark.TheVariants as mark
 use Rattle.typst_language.specs.declared.calls.Note.{Note}
 use Rattle.typst_candidates.specs.declared.entry.Entry.{Entry}
 use Rattle.typst_candidates.specs.Cursors.{piece_of, first_piece, closing_of}
-use Rattle.typst_candidates.specs.Entries.{tag_of, count_of, entry_of, entries_by, last_start}
+use Rattle.typst_candidates.specs.Entries.{entry_kind_of, count_of, entry_of, entries_by, last_start}
 use Rattle.typst_candidates.specs.Nested.{Nested, none, piece}
 use Rattle.typst_candidates.specs.Records.{IsRising}
 use Rattle.typst_candidates.proofs.Nested.{closing-found}
 use Rattle.typst_edits.specs.Every.{Every}
-use Rattle.typst_edits.specs.NumberedNotes.{of_level, Numbered, cut_behind, SaysOf}
+use Rattle.typst_edits.specs.NumberedNotes.{of_level, Numbered, cut_after, SaysOf}
 use Rattle.typst_edits.specs.Runs.{End}
 use Rattle.typst_edits.specs.RunTest.{SaysPiece, IsLast, BeginsAt}
 use Rattle.typst_edits.proofs.EntryNumbers.{got-entry, past-entry}
@@ -150,7 +150,7 @@ pub record RunAmong (lv : ℕ) (pre ns suf : List Note) (text : List ℕ) (e : �
   pub each : Numbered (SaysOf text e) 0 (of_level lv ns)
   pub long : length (of_level lv ns) ≡ suc count
   pub at : (i : ℕ) → i ≤ count → NoteAt lv (length pre) ns i (number i)
-  pub cuts_rise : (i j : ℕ) → i < j → j ≤ count → width (take (cut_behind i (e i)) text) < width (take (cut_behind j (e j)) text)
+  pub cuts_rise : (i j : ℕ) → i < j → j ≤ count → width (take (cut_after i (e i)) text) < width (take (cut_after j (e j)) text)
   pub over : (number : ℕ) → first_own (λ n. true) 0 number suf ≡ None
 
 module _ (lv : ℕ) (pre ns suf : List Note) (text : List ℕ) (e : ℕ → End (Bool × ℕ)) (count : ℕ) (number : ℕ → ℕ) (h : RunAmong lv pre ns suf text e count number) where
@@ -158,7 +158,7 @@ module _ (lv : ℕ) (pre ns suf : List Note) (text : List ℕ) (e : ℕ → End 
   all = pre ++ (ns ++ suf)
 
   abbrev cut : ℕ → ℕ
-  cut i = width (take (cut_behind i (e i)) text)
+  cut i = width (take (cut_after i (e i)) text)
 
   says-at : (i : ℕ) (l : i ≤ count) → SaysOf text e i (h.at i l).note
   says-at i l = let n = h.at i l in says-by lv ns text e n.earlier n.note n.later i h.each n.is n.own n.index
@@ -274,7 +274,7 @@ module _ (lv : ℕ) (pre ns suf : List Note) (text : List ℕ) (e : ℕ → End 
       let own : SaysPiece (entries_by 0 (firsts_of i l ++ n.note ∷ behind_of i l)) (length (firsts_of i l)) (e i).value = record {
         entry = entry_of (last_start 0 (firsts_of i l)) n.note;
         is = got-entry 0 (firsts_of i l) n.note (behind_of i l);
-        tag = ap (λ (m : Mark). tag_of m n.note.state) says.mark;
+        kind = ap (λ (m : Mark). entry_kind_of m n.note.state) says.mark;
         count = ap (λ (m : Mark). count_of m n.note.levels) says.mark;
       } in
       subst (λ us. SaysPiece (entries_by 0 us) (number i) (e i).value) (sym (split-at i l)) (subst (λ d. SaysPiece (entries_by 0 (firsts_of i l ++ n.note ∷ behind_of i l)) d (e i).value) (firsts-long i l) own)

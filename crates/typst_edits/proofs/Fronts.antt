@@ -5,8 +5,8 @@ use Rattle.typst_tree.specs.Diagnostic.{hint_with, warning_with}
 use Rattle.typst_tree.specs.Messages.{made_expected}
 use Rattle.typst_tree.specs.Tree.{Tree, text_of, forest, joined as text_joined, inner_of, error_of, with_kind, made_error, advised, remarked}
 use Rattle.typst_language.specs.Point.{Point}
-use Rattle.typst_language.specs.Shape.{hinted, Change, Shape, shaped, first_changed, after_change, after_shape, after_node, count_empty, without_parens, Making}
-use Rattle.typst_language.specs.Shape.Change.{stays, turns_wrong, is_not, renamed, unparened}
+use Rattle.typst_language.specs.Shape.{hinted, NodeChange, Shape, shaped, first_changed, after_change, after_shape, after_node, count_empty, without_parens, Making}
+use Rattle.typst_language.specs.Shape.NodeChange.{stays, turns_wrong, is_not, renamed, unparened}
 use Rattle.typst_language.specs.Shape.Shape.{keeps, holds, lacks, warns, fails}
 use Rattle.typst_language.specs.Meaning.{less, taken_node}
 use Rattle.typst_language.proofs.Leaves.{texts, texts-one, texts-first, text-shaped, same-hinted, text-made}
@@ -53,7 +53,7 @@ long-texts (t ∷ ts) h = let all = ap length (texts-first t ts) in let sum = le
 full-one : (x : Tree) (ts : List Tree) → texts (x ∷ []) ≡ texts ts → Full ts → Full (x ∷ [])
 full-one x ts e h = let long = long-texts ts h in let same = ap length (sym (texts-one x) ∙ e) in omega (arith, long, same)
 
-full-changed : (change : Change) (t : Tree) (ts : List Tree) → Full (t ∷ ts) → Full (first_changed change (t ∷ ts))
+full-changed : (change : NodeChange) (t : Tree) (ts : List Tree) → Full (t ∷ ts) → Full (first_changed change (t ∷ ts))
 full-changed stays t ts h = h
 full-changed (turns_wrong message) t ts h = full-one (made_error message t) (t ∷ []) (text-shaped (keeps (turns_wrong message)) (t ∷ [])) h
 full-changed (is_not thing) t ts h = full-one (made_expected thing t) (t ∷ []) (text-shaped (keeps (is_not thing)) (t ∷ [])) h
@@ -76,7 +76,7 @@ pub few-node : (b : Bool) (text : List ℕ) (s : Point) (n : ℕ) → 0 < length
 few-node true text s n h l = let e = some-text text h in omega (arith, e, l)
 few-node false text s n h l = omega (arith, l)
 
-few-changed : (change : Change) (t : Tree) (ts : List Tree) (s : Point) → Full (t ∷ ts) → s.empties < suc (length ts) → (after_change change (t ∷ ts) s).empties < suc (length ts)
+few-changed : (change : NodeChange) (t : Tree) (ts : List Tree) (s : Point) → Full (t ∷ ts) → s.empties < suc (length ts) → (after_change change (t ∷ ts) s).empties < suc (length ts)
 few-changed change t [] s h l = on_both (λ (p : Point). p.empties < 1) (is_error t.head.kind) s _ l (few-node _ (text_of t) s 1 h (omega arith))
 few-changed change t (u ∷ ts) s h l = l
 

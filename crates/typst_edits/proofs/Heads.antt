@@ -12,7 +12,7 @@ use Rattle.typst_language.specs.Calls.Call.{MarkupExpr}
 use Rattle.typst_language.specs.declared.reading.Reading.{Reading}
 use Rattle.typst_language.specs.Ask.{Ask}
 use Rattle.typst_language.specs.Depth.{anywhere, too_deep, deeper}
-use Rattle.typst_language.specs.Hand.{AtHand, told, hand_at}
+use Rattle.typst_language.specs.Hand.{AtHand, as_at_hand, hand_at}
 use Rattle.typst_language.specs.Knot.{meaning_of}
 use Rattle.typst_language.specs.Point.{Trivia, Point, pending}
 use Rattle.typst_language.specs.Shape.{hinted}
@@ -33,7 +33,7 @@ use Rattle.typst_grammar.specs.Grammar.{rules, level_at}
 use Rattle.typst_language.specs.Sound.{Tidy, Backs}
 use Rattle.typst_edits.specs.Children.{together}
 use Rattle.typst_edits.specs.BlockRuns.{inner_run}
-use Rattle.typst_edits.specs.Heads.{begins_wrong, behind_known, minds_at, first_place, Headed, HeadLaw, InnerHeadLaw, MeetsLaw, InnerMeetsLaw}
+use Rattle.typst_edits.specs.Heads.{begins_wrong, after_known, minds_at, first_place, Headed, HeadLaw, InnerHeadLaw, MeetsLaw, InnerMeetsLaw}
 use Rattle.typst_edits.specs.Joint.{minds, text_run}
 use Rattle.typst_edits.specs.Occurrences.{goes}
 use Rattle.typst_edits.specs.Runs.{made, AllGo, end_of}
@@ -137,9 +137,9 @@ module _ (l : Level) (r h : Reading) (e : ℕ) (a : Bool) (z : Place) (t : Trivi
   erring-pick true p q f k = cc
   erring-pick false p q f k = k
 
-  erring-peek : {A : Type 0} (f : AtHand → Parser A) → Erring t (run l (f (told (hand_of l z s))) z s) → Erring t (run l (next peek f) z s)
+  erring-peek : {A : Type 0} (f : AtHand → Parser A) → Erring t (run l (f (as_at_hand (hand_of l z s))) z s) → Erring t (run l (next peek f) z s)
   unfolding run hand_at
-  erring-peek f k = erring-asked {B = AtHand} t (told (hand_of l z s)) s (hand_asks_of l z s) false _ k
+  erring-peek f k = erring-asked {B = AtHand} t (as_at_hand (hand_of l z s)) s (hand_asks_of l z s) false _ k
 
   erring-next : {A B : Type 0} (p : Parser B) (f : B → Parser A) → Erring t (run l p z s) → ((b : B) (w : Place) (q : Point) → Still (run l (f b) w q)) → Erring t (run l (next p f) z s)
   unfolding run
@@ -224,7 +224,7 @@ module _ (l : Level) (stops : SyntaxKind → Bool) (taking : Taking l stops)
     one = turn x z at
 
     -- A turn that minds errors leaves no empty error.
-    no-empties : ends stops x.1 (told (hand_of l z at)).kind ≡ false → Erring t one → one.state.empties ≡ 0
+    no-empties : ends stops x.1 (as_at_hand (hand_of l z at)).kind ≡ false → Erring t one → one.state.empties ≡ 0
     no-empties go err =
         let led = turn-led l stops taking x z r h e a t go in
         let both : t.nodes ++ led.rest ≡ t.nodes ++ err.error ∷ [] = sym led.nodes ∙ err.nodes in
@@ -243,7 +243,7 @@ module _ (l : Level) (stops : SyntaxKind → Bool) (taking : Taking l stops)
       tidy : Tidy one.state q
       tidy = tidy-together turn (λ v. backs (markup_turn true stops v)) n one.value.1 (moved one.taken z) one.state
 
-      go : ends stops x.1 (told (hand_of l z at)).kind ≡ false
+      go : ends stops x.1 (as_at_hand (hand_of l z at)).kind ≡ false
       go = going-on l stops x z at (first-of one.value.0 (nat_lt 0 one.taken) g.0)
 
       pieces-mild : trims ≡ false → (joined one q).back ≡ 0
@@ -258,7 +258,7 @@ module _ (l : Level) (stops : SyntaxKind → Bool) (taking : Taking l stops)
           wrong-standing t one.nodes q (erring-wrong t one err) (omega (arith, no-empties go err, tidy.back))
 
     -- all from here on
-    onward-mild : ends stops x.1 (told (hand_of l z at)).kind ≡ false → trims ≡ false → (onward x z at).back ≡ 0
+    onward-mild : ends stops x.1 (as_at_hand (hand_of l z at)).kind ≡ false → trims ≡ false → (onward x z at).back ≡ 0
     unfolding hand_at
     onward-mild go mild =
         let led = led-behind l stops taking h z t t (same-judged h t) x r e e a a (λ p. refl) go in
@@ -268,7 +268,7 @@ module _ (l : Level) (stops : SyntaxKind → Bool) (taking : Taking l stops)
     unfolding run flush_trivia
     flush-back w p = omega arith
 
-    onward-wrong : ends stops x.1 (told (hand_of l z at)).kind ≡ false → trims ≡ true → WrongFirst t (onward x z at).nodes
+    onward-wrong : ends stops x.1 (as_at_hand (hand_of l z at)).kind ≡ false → trims ≡ true → WrongFirst t (onward x z at).nodes
     unfolding run
     onward-wrong go mind =
         let err = erring-turn l r h e a z t taking.level_left stops x (wrong r h e a z t x mind) go in
@@ -292,11 +292,11 @@ module _ (l : Level) (stops : SyntaxKind → Bool) (taking : Taking l stops)
 
   abbrev Pieces : ℕ → Bool × ℕ → Place → Point → Type 0
   Pieces n x z p = (let os = made turn n x z p in let o = together (end_of x p os).state os in
-      AllGo os → (0 < n → begins_wrong (behind_known p o.nodes) ≡ false → minded x z p ≡ false) × (minded x z p ≡ false → o.back ≡ 0))
+      AllGo os → (0 < n → begins_wrong (after_known p o.nodes) ≡ false → minded x z p ≡ false) × (minded x z p ≡ false → o.back ≡ 0))
 
   abbrev Onward : Bool × ℕ → Place → Point → Type 0
   Onward x z p =
-      (begins_wrong (behind_known p (onward x z p).nodes) ≡ false → over x z p ≡ false → minded x z p ≡ false)
+      (begins_wrong (after_known p (onward x z p).nodes) ≡ false → over x z p ≡ false → minded x z p ≡ false)
       × ((over x z p ≡ false → minded x z p ≡ false) → (onward x z p).back ≡ 0)
 
   module _ (x : Bool × ℕ) (z : Place) (r h : Reading) (e : ℕ) (a : Bool) (t : Trivia) where
@@ -326,7 +326,7 @@ module _ (l : Level) (stops : SyntaxKind → Bool) (taking : Taking l stops)
   alone-here x z r h e a t g mind =
       let s = before_trivia r h e a t in
       let o = turn x z s in
-      let open_there : ends stops x.1 (told (hand_of l z s)).kind ≡ false = going-on l stops x z s (first-of o.value.0 (nat_lt 0 o.taken) g) in
+      let open_there : ends stops x.1 (as_at_hand (hand_of l z s)).kind ≡ false = going-on l stops x z s (first-of o.value.0 (nat_lt 0 o.taken) g) in
       let err = erring-turn l r h e a z t taking.level_left stops x (wrong r h e a z t x mind) open_there in
       record { error = err.error; is = err.is; nodes = err.nodes; none = no-empties x z r h e a t open_there err }
 
@@ -347,7 +347,7 @@ module _ (r : Sequence) (taking : Taking r.level r.stops)
       let then_known = known-made r.level r.stops n e.value (first_place i r) e.state first_known h in
       let p = pieces-facts r.level r.stops taking wrong n e.value (first_place i r) e.state first_known h in
       let o = onward-facts r.level r.stops taking wrong f.value (then_place i n r) f.state then_known in
-      record { first = p.0; pieces_back = p.1; next = o.0; behind_back = o.1 }
+      record { first = p.0; pieces_back = p.1; next = o.0; after_back = o.1 }
 
   -- where its pieces begin with one that minds errors
   pub lone-piece : (i : ℕ) → AllGo (first_of i r) → AllGo (then_of i 1 r) → minds_at r (first_place i r) (first_end i r) ≡ true → MindsAlone (first_end i r).state (turn_of r (first_end i r).value (first_place i r) (first_end i r).state)

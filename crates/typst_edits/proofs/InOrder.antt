@@ -43,7 +43,7 @@ use Rattle.typst_edits.proofs.Boundary.{KnownAt}
 use Rattle.typst_edits.proofs.Bytes.{noted-more}
 use Rattle.typst_edits.proofs.InnerJoint.{block-taking}
 use Rattle.typst_edits.proofs.Joint.{known-is, text-taking}
-use Rattle.typst_edits.proofs.Led.{behind_trivia, before_trivia}
+use Rattle.typst_edits.proofs.Led.{after_trivia, before_trivia}
 use Rattle.typst_edits.proofs.Rising.{take-more}
 use Rattle.typst_edits.proofs.Spots.{if-true}
 use Rattle.typst_edits.proofs.Turns.{turn_tail, Taking, turn-led}
@@ -182,7 +182,7 @@ module _ (l : Level) (deep : (call : Call) → AllInOrder (l.deeper call)) (held
       unfolding hand_at
       led-order x z t r h e a go =
           let w = moved t.gap z in
-          let p = before_trivia r h e a (behind_trivia t) in
+          let p = before_trivia r h e a (after_trivia t) in
           let o = run l (markup_turn true stops x) z (before_trivia r h e a t) in
           let c = run l (markup_turn true stops x) w p in
           let led = turn-led l stops taking x z r h e a t go in

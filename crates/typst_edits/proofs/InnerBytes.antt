@@ -27,7 +27,7 @@ use Rattle.typst_edits.specs.Sequence.{Sequence, turn_of, first_of, first_end, t
 use Rattle.typst_edits.specs.Spot.{Spot, unit_at, around, lowered, ended}
 use Rattle.typst_edits.proofs.Blocks.{ends}
 use Rattle.typst_edits.proofs.BlockRuns.{sane, content_by, by_run, content-is, content-split, content-taken, split-taken}
-use Rattle.typst_edits.proofs.Boundary.{piece_mark, chain-asks, begins-append, looks_in, pieces-begin, each-ends, made-add, go-add, from-both, boundary, told-at}
+use Rattle.typst_edits.proofs.Boundary.{piece_mark, chain-asks, begins-append, looks_in, pieces-begin, each-ends, made-add, go-add, from-both, boundary, noted-at}
 use Rattle.typst_edits.specs.Splice.{notes_in}
 use Rattle.typst_edits.proofs.EmptyRuns.{Never}
 use Rattle.typst_edits.proofs.Marks.{AllMarks, marks-append, none-hand}
@@ -279,7 +279,7 @@ module _ (k : CharClasses) (levels : ℕ) (text : List ℕ) (c : Spot (Unit {0})
       ap (λ (o : Outcome (Unit {0})). o.asks) is ∙ ap (λ u. c.before ++ (u ++ after)) moved_own
       ∙ ap (λ u. c.before ++ u) (append_assoc (low pre) (low one ++ m2 ∷ (low two ++ low three)) after ∙ ap (λ u. low pre ++ u) (append_assoc (low one) (m2 ∷ (low two ++ low three)) after ∙ ap (λ u. low one ++ m2 ∷ u) (append_assoc (low two) (low three) after))
       ∙ sym (append_assoc (low pre) (low one) rest)) ∙ sym (append_assoc c.before (low pre ++ low one) rest) in
-      let t = told-at k text early (low two ++ (low three ++ after)) (c.at + (b + e.taken)) cut.gap (f + 0) what (state_of e.state) all in
+      let t = noted-at k text early (low two ++ (low three ++ after)) (c.at + (b + e.taken)) cut.gap (f + 0) what (state_of e.state) all in
       let place : c.at + (b + e.taken) ≡ at + e.taken = omega arith in
       let none : f + 0 ≡ f = omega arith in
       let late_is : shift c.at three ≡ shift (at + e.taken) behind = shift-twice c.at b late ∙ shift-twice at e.taken behind in

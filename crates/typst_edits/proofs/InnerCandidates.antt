@@ -121,12 +121,12 @@ module _ (k : CharClasses) (levels : ℕ) (text : List ℕ) (c : Spot (Unit {0})
   -- its bracket, its markup with the children of its run, and what stands after that
   node-shape : LeadingInner k levels text c 0 0 first-trivia.trivia
   node-shape =
-      leading-inner-law k levels text c 0 0 first-trivia.trivia chosen name left some tt tt first-trivia.is (inr (omega (arith, (inner-back-law k levels text c 0 0).behind_back, no-errors)))
+      leading-inner-law k levels text c 0 0 first-trivia.trivia chosen name left some tt tt first-trivia.is (inr (omega (arith, (inner-back-law k levels text c 0 0).after_back, no-errors)))
 
   -- Of these only the second is markup.
   pub plain-shape : Plain c.node
   plain-shape =
-      plain-block k levels text c 0 0 first-trivia.trivia chosen name left some tt tt first-trivia.is (inr (omega (arith, (inner-back-law k levels text c 0 0).behind_back, no-errors)))
+      plain-block k levels text c 0 0 first-trivia.trivia chosen name left some tt tt first-trivia.is (inr (omega (arith, (inner-back-law k levels text c 0 0).after_back, no-errors)))
 
 -- ---- a candidate among its markup's children
 
@@ -261,7 +261,7 @@ module _ (k : CharClasses) (levels : ℕ) (front old rest : List ℕ) (s : Spot 
   -- Pieces there, or none after others, separate what follows them from what is before them.
   settles : (j l : ℕ) → (0 < j → 0 < l) → Settles l (onwards_in k levels j l s z)
   settles zero zero f =
-      inr (omega (arith, (inner-back-law k levels whole_text s 0 0).behind_back, no-errors k levels whole_text s chosen name level some))
+      inr (omega (arith, (inner-back-law k levels whole_text s 0 0).after_back, no-errors k levels whole_text s chosen name level some))
   settles zero (suc l) f = inl (omega arith)
   settles (suc j) l f = inl (f (omega arith))
 
@@ -275,7 +275,7 @@ module _ (k : CharClasses) (levels : ℕ) (front old rest : List ℕ) (s : Spot 
         back = (onwards_in k levels i l s z).back;
         behind = led.behind;
         children = sym same ∙ led.children;
-        few = (inner-back-law k levels whole_text s i l).behind_back;
+        few = (inner-back-law k levels whole_text s i l).after_back;
         ends = ap (λ b. b + bytes_of (standing_in k levels i l s z ++ nodes_in k levels i l v s z)) (sym led.begins) ∙ led.ends;
         onwards = ap (λ (o : Outcome (Unit {0})). o.nodes) (sym (inner-onwards-is k levels i l s z)) ∙ led.onwards;
         first = λ more. subst (λ b. LeadsAt b kids begin (length (standing_in k levels i l s z) + length (pending (first_end i r).state.known))) led.begins

@@ -8,7 +8,7 @@ use Rattle.typst_tree.specs.Tree.{Tree, forest, inner_of, made_error}
 use Rattle.typst_lines.specs.Classes.{CharClasses}
 use Rattle.typst_language.specs.declared.calls.Mark.TheVariants as mark
 use Rattle.typst_language.specs.Ask.Ask.{marked}
-use Rattle.typst_language.specs.Hand.{Hand, told}
+use Rattle.typst_language.specs.Hand.{Hand, as_at_hand}
 use Rattle.typst_language.specs.Point.{Trivia, Point, is_nil, point_of, state_of, gap_of, pending}
 use Rattle.typst_language.specs.Shape.{hinted, shaped, becomes, after_node, encloses}
 use Rattle.typst_language.specs.Shape.Making.{itself}
@@ -85,7 +85,7 @@ tail-quiet k levels n s z =
     let first = record (plain (tt {0}) p) { taken = h.gap; nodes = h.trivia; asks = hand_asks_of l w s } in
     let g = hand_of l y p in
     let a = asked g p in
-    let second = record (plain (told g) a) { asks = hand_asks_of l y p } in
+    let second = record (plain (as_at_hand g) a) { asks = hand_asks_of l y p } in
     let last = plain (tt {0}) a in
     quiet-joined first (joined second last) (record { back = refl; hints = refl }) (quiet-joined second last (record { back = refl; hints = refl }) (record { back = refl; hints = refl }))
 
@@ -250,10 +250,10 @@ close-quiet k levels n s z =
     let p = after_node false [] s in
     let h = hand_of l w p in
     let a = asked h p in
-    let first = record (plain (told h) a) { asks = hand_asks_of l w p } in
+    let first = record (plain (as_at_hand h) a) { asks = hand_asks_of l w p } in
     let took = done l (takes false itself) (moved 0 w) a in
     let taken = joined took (plain true took.state) in
-    let b = same kind.RightBracket (told h).kind in
+    let b = same kind.RightBracket (as_at_hand h).kind in
     let quiet = on_both (λ (u : Outcome Bool). Apart u) b taken (plain false a) (quiet-joined took (plain true took.state) (record { back = refl; hints = refl }) (record { back = refl; hints = refl })) (record { back = refl; hints = refl }) in
     quiet-joined first (if b then taken else plain false a) (record { back = refl; hints = refl }) quiet
 
@@ -426,4 +426,4 @@ inner-back-law k levels text c i n =
     let r = run_at k levels c z in
     let e = first_end i r in
     let tidy = tidy-together (turn_of r) (λ v. (sane k levels (markup_turn true ends_block v)).backs) n e.value (moved e.taken r.place) e.state in
-    record { pieces_back = tidy.back; behind_back = in-behind k levels c z i n }
+    record { pieces_back = tidy.back; after_back = in-behind k levels c z i n }

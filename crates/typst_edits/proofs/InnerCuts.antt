@@ -12,7 +12,7 @@ use Rattle.typst_language.specs.declared.calls.Note.{Note}
 use Rattle.typst_language.specs.Meaning.{Meaning}
 use Rattle.typst_language.specs.Point.{Point}
 use Rattle.typst_language.specs.Sound.{Within}
-use Rattle.typst_candidates.specs.Units.{is_piece, opens_content, is_closing, starts, up_to_end, behind_first, cuts_in}
+use Rattle.typst_candidates.specs.Units.{is_piece, opens_content, is_closing, starts, up_to_end, after_first, cuts_in}
 use Rattle.typst_candidates.specs.Candidates.{is_among}
 use Rattle.typst_grammar.specs.Grammar.{max_depth, start_of, log}
 use Rattle.typst_grammar.specs.Markup.{ends_block, markup_turn}
@@ -22,7 +22,7 @@ use Rattle.typst_edits.specs.Edit.{Among}
 use Rattle.typst_edits.specs.Every.{Every}
 use Rattle.typst_edits.specs.InnerBytes.{inner_end}
 use Rattle.typst_edits.specs.Laws.{blocks_of_text}
-use Rattle.typst_edits.specs.NumberedNotes.{of_level, Numbered, SaysOf, cut_behind}
+use Rattle.typst_edits.specs.NumberedNotes.{of_level, Numbered, SaysOf, cut_after}
 use Rattle.typst_edits.specs.Occurrences.{goes}
 use Rattle.typst_edits.specs.OpensApart.{OpensApartLaw}
 use Rattle.typst_edits.specs.PieceNotes.{listed}
@@ -42,7 +42,7 @@ opens_at at n = opens_content n.mark && n.start == at
 
 pub cuts-past : (at : ℕ) (earlier rest : List Note) → Every (λ n. opens_at at n ≡ false) earlier → cuts_in at (earlier ++ rest) ≡ cuts_in at rest
 cuts-past at [] rest h = refl
-cuts-past at (n ∷ earlier) rest h = if-false (opens_at at n) (behind_first (starts n.levels (up_to_end n.levels (earlier ++ rest)))) (cuts_in at (earlier ++ rest)) h.0 ∙ cuts-past at earlier rest h.1
+cuts-past at (n ∷ earlier) rest h = if-false (opens_at at n) (after_first (starts n.levels (up_to_end n.levels (earlier ++ rest)))) (cuts_in at (earlier ++ rest)) h.0 ∙ cuts-past at earlier rest h.1
 
 module _ (apart : OpensApartLaw) (k : CharClasses) (text : List ℕ) (opens : Note) (own : Block) (is_own : opens.mark ≡ mark.Opens own) (later : List Note) where
   pub opens-before : (done todo : List Note) → listed (log k text).notes ≡ done ++ (todo ++ opens ∷ later) → Every (λ n. opens_at opens.start n ≡ false) todo
@@ -107,12 +107,12 @@ pub record CutOf (text : List ℕ) (e : ℕ → End (Bool × ℕ)) (count b : �
   pub index : ℕ
   pub some : 0 < index
   pub few : index ≤ count
-  pub is : b ≡ width (take (cut_behind index (e index)) text)
+  pub is : b ≡ width (take (cut_after index (e index)) text)
 
 -- the cuts of a run of a given number of pieces
 pub record CutsAre (text : List ℕ) (e : ℕ → End (Bool × ℕ)) (count : ℕ) (cuts : List ℕ) : Type 0 where
   pub each : (b : ℕ) → is_among b cuts ≡ true → CutOf text e count b
-  pub has : (j : ℕ) → 0 < j → j ≤ count → is_among (width (take (cut_behind j (e j)) text)) cuts ≡ true
+  pub has : (j : ℕ) → 0 < j → j ≤ count → is_among (width (take (cut_after j (e j)) text)) cuts ≡ true
 
 module _ (text : List ℕ) (e : ℕ → End (Bool × ℕ)) where
   each-cut : (i count : ℕ) (ns : List Note) → 0 < i → i + length ns ≡ suc count → Numbered (SaysOf text e) i ns → (b : ℕ) → is_among b (starts_of ns) ≡ true → CutOf text e count b
@@ -123,21 +123,21 @@ module _ (text : List ℕ) (e : ℕ → End (Bool × ℕ)) where
       by-test true f next d = record { index = i; some = some; few = omega (arith, long); is = eqb-true b n.start f ∙ h.0.start }
       by-test false f next d = next d
 
-  has-cut : (i count : ℕ) (ns : List Note) → i + length ns ≡ suc count → Numbered (SaysOf text e) i ns → (j : ℕ) → i ≤ j → j ≤ count → is_among (width (take (cut_behind j (e j)) text)) (starts_of ns) ≡ true
+  has-cut : (i count : ℕ) (ns : List Note) → i + length ns ≡ suc count → Numbered (SaysOf text e) i ns → (j : ℕ) → i ≤ j → j ≤ count → is_among (width (take (cut_after j (e j)) text)) (starts_of ns) ≡ true
   has-cut i count [] long h j from to = absurd (omega (arith, long, from, to))
   has-cut i count (n ∷ ns) long h j from to = by-test (j == i) refl (λ d. has-cut (suc i) count ns (omega (arith, long)) h.1 j d to)
     where
-      by-test : (c : Bool) → (j == i) ≡ c → (suc i ≤ j → is_among (width (take (cut_behind j (e j)) text)) (starts_of ns) ≡ true) → is_among (width (take (cut_behind j (e j)) text)) (starts_of (n ∷ ns)) ≡ true
+      by-test : (c : Bool) → (j == i) ≡ c → (suc i ≤ j → is_among (width (take (cut_after j (e j)) text)) (starts_of ns) ≡ true) → is_among (width (take (cut_after j (e j)) text)) (starts_of (n ∷ ns)) ≡ true
       by-test true f next =
           let same : j ≡ i = eqb-true j i f in
-          or_left (width (take (cut_behind j (e j)) text) == n.start) (is_among (width (take (cut_behind j (e j)) text)) (starts_of ns)) (eq-eqb (width (take (cut_behind j (e j)) text)) n.start (ap (λ l. width (take (cut_behind l (e l)) text)) same ∙ sym h.0.start))
+          or_left (width (take (cut_after j (e j)) text) == n.start) (is_among (width (take (cut_after j (e j)) text)) (starts_of ns)) (eq-eqb (width (take (cut_after j (e j)) text)) n.start (ap (λ l. width (take (cut_after l (e l)) text)) same ∙ sym h.0.start))
       by-test false f next =
-          or_right (width (take (cut_behind j (e j)) text) == n.start) (is_among (width (take (cut_behind j (e j)) text)) (starts_of ns)) (next (less-than i j from (λ s. eqb-false j i f (sym s))))
+          or_right (width (take (cut_after j (e j)) text) == n.start) (is_among (width (take (cut_after j (e j)) text)) (starts_of ns)) (next (less-than i j from (λ s. eqb-false j i f (sym s))))
 
   -- The starts, without the first, are the cuts.
   pub record Behind (count : ℕ) (starts : List ℕ) : Type 0 where
     pub cuts : List ℕ
-    pub are : behind_first starts ≡ Some cuts
+    pub are : after_first starts ≡ Some cuts
     pub is : CutsAre text e count cuts
 
   pub behind-are : (count : ℕ) (ns : List Note) → length ns ≡ suc count → Numbered (SaysOf text e) 0 ns → Behind count (starts_of ns)
@@ -181,8 +181,8 @@ cuts-of-block apart k levels text c chosen name left =
     let at = n.opens.start in
     let none_before = opens-before apart k text n.opens c.name n.name more [] n.earlier notes in
     let here : opens_at at n.opens ≡ true = both-on (opens_content n.opens.mark) (at == at) (ap opens_content (n.name ∙ ap mark.Opens name)) (eq-eqb at at refl) in
-    let own : cuts_in at (n.opens ∷ more) ≡ behind_first (starts n.opens.levels (up_to_end n.opens.levels more)) = if-true (opens_at at n.opens) _ _ here in
-    let level : behind_first (starts n.opens.levels (up_to_end n.opens.levels more)) ≡ behind_first (starts (suc levels) (up_to_end (suc levels) more)) = ap (λ l. behind_first (starts l (up_to_end l more))) n.levels_there in
+    let own : cuts_in at (n.opens ∷ more) ≡ after_first (starts n.opens.levels (up_to_end n.opens.levels more)) = if-true (opens_at at n.opens) _ _ here in
+    let level : after_first (starts n.opens.levels (up_to_end n.opens.levels more)) ≡ after_first (starts (suc levels) (up_to_end (suc levels) more)) = ap (λ l. after_first (starts l (up_to_end l more))) n.levels_there in
     let starts_is = ap (starts (suc levels)) (all-inner text e (suc levels) n.closes n.later n.name_end n.levels_end 0 n.inner n.each) ∙ starts-are text e (suc levels) 0 n.inner n.each in
     let b = behind-are text e n.count (of_level (suc levels) n.inner) n.all n.each in
     let at_is : width (take c.at text) ≡ at = sym n.start in
@@ -190,7 +190,7 @@ cuts-of-block apart k levels text c chosen name left =
     record {
       count = n.count;
       cuts = b.cuts;
-      are = ap (λ x. cuts_in x (listed (log k text).notes)) at_is ∙ ap (cuts_in at) notes ∙ cuts-past at n.earlier (n.opens ∷ more) none_before ∙ own ∙ level ∙ ap behind_first starts_is ∙ b.are;
+      are = ap (λ x. cuts_in x (listed (log k text).notes)) at_is ∙ ap (cuts_in at) notes ∙ cuts-past at n.earlier (n.opens ∷ more) none_before ∙ own ∙ level ∙ ap after_first starts_is ∙ b.are;
       is = b.is;
       go = n.go;
       over = n.over;

@@ -33,7 +33,7 @@ use Rattle.typst_edits.proofs.BlockRuns.{split-taken, sane, content-split, conte
 use Rattle.typst_edits.proofs.Edit.{after-same}
 use Rattle.typst_edits.proofs.Inside.{same_in-at}
 use Rattle.typst_edits.proofs.Joint.{exchanged, takes-call, known-is}
-use Rattle.typst_edits.proofs.Led.{behind_trivia, before_trivia, same-renewed, kind-behind, asks-behind}
+use Rattle.typst_edits.proofs.Led.{after_trivia, before_trivia, same-renewed, kind-behind, asks-behind}
 use Rattle.typst_edits.proofs.Meeting.{ReadAs, read-as, read-made, judged-alike, Met, met}
 use Rattle.typst_edits.proofs.Outcomes.{shift-zero}
 use Rattle.typst_edits.proofs.Runs.{moved-three, moved-four}
@@ -52,7 +52,7 @@ module _ (k : CharClasses) (levels : ℕ) where
   abbrev pub onward : Bool × ℕ → Place → Point → Outcome (Unit {0})
   onward x = run (inner k levels) (repeat (markup_turn true ends_block) x >>= λ _. flush_trivia)
 
-  pub onward-fronted : (h : Reading) (z : Place) (t : Trivia) (x : Bool × ℕ) (r : Reading) (e : ℕ) (a : Bool) → Fronted t t.nodes (onward x z (before_trivia r h e a t)) (onward x (moved t.gap z) (before_trivia r h e a (behind_trivia t)))
+  pub onward-fronted : (h : Reading) (z : Place) (t : Trivia) (x : Bool × ℕ) (r : Reading) (e : ℕ) (a : Bool) → Fronted t t.nodes (onward x z (before_trivia r h e a t)) (onward x (moved t.gap z) (before_trivia r h e a (after_trivia t)))
   onward-fronted = fronted-same (inner k levels) ends_block block-taking
 
   -- the pieces of a block are read as markup

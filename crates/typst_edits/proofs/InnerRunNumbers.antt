@@ -9,9 +9,9 @@ use Rattle.typst_language.specs.declared.calls.Note.{Note}
 use Rattle.typst_language.specs.Ask.{shift}
 use Rattle.typst_language.specs.Point.{gap_of, point_of}
 use Rattle.typst_language.specs.Meaning.{run}
-use Rattle.typst_candidates.specs.declared.entry.Tag.TheVariants as tag
+use Rattle.typst_candidates.specs.declared.entry.EntryKind.TheVariants as entry_kind
 use Rattle.typst_candidates.specs.Cursors.{closing_of}
-use Rattle.typst_candidates.specs.Entries.{tag_of, count_of, entry_of, entries_by, last_start}
+use Rattle.typst_candidates.specs.Entries.{entry_kind_of, count_of, entry_of, entries_by, last_start}
 use Rattle.typst_candidates.specs.Records.{opening_of, IsRising}
 use Rattle.typst_candidates.proofs.Nested.{closing-found}
 use Rattle.typst_grammar.specs.Markup.{ends_block, markup_turn}
@@ -23,7 +23,7 @@ use Rattle.typst_edits.specs.Frame.{is_over}
 use Rattle.typst_edits.specs.InnerBytes.{inner_end}
 use Rattle.typst_edits.specs.InOrder.{InOrderLaw}
 use Rattle.typst_edits.specs.Laws.{blocks_of_text}
-use Rattle.typst_edits.specs.NumberedNotes.{of_level, cut_behind, NumberedInner}
+use Rattle.typst_edits.specs.NumberedNotes.{of_level, cut_after, NumberedInner}
 use Rattle.typst_edits.specs.PieceNotes.{listed}
 use Rattle.typst_edits.specs.RunNumbers.{cut_in, number_in, InnerNumbersLaw}
 use Rattle.typst_edits.specs.RunTest.{BeginsAt}
@@ -144,7 +144,7 @@ module _ (ordered : InOrderLaw) (k : CharClasses) (levels : ℕ) (text : List �
         all = omega (arith, h.long, before, long);
       }
     where
-      cut-here : (i : ℕ) (e : End (Bool × ℕ)) (note : Note) → (0 < i → note.start ≡ width (take (e.taken + gap_of e.state.known) text)) → (i ≡ 0 → note.start ≡ width (take e.taken text)) → note.start ≡ width (take (cut_behind i e) text)
+      cut-here : (i : ℕ) (e : End (Bool × ℕ)) (note : Note) → (0 < i → note.start ≡ width (take (e.taken + gap_of e.state.known) text)) → (i ≡ 0 → note.start ≡ width (take e.taken text)) → note.start ≡ width (take (cut_after i e) text)
       cut-here zero e note some none = none refl
       cut-here (suc i) e note some none = some (omega arith)
 
@@ -189,7 +189,7 @@ module _ (ordered : InOrderLaw) (k : CharClasses) (levels : ℕ) (text : List �
       let says : SaysBlock (entries_by 0 all) from (length pre + length n.inner) (suc levels) block.Content s.start.held.mode = record {
         entry = entry_of (last_start 0 n.earlier) n.opens;
         is = got-entry 0 n.earlier n.opens tail;
-        tag = (λ i. tag_of (n.name i) (n.state i)) ∙ ap (λ (b : Block). tag.Opens b s.start.held.mode) name;
+        kind = (λ i. entry_kind_of (n.name i) (n.state i)) ∙ ap (λ (b : Block). entry_kind.Opens b s.start.held.mode) name;
         count = (λ i. count_of (n.name i) (n.levels_there i));
         closes = ap (closing_of 0 (suc from)) (past-entry 0 n.earlier n.opens tail) ∙ closing-found (suc levels) (suc from) n.opens.start n.inner n.closes n.later known.nested n.name_end ∙ ap Some same;
       } in

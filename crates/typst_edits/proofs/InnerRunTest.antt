@@ -25,7 +25,7 @@ use Rattle.typst_edits.specs.BlockRuns.{bracket, inner_run, run_at, opened_at, E
 use Rattle.typst_edits.specs.BlockTest.{SaysBlock, entries_in, entries_alone, front_in, rear_in}
 use Rattle.typst_edits.specs.CandidateRuns.{IsPieces, InnerPiecesOfLaw}
 use Rattle.typst_edits.specs.Edit.{Among, text_with, AllBeginIn}
-use Rattle.typst_edits.specs.Frame.{Run, top, inner, cut_at, is_over, nodes_now, Before, Behind, PassesPieces, Gives, of_block, of_pieces}
+use Rattle.typst_edits.specs.Frame.{Run, top, inner, cut_at, is_over, nodes_now, Before, After, PassesPieces, Gives, of_block, of_pieces}
 use Rattle.typst_edits.specs.Hole.{path_of}
 use Rattle.typst_edits.specs.InOrder.{InOrderLaw}
 use Rattle.typst_edits.specs.InnerBytes.{inner_end}
@@ -35,7 +35,7 @@ use Rattle.typst_edits.specs.InnerPiecesTest.{InnerEntries, InnerPart, GivesInne
 use Rattle.typst_edits.specs.Laws.{blocks_of_text}
 use Rattle.typst_edits.specs.OneReading.{TakesNone}
 use Rattle.typst_edits.specs.OpensApart.{OpensApartLaw}
-use Rattle.typst_edits.specs.NumberedNotes.{cut_behind}
+use Rattle.typst_edits.specs.NumberedNotes.{cut_after}
 use Rattle.typst_edits.specs.RunNumbers.{cut_in, number_in, InnerNumbers, InnerNumbersLaw}
 use Rattle.typst_edits.specs.RunTest.{Reading, reading_on, nodes_by, IsLast, BeginsAt, PassesRead, FoundRun, FoundInner, InnerRunTestLaw}
 use Rattle.typst_edits.specs.RunTest.LooksFrom.{closing as from_closing}
@@ -133,7 +133,7 @@ module _ (ordered : InOrderLaw) (k : CharClasses) (levels : ℕ) (front old new 
   abbrev es : List Entry
   es = entries_in k text
 
-  cut-behind : (i : ℕ) → cut_at here i z ≡ cut_behind i (inner_end k levels i s z)
+  cut-behind : (i : ℕ) → cut_at here i z ≡ cut_after i (inner_end k levels i s z)
   cut-behind zero = omega arith
   cut-behind (suc i) =
       let e = first_end (suc i) q in
@@ -201,7 +201,7 @@ module _ (ordered : InOrderLaw) (k : CharClasses) (levels : ℕ) (front old new 
         let e = entries in
         ((λ l. e.before (omega (arith, l, e.number))), (λ h. (let l = e.before_too around.starts h in omega (arith, l, e.number))))
 
-    pub behind-is : 0 < n → rear_in k front old rest ≤ number_in k levels text s (i + n) ↔ Behind k front old rest here i n past t
+    pub behind-is : 0 < n → rear_in k front old rest ≤ number_in k levels text s (i + n) ↔ After k front old rest here i n past t
     behind-is some =
         let e = entries in
         let end = entry-end in
@@ -219,7 +219,7 @@ module _ (ordered : InOrderLaw) (k : CharClasses) (levels : ℕ) (front old new 
         }
 
   -- After a run without an expression looks have to begin where those after the block do.
-  pub none-behind : (c : Candidate) (i n past : ℕ) (t : Trivia) → IsPieces k front old rest here c i n past t → n ≡ 0 → rear_in k front old rest ≤ v.closes ↔ Behind k front old rest here i n past t
+  pub none-behind : (c : Candidate) (i n past : ℕ) (t : Trivia) → IsPieces k front old rest here c i n past t → n ≡ 0 → rear_in k front old rest ≤ v.closes ↔ After k front old rest here i n past t
   none-behind c i (suc n) past t is none = absurd (omega (arith, none))
   none-behind c (suc i) zero past t is none = absurd (let no = (is.empty refl).0 in omega (arith, no))
   none-behind c zero zero past t is none =

@@ -24,7 +24,7 @@ use Rattle.typst_edits.specs.BlockRuns.{run_at}
 use Rattle.typst_edits.specs.BlockTest.{SaysBlock, entries_in, front_in}
 use Rattle.typst_edits.specs.CandidateRuns.{IsPieces, RootPiecesOfLaw, InnerPiecesOfLaw}
 use Rattle.typst_edits.specs.Edit.{Among, text_with}
-use Rattle.typst_edits.specs.Frame.{Run, cut_at, Before, Behind, PassesPieces}
+use Rattle.typst_edits.specs.Frame.{Run, cut_at, Before, After, PassesPieces}
 use Rattle.typst_edits.specs.Hole.{path_of}
 use Rattle.typst_edits.specs.InOrder.{InOrderLaw}
 use Rattle.typst_edits.specs.InnerJoint.{PassesInnerJoint}
@@ -72,7 +72,7 @@ module _ (apart : OpensApartLaw) (ordered : InOrderLaw) (numbered : InnerNumbers
   module _ (c : Candidate) (chosen : Among c (candidates k (front ++ (old ++ rest)) (width front) (width (front ++ old)) root)) (whole : c.is_block ≡ false) (path : c.path ≡ path_of s.hole ++ 1 ∷ [])
       (i n past : ℕ) (t : Trivia) (is : IsPieces k front old rest (block_run s levels there name level) c i n past t) where
     -- The new pieces that follow d old ones are joined to what follows them.
-    joined : (d left m : ℕ) (u : Trivia) (first : Candidate) → n ≡ d + left → IsPieces k front old rest own first (i + d) left past t → Before k front old rest own (i + d) → Behind k front old rest own (i + d) left past t
+    joined : (d left m : ℕ) (u : Trivia) (first : Candidate) → n ≡ d + left → IsPieces k front old rest own first (i + d) left past t → Before k front old rest own (i + d) → After k front old rest own (i + d) left past t
         → AllGo (then_of (i + d) m now) → PassesPieces k front old new rest own i n (d + m) past t u → PassesInnerJoint k levels front old new rest s (i + d) left m past t u
     joined d left m u first sum f looks behind go h =
         let well = (inner-candidate-law apart k levels front old new rest root s there name level c i n (d + m) past t u same chosen whole path is.start is.led is.end h).1 in
@@ -88,7 +88,7 @@ module _ (apart : OpensApartLaw) (ordered : InOrderLaw) (numbered : InnerNumbers
           meets = meets-too was _ _ (then_end i n was) (then_end (i + d) left was) (then_end i (d + m) now) (then_end (i + d) m now) t u old_end.place old_end.value old_end.state new_end.value new_end.state all.meets;
         }
 
-    units-of-part : (first : Candidate) (d left m : ℕ) (u : Trivia) → 0 < d → n ≡ d + left → 0 < left → IsPieces k front old rest own first (i + d) left past t → Before k front old rest own (i + d) → Behind k front old rest own (i + d) left past t
+    units-of-part : (first : Candidate) (d left m : ℕ) (u : Trivia) → 0 < d → n ≡ d + left → 0 < left → IsPieces k front old rest own first (i + d) left past t → Before k front old rest own (i + d) → After k front old rest own (i + d) left past t
         → AllGo (then_of (i + d) m now) → (then_end (i + d) m now).state.known ≡ Some u → PassesPieces k front old new rest own i n (d + m) past t u
         → units_of (log k (front ++ (new ++ rest))) ≡ spliced (number_in k levels whole_text s (i + d)) (number_in k levels whole_text s (i + n)) (entries_by first.start (notes_by k (read_from k front old new rest own of.Block (suc levels) (i + d)) m)) (units_of (log k whole_text))
     units-of-part first d left m u some sum more f looks behind go known h =

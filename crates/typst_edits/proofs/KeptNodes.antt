@@ -26,7 +26,7 @@ use Rattle.typst_edits.specs.InnerChildren.{read_in, standing_in, nodes_in, bloc
 use Rattle.typst_edits.specs.InnerJoint.{onwards_in}
 use Rattle.typst_edits.specs.InnerPieces.{kids_in, markup_from}
 use Rattle.typst_edits.specs.Joint.{text_run, onwards_from}
-use Rattle.typst_edits.specs.KeptNodes.{kids_of_run, run_from, StandsBetween, KeptNodes, KeptNodesLaw, PutBehindLaw}
+use Rattle.typst_edits.specs.KeptNodes.{kids_of_run, run_from, StandsBetween, KeptNodes, KeptNodesLaw, PutAfterLaw}
 use Rattle.typst_edits.specs.Laws.{blocks_of_text}
 use Rattle.typst_edits.specs.Leading.{LeadsAt, LeadingInner, both}
 use Rattle.typst_edits.specs.OneReading.{TakesNone}
@@ -184,7 +184,7 @@ module _ (k : CharClasses) (text : List ℕ) (a d : ℕ) (t : Trivia) (some : 0 
       let f = text-facts k z in
       let e = first_end a q in
       let back_is = ap (λ (o : Outcome (Unit {0})). o.back) (onwards-is k a d z) in
-      let few = (back-law k text a d).behind_back in
+      let few = (back-law k text a d).after_back in
       let back : (onwards_from k a d z).back ≡ 0 = back_is ∙ none-taken q a d f (go-a q a d go) (go-d q a d go) none (omega (arith, few, back_is)) (minds_at q (first_place (a + d) q) (first_end (a + d) q)) refl in
       let led = leading-law k text a d t (go-a q a d go) (go-d q a d go) (known-d q a d t known) (inl some) in
       let before = standing_before k a d z in
@@ -245,7 +245,7 @@ module _ (k : CharClasses) (levels : ℕ) (text : List ℕ) (c : Spot (Unit {0})
   none-behind : (onwards_in k levels a d c z1).back ≡ 0
   none-behind =
       let back_is = ap (λ (o : Outcome (Unit {0})). o.back) (inner-onwards-is k levels a d c z1) in
-      let few = (inner-back-law k levels text c a d).behind_back in
+      let few = (inner-back-law k levels text c a d).after_back in
       let q = block_run in
       back_is ∙ none-taken q a d (block-facts k levels c z1) (go-a q a d go) (go-d q a d go) none (omega (arith, few, back_is)) (minds_at q (first_place (a + d) q) (first_end (a + d) q)) refl
 
@@ -297,7 +297,7 @@ kept-nodes-law k text (inner c levels chosen name left) a d t from mid root same
     kept k text (inner c levels chosen name left) a d t from mid root (block-facts k levels c (start_of text)) (block-layout k levels text c chosen name left a d t some go known none) s
     (go-before (run_at k levels c (start_of text)) a d go) known same (block-at k levels text c chosen name left a d t some go known none)
 
-pub put-behind-law : PutBehindLaw
+pub put-behind-law : PutAfterLaw
 put-behind-law k front old new rest r a d m t u from mid to root same some go before known none s l go_m known_now =
     let w = text_with front new rest in
     let serves = one-reading-law k front old new rest r a d (go-before (read_as r (text_with front old rest)) a d go) before in

@@ -8,9 +8,9 @@ use Rattle.typst_lines.specs.Classes.{CharClasses}
 use Rattle.typst_tree.specs.Tree.{Tree, forest, trees, text_of, inner_of, made_error}
 use Rattle.typst_tokens.specs.Sight.{width}
 use Rattle.typst_language.specs.declared.calls.Block.TheVariants as block
-use Rattle.typst_language.specs.Hand.{told, hand_at, utf8_ahead}
+use Rattle.typst_language.specs.Hand.{as_at_hand, hand_at, utf8_ahead}
 use Rattle.typst_language.specs.Point.{Trivia, Point, point_of, gap_of, pending}
-use Rattle.typst_language.specs.Shape.Change.{turns_wrong}
+use Rattle.typst_language.specs.Shape.NodeChange.{turns_wrong}
 use Rattle.typst_language.specs.Shape.Making.{itself}
 use Rattle.typst_language.specs.Shape.Shape.{keeps}
 use Rattle.typst_language.specs.Steps.{peek, flush_trivia}
@@ -153,14 +153,14 @@ module _ (r : Sequence) (leads : Leads r) where
   sane x = sane-run r.level leads.taking.calls_sane leads.taking.blocks_sane (markup_turn true r.stops x)
 
   -- a turn that isn't stopped
-  pub turn-fronts : (x : Bool × ℕ) (z : Place) (s : Point) (t : Trivia) → s.known ≡ Some t → ends r.stops x.1 (told (hand_of r.level z s)).kind ≡ false → Fronts t (turn x z s)
+  pub turn-fronts : (x : Bool × ℕ) (z : Place) (s : Point) (t : Trivia) → s.known ≡ Some t → ends r.stops x.1 (as_at_hand (hand_of r.level z s)).kind ≡ false → Fronts t (turn x z s)
   turn-fronts x z s t is go =
       let b = before_trivia s.reading s.held s.empties s.is_after_error t in
       let same : s ≡ b = ap (λ u. record s { known = u }) is in
-      let go_there : ends r.stops x.1 (told (hand_of r.level z b)).kind ≡ false = subst (λ p. ends r.stops x.1 (told (hand_of r.level z p)).kind ≡ false) same go in
+      let go_there : ends r.stops x.1 (as_at_hand (hand_of r.level z b)).kind ≡ false = subst (λ p. ends r.stops x.1 (as_at_hand (hand_of r.level z p)).kind ≡ false) same go in
       subst (λ p. Fronts t (turn x z p)) (sym same) (record { trims = _; behind = _; led = turn-led r.level r.stops leads.taking x z s.reading s.held s.empties s.is_after_error t go_there })
 
-  turn-goes-on : (x : Bool × ℕ) (z : Place) (s : Point) (t : Trivia) → s.known ≡ Some t → ends r.stops x.1 (told (hand_of r.level z s)).kind ≡ false → goes (turn x z s) ≡ true
+  turn-goes-on : (x : Bool × ℕ) (z : Place) (s : Point) (t : Trivia) → s.known ≡ Some t → ends r.stops x.1 (as_at_hand (hand_of r.level z s)).kind ≡ false → goes (turn x z s) ≡ true
   turn-goes-on x z s t is go =
       let o = turn x z s in
       let led = (turn-fronts x z s t is go).led in
@@ -168,10 +168,10 @@ module _ (r : Sequence) (leads : Leads r) where
       ap (λ b. b && nat_lt 0 o.taken) (turn-goes r.level r.stops x z s go) ∙ lt-ltb 0 o.taken some
 
   -- Where none goes on, the run ends.
-  pub turn-over : (x : Bool × ℕ) (z : Place) (s : Point) → KnownAt s → goes (turn x z s) ≡ false → ends r.stops x.1 (told (hand_of r.level z s)).kind ≡ true
-  turn-over x z s there stopped = by-end (ends r.stops x.1 (told (hand_of r.level z s)).kind) refl
+  pub turn-over : (x : Bool × ℕ) (z : Place) (s : Point) → KnownAt s → goes (turn x z s) ≡ false → ends r.stops x.1 (as_at_hand (hand_of r.level z s)).kind ≡ true
+  turn-over x z s there stopped = by-end (ends r.stops x.1 (as_at_hand (hand_of r.level z s)).kind) refl
     where
-      by-end : (b : Bool) → ends r.stops x.1 (told (hand_of r.level z s)).kind ≡ b → b ≡ true
+      by-end : (b : Bool) → ends r.stops x.1 (as_at_hand (hand_of r.level z s)).kind ≡ b → b ≡ true
       by-end true e = refl
       by-end false e = let d : true ≡ false = sym (turn-goes-on x z s there.trivia there.is e) ∙ stopped in cc
 
@@ -187,7 +187,7 @@ module _ (r : Sequence) (leads : Leads r) where
       (tidy-together turn (λ v. (sane v).backs) n o.value.1 y o.state)
 
   -- all after some pieces, where another follows
-  rest-front : (x : Bool × ℕ) (z : Place) (s : Point) (t : Trivia) (last : Outcome (Unit {0})) → s.known ≡ Some t → Tidy (repeated turn x z s).state last → ends r.stops x.1 (told (hand_of r.level z s)).kind ≡ false
+  rest-front : (x : Bool × ℕ) (z : Place) (s : Point) (t : Trivia) (last : Outcome (Unit {0})) → s.known ≡ Some t → Tidy (repeated turn x z s).state last → ends r.stops x.1 (as_at_hand (hand_of r.level z s)).kind ≡ false
       → Fronts t (joined (repeated turn x z s) last)
   unfolding run
   rest-front x z s t last is tidy go =
@@ -205,7 +205,7 @@ module _ (r : Sequence) (leads : Leads r) where
       let same : s ≡ before_trivia s.reading s.held s.empties s.is_after_error t = ap (λ u. record s { known = u }) is in
       ap (λ p. (run r.level flush_trivia z p).nodes) same ∙ ap (λ ts. ts ++ []) (less-none t.nodes) ∙ append-nil t.nodes
 
-  rest-over : (x : Bool × ℕ) (z : Place) (s : Point) (t : Trivia) → s.known ≡ Some t → ends r.stops x.1 (told (hand_of r.level z s)).kind ≡ true
+  rest-over : (x : Bool × ℕ) (z : Place) (s : Point) (t : Trivia) → s.known ≡ Some t → ends r.stops x.1 (as_at_hand (hand_of r.level z s)).kind ≡ true
       → (let p = repeated turn x z s in (joined p (run r.level flush_trivia (moved p.taken z) p.state)).nodes ≡ t.nodes)
   unfolding hand_at
   rest-over x z s t is over =
@@ -348,7 +348,7 @@ module _ (k : CharClasses) (text : List ℕ) (i n : ℕ) (t : Trivia) (g : AllGo
       let f = end_from k i n z0 in
       let ts = given (pieces k i z0) [] in
       let front = onwards-fronted k i n z0 t known in
-      let back = (back-law k text i n).behind_back in
+      let back = (back-law k text i n).after_back in
       let apart = run-apart r (text-taking k) (text-known k z0) i n o some back g h in
       let before = standing_before k i n z0 in
       let olds = nodes_with k i n t z0 in
@@ -468,7 +468,7 @@ module _ (k : CharClasses) (levels : ℕ) (text : List ℕ) (c : Spot (Unit {0})
       let e = first_end i r in
       let f = then_end i n r in
       let front = inner-fronted k levels i n c z1 t known in
-      let back = (inner-back-law k levels text c i n).behind_back in
+      let back = (inner-back-law k levels text c i n).after_back in
       let rest = rest_of i n r in
       let last = tail_at k levels i n c z1 in
       let kids = kids_of front.rest in

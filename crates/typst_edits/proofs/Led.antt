@@ -10,7 +10,7 @@ use Rattle.typst_language.specs.Calls.{Call}
 use Rattle.typst_language.specs.declared.reading.Reading.{Reading}
 use Rattle.typst_language.specs.Ask.{Ask, shift, shift_one, sunk}
 use Rattle.typst_language.specs.Ask.Ask.{looked}
-use Rattle.typst_language.specs.Hand.{told, len_at, hand_at, hand_asks, judged, asks_column, column_look, column_at}
+use Rattle.typst_language.specs.Hand.{as_at_hand, len_at, hand_at, hand_asks, judged, asks_column, column_look, column_at}
 use Rattle.typst_language.specs.Point.{Trivia, Point}
 use Rattle.typst_language.specs.Shape.{Making, hinted, Shape, shaped, after_shape, after_node, seen}
 use Rattle.typst_language.specs.Steps.{peek}
@@ -27,8 +27,8 @@ use Rattle.typst_edits.proofs.Fronts.{Full, full-append, full-less, full-hinted,
 use Rattle.typst_edits.proofs.Outcomes.{shift-zero, shift-twice, sunk-shift, hints-first}
 
 -- trivia that were passed
-abbrev pub behind_trivia : Trivia → Trivia
-behind_trivia t = record t { gap = 0 }
+abbrev pub after_trivia : Trivia → Trivia
+after_trivia t = record t { gap = 0 }
 
 -- If the token at hand is read like this, it is the same after the newlines of the one and of the other.
 pub record SameJudged (h : Reading) (t u : Trivia) : Type 0 where
@@ -205,7 +205,7 @@ led-wrapped t us f n m o c e d h =
 
 -- What is read before trivia gives them, and otherwise does as after them, whatever errors stand before them; where `trims` says so only the errors' number matters.
 abbrev pub Takes : {A : Type 0} → Reading → Place → Trivia → Trivia → Bool → Meaning A → Type 0
-Takes h z t u trims m = (r : Reading) (e d : ℕ) (a b : Bool) → (trims ≡ true → e ≡ d) → Led t u.nodes trims (m z (before_trivia r h e a t)) (m (moved t.gap z) (before_trivia r h d b (behind_trivia u)))
+Takes h z t u trims m = (r : Reading) (e d : ℕ) (a b : Bool) → (trims ≡ true → e ≡ d) → Led t u.nodes trims (m z (before_trivia r h e a t)) (m (moved t.gap z) (before_trivia r h d b (after_trivia u)))
 
 pub same-renewed : (b : Bool) (text : List ℕ) (r h : Reading) (e d : ℕ) (i j : Bool) (t u : Trivia) → renewed (after_node b text (before_trivia r h e i t)) ≡ renewed (after_node b text (before_trivia r h d j u))
 same-renewed true text r h e d i j t u = refl
@@ -227,11 +227,11 @@ two-asks false true g x y same = cc
 
 module _ (l : Level) (h : Reading) (z : Place) (t u : Trivia) (alike : SameJudged h t u) where
   -- The looks at the token are the same.
-  pub asks-behind : hand_asks l.classes h (Some t) z ≡ shift t.gap (hand_asks l.classes h (Some (behind_trivia u)) (moved t.gap z))
+  pub asks-behind : hand_asks l.classes h (Some t) z ≡ shift t.gap (hand_asks l.classes h (Some (after_trivia u)) (moved t.gap z))
   unfolding hand_asks
   asks-behind = two-asks (asks_column h t.newlines) (asks_column h u.newlines) t.gap _ (column_look (moved t.gap z)) alike.column
 
-  pub kind-behind : (hand_at l.classes h (Some (behind_trivia u)) (moved t.gap z)).kind ≡ (hand_at l.classes h (Some t) z).kind
+  pub kind-behind : (hand_at l.classes h (Some (after_trivia u)) (moved t.gap z)).kind ≡ (hand_at l.classes h (Some t) z).kind
   unfolding hand_at
   kind-behind = alike.judge _ (column_at (moved t.gap z))
 
@@ -247,7 +247,7 @@ module _ (l : Level) (h : Reading) (z : Place) (t u : Trivia) (alike : SameJudge
           value = refl;
           taken = omega arith;
           some = omega (arith, some);
-          state = same-renewed (is_error tree.head.kind) (text_of tree) r h e d a b t (behind_trivia u);
+          state = same-renewed (is_error tree.head.kind) (text_of tree) r h e d a b t (after_trivia u);
           back = same-back trims e d same;
           none = no-back trims d;
           hints = refl;
@@ -256,7 +256,7 @@ module _ (l : Level) (h : Reading) (z : Place) (t u : Trivia) (alike : SameJudge
           nodes = refl;
           nodes_too = refl;
           full = full;
-          few = few-node (is_error tree.head.kind) (text_of tree) (before_trivia r h d b (behind_trivia u)) 1 full (omega arith);
+          few = few-node (is_error tree.head.kind) (text_of tree) (before_trivia r h d b (after_trivia u)) 1 full (omega arith);
           asks = asks-behind;
           met = refl;
         }
@@ -270,8 +270,8 @@ module _ (l : Level) (h : Reading) (z : Place) (t u : Trivia) (alike : SameJudge
   unfolding run hand_at
   takes-peek trims f k r e d a b same =
       let w = moved t.gap z in
-      let v = behind_trivia u in
-      let x = told (hand_at l.classes h (Some v) w) in
+      let v = after_trivia u in
+      let x = as_at_hand (hand_at l.classes h (Some v) w) in
       subst (λ y. Led t u.nodes trims (run l (next peek (λ x. f x.kind)) z (before_trivia r h e a t)) (joined (record (plain x (before_trivia r h d b v)) { asks = hand_asks l.classes h (Some v) w }) (run l (f y) w (before_trivia r h d b v)))) (sym kind-behind)
       (led-asked t u.nodes trims x (before_trivia r h e a t) (before_trivia r h d b v) _ _ false _ _ asks-behind (k r e d a b same))
 
@@ -279,7 +279,7 @@ module _ (l : Level) (h : Reading) (z : Place) (t u : Trivia) (alike : SameJudge
   unfolding run hand_at
   takes-column trims f k r e d a b same =
       let w = moved t.gap z in
-      let v = behind_trivia u in
+      let v = after_trivia u in
       let zero_more : t.gap ≡ t.gap + 0 = omega arith in
       led-asked t u.nodes trims (column_at w) (before_trivia r h e a t) (before_trivia r h d b v) _ _ false _ _
       (ap (λ ls. ls ++ looked t.gap (column_look w) ∷ []) asks-behind ∙ ap (λ n. shift t.gap (hand_asks l.classes h (Some v) w) ++ looked n (column_look w) ∷ []) zero_more ∙ sym (map-append (shift_one t.gap) (hand_asks l.classes h (Some v) w) (looked 0 (column_look w) ∷ [])))
@@ -290,7 +290,7 @@ module _ (l : Level) (h : Reading) (z : Place) (t u : Trivia) (alike : SameJudge
   takes-scoped trims f p k r e d a b same =
       let i = k (f r) e d a b same in
       let o = run l p z (before_trivia (f r) h e a t) in
-      let c = run l p (moved t.gap z) (before_trivia (f r) h d b (behind_trivia u)) in
+      let c = run l p (moved t.gap z) (before_trivia (f r) h d b (after_trivia u)) in
       led-like t u.nodes trims o c o.value c.value (left r o.state) (left r c.state) o.asks c.asks i i.value (ap (left r) i.state) (omega (arith, left-empties r c.state, i.few)) i.asks
 
   pub takes-wraps : {A : Type 0} (f : A → Shape) (p : Parser A) → Takes h z t u false (run l p) → Takes h z t u false (run l (wraps f at_token p))
@@ -302,5 +302,5 @@ module _ (l : Level) (h : Reading) (z : Place) (t u : Trivia) (alike : SameJudge
   takes-calls trims call k r e d a b same =
       let i = k r e d a b same in
       let o = l.deeper call z (before_trivia r h e a t) in
-      let c = l.deeper call (moved t.gap z) (before_trivia r h d b (behind_trivia u)) in
+      let c = l.deeper call (moved t.gap z) (before_trivia r h d b (after_trivia u)) in
       led-like t u.nodes trims o c o.value c.value o.state c.state (sunk o.asks) (sunk c.asks) i i.value i.state i.few (ap sunk i.asks ∙ sunk-shift t.gap c.asks)

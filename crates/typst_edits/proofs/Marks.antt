@@ -13,7 +13,7 @@ use Rattle.typst_language.specs.declared.reading.Reading.{Reading}
 use Rattle.typst_language.specs.declared.reading.State.{State}
 use Rattle.typst_language.specs.Ask.{Ask, shift, sunk}
 use Rattle.typst_language.specs.Ask.Ask.{looked, marked}
-use Rattle.typst_language.specs.Hand.{len_at, at_trivia, asks_by, ahead_asks, ahead_of, asks_column, column_asks, hand_asks, told}
+use Rattle.typst_language.specs.Hand.{len_at, at_trivia, asks_by, ahead_asks, ahead_of, asks_column, column_asks, hand_asks, as_at_hand}
 use Rattle.typst_language.specs.Log.{Log, with_hull, with_note, logged}
 use Rattle.typst_language.specs.Point.{Trivia, Point}
 use Rattle.typst_language.specs.Meaning.{Outcome, Level, plain, joined, hand_of, hand_asks_of, asked, done, run}
@@ -87,7 +87,7 @@ none-close P l w p =
     let Q = λ (at fewer : ℕ) (m : Mark) (u : State). P (0 + at) fewer m u in
     let took = done l (takes false itself) y a in
     let taken = joined took (plain true took.state) in
-    let b = same kind.RightBracket (told (hand_of l w p)).kind in
+    let b = same kind.RightBracket (as_at_hand (hand_of l w p)).kind in
     let in_took = marks-append Q (hand_asks_of l y a) [] (none-hand Q l.classes a.held a.known y) tt in
     marks-append P (hand_asks_of l w p) _ (none-hand P l.classes p.held p.known w)
     (marks-shift P 0 (if b then taken else plain false a).asks (on_both (λ (o : Outcome Bool). AllMarks Q o.asks) b taken (plain false a) in_took tt))

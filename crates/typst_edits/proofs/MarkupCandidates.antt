@@ -8,7 +8,7 @@ use Rattle.typst_kinds.specs.Head.{Head}
 use Rattle.typst_language.specs.declared.calls.Note.{Note}
 use Rattle.typst_language.proofs.Leaves.{texts}
 use Rattle.typst_tree.specs.Tree.{Forest, none, more, Tree, forest, trees, text_of, joined}
-use Rattle.typst_candidates.specs.Candidates.{Child, laid, first_near, end_near, child_at, Stretch, around, is_all, Candidate, of_children, of_stretches, stretches, of_run, covers, run_in, of_block, candidates_at}
+use Rattle.typst_candidates.specs.Candidates.{Child, laid, first_near, end_near, child_at, ChildRange, around, is_all, Candidate, of_children, of_child_ranges, child_ranges, of_run, covers, run_in, of_block, candidates_at}
 use Rattle.typst_edits.specs.Edit.{Among}
 use Rattle.typst_edits.specs.Edit.Among.{this, that}
 use Rattle.typst_edits.specs.Every.{Every}
@@ -41,13 +41,13 @@ pub record Own (path : List ℕ) (c : Candidate) : Type 0 where
   pub at_end : c.path ≡ path
   pub pieces : c.is_block ≡ false
 
-stretches-own : (path : List ℕ) (at : ℕ) (ts : List Tree) (ss : List Stretch) → Every (Own path) (of_stretches path at ts ss)
-stretches-own path at ts [] = tt
-stretches-own path at ts (s ∷ ss) = (record { at_end = refl; pieces = refl }, stretches-own path at ts ss)
+child_ranges-own : (path : List ℕ) (at : ℕ) (ts : List Tree) (ss : List ChildRange) → Every (Own path) (of_child_ranges path at ts ss)
+child_ranges-own path at ts [] = tt
+child_ranges-own path at ts (s ∷ ss) = (record { at_end = refl; pieces = refl }, child_ranges-own path at ts ss)
 
 pub run-own : (rs re : ℕ) (path : List ℕ) (at : ℕ) (ts : List Tree) (run : Option (List ℕ)) → Every (Own path) (of_run rs re path at ts run)
 run-own rs re path at ts None = tt
-run-own rs re path at ts (Some cuts) = let cs = laid at ts in stretches-own path at ts (stretches cuts cs (first_near rs cs) (end_near re cs) (suc (length ts)) 1)
+run-own rs re path at ts (Some cuts) = let cs = laid at ts in child_ranges-own path at ts (child_ranges cuts cs (first_near rs cs) (end_near re cs) (suc (length ts)) 1)
 
 -- ---- a child
 
@@ -241,13 +241,13 @@ pub record OfStretch (rs re : ℕ) (path : List ℕ) (at : ℕ) (ts : List Tree)
   pub is : (let cs = laid at ts in let s = around cuts cs (first_near rs cs) (end_near re cs) more in c ≡ of_children false path at ts s.from s.to)
 
 module _ (rs re : ℕ) (path : List ℕ) (at : ℕ) (ts : List Tree) (cuts : List ℕ) where
-  stretches-of : (tries x : ℕ) → (let cs = laid at ts in Every (OfStretch rs re path at ts cuts) (of_stretches path at ts (stretches cuts cs (first_near rs cs) (end_near re cs) tries x)))
-  stretches-of zero x = tt
-  stretches-of (suc tries) x =
+  child_ranges-of : (tries x : ℕ) → (let cs = laid at ts in Every (OfStretch rs re path at ts cuts) (of_child_ranges path at ts (child_ranges cuts cs (first_near rs cs) (end_near re cs) tries x)))
+  child_ranges-of zero x = tt
+  child_ranges-of (suc tries) x =
       let cs = laid at ts in
       let s = around cuts cs (first_near rs cs) (end_near re cs) x in
-      (record { more = x; is = refl }, on_both (λ (ss : List Stretch). Every (OfStretch rs re path at ts cuts) (of_stretches path at ts ss)) (is_all cs s) [] (stretches cuts cs (first_near rs cs) (end_near re cs) tries (2 * x)) tt (stretches-of tries (2 * x)))
+      (record { more = x; is = refl }, on_both (λ (ss : List ChildRange). Every (OfStretch rs re path at ts cuts) (of_child_ranges path at ts ss)) (is_all cs s) [] (child_ranges cuts cs (first_near rs cs) (end_near re cs) tries (2 * x)) tt (child_ranges-of tries (2 * x)))
 
   -- Each candidate of a run is one.
   pub of-run : (c : Candidate) → Among c (of_run rs re path at ts (Some cuts)) → OfStretch rs re path at ts cuts c
-  of-run c chosen = among (OfStretch rs re path at ts cuts) c _ chosen (stretches-of (suc (length ts)) 1)
+  of-run c chosen = among (OfStretch rs re path at ts cuts) c _ chosen (child_ranges-of (suc (length ts)) 1)

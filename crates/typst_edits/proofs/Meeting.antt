@@ -20,7 +20,7 @@ use Rattle.typst_edits.specs.Joint.{minds, onwards, passed, is_over_at, Meets}
 use Rattle.typst_edits.specs.Runs.{End, made, end_of}
 use Rattle.typst_edits.specs.Sequence.{Sequence}
 use Rattle.typst_edits.proofs.Enclosed.{reading-is}
-use Rattle.typst_edits.proofs.Led.{behind_trivia, SameJudged, before_trivia, kind-behind}
+use Rattle.typst_edits.proofs.Led.{after_trivia, SameJudged, before_trivia, kind-behind}
 use Rattle.typst_edits.proofs.Turns.{Fronted, fronted-behind, stopped-alike, hand-seen, Taking, fronted-same}
 use Rattle.typst_edits.proofs.EmptyRuns.{and-false as none-and}
 
@@ -78,7 +78,7 @@ module _ (r : Sequence) (taking : Taking r.level r.stops) where
   unfolding hand_at
   carried y e f t u g false o = ap (λ x. onwards r x (moved t.gap y) (passed t e.state)) (g.value o)
   carried y e f t u g true o =
-      let token = (hand_at r.level.classes e.state.held (Some (behind_trivia t)) (moved t.gap y)).kind in
+      let token = (hand_at r.level.classes e.state.held (Some (after_trivia t)) (moved t.gap y)).kind in
       let here : is_over_at r y e ≡ ends r.stops e.value.1 token = ap (λ k. ends r.stops e.value.1 (hand_at r.level.classes e.state.held k y).kind) g.known in
       let over = sym here ∙ o in
       stopped-alike r.level r.stops taking e.value f.value (moved t.gap y) (passed t e.state) over (g.over o token ∙ over)
@@ -107,23 +107,23 @@ module _ (r : Sequence) (taking : Taking r.level r.stops) where
       let held : fs.held ≡ es.held = read_now.held ∙ sym read.held in
       let alike = judged-alike fs.held u t read_now.held in
       -- the token at hand
-      let token = ap (λ (x : Hand). x.kind) (hand-frame l.classes es.held (Some (behind_trivia t)) there here (hand-seen l r.stops taking e.value there here (passed t es) shown)).hand in
+      let token = ap (λ (x : Hand). x.kind) (hand-frame l.classes es.held (Some (after_trivia t)) there here (hand-seen l r.stops taking e.value there here (passed t es) shown)).hand in
       let now : (hand_at l.classes fs.held (Some u) v).kind ≡ (hand_at l.classes es.held (Some t) y).kind =
-      sym (kind-behind l fs.held v u t alike) ∙ ap (λ h. (hand_at l.classes h (Some (behind_trivia t)) here).kind) held ∙ token in
+      sym (kind-behind l fs.held v u t alike) ∙ ap (λ h. (hand_at l.classes h (Some (after_trivia t)) here).kind) held ∙ token in
       let now_known : (hand_at l.classes fs.held (Some u) v).kind ≡ (hand_at l.classes es.held es.known y).kind = now ∙ ap (λ k. (hand_at l.classes es.held k y).kind) (sym g.known) in
       -- all that follows
       let one : Fronted t t.nodes (onwards r e.value y es) c =
       subst (λ s. Fronted t t.nodes (onwards r e.value y s) c) (sym known_is)
       (fronted-same l r.stops taking es.held y t e.value es.reading es.empties es.is_after_error) in
-      let d = onwards r f.value here (before_trivia fs.reading fs.held es.empties es.is_after_error (behind_trivia t)) in
+      let d = onwards r f.value here (before_trivia fs.reading fs.held es.empties es.is_after_error (after_trivia t)) in
       let two : Fronted u t.nodes (onwards r f.value v fs) d =
       subst (λ s. Fronted u t.nodes (onwards r f.value v s) d) (sym known_now_is)
       (fronted-behind l r.stops taking fs.held v u t alike f.value fs.reading fs.empties es.empties fs.is_after_error es.is_after_error
       (errors y e f t u g (hand_at l.classes fs.held (Some u) v).kind now_known (is_over_at r y e) refl)) in
       let carries : onwards r f.value there (passed t es) ≡ c = carried y e f t u g (is_over_at r y e) refl in
       let same : d ≡ c =
-      ap (λ a. onwards r f.value here (before_trivia a fs.held es.empties es.is_after_error (behind_trivia t))) (read_now.reading ∙ sym read.reading)
-      ∙ ap (λ a. onwards r f.value here (before_trivia es.reading a es.empties es.is_after_error (behind_trivia t))) held
+      ap (λ a. onwards r f.value here (before_trivia a fs.held es.empties es.is_after_error (after_trivia t))) (read_now.reading ∙ sym read.reading)
+      ∙ ap (λ a. onwards r f.value here (before_trivia es.reading a es.empties es.is_after_error (after_trivia t))) held
       ∙ (sane-run l taking.calls_sane taking.blocks_sane (repeat (markup_turn true r.stops) f.value >>= λ _. flush_trivia)).framed there here (passed t es) (subst (λ (o : Outcome (Unit {0})). SameIn o.asks there here) (sym carries) shown)
       ∙ carries in
       record {

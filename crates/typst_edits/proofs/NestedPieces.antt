@@ -3,9 +3,9 @@ use Rattle.std.proofs.Common.{◌≡◌, ℕ, suc, ◌+◌, ◌<◌, ◌==◌, n
 use Rattle.typst_language.specs.declared.calls.Mark.{Mark}
 use Rattle.typst_language.specs.declared.calls.Mark.TheVariants as mark
 use Rattle.typst_language.specs.declared.calls.Note.{Note}
-use Rattle.typst_candidates.specs.declared.entry.Tag.{Tag}
-use Rattle.typst_candidates.specs.Cursors.{leads, inside_behind, piece_of, first_piece}
-use Rattle.typst_candidates.specs.Entries.{tag_of, entries_by, end_of, last_start}
+use Rattle.typst_candidates.specs.declared.entry.EntryKind.{EntryKind}
+use Rattle.typst_candidates.specs.Cursors.{leads, inside_after, piece_of, first_piece}
+use Rattle.typst_candidates.specs.Entries.{entry_kind_of, entries_by, end_of, last_start}
 use Rattle.typst_candidates.specs.Nested.{Nested, none, piece, block}
 use Rattle.typst_candidates.specs.Records.{IsRising}
 use Rattle.typst_candidates.proofs.Nested.{token-of}
@@ -20,14 +20,14 @@ use Rattle.typst_edits.proofs.Spots.{if-true, if-false}
 -- ---- by the notes
 
 -- what comes after a note, in a given number of blocks of a run, unless the run's own block ends there
-abbrev further : Tag → ℕ → (ℕ → Option ℕ) → Option ℕ
-further t inside f = elim (inside_behind t inside) as (λ _. Option ℕ) [ None ↦ None | Some m ↦ f m ]
+abbrev further : EntryKind → ℕ → (ℕ → Option ℕ) → Option ℕ
+further t inside f = elim (inside_after t inside) as (λ _. Option ℕ) [ None ↦ None | Some m ↦ f m ]
 
 -- The number of the first of some notes that has a property and at which a piece of a run begins, in a given number of blocks of the run.
 abbrev pub first_own : (Note → Bool) → ℕ → ℕ → List Note → Option ℕ
 first_own p inside number [] = None
 first_own p inside number (n ∷ ns) =
-    let t = tag_of n.mark n.state in
+    let t = entry_kind_of n.mark n.state in
     if leads t inside && p n then Some number else further t inside (λ m. first_own p m (suc number) ns)
 
 same-further : (o : Option ℕ) (f g : ℕ → Option ℕ) → ((m : ℕ) → f m ≡ g m) → elim o as (λ _. Option ℕ) [ None ↦ None | Some m ↦ f m ] ≡ elim o as (λ _. Option ℕ) [ None ↦ None | Some m ↦ g m ]
@@ -42,10 +42,10 @@ same-if false x y z e = e
 pub piece-found : (at inside start number : ℕ) (ns : List Note) → IsRising start ns → piece_of at inside start number (entries_by start ns) ≡ first_own (λ n. n.start == at) inside number ns
 piece-found at inside start number [] r = refl
 piece-found at inside start number (n ∷ ns) r =
-    let t = tag_of n.mark n.state in
+    let t = entry_kind_of n.mark n.state in
     let es = entries_by n.start ns in
     ap (λ (here : ℕ). if leads t inside && here == at then Some number else further t inside (λ m. piece_of at m here (suc number) es)) (token-of start n r.0 r.1)
-    ∙ same-if (leads t inside && n.start == at) (Some number) _ _ (same-further (inside_behind t inside) (λ m. piece_of at m n.start (suc number) es) _ (λ m. piece-found at m n.start (suc number) ns r.2))
+    ∙ same-if (leads t inside && n.start == at) (Some number) _ _ (same-further (inside_after t inside) (λ m. piece_of at m n.start (suc number) es) _ (λ m. piece-found at m n.start (suc number) ns r.2))
 
 if-and : (b : Bool) (x y : Option ℕ) → (if b then x else y) ≡ (if b && true then x else y)
 if-and true x y = refl
@@ -54,10 +54,10 @@ if-and false x y = refl
 pub first-found : (inside start number : ℕ) (ns : List Note) → first_piece inside number (entries_by start ns) ≡ first_own (λ n. true) inside number ns
 first-found inside start number [] = refl
 first-found inside start number (n ∷ ns) =
-    let t = tag_of n.mark n.state in
+    let t = entry_kind_of n.mark n.state in
     let es = entries_by n.start ns in
     if-and (leads t inside) (Some number) _
-    ∙ same-if (leads t inside && true) (Some number) _ _ (same-further (inside_behind t inside) (λ m. first_piece m (suc number) es) _ (λ m. first-found m n.start (suc number) ns))
+    ∙ same-if (leads t inside && true) (Some number) _ _ (same-further (inside_after t inside) (λ m. first_piece m (suc number) es) _ (λ m. first-found m n.start (suc number) ns))
 
 -- ---- of a level
 
@@ -84,9 +84,9 @@ level-block lv o c inner later same less nest =
 -- ---- past nested notes
 
 own-by : (p : Note → Bool) (inside number : ℕ) (n : Note) (ns : List Note) (m : Mark) → n.mark ≡ m
-    → first_own p inside number (n ∷ ns) ≡ (let t = tag_of m n.state in if leads t inside && p n then Some number else further t inside (λ i. first_own p i (suc number) ns))
+    → first_own p inside number (n ∷ ns) ≡ (let t = entry_kind_of m n.state in if leads t inside && p n then Some number else further t inside (λ i. first_own p i (suc number) ns))
 own-by p inside number n ns m e =
-    ap (λ (x : Mark). (let t = tag_of x n.state in if leads t inside && p n then Some number else further t inside (λ i. first_own p i (suc number) ns))) e
+    ap (λ (x : Mark). (let t = entry_kind_of x n.state in if leads t inside && p n then Some number else further t inside (λ i. first_own p i (suc number) ns))) e
 
 flat-block : (o c : Note) (inner later ms : List Note) → (o ∷ (inner ++ c ∷ later)) ++ ms ≡ o ∷ (inner ++ (c ∷ (later ++ ms)))
 flat-block o c inner later ms = ap (λ vs. o ∷ vs) (append_assoc inner (c ∷ later) ms)

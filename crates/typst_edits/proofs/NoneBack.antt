@@ -18,7 +18,7 @@ use Rattle.typst_grammar.specs.Grammar.{rules, max_depth, level_at}
 use Rattle.typst_edits.specs.BlockRuns.{inner, bracket, inner_lead, run_at, EndsBefore}
 use Rattle.typst_edits.specs.Children.{read_from}
 use Rattle.typst_edits.specs.Edit.{text_with, AllEndBy}
-use Rattle.typst_edits.specs.Heads.{first_place, onwards_by, NoneBackLaw, InnerNoneBackLaw, NoneBehindLaw, InnerNoneBehindLaw, minds_at}
+use Rattle.typst_edits.specs.Heads.{first_place, onwards_by, NoneBackLaw, InnerNoneBackLaw, NoneAfterLaw, InnerNoneAfterLaw, minds_at}
 use Rattle.typst_edits.specs.InnerChildren.{read_in}
 use Rattle.typst_edits.specs.InnerJoint.{onwards_in}
 use Rattle.typst_edits.specs.Joint.{minds, onwards_from, text_run}
@@ -165,12 +165,12 @@ inner-none-back-law k levels front old new rest c (suc i) n m past t u chosen h 
 
 -- ---- after the pieces
 
-pub none-behind-law : NoneBehindLaw
+pub none-behind-law : NoneAfterLaw
 none-behind-law k front old new rest i n m past t u h well =
     let z = text_with front old rest in
     let heads = head-law k z i n h.first_go h.old_go in
     let back_of = λ (o : Outcome (Unit {0})). o.back in
-    let was : (onwards_from k i n z).back ≡ 0 = ap back_of (onwards-is k i n z) ∙ heads.behind_back (λ over. heads.next (well over) over) in
+    let was : (onwards_from k i n z).back ≡ 0 = ap back_of (onwards-is k i n z) ∙ heads.after_back (λ over. heads.next (well over) over) in
     record { back = was; back_now = (joint-law k front old new rest i n m past t u h).behind.back ∙ was }
 
 pub inner-onwards-is : (k : CharClasses) (levels i n : ℕ) (c : Spot (Unit {0})) (z : Place) → onwards_in k levels i n c z ≡ onwards_by i n (run_at k levels c z)
@@ -180,10 +180,10 @@ inner-onwards-is k levels i n c z =
     let rest = rest_of i n r in
     ap (λ p. joined rest (run (inner k levels) flush_trivia p rest.state)) (moved-three (first_end i r).taken (then_end i n r).taken rest.taken r.place)
 
-pub inner-none-behind-law : InnerNoneBehindLaw
+pub inner-none-behind-law : InnerNoneAfterLaw
 inner-none-behind-law k levels front old new rest c i n m past t u chosen h well =
     let z = text_with front old rest in
     let heads = inner-head-law k levels (moved c.at z) (point_of c.start) i n h.pieces.first_go h.pieces.old_go in
     let back_of = λ (o : Outcome (Unit {0})). o.back in
-    let was : (onwards_in k levels i n c z).back ≡ 0 = ap back_of (inner-onwards-is k levels i n c z) ∙ heads.behind_back (λ over. heads.next (well over) over) in
+    let was : (onwards_in k levels i n c z).back ≡ 0 = ap back_of (inner-onwards-is k levels i n c z) ∙ heads.after_back (λ over. heads.next (well over) over) in
     record { back = was; back_now = (inner-joint-law k levels front old new rest c i n m past t u chosen h).behind.back ∙ was }

@@ -17,7 +17,7 @@ use Rattle.typst_language.specs.declared.calls.Note.{Note}
 use Rattle.typst_language.specs.declared.reading.State.{State}
 use Rattle.typst_language.specs.Ask.{Ask, shift}
 use Rattle.typst_language.specs.Depth.{deeper, is_end}
-use Rattle.typst_language.specs.Hand.{told}
+use Rattle.typst_language.specs.Hand.{as_at_hand}
 use Rattle.typst_language.specs.Log.{Log, no_log, logged}
 use Rattle.typst_language.specs.Point.{Point, gap_of, point_of, state_of}
 use Rattle.typst_language.specs.Shape.{after_node}
@@ -31,7 +31,7 @@ use Rattle.typst_edits.specs.BlockRuns.{inner, bracket, inner_lead, inner_run, i
 use Rattle.typst_edits.specs.Edit.{Among}
 use Rattle.typst_edits.specs.InnerBytes.{inner_end}
 use Rattle.typst_edits.specs.Laws.{blocks_of_text, block_at}
-use Rattle.typst_edits.specs.NumberedNotes.{of_level, Numbered, cut_behind, SaysOf, NumberedRunLaw, NumberedInner, NumberedInnerLaw}
+use Rattle.typst_edits.specs.NumberedNotes.{of_level, Numbered, cut_after, SaysOf, NumberedRunLaw, NumberedInner, NumberedInnerLaw}
 use Rattle.typst_edits.specs.Occurrences.{goes}
 use Rattle.typst_edits.specs.PieceNotes.{listed, Says}
 use Rattle.typst_edits.specs.Runs.{made, AllGo, End, end_of, piece_at, end_at, start, lead, tail}
@@ -61,7 +61,7 @@ pub record EndsNth (m : Bool × ℕ → Meaning (Bool × (Bool × ℕ))) (x : Bo
   pub at_is : at ≡ (end_of x s (made m i x z s)).taken
   pub gap_is : gap ≡ gap_of (end_of x s (made m i x z s)).state.known
   pub says : (let e = end_of x s (made m i x z s) in what ≡ mark.Piece e.value.0 e.value.1)
-  pub told : state ≡ state_of (end_of x s (made m i x z s)).state
+  pub state_is : state ≡ state_of (end_of x s (made m i x z s)).state
 
 -- the turns of a run and their marks
 pub record TurnMarks (m : Bool × ℕ → Meaning (Bool × (Bool × ℕ))) (x : Bool × ℕ) (z : Place) (s : Point) (asks : List Ask) : Type 0 where
@@ -75,16 +75,16 @@ module _ (l : Level) (stops : SyntaxKind → Bool) (taking : Taking l stops) whe
   turn x = run l (markup_turn true stops x)
 
   -- A turn that isn't stopped takes something.
-  goes-on : (x : Bool × ℕ) (z : Place) (s : Point) → KnownAt s → ends stops x.1 (told (hand_of l z s)).kind ≡ false → goes (turn x z s) ≡ true
+  goes-on : (x : Bool × ℕ) (z : Place) (s : Point) → KnownAt s → ends stops x.1 (as_at_hand (hand_of l z s)).kind ≡ false → goes (turn x z s) ≡ true
   goes-on x z s known go =
       let t = known.trivia in
       let is = known-is l.classes s t known.is in
-      let led = turn-led l stops taking x z s.reading s.held s.empties s.is_after_error t (subst (λ p. ends stops x.1 (told (hand_of l z p)).kind ≡ false) is go) in
+      let led = turn-led l stops taking x z s.reading s.held s.empties s.is_after_error t (subst (λ p. ends stops x.1 (as_at_hand (hand_of l z p)).kind ≡ false) is go) in
       let same : turn x z s ≡ turn x z _ = ap (turn x z) is in
       ap (λ b. b && nat_lt 0 (turn x z s).taken) (turn-goes l stops x z s go) ∙ lt-ltb 0 (turn x z s).taken (omega (arith, led.some, led.taken, ap (λ (o : Outcome (Bool × (Bool × ℕ))). o.taken) same))
 
   -- A turn that isn't stopped notes only its end.
-  one-mark : (x : Bool × ℕ) (z : Place) (s : Point) → ends stops x.1 (told (hand_of l z s)).kind ≡ false → InTurn (EndsNth turn x z s) 1 2 (turn x z s).asks
+  one-mark : (x : Bool × ℕ) (z : Place) (s : Point) → ends stops x.1 (as_at_hand (hand_of l z s)).kind ≡ false → InTurn (EndsNth turn x z s) 1 2 (turn x z s).asks
   one-mark x z s go =
       let o = turn x z s in
       let P = EndsNth turn x z s in
@@ -93,7 +93,7 @@ module _ (l : Level) (stops : SyntaxKind → Bool) (taking : Taking l stops) whe
       let after = asked (hand_of l there d.state) d.state in
       let looks = hand_asks_of l there after in
       let quiet = marks-shift Deeper o.taken looks (none-hand Deeper l.classes after.held after.known there) in
-      let own : P 1 o.taken (gap_of o.state.known) (mark.Piece o.value.1.0 o.value.1.1) (state_of o.state) = record { at_is = omega arith; gap_is = refl; says = refl; told = refl } in
+      let own : P 1 o.taken (gap_of o.state.known) (mark.Piece o.value.1.0 o.value.1.1) (state_of o.state) = record { at_is = omega arith; gap_is = refl; says = refl; state_is = refl } in
       let early = hand_asks_of l z s ++ (d.asks ++ shift d.taken (hand_asks_of l there d.state)) in
       let last : InTurn P 1 2 (piece_mark o.taken o.value.1 o.state ∷ shift o.taken looks) = (own, turn-none P 2 (shift o.taken looks) quiet) in
       subst (λ u. InTurn P 1 2 u) (sym (turn-asks l stops x z s go))
@@ -101,7 +101,7 @@ module _ (l : Level) (stops : SyntaxKind → Bool) (taking : Taking l stops) whe
       (turn-append P 1 1 2 (shift o.taken looks) _ (turn-none P 1 (shift o.taken looks) quiet) last))
 
   turn-by-end : (n : ℕ) (x : Bool × ℕ) (z : Place) (s : Point) → KnownAt s → bound z s < suc n → ((y : Bool × ℕ) (w : Place) (p : Point) → KnownAt p → bound w p < n → TurnMarks turn y w p (turns turn n y w p).asks)
-      → (b : Bool) → ends stops x.1 (told (hand_of l z s)).kind ≡ b → TurnMarks turn x z s (turns turn (suc n) x z s).asks
+      → (b : Bool) → ends stops x.1 (as_at_hand (hand_of l z s)).kind ≡ b → TurnMarks turn x z s (turns turn (suc n) x z s).asks
   turn-by-end n x z s known h rest true e =
       let o = turn x z s in
       let stopped : goes o ≡ false = ap (λ b. b && nat_lt 0 o.taken) (stopped-is l stops x z s e) in
@@ -122,7 +122,7 @@ module _ (l : Level) (stops : SyntaxKind → Bool) (taking : Taking l stops) whe
       let c = r.count in
       let end = end_of o.value.1 o.state (made turn c o.value.1 y o.state) in
       let later = turn-next (EndsNth turn o.value.1 y o.state) (λ i at gap m p. P i (o.taken + at) gap m p)
-      (λ i at gap m p hh. (let there = hh.at_is in record { at_is = ap (λ a. o.taken + a) there; gap_is = hh.gap_is; says = hh.says; told = hh.told })) 1 (suc c) more.asks r.marks in
+      (λ i at gap m p hh. (let there = hh.at_is in record { at_is = ap (λ a. o.taken + a) there; gap_is = hh.gap_is; says = hh.says; state_is = hh.state_is })) 1 (suc c) more.asks r.marks in
       record {
         count = suc c;
         go = (g, r.go);
@@ -132,7 +132,7 @@ module _ (l : Level) (stops : SyntaxKind → Bool) (taking : Taking l stops) whe
 
   turn-in : (n : ℕ) (x : Bool × ℕ) (z : Place) (s : Point) → KnownAt s → bound z s < n → TurnMarks turn x z s (turns turn n x z s).asks
   turn-in zero x z s known h = absurd (omega (arith, h))
-  turn-in (suc n) x z s known h = turn-by-end n x z s known h (turn-in n) (ends stops x.1 (told (hand_of l z s)).kind) refl
+  turn-in (suc n) x z s known h = turn-by-end n x z s known h (turn-in n) (ends stops x.1 (as_at_hand (hand_of l z s)).kind) refl
 
   pub run-in : (x : Bool × ℕ) (z : Place) (s : Point) → KnownAt s → TurnMarks turn x z s (repeated turn x z s).asks
   unfolding repeated
@@ -141,17 +141,17 @@ module _ (l : Level) (stops : SyntaxKind → Bool) (taking : Taking l stops) whe
 -- with where the token after them begins, from the start of the run on
 pub record CutsNth (m : Bool × ℕ → Meaning (Bool × (Bool × ℕ))) (x : Bool × ℕ) (z : Place) (s : Point) (from i at gap : ℕ) (what : Mark) (state : State) : Type 0 where
   pub at_is : at ≡ from + (end_of x s (made m i x z s)).taken
-  pub cut : at + gap ≡ from + cut_behind i (end_of x s (made m i x z s))
+  pub cut : at + gap ≡ from + cut_after i (end_of x s (made m i x z s))
   pub says : (let e = end_of x s (made m i x z s) in what ≡ mark.Piece e.value.0 e.value.1)
-  pub told : state ≡ state_of (end_of x s (made m i x z s)).state
+  pub state_is : state ≡ state_of (end_of x s (made m i x z s)).state
 
 -- the marks of a run, after its own, in a list of all that is asked from its start on
 pub cuts-in : (m : Bool × ℕ → Meaning (Bool × (Bool × ℕ))) (x : Bool × ℕ) (z : Place) (s : Point) (d count : ℕ) (asks : List Ask) → InTurn (EndsNth m x z s) 1 (suc count) asks
     → InTurn (λ i at gap what state. CutsNth m x z s d i (d + at) gap what state) 1 (suc count) asks
 cuts-in m x z s d count asks h = turn-by (EndsNth m x z s) (λ i at gap what state. CutsNth m x z s d i (d + at) gap what state)
-    (λ i at gap what state g. (let there = g.at_is in let behind = g.gap_is in record { at_is = omega (arith, there); cut = omega (arith, there, behind); says = g.says; told = g.told })) 0 (suc count) asks h
+    (λ i at gap what state g. (let there = g.at_is in let behind = g.gap_is in record { at_is = omega (arith, there); cut = omega (arith, there, behind); says = g.says; state_is = g.state_is })) 0 (suc count) asks h
 
-pub cut-from : (d i : ℕ) (u : End (Bool × ℕ)) → cut_behind i (record u { taken = d + u.taken }) ≡ d + cut_behind i u
+pub cut-from : (d i : ℕ) (u : End (Bool × ℕ)) → cut_after i (record u { taken = d + u.taken }) ≡ d + cut_after i u
 cut-from d zero u = refl
 cut-from d (suc i) u = omega arith
 
@@ -165,10 +165,10 @@ says-of m x z s d text e i note same n =
     let v : End (Bool × ℕ) = record u { taken = d + u.taken } in
     let w = start_of text in
     let h = n.holds in
-    let says : Says text note v = record { mark = n.mark ∙ h.says; before = n.before ∙ width-moved n.at text ∙ ap (λ a. width (take a text)) h.at_is; state = n.state ∙ h.told } in
-    let begins : note.start ≡ width (take (cut_behind i v) text) =
+    let says : Says text note v = record { mark = n.mark ∙ h.says; before = n.before ∙ width-moved n.at text ∙ ap (λ a. width (take a text)) h.at_is; state = n.state ∙ h.state_is } in
+    let begins : note.start ≡ width (take (cut_after i v) text) =
     n.start ∙ ap (λ (y : Place). width y.before) (sym (moved-sum n.at n.gap w)) ∙ width-moved (n.at + n.gap) text ∙ ap (λ a. width (take a text)) (h.cut ∙ sym (cut-from d i u)) in
-    let both = subst (λ (y : End (Bool × ℕ)). Says text note y × (note.start ≡ width (take (cut_behind i y) text))) (sym same) (says, begins) in
+    let both = subst (λ (y : End (Bool × ℕ)). Says text note y × (note.start ≡ width (take (cut_after i y) text))) (sym same) (says, begins) in
     record { says = both.0; start = both.1 }
 
 from-start : (u : End (Bool × ℕ)) → u ≡ record u { taken = 0 + u.taken }
@@ -188,10 +188,10 @@ numbered-run-law k text =
     let P = λ (i at gap : ℕ) (m : Mark) (p : State). CutsNth (piece_at k) (true, 0) z s 0 i at gap m p in
     let c = suc r.count in
     let first = turn-none P 1 (lead k z).asks (none-hand Deeper k start.held start.known z) in
-    let own = turn-by (EndsNth (piece_at k) (true, 0) z s) P (λ i at gap m p g. (let there = g.at_is in let behind = g.gap_is in record { at_is = omega (arith, there); cut = omega (arith, there, behind); says = g.says; told = g.told })) 0 c q.asks r.marks in
+    let own = turn-by (EndsNth (piece_at k) (true, 0) z s) P (λ i at gap m p g. (let there = g.at_is in let behind = g.gap_is in record { at_is = omega (arith, there); cut = omega (arith, there, behind); says = g.says; state_is = g.state_is })) 0 c q.asks r.marks in
     let last = turn-none P c (shift q.taken t.asks) (marks-shift Deeper q.taken t.asks (flush-marks Deeper (level_at k max_depth) (moved q.taken z) q.state)) in
     let marks = subst (λ u. InTurn P 0 c u) (sym is)
-    (record { at_is = refl; cut = refl; says = refl; told = refl }, turn-append P 1 c c ((lead k z).asks ++ q.asks) _ (turn-append P 1 1 c (lead k z).asks q.asks first own) last) in
+    (record { at_is = refl; cut = refl; says = refl; state_is = refl }, turn-append P 1 c c ((lead k z).asks ++ q.asks) _ (turn-append P 1 1 c (lead k z).asks q.asks first own) last) in
     let n = noted-nth P 255 z (parsed k max_depth text).asks no_log [] 0 c refl marks in
     let there : listed (log k text).notes ≡ n.more = ap listed n.is in
     let own_notes = sym (ap (of_level max_depth) there) in
@@ -242,7 +242,7 @@ module _ (k : CharClasses) (levels : ℕ) (z : Place) (s : Point) where
       let last = marks-shift Deeper o.taken behind (marks-append Deeper t.asks (shift t.taken close.asks) (flush-marks Deeper (inner k levels) (moved o.taken r.place) o.state)
       (marks-shift Deeper t.taken close.asks (none-close Deeper (inner k levels) (moved (o.taken + t.taken) r.place) (after_node false [] t.state)))) in
       let all = run_mark k levels z s ∷ ((ls ++ o.asks) ++ shift o.taken behind) in
-      let mark_is : Q 0 0 0 (mark.Piece true 0) (state_of b.state) = record { at_is = refl; cut = omega arith; says = refl; told = refl } in
+      let mark_is : Q 0 0 0 (mark.Piece true 0) (state_of b.state) = record { at_is = refl; cut = omega arith; says = refl; state_is = refl } in
       let in_run : InTurn Q 0 c all = (mark_is, turn-append Q 1 c c (ls ++ o.asks) (shift o.taken behind) (turn-append Q 1 1 c ls o.asks first own) (turn-none Q c (shift o.taken behind) last)) in
       subst (λ u. InTurn P 0 c u) (sym is) (turn-append P 0 0 c (asks_before k levels z s) (shift opened all) (turn-none P 0 (asks_before k levels z s) (before-marks k levels Deeper z s)) (turn-shift P opened 0 c all in_run))
 
@@ -255,7 +255,7 @@ nth-moved m x y s a d i z note n =
       gap = n.gap;
       says = n.says;
       told = n.told;
-      holds = record { at_is = omega (arith, n.holds.at_is); cut = omega (arith, n.holds.cut); says = n.holds.says; told = n.holds.told };
+      holds = record { at_is = omega (arith, n.holds.at_is); cut = omega (arith, n.holds.cut); says = n.holds.says; state_is = n.holds.state_is };
       mark = n.mark;
       before = n.before ∙ ap position (sym (moved-sum a n.at z));
       start = n.start ∙ ap (λ w. position (moved n.gap w)) (sym (moved-sum a n.at z));

@@ -208,7 +208,7 @@ module _ (q : Sequence) (taking : Taking q.level q.stops)
     not_over = λ i g.
         (let e = first_end i q in
         going-on q.level q.stops e.value (first_place i q) e.state (first-of _ _ (go-next (turn_of q) i (true, 0) q.place q.point g)));
-    behind = λ i n g h mild. (headed q taking wrong known i n g h).behind_back (λ over. mild);
+    behind = λ i n g h mild. (headed q taking wrong known i n g h).after_back (λ over. mild);
     tidy = λ n x w p. (tidy-together (turn_of q) (λ v. (sane-run q.level taking.calls_sane taking.blocks_sane (markup_turn true q.stops v)).backs) n x w p).back;
   }
 

@@ -13,7 +13,7 @@ use Rattle.typst_edits.specs.Edit.{text_with}
 use Rattle.typst_edits.specs.Frame.{top, inner, Gives, of_block, of_pieces, Before}
 use Rattle.typst_edits.specs.Hole.{path_of}
 use Rattle.typst_edits.specs.InOrder.{InOrderLaw}
-use Rattle.typst_edits.specs.NumberedNotes.{of_level, cut_behind}
+use Rattle.typst_edits.specs.NumberedNotes.{of_level, cut_after}
 use Rattle.typst_edits.specs.PieceNotes.{listed}
 use Rattle.typst_edits.specs.PiecesTest.{CutOnceLaw, RunEntriesLaw, RunReadLaw, RunGives, RunGivesLaw, RunPartLaw}
 use Rattle.typst_edits.specs.RootPieces.{root_run}
@@ -24,7 +24,7 @@ use Rattle.typst_edits.specs.Joint.{text_run}
 use Rattle.typst_edits.specs.RunSplice.{noted_point, end_note, pieces_log}
 use Rattle.typst_edits.specs.Splice.{notes_in, token_start, entries_from}
 use Rattle.typst_edits.proofs.Fitting.{tail-none}
-use Rattle.typst_edits.proofs.Boundary.{told-at, KnownAt, looks_in, each-ends, made-add, go-add}
+use Rattle.typst_edits.proofs.Boundary.{noted-at, KnownAt, looks_in, each-ends, made-add, go-add}
 use Rattle.typst_edits.proofs.InnerPiecesTest.{numbers-of, behind-end, short}
 use Rattle.typst_edits.proofs.Children.{top-known}
 use Rattle.typst_edits.proofs.Cuts.{cuts-law}
@@ -68,19 +68,19 @@ unfolding run
 state-noted k zero z = refl
 state-noted k (suc i) z = refl
 
-cut-noted : (k : CharClasses) (i : ℕ) (z : Place) → (end_at k i z).taken + gap_of (noted_point k i z).known ≡ cut_behind i (end_at k i z)
+cut-noted : (k : CharClasses) (i : ℕ) (z : Place) → (end_at k i z).taken + gap_of (noted_point k i z).known ≡ cut_after i (end_at k i z)
 unfolding run
 cut-noted k zero z = refl
 cut-noted k (suc i) z = refl
 
 -- As many notes stand before the one where some pieces of a text's run end as there are in them.
-pub counted : (k : CharClasses) (text : List ℕ) (i : ℕ) → (let z = start_of text in AllGo (pieces k i z) → (p : PieceNote (log k text) max_depth text (end_at k i z)) → (length p.earlier ≡ notes_in (asks_of (pieces k i z))) × (p.note.start ≡ width (take (cut_behind i (end_at k i z)) text)))
+pub counted : (k : CharClasses) (text : List ℕ) (i : ℕ) → (let z = start_of text in AllGo (pieces k i z) → (p : PieceNote (log k text) max_depth text (end_at k i z)) → (length p.earlier ≡ notes_in (asks_of (pieces k i z))) × (p.note.start ≡ width (take (cut_after i (end_at k i z)) text)))
 counted k text i g p =
     let z = start_of text in
     let c = cut k i z g in
     let e = end_at k i z in
     let s = end_note k i z in
-    let t = told-at k text c.first (all_asks k i 0 z) e.taken s.gap 0 s.mark s.state (cut-asks k text i 0 c.first s g tt c.is) in
+    let t = noted-at k text c.first (all_asks k i 0 z) e.taken s.gap 0 s.mark s.state (cut-asks k text i 0 c.first s g tt c.is) in
     let levels : t.note.levels ≡ max_depth = t.levels in
     let other : PieceNote (log k text) max_depth text e = record { earlier = t.earlier; note = t.note; later = t.later; notes = t.notes; mark = t.mark; before = t.before; levels = levels; state = t.state ∙ state-noted k i z } in
     let here : (p.note.levels == max_depth) ≡ true = ap (λ n. n == max_depth) p.levels in
@@ -97,7 +97,7 @@ count-pieces (o ∷ os) ps =
 -- ---- the entries at its ends
 
 -- The token after pieces whose looks end before a stretch begins there, and so does the run.
-cut-within : (k : CharClasses) (front old rest : List ℕ) (i : ℕ) → Before k front old rest (root_run k (front ++ (old ++ rest))) i → cut_behind i (end_at k i (text_with front old rest)) ≤ length front
+cut-within : (k : CharClasses) (front old rest : List ℕ) (i : ℕ) → Before k front old rest (root_run k (front ++ (old ++ rest))) i → cut_after i (end_at k i (text_with front old rest)) ≤ length front
 cut-within k front old rest zero looks = omega arith
 cut-within k front old rest (suc i) looks = text-seen k (text_with front old rest) (suc i) (length front) (looks (omega arith))
 
@@ -115,7 +115,7 @@ run-entries-law ordered k front old rest i n past t g h known sum big =
     let first = numbers-of ordered k text b.earlier b.note b.later b.notes in
     let last = numbers-of ordered k text e.earlier e.note e.later e.notes in
     let f = both_end k i n front old rest in
-    let token : b.note.start ≡ width (take (cut_behind i (end_at k i z)) text) = (counted k text i g b).1 in
+    let token : b.note.start ≡ width (take (cut_after i (end_at k i z)) text) = (counted k text i g b).1 in
     let ends_at : 0 < i + n → e.note.start ≡ width (front ++ (old ++ take past rest)) = λ more. d.trivia_end more ∙ ap width (take-past front old rest past (f.taken + t.gap) sum) in
     record {
       begins = b;
@@ -128,7 +128,7 @@ run-entries-law ordered k front old rest i n past t g h known sum big =
       start = token;
       end = ends_at;
       before = λ p some. d.before some (first.before (width front) p);
-      before_too = λ looks. first.before_too (width front) (subst (λ j. j ≤ width front) (sym token) (short (cut_behind i (end_at k i z)) front (old ++ rest) (cut-within k front old rest i looks))) (d.before_too looks);
+      before_too = λ looks. first.before_too (width front) (subst (λ j. j ≤ width front) (sym token) (short (cut_after i (end_at k i z)) front (old ++ rest) (cut-within k front old rest i looks))) (d.before_too looks);
       after = λ more q. d.after (last.after (width (front ++ old)) (behind-end front old rest past (ends_at more)) q);
       after_too = λ more looks. last.after_too (width (front ++ old)) (behind-end front old rest past (ends_at more)) (d.after_too more big looks);
     }

@@ -11,8 +11,8 @@ use Rattle.typst_language.specs.declared.calls.Block.{Block}
 use Rattle.typst_language.specs.Calls.{Call}
 use Rattle.typst_language.specs.Hand.{utf8_ahead}
 use Rattle.typst_language.specs.Point.{Point, forgot}
-use Rattle.typst_language.specs.Shape.{Change, Shape, hinted, is_delimited, in_parens}
-use Rattle.typst_language.specs.Shape.Change.{stays, turns_wrong, is_not, renamed, unparened}
+use Rattle.typst_language.specs.Shape.{NodeChange, Shape, hinted, is_delimited, in_parens}
+use Rattle.typst_language.specs.Shape.NodeChange.{stays, turns_wrong, is_not, renamed, unparened}
 use Rattle.typst_language.specs.Shape.Shape.{keeps, holds, lacks, warns, fails}
 use Rattle.typst_language.specs.Syntax.{Parser}
 use Rattle.typst_language.specs.Syntax.Op.{flushes}
@@ -24,7 +24,7 @@ use Rattle.typst_language.proofs.Backs.{tidy-grew}
 use Rattle.typst_language.proofs.Knot.{Sane, sane-run, sane-meaning, sane-block, sane-plain}
 use Rattle.typst_language.proofs.Leaves.{texts, texts-append, texts-same, text-shaped, text-add, same-hinted, kept-joined, kept-grown, Holds}
 use Rattle.typst_language.proofs.Within.{grew}
-use Rattle.typst_edits.specs.Hole.{Deep, Hole, stub, between_parens, changed_deep, first_hole, change_hole, in_node, in_nodes, behind_nodes, lack_hole, warned_head, wrap_in, wrap_past, wrap_hole}
+use Rattle.typst_edits.specs.Hole.{Deep, Hole, stub, between_parens, changed_deep, first_hole, change_hole, in_node, in_nodes, after_nodes, lack_hole, warned_head, wrap_in, wrap_past, wrap_hole}
 use Rattle.typst_edits.specs.Hole.Deep.{bare, under}
 use Rattle.typst_edits.specs.Spot.{Spot, block_head, after_spot, rehole, here_spot}
 use Rattle.typst_edits.specs.Occurrences.{Spots, level_spots}
@@ -51,7 +51,7 @@ alike-between head [] d right = tt
 alike-between head (t ∷ left) d [] = tt
 alike-between head (t ∷ left) d (u ∷ right) = (ap (λ x. head.text ++ (x ++ deep_text d)) (text-shaped (keeps (renamed kind.LeftParen)) (t ∷ left)), tt)
 
-alike-deep : (change : Change) (h : Head) (d : Deep) → Every (λ (e : Deep). deep_text e ≡ deep_text d) (changed_deep change h d)
+alike-deep : (change : NodeChange) (h : Head) (d : Deep) → Every (λ (e : Deep). deep_text e ≡ deep_text d) (changed_deep change h d)
 alike-deep stays h d = (refl, tt)
 alike-deep (turns_wrong message) h d = tt
 alike-deep (is_not thing) h d = tt
@@ -62,11 +62,11 @@ alike-deep unparened h (under head left d right) =
     every-if (λ (e : Deep). deep_text e ≡ deep_text (under head left d right)) (is_delimited head.kind && in_parens (left ++ stub d h ∷ right)) (between_parens head left d right) _ (λ e. alike-between head left d right) (λ e. (refl, tt))
 
 -- The first node changes.
-alike-changed : (change : Change) (h : Head) (left : List Tree) (d : Deep) (right : List Tree) → Alike (texts left ++ deep_text d) (change_hole change h left d right)
+alike-changed : (change : NodeChange) (h : Head) (left : List Tree) (d : Deep) (right : List Tree) → Alike (texts left ++ deep_text d) (change_hole change h left d right)
 alike-changed change h (t ∷ left) d right = (ap (λ x. x ++ deep_text d) (text-shaped (keeps change) (t ∷ left)), tt)
 alike-changed change h [] d right = every-map (λ (e : Deep). deep_text e ≡ deep_text d) (λ (g : Hole). left_text g ≡ deep_text d) (first_hole right) (λ e i. i) (changed_deep change h d) (alike-deep change h d)
 
-alike-behind : (kept : List Tree) (text : List ℕ) (gs : List Hole) → Alike text gs → Alike (texts kept ++ text) (behind_nodes kept gs)
+alike-behind : (kept : List Tree) (text : List ℕ) (gs : List Hole) → Alike text gs → Alike (texts kept ++ text) (after_nodes kept gs)
 alike-behind kept text [] h = tt
 alike-behind kept text (g ∷ gs) h = (ap (λ x. x ++ deep_text g.deep) (texts-append kept g.left) ∙ append_assoc (texts kept) (texts g.left) (deep_text g.deep) ∙ ap (λ x. texts kept ++ x) h.0, tt)
 

@@ -1,7 +1,7 @@
 -- What holds where an inner node of a block's kind stands among several nodes.
 use Rattle.std.proofs.Common.{◌≡◌, ◌⊎◌, inl, inr, ℕ, zero, suc, ◌+◌, ◌-◌, ◌<◌, ◌≤◌, Bool, true, false, ◌&&◌, ◌||◌, nat_le, List, [], ◌∷◌, ◌++◌, length, take, drop, length-take, None, refl, ap, sym, ◌∙◌, subst, arith}
 use Rattle.std.proofs.lemmas.Bool.Decides.{nat_tests}
-use Rattle.std.proofs.lemmas.Bool.{and_left, or_from, or_left}
+use Rattle.std.proofs.lemmas.Bool.{and_left, and_parts, or_from, or_left}
 use Rattle.typst_kinds.specs.Kinds.{is_error}
 use Rattle.typst_kinds.specs.Names.{name_of}
 use Rattle.typst_kinds.specs.Head.{Head, inner_head}
@@ -12,12 +12,12 @@ use Rattle.typst_tree.specs.Messages.{made_expected, expected_error, expected_me
 use Rattle.typst_tree.specs.Tree.{Tree, Forest, forest, trees, text_of, error_of, topped, with_kind, made_error, advised, all_advised}
 use Rattle.typst_tree.specs.Tree.Forest.{none, more}
 use Rattle.typst_language.specs.Meaning.{less}
-use Rattle.typst_language.specs.Shape.{hinted_last, hinted, Change, is_delimited, in_parens, renamed_last, parens_renamed, without_parens, first_changed, Shape, shaped}
-use Rattle.typst_language.specs.Shape.Change.{stays, turns_wrong, is_not, renamed, unparened}
+use Rattle.typst_language.specs.Shape.{hinted_last, hinted, NodeChange, is_delimited, in_parens, renamed_last, parens_renamed, without_parens, first_changed, Shape, shaped}
+use Rattle.typst_language.specs.Shape.NodeChange.{stays, turns_wrong, is_not, renamed, unparened}
 use Rattle.typst_language.specs.Shape.Shape.{keeps, holds, lacks, warns, fails}
 use Rattle.typst_language.proofs.Places.{drop-all}
 use Rattle.typst_language.proofs.Within.{on_both, on_if}
-use Rattle.typst_grammar.proofs.Fine.{is_ordinary, change_by, shape_by, and-left, and-right}
+use Rattle.typst_grammar.proofs.Fine.{is_ordinary, change_by, shape_by}
 use Rattle.typst_candidates.proofs.Found.{forest_trees as trees-forest}
 use Rattle.typst_edits.specs.Hole.{Deep, fill, path_in, Hole, plug, warned_head}
 use Rattle.typst_edits.specs.Hole.Deep.{bare, under}
@@ -223,20 +223,20 @@ Deeper [] = ⊥
 Deeper (i ∷ q) = Unit {0}
 
 -- What stands there still does if the first of several nodes is changed: it comes after the first, or the change leaves it.
-abbrev pub Stays : Change → ℕ → ℕ → List ℕ → Type 0
+abbrev pub Stays : NodeChange → ℕ → ℕ → List ℕ → Type 0
 Stays stays n i q = Unit {0}
 Stays (turns_wrong message) n i q = n < i
 Stays (is_not thing) n i q = n < i
 Stays (renamed k) n i q = (n < i) ⊎ Deeper q
 Stays unparened n i q = Unit {0}
 
-abbrev Left : (ℕ → List ℕ → Type 0) → Change → ℕ → ℕ → List ℕ → Type 0
+abbrev Left : (ℕ → List ℕ → Type 0) → NodeChange → ℕ → ℕ → List ℕ → Type 0
 Left P change n i q = Stays change n i q × P i q
 
 behind : (P : ℕ → List ℕ → Type 0) (n : ℕ) (r : Forest) → Each P (suc n) r → Each (λ i q. (n < i) × P i q) (suc n) r
 behind P n r h = each-by _ _ (suc n) r (λ i q p. (omega (arith, p.0), p.1)) (each-from P (suc n) (suc n) r (omega arith) h)
 
-each-changed : (P : ℕ → List ℕ → Type 0) (change : Change) (n : ℕ) (ts : List Tree) → change_by is_ordinary change ≡ true → Each P n (forest ts) → Each (Left P change n) n (forest (first_changed change ts))
+each-changed : (P : ℕ → List ℕ → Type 0) (change : NodeChange) (n : ℕ) (ts : List Tree) → change_by is_ordinary change ≡ true → Each P n (forest ts) → Each (Left P change n) n (forest (first_changed change ts))
 each-changed P stays n ts a h = each-by _ _ n (forest ts) (λ i q p. (tt, p)) h
 each-changed P (turns_wrong message) n [] a h = tt
 each-changed P (turns_wrong message) n (t ∷ ts) a h = each-wrong P (Left P (turns_wrong message) n) n message t (forest ts) h (behind P n (forest ts) h.1.1)
@@ -267,7 +267,7 @@ pub each-inner : (Q : ℕ → List ℕ → Type 0) (n : ℕ) (k : SyntaxKind) (h
 each-inner Q n k h f e t a j =
     each-over Q n k h f e t (not-error k a) (λ u. absurd (not-block k h.is_inner a (subst (λ (i : SyntaxKind). (h.is_inner && is_block i) ≡ true) e u))) j
 
-pub each-holds : (change : Change) (k : SyntaxKind) (P Q : ℕ → List ℕ → Type 0) (m n : ℕ) (ts : List Tree) → change_by is_ordinary change ≡ true → is_error k ≡ false → (is_block_head (inner_head k) ≡ true → Q n [])
+pub each-holds : (change : NodeChange) (k : SyntaxKind) (P Q : ℕ → List ℕ → Type 0) (m n : ℕ) (ts : List Tree) → change_by is_ordinary change ≡ true → is_error k ≡ false → (is_block_head (inner_head k) ≡ true → Q n [])
     → Step (holds change k) P Q m n → Each P m (forest ts) → Each Q n (forest (shaped (holds change k) ts))
 each-holds change k P Q m n ts a e b g h =
     each-over Q n k (inner_head k) (forest (first_changed change ts)) refl refl e b
@@ -276,8 +276,8 @@ each-holds change k P Q m n ts a e b g h =
 pub each-shaped : (shape : Shape) (P Q : ℕ → List ℕ → Type 0) (m n : ℕ) (ts : List Tree) → shape_by is_ordinary shape ≡ true → Step shape P Q m n → Each P m (forest ts) → Each Q n (forest (shaped shape ts))
 each-shaped (keeps change) P Q m n ts a g h = each-move _ Q n m m n (forest (first_changed change ts)) (omega arith) (λ i j q e p. g i j q e p.0 p.1) (each-changed P change m ts a h)
 each-shaped (holds change k) P Q m n ts a g h =
-    let b = and-right (change_by is_ordinary change) (is_ordinary k) a in
-    each-holds change k P Q m n ts (and-left (change_by is_ordinary change) (is_ordinary k) a) (not-error k b) (λ u. absurd (not-block k true b u)) g h
+    let both = and_parts (change_by is_ordinary change) (is_ordinary k) a in
+    each-holds change k P Q m n ts both.0 (not-error k both.1) (λ u. absurd (not-block k true both.1 u)) g h
 each-shaped (lacks count message k) P Q m n ts a g h =
     each-inner Q n k (inner_head k) (forest (take count ts ++ error_of message [] ∷ drop count ts)) refl refl a
     (each-append (λ i q. Q n (i ∷ q)) 0 (length (take count ts)) (take count ts) (error_of message [] ∷ drop count ts) (omega arith)

@@ -1,5 +1,6 @@
 -- What is known of the trivia at hand clings: it is trivia, or errors where they would stand.
 use Rattle.std.proofs.Common.{◌≡◌, ℕ, zero, suc, Bool, true, false, if◌then◌else◌, nat_lt, List, [], length, encode_utf8_all, Option, Some, None, refl}
+use Rattle.std.proofs.lemmas.Bool.{and_parts}
 use Rattle.typst_kinds.specs.Kinds.{is_trivia, is_error}
 use Rattle.typst_kinds.specs.declared.kind.SyntaxKind.{SyntaxKind}
 use Rattle.typst_kinds.specs.declared.kind.SyntaxKind.TheVariants as kind
@@ -19,7 +20,6 @@ use Rattle.typst_language.specs.Steps.{peek}
 use Rattle.typst_language.specs.Meaning.{Meaning}
 use Rattle.typst_grammar.specs.Markup.{markup_turn}
 use Rattle.typst_grammar.specs.Grammar.{rules, max_depth, level_at}
-use Rattle.typst_grammar.proofs.Fine.{and-left as first-of}
 use Rattle.typst_edits.specs.Every.{Every}
 use Rattle.typst_edits.specs.BlockRuns.{inner, bracket, inner_run}
 use Rattle.typst_edits.specs.Joint.{text_run}
@@ -47,7 +47,7 @@ token-quiet k t taken h = elim t.fault as (λ o. Quiet (elim o as (λ _. Tree) [
 
 quiet-step : (k : CharClasses) (m : SyntaxMode) (z : Place) (taken : List ℕ) (b : Bool) (rest : Ahead) → at_trivia k m z ≡ b → Every Quiet rest.trivia
     → Every Quiet (if b then after_trivia (token_at k m z) (len_at k m z) (token_node k (token_at k m z) taken) rest else direct (token_at k m z) (len_at k m z)).trivia
-quiet-step k m z taken true rest e h = (token-quiet k (token_at k m z) taken (first-of (is_trivia (token_at k m z).kind) (nat_lt 0 (len_at k m z)) e), h)
+quiet-step k m z taken true rest e h = (token-quiet k (token_at k m z) taken (and_parts (is_trivia (token_at k m z).kind) (nat_lt 0 (len_at k m z)) e).0, h)
 quiet-step k m z taken false rest e h = tt
 
 ahead-quiet : (k : CharClasses) (m : SyntaxMode) (n : ℕ) (z : Place) → Every Quiet (ahead_by k m n z).trivia

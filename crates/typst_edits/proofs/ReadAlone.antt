@@ -10,7 +10,7 @@ use Rattle.typst_language.proofs.Places.{moved-sum, drop-all}
 use Rattle.typst_grammar.specs.Pieces.{given}
 use Rattle.typst_edits.specs.Children.{together}
 use Rattle.typst_edits.specs.Edit.{text_with}
-use Rattle.typst_edits.specs.Frame.{Run, read_as, opened_by, cut_at, end_by, is_over, nodes_now, Agrees, Before, Behind, PassesPieces}
+use Rattle.typst_edits.specs.Frame.{Run, read_as, opened_by, cut_at, end_by, is_over, nodes_now, Agrees, Before, After, PassesPieces}
 use Rattle.typst_edits.specs.Heads.{first_place}
 use Rattle.typst_edits.specs.OneReading.{TakesNone, again_end}
 use Rattle.typst_edits.specs.Resumed.{fresh, read_again}
@@ -204,7 +204,7 @@ module _ (k : CharClasses) (front old new rest : List ℕ) (r : Run k (front ++ 
         pub passes : PassesPieces k front old new rest r i n m past t behind
         pub are : ts ≡ nodes_now r i m behind w
 
-      pub gives-to : (m : ℕ) → AllGo (then_of i n p) → (then_end i n p).state.known ≡ Some t → end_by r i n t z ≡ (length front + length old) + past → Behind k front old rest r i n past t → ReadsTo m → GivesTo m
+      pub gives-to : (m : ℕ) → AllGo (then_of i n p) → (then_end i n p).state.known ≡ Some t → end_by r i n t z ≡ (length front + length old) + past → After k front old rest r i n past t → ReadsTo m → GivesTo m
       gives-to m h known sum behind reads =
           let go = goes-there i m g clear none looks reads.go in
           let u = s.then_known i m (first-goes i looks g) go in

@@ -1,11 +1,12 @@
 -- Pieces that are read again from their first token are those that stood there, and their number follows from where they end.
 use borrow.Author.Tests.{ltb-true, lt-ltb}
 use Rattle.std.proofs.Common.{◌≡◌, ℕ, zero, suc, ◌+◌, ◌<◌, ◌&&◌, Bool, true, false, nat_lt, List, [], ◌∷◌, ◌++◌, None, Some, refl, ap, sym, ◌∙◌, subst, arith}
+use Rattle.std.proofs.lemmas.Bool.{and_parts}
 use Rattle.typst_kinds.specs.declared.kind.SyntaxKind.{SyntaxKind}
 use Rattle.typst_lines.specs.Place.{Place, moved}
 use Rattle.typst_lines.specs.Classes.{CharClasses}
 use Rattle.typst_language.specs.Depth.{is_end}
-use Rattle.typst_language.specs.Hand.{told, at_trivia, hand_at}
+use Rattle.typst_language.specs.Hand.{as_at_hand, at_trivia, hand_at}
 use Rattle.typst_language.specs.Point.{Trivia, Point, gap_of, no_newlines}
 use Rattle.typst_language.specs.Steps.{peek}
 use Rattle.typst_language.specs.Meaning.{Outcome, Meaning, Level, start_point, asked, hand_of, run}
@@ -13,7 +14,6 @@ use Rattle.typst_language.proofs.Ends.{hand-takes}
 use Rattle.typst_language.proofs.Places.{moved-sum}
 use Rattle.typst_grammar.specs.Markup.{ends, ends_block, markup_turn, markup_head, markup_reading}
 use Rattle.typst_grammar.specs.Grammar.{rules, level_at, max_depth}
-use Rattle.typst_grammar.proofs.Fine.{and-right as second}
 use Rattle.typst_edits.specs.BlockRuns.{inner, bracket, inner_lead, inner_run}
 use Rattle.typst_edits.specs.Heads.{first_place, minds_at}
 use Rattle.typst_edits.specs.InnerPiecesTest.{read_alone, end_alone}
@@ -71,13 +71,13 @@ module _ (l : Level) (stops : SyntaxKind → Bool) (taking : Taking l stops) whe
   Same m x z t s = Reached l.classes z s → AllGo (made turn m x z s) → (minds (markup_head x.0 x.1 (hand_of l z s).kind) ≡ true → s.empties ≡ 0) → SamePieces t (made turn m x z s) (made turn m x (moved t.gap z) (fresh l (moved t.gap z)))
 
   led-fresh : (x : Bool × ℕ) (z : Place) (t : Trivia) (e : ℕ) (a : Bool) → (let s = before_trivia markup_reading markup_reading e a t in
-      ends stops x.1 (told (hand_of l z s)).kind ≡ false → (minds (markup_head x.0 x.1 (hand_of l z s).kind) ≡ true → e ≡ 0)
+      ends stops x.1 (as_at_hand (hand_of l z s)).kind ≡ false → (minds (markup_head x.0 x.1 (hand_of l z s).kind) ≡ true → e ≡ 0)
       → Led t [] (minds (markup_head x.0 x.1 (hand_of l z s).kind)) (turn x z s) (turn x (moved t.gap z) (before_trivia markup_reading markup_reading 0 false no_trivia)))
   unfolding hand_at
   led-fresh x z t e a go none =
       let g = markup_reading in
       let alike = judged-alike g t no_trivia refl in
-      let some = hand-takes l.classes g (Some t) z (end-by stops taking.end_stops x.1 (told (hand_of l z (before_trivia g g e a t))).kind go) in
+      let some = hand-takes l.classes g (Some t) z (end-by stops taking.end_stops x.1 (as_at_hand (hand_of l z (before_trivia g g e a t))).kind go) in
       takes-turn l taking.calls_sane taking.blocks_sane g z t no_trivia alike taking.level_left stops x _ (taking.takes g z t no_trivia alike x some) go g e 0 a false none
 
   resumed-known : (m : ℕ) (x : Bool × ℕ) (z : Place) (t : Trivia) (e : ℕ) (a : Bool) → Same m x z t (before_trivia markup_reading markup_reading e a t)
@@ -102,7 +102,7 @@ module _ (l : Level) (stops : SyntaxKind → Bool) (taking : Taking l stops) whe
   abbrev GoesToo : ℕ → Bool × ℕ → Place → Trivia → Point → Type 0
   GoesToo m x z t s = Reached l.classes z s → AllGo (made turn m x (moved t.gap z) (fresh l (moved t.gap z))) → (minds (markup_head x.0 x.1 (hand_of l z s).kind) ≡ true → s.empties ≡ 0) → AllGo (made turn m x z s)
 
-  same-kind : (z : Place) (t : Trivia) (e : ℕ) (a : Bool) → (told (hand_of l z (before_trivia markup_reading markup_reading e a t))).kind ≡ (told (hand_of l (moved t.gap z) (before_trivia markup_reading markup_reading 0 false no_trivia))).kind
+  same-kind : (z : Place) (t : Trivia) (e : ℕ) (a : Bool) → (as_at_hand (hand_of l z (before_trivia markup_reading markup_reading e a t))).kind ≡ (as_at_hand (hand_of l (moved t.gap z) (before_trivia markup_reading markup_reading 0 false no_trivia))).kind
   unfolding hand_at
   same-kind z t e a = sym (kind-behind l markup_reading z t no_trivia (judged-alike markup_reading t no_trivia refl))
 
@@ -114,12 +114,12 @@ module _ (l : Level) (stops : SyntaxKind → Bool) (taking : Taking l stops) whe
       let o = turn x z s in
       let c = turn x w (fresh l w) in
       let alone = fresh-is l w clear in
-      let over : ends stops x.1 (told (hand_of l w (fresh l w))).kind ≡ false = going-on l stops x w (fresh l w) (first-of c.value.0 (nat_lt 0 c.taken) g.0) in
-      let go : ends stops x.1 (told (hand_of l z s)).kind ≡ false = ap (ends stops x.1) (same-kind z t e a) ∙ subst (λ q. ends stops x.1 (told (hand_of l w q)).kind ≡ false) alone over in
+      let over : ends stops x.1 (as_at_hand (hand_of l w (fresh l w))).kind ≡ false = going-on l stops x w (fresh l w) (first-of c.value.0 (nat_lt 0 c.taken) g.0) in
+      let go : ends stops x.1 (as_at_hand (hand_of l z s)).kind ≡ false = ap (ends stops x.1) (same-kind z t e a) ∙ subst (λ q. ends stops x.1 (as_at_hand (hand_of l w q)).kind ≡ false) alone over in
       let p = subst (λ q. SamePiece t o (turn x w q)) (sym alone) (same-piece t _ _ _ (led-fresh x z t e a go none)) in
       let there : moved o.taken z ≡ moved c.taken w = ap (λ n. moved n z) p.taken ∙ moved-sum t.gap c.taken z in
       let took = p.taken in
-      let some : 0 < c.taken = ltb-true 0 c.taken (second c.value.0 (nat_lt 0 c.taken) g.0) in
+      let some : 0 < c.taken = ltb-true 0 c.taken (and_parts c.value.0 (nat_lt 0 c.taken) g.0).1 in
       let goes_on : goes o ≡ true = ap (λ b. b && nat_lt 0 o.taken) (ap (λ (v : Bool × (Bool × ℕ)). v.0) p.value ∙ first-of c.value.0 (nat_lt 0 c.taken) g.0) ∙ lt-ltb 0 o.taken (omega (arith, took, some)) in
       let behind : made turn n o.value.1 (moved o.taken z) o.state ≡ made turn n c.value.1 (moved c.taken w) c.state = (λ i. made turn n (p.value i).1 (there i) (p.state i)) in
       (goes_on, subst (λ us. AllGo us) (sym behind) g.1)
@@ -136,8 +136,8 @@ module _ (l : Level) (stops : SyntaxKind → Bool) (taking : Taking l stops) whe
 
   -- ---- how many there are
 
-  abbrev place_behind : Bool × ℕ → Point → List (Outcome (Bool × (Bool × ℕ))) → ℕ
-  place_behind x s os = let e = end_of x s os in e.taken + gap_of e.state.known
+  abbrev place_after : Bool × ℕ → Point → List (Outcome (Bool × (Bool × ℕ))) → ℕ
+  place_after x s os = let e = end_of x s os in e.taken + gap_of e.state.known
 
   -- A piece takes more than the trivia before it.
   pub takes-more : (x : Bool × ℕ) (z : Place) (s : Point) → KnownAt s → (turn x z s).value.0 ≡ true → gap_of s.known < (turn x z s).taken
@@ -146,7 +146,7 @@ module _ (l : Level) (stops : SyntaxKind → Bool) (taking : Taking l stops) whe
       (λ h. (let led = turn-led l stops taking x z s.reading s.held s.empties s.is_after_error known.trivia (going-on l stops x z _ h) in
       omega (arith, led.taken, led.some))) g
 
-  pub counted : (m n : ℕ) (x : Bool × ℕ) (z : Place) (s : Point) → KnownAt s → AllGo (made turn m x z s) → AllGo (made turn n x z s) → place_behind x s (made turn m x z s) ≡ place_behind x s (made turn n x z s) → m ≡ n
+  pub counted : (m n : ℕ) (x : Bool × ℕ) (z : Place) (s : Point) → KnownAt s → AllGo (made turn m x z s) → AllGo (made turn n x z s) → place_after x s (made turn m x z s) ≡ place_after x s (made turn n x z s) → m ≡ n
   counted zero zero x z s known g h e = refl
   counted zero (suc n) x z s known g h e =
       absurd (omega (arith, e, takes-more x z s known (first-of _ _ h.0)))
@@ -154,11 +154,11 @@ module _ (l : Level) (stops : SyntaxKind → Bool) (taking : Taking l stops) whe
       absurd (omega (arith, e, takes-more x z s known (first-of _ _ g.0)))
   counted (suc m) (suc n) x z s known g h e =
       let o = turn x z s in
-      let rest : place_behind o.value.1 o.state (made turn m o.value.1 (moved o.taken z) o.state) ≡ place_behind o.value.1 o.state (made turn n o.value.1 (moved o.taken z) o.state) = omega (arith, e) in
+      let rest : place_after o.value.1 o.state (made turn m o.value.1 (moved o.taken z) o.state) ≡ place_after o.value.1 o.state (made turn n o.value.1 (moved o.taken z) o.state) = omega (arith, e) in
       ap suc (counted m n o.value.1 (moved o.taken z) o.state (turn-known l stops x z s (first-of _ _ g.0)) g.1 h.1 rest)
 
   -- More of them end further on.
-  pub further : (m n : ℕ) (x : Bool × ℕ) (z : Place) (s : Point) → KnownAt s → m < n → AllGo (made turn n x z s) → place_behind x s (made turn m x z s) < place_behind x s (made turn n x z s)
+  pub further : (m n : ℕ) (x : Bool × ℕ) (z : Place) (s : Point) → KnownAt s → m < n → AllGo (made turn n x z s) → place_after x s (made turn m x z s) < place_after x s (made turn n x z s)
   further m zero x z s known some g = absurd (omega (arith, some))
   further zero (suc n) x z s known some g =
       omega (arith, takes-more x z s known (first-of _ _ g.0))

@@ -16,7 +16,7 @@ use Rattle.typst_language.proofs.Places.{moved-sum}
 use Rattle.typst_grammar.specs.Markup.{markup_run, markup_turn}
 use Rattle.typst_grammar.specs.Grammar.{rules, max_depth, start_of, whole, parsed}
 use Rattle.typst_edits.specs.Edit.{text_with}
-use Rattle.typst_edits.specs.Runs.{made, AllGo, End, asks_of, chain, piece_at, start, lead, pieces, end_at, pieces_from, end_from, rest_from, tail, whole_of, RunLaw, behind_pieces, StartLaw}
+use Rattle.typst_edits.specs.Runs.{made, AllGo, End, asks_of, chain, piece_at, start, lead, pieces, end_at, pieces_from, end_from, rest_from, tail, whole_of, RunLaw, after_pieces, StartLaw}
 use Rattle.typst_edits.proofs.Edit.{before-same, after-same}
 use Rattle.typst_edits.proofs.Inside.{same_in-at}
 use Rattle.typst_edits.proofs.Runs.{repeated-chain, made-same, chain-state, chain-taken}
@@ -124,5 +124,5 @@ start-law k front old new rest i g before =
       first = f.pieces_same;
       lead_same = f.lead_same;
       now = whole-is k (front ++ (new ++ rest)) ∙ ap (λ o. whole_of (lead k w) o (tail k o.taken o.state w)) e
-          ∙ ap (λ os. (let o = chain os (behind_pieces k i w) in whole_of (lead k w) o (tail k o.taken o.state w))) f.pieces_same;
+          ∙ ap (λ os. (let o = chain os (after_pieces k i w) in whole_of (lead k w) o (tail k o.taken o.state w))) f.pieces_same;
     }

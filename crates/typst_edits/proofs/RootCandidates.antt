@@ -7,7 +7,7 @@ use Rattle.typst_tokens.specs.Sight.{width}
 use Rattle.typst_language.specs.Depth.{is_end}
 use Rattle.typst_language.specs.Meaning.{Outcome}
 use Rattle.typst_language.specs.Point.{Trivia, gap_of, pending}
-use Rattle.typst_candidates.specs.Units.{starts, behind_first, top_cuts}
+use Rattle.typst_candidates.specs.Units.{starts, after_first, top_cuts}
 use Rattle.typst_candidates.specs.Candidates as candidate
 use Rattle.typst_candidates.specs.Candidates.{is_among, Candidate, begins, of_run}
 use Rattle.typst_grammar.specs.Grammar.{max_depth, level_at, start_of, tree, log}
@@ -17,7 +17,7 @@ use Rattle.typst_edits.specs.Edit.{Among, text_with}
 use Rattle.typst_edits.specs.Every.{Every}
 use Rattle.typst_edits.specs.Joint.{text_run, onwards_from}
 use Rattle.typst_edits.specs.Leading.{both, token_byte}
-use Rattle.typst_edits.specs.NumberedNotes.{of_level, cut_behind}
+use Rattle.typst_edits.specs.NumberedNotes.{of_level, cut_after}
 use Rattle.typst_edits.specs.Occurrences.{goes}
 use Rattle.typst_edits.specs.PieceNotes.{listed}
 use Rattle.typst_edits.specs.RootPieces.{StandsAt}
@@ -51,7 +51,7 @@ pub record TopCuts (k : CharClasses) (text : List ℕ) : Type 0 where
   pub over : (let e = end_at k count (start_of text) in goes (piece_at k e.value (moved e.taken (start_of text)) e.state) ≡ false)
   pub each : (b : ℕ) → is_among b cuts ≡ true → CutOf text (λ i. end_at k i (start_of text)) count b
   are : top_cuts (listed (log k text).notes) ≡ Some cuts
-  has : (j : ℕ) → 0 < j → AllGo (pieces k j (start_of text)) → is_among (width (take (cut_behind j (end_at k j (start_of text))) text)) cuts ≡ true
+  has : (j : ℕ) → 0 < j → AllGo (pieces k j (start_of text)) → is_among (width (take (cut_after j (end_at k j (start_of text))) text)) cuts ≡ true
 
 pub cuts-of-text : (k : CharClasses) (text : List ℕ) → TopCuts k text
 cuts-of-text k text =
@@ -66,14 +66,14 @@ cuts-of-text k text =
       go = n.go;
       over = n.over;
       each = b.is.each;
-      are = ap behind_first (starts-are text e max_depth 0 ns n.each) ∙ b.are;
+      are = ap after_first (starts-are text e max_depth 0 ns n.each) ∙ b.are;
       has = λ j some go. b.is.has j some (few-go (piece_at k) (within k) n.count j (true, 0) z (lead k z).state (nat_lt n.count j) refl go n.over);
     }
 
 -- ---- what its pieces give
 
 settles : (k : CharClasses) (text : List ℕ) (i n : ℕ) → (0 < i → 0 < n) → Settles n (onwards_from k i n (start_of text))
-settles k text zero zero some = inr (omega (arith, (back-law k text 0 0).behind_back, lead-empties k (start_of text)))
+settles k text zero zero some = inr (omega (arith, (back-law k text 0 0).after_back, lead-empties k (start_of text)))
 settles k text zero (suc n) some = inl (omega arith)
 settles k text (suc i) n some = inl (some (omega arith))
 
@@ -98,7 +98,7 @@ module _ (k : CharClasses) (text : List ℕ) (i : ℕ) (g : AllGo (pieces k i (s
         back = (onwards_from k i n z0).back;
         behind = led.behind;
         children = led.children;
-        few = (back-law k text i n).behind_back;
+        few = (back-law k text i n).after_back;
         ends = omega (arith, led.ends);
         onwards = ap (λ (o : Outcome (Unit {0})). o.nodes) (sym (onwards-is k i n z0)) ∙ led.onwards;
         first = led.first;

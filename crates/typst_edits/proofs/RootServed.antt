@@ -13,7 +13,7 @@ use Rattle.typst_edits.specs.Answer.{candidates}
 use Rattle.typst_edits.specs.BlockTest.{front_in}
 use Rattle.typst_edits.specs.CandidateRuns.{IsPieces, RootPiecesOfLaw}
 use Rattle.typst_edits.specs.Edit.{Among, text_with}
-use Rattle.typst_edits.specs.Frame.{Run, Before, Behind, PassesPieces}
+use Rattle.typst_edits.specs.Frame.{Run, Before, After, PassesPieces}
 use Rattle.typst_edits.specs.InOrder.{InOrderLaw}
 use Rattle.typst_edits.specs.Joint.{text_run, PassesJoint}
 use Rattle.typst_edits.specs.RootPieces.{root_run}
@@ -51,7 +51,7 @@ module _ (in_order : InOrderLaw) (k : CharClasses) (front old new rest : List �
   module _ (root : Tree) (c : Candidate) (same : bare root ≡ bare (tree k (front ++ (old ++ rest)))) (chosen : Among c (candidates k (front ++ (old ++ rest)) (width front) (width (front ++ old)) root)) (whole : c.is_block ≡ false) (at_root : c.path ≡ [])
       (i n past : ℕ) (t : Trivia) (p : IsPieces k front old rest (root_run k (front ++ (old ++ rest))) c i n past t) (big_new : width (front ++ (new ++ rest)) < 2 ^ 64 - 1) where
     -- The new pieces that follow d old ones are joined to what follows them.
-    joined : (d left m : ℕ) (u : Trivia) (first : Candidate) → n ≡ d + left → IsPieces k front old rest own first (i + d) left past t → Before k front old rest own (i + d) → Behind k front old rest own (i + d) left past t
+    joined : (d left m : ℕ) (u : Trivia) (first : Candidate) → n ≡ d + left → IsPieces k front old rest own first (i + d) left past t → Before k front old rest own (i + d) → After k front old rest own (i + d) left past t
         → AllGo (then_of (i + d) m v) → PassesPieces k front old new rest own i n (d + m) past t u → PassesJoint k front old new rest (i + d) left m past t u
     joined d left m u first sum f looks behind go h =
         let well = root-candidate-law k front old new rest root c i n (d + m) past t u same chosen whole at_root p.start p.led p.end h in
@@ -69,7 +69,7 @@ module _ (in_order : InOrderLaw) (k : CharClasses) (front old new rest : List �
           meets = meets-too q _ _ (then_end i n q) (then_end (i + d) left q) (then_end i (d + m) v) (then_end (i + d) m v) t u was.place was.value was.state now.value now.state all.meets;
         }
 
-    units-of-part : (first : Candidate) (d left m : ℕ) (u : Trivia) → 0 < d → n ≡ d + left → 0 < left → IsPieces k front old rest own first (i + d) left past t → Before k front old rest own (i + d) → Behind k front old rest own (i + d) left past t
+    units-of-part : (first : Candidate) (d left m : ℕ) (u : Trivia) → 0 < d → n ≡ d + left → 0 < left → IsPieces k front old rest own first (i + d) left past t → Before k front old rest own (i + d) → After k front old rest own (i + d) left past t
         → AllGo (then_of (i + d) m v) → (then_end (i + d) m v).state.known ≡ Some u → PassesPieces k front old new rest own i n (d + m) past t u
         → units_of (log k (front ++ (new ++ rest))) ≡ spliced (number_of k text (i + d)) (number_of k text (i + n)) (entries_by first.start (notes_by k (read_from k front old new rest own of.Text max_depth (i + d)) m)) (units_of (log k text))
     units-of-part first d left m u some sum more f looks behind go known h =

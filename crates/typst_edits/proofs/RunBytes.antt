@@ -14,9 +14,9 @@ use Rattle.typst_edits.specs.Bytes.{highest, lowest}
 use Rattle.typst_edits.specs.Edit.{text_with, AllEndBy}
 use Rattle.typst_edits.specs.Joint.{text_run, onwards_from}
 use Rattle.typst_edits.specs.RunBytes.{PieceNote, RunDecisionLaw}
-use Rattle.typst_edits.specs.Runs.{AllGo, End, asks_of, chain, piece_at, start, lead, pieces, end_at, pieces_from, end_from, rest_from, tail, whole_of, behind_pieces}
+use Rattle.typst_edits.specs.Runs.{AllGo, End, asks_of, chain, piece_at, start, lead, pieces, end_at, pieces_from, end_from, rest_from, tail, whole_of, after_pieces}
 use Rattle.typst_edits.proofs.Bytes.{AllFrom, begin-by, begin-to}
-use Rattle.typst_edits.proofs.Boundary.{piece_mark, chain-asks, begins-append, looks_in, pieces-begin, each-ends, made-add, go-add, from-both, from-second, boundary, told-at}
+use Rattle.typst_edits.proofs.Boundary.{piece_mark, chain-asks, begins-append, looks_in, pieces-begin, each-ends, made-add, go-add, from-both, from-second, boundary, noted-at}
 use Rattle.typst_edits.proofs.Outcomes.{shift-zero, shift-twice}
 use Rattle.typst_edits.proofs.Root.{whole-is, within}
 use Rattle.typst_edits.proofs.Runs.{repeated-chain, chain-state, chain-taken}
@@ -35,14 +35,14 @@ module _ (k : CharClasses) (text : List ℕ) where
 
   -- what is asked after j pieces
   abbrev asks_behind : ℕ → List Ask
-  asks_behind j = let e = end_at k j z0 in let r = behind_pieces k j z0 in r.asks ++ shift r.taken (tail k (e.taken + r.taken) r.state z0).asks
+  asks_behind j = let e = end_at k j z0 in let r = after_pieces k j z0 in r.asks ++ shift r.taken (tail k (e.taken + r.taken) r.state z0).asks
 
   pub whole-asks : (j : ℕ) → AllGo (pieces k j z0) → (parsed k max_depth text).asks ≡ first_mark ∷ (((lead k z0).asks ++ asks_of (pieces k j z0)) ++ shift (end_at k j z0).taken (asks_behind j))
   unfolding run
   whole-asks j g =
       let os = pieces k j z0 in
       let e = end_at k j z0 in
-      let r = behind_pieces k j z0 in
+      let r = after_pieces k j z0 in
       let c = chain os r in
       let ls = (lead k z0).asks in
       let t = tail k c.taken c.state z0 in
@@ -83,9 +83,9 @@ module _ (k : CharClasses) (text : List ℕ) where
       let e = end_at k j z0 in
       let looks = (lead k z0).asks in
       let behind = shift e.taken (asks_behind j) in
-      let begins = begins-append (looks_in r (moved e.taken z0) e.state) (behind_pieces k j z0).asks _ (pieces-begin r e.value (moved e.taken z0) e.state) in
+      let begins = begins-append (looks_in r (moved e.taken z0) e.state) (after_pieces k j z0).asks _ (pieces-begin r e.value (moved e.taken z0) e.state) in
       let c = boundary r start refl looks j (asks_behind j) g begins in
-      let t = told-at k text c.early (c.late ++ behind) e.taken c.gap 0 (mark.Piece e.value.0 e.value.1) (state_of e.state) (whole-asks j g ∙ c.is) in
+      let t = noted-at k text c.early (c.late ++ behind) e.taken c.gap 0 (mark.Piece e.value.0 e.value.1) (state_of e.state) (whole-asks j g ∙ c.is) in
       let ended = λ (n : ℕ) (l : 0 < j) (h : AllEndBy n c.early).
       subst (λ u. AllEndBy n u) (shift-zero (looks ++ asks_of (pieces k j z0))) (c.ended n 0 l (subst (λ u. AllEndBy n u) (sym (shift-zero c.early)) h)) in
       let ends_too = λ (n : ℕ) (h : 0 < j → AllEndBy n (looks ++ asks_of (pieces k j z0))).

@@ -13,7 +13,7 @@ use Rattle.typst_tokens.specs.Sight.{width, position}
 use Rattle.typst_language.specs.Ask.{Ask, SameIn, shift, shift_one}
 use Rattle.typst_language.specs.Ask.Ask.{looked, marked}
 use Rattle.typst_language.specs.Depth.{is_end}
-use Rattle.typst_language.specs.Hand.{AtHand, Hand, told, hand_at}
+use Rattle.typst_language.specs.Hand.{AtHand, Hand, as_at_hand, hand_at}
 use Rattle.typst_language.specs.Log.{no_log, logged}
 use Rattle.typst_language.specs.Meaning.{Outcome, hand_of, hand_asks_of, repeated, start_point, run}
 use Rattle.typst_language.specs.Point.{Trivia, Point, gap_of}
@@ -312,7 +312,7 @@ run-splice-law k front old new rest i n m past t u h over over_new big big_new =
       two = side-by max_depth _ _ _ _ _ _ _ _ same.entries same.back (side k i m w u stop last h.new_go tail_new some_new);
     }) in
     let ended : OverAt k i n z → Both k i n m z w = λ o.
-    (let stops : ends r.stops x.1 (told (hand_of l (moved t.gap y) (passed t s))).kind ≡ true = ap (ends is_end x.1) (passed-kind l y t s h.meets.known) ∙ o in
+    (let stops : ends r.stops x.1 (as_at_hand (hand_of l (moved t.gap y) (passed t s))).kind ≡ true = ap (ends is_end x.1) (passed-kind l y t s h.meets.known) ∙ o in
     let each : Every (λ a. a ≡ looked 0 seen) last = (refl, (onwards-looks r x (moved t.gap y) (passed t s) knows_passed stops).each) in
     let still : seen.back ≡ 0 = end-look k (moved t.gap y).before (moved t.gap y).ahead (ends-there k y s t x.1 held h.meets.known o) in
     let still_new : (token_look l (moved u.gap v)).back ≡ 0 = ap (λ (a : Look). a.back) same_seen ∙ still in

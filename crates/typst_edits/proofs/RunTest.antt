@@ -22,13 +22,13 @@ use Rattle.typst_edits.specs.Answer.{candidates}
 use Rattle.typst_edits.specs.BlockTest.{entries_in, front_in, rear_in}
 use Rattle.typst_edits.specs.CandidateRuns.{IsPieces, RootPiecesOfLaw}
 use Rattle.typst_edits.specs.Edit.{Among, text_with, AllBeginIn}
-use Rattle.typst_edits.specs.Frame.{Run, top, inner, cut_at, is_over, nodes_now, Agrees, Before, Behind, PassesPieces, Gives, of_block, of_pieces}
+use Rattle.typst_edits.specs.Frame.{Run, top, inner, cut_at, is_over, nodes_now, Agrees, Before, After, PassesPieces, Gives, of_block, of_pieces}
 use Rattle.typst_edits.specs.Heads.{first_place}
 use Rattle.typst_edits.specs.Hole.{path_of}
 use Rattle.typst_edits.specs.InOrder.{InOrderLaw}
 use Rattle.typst_edits.specs.Joint.{text_run}
 use Rattle.typst_edits.specs.JointBytes.{asked_past}
-use Rattle.typst_edits.specs.NumberedNotes.{cut_behind}
+use Rattle.typst_edits.specs.NumberedNotes.{cut_after}
 use Rattle.typst_edits.specs.OneReading.{TakesNone}
 use Rattle.typst_edits.specs.PieceNotes.{listed}
 use Rattle.typst_edits.specs.PiecesTest.{RunEntries, read_alone, end_alone}
@@ -133,7 +133,7 @@ module _ (in_order : InOrderLaw) (k : CharClasses) (front old new rest : List �
   abbrev es : List Entry
   es = entries_in k text
 
-  cut-behind : (i : ℕ) → cut_at top_run i begin ≡ cut_behind i (end_at k i begin)
+  cut-behind : (i : ℕ) → cut_at top_run i begin ≡ cut_after i (end_at k i begin)
   cut-behind zero = refl
   cut-behind (suc i) = let e = end_at k (suc i) begin in cut-is (suc i == 0) (e.taken + gap_of e.state.known) (ne_eqb (suc i) 0 (omega arith))
 
@@ -161,14 +161,14 @@ module _ (in_order : InOrderLaw) (k : CharClasses) (front old new rest : List �
     pub before-is : number_of k text i < front_in k front old rest ↔ Before k front old rest top_run i
     before-is = ((λ l. notes.before (subst (λ j. j < front_in k front old rest) (sym notes.from) l)), (λ h. subst (λ j. j < front_in k front old rest) notes.from (notes.before_too h)))
 
-    pub behind-is : 0 < n → rear_in k front old rest ≤ number_of k text (i + n) ↔ Behind k front old rest top_run i n past t
+    pub behind-is : 0 < n → rear_in k front old rest ≤ number_of k text (i + n) ↔ After k front old rest top_run i n past t
     behind-is some = (
       (λ l. notes.after (omega (arith, some)) (subst (λ j. rear_in k front old rest ≤ j) (sym to-is) l)),
       (λ h. subst (λ j. rear_in k front old rest ≤ j) to-is (notes.after_too (omega (arith, some)) h)),
     )
 
     -- A run without an expression has nothing to look at after it.
-    pub none-behind : n ≡ 0 → rear_in k front old rest ≤ length es ↔ Behind k front old rest top_run i n past t
+    pub none-behind : n ≡ 0 → rear_in k front old rest ≤ length es ↔ After k front old rest top_run i n past t
     none-behind e =
         let alone = p.empty e in
         let known : whole.point.known ≡ Some t = subst (λ j. (then_end j 0 whole).state.known ≡ Some t) alone.0 (subst (λ j. (then_end i j whole).state.known ≡ Some t) e p.known) in

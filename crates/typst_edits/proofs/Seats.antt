@@ -1,6 +1,6 @@
 -- A block's spot at a position among the nodes of an outcome.
 use Rattle.std.proofs.Common.{◌≡◌, ◌⊎◌, inl, inr, ℕ, suc, ◌+◌, ◌-◌, ◌<◌, ◌≤◌, Bool, true, false, ◌&&◌, if◌then◌else◌, nat_le, nat_lt, List, [], ◌∷◌, ◌++◌, length, map, take, drop, length-append, length-take, length-drop, append_assoc, refl, ap, sym, ◌∙◌, subst, arith}
-use Rattle.std.proofs.lemmas.Bool.{and_left, and_right, le-leb, lt-leb}
+use Rattle.std.proofs.lemmas.Bool.{and_left, and_parts, and_right, le-leb, lt-leb}
 use Rattle.std.specs.List.{flat_map}
 use Rattle.typst_kinds.specs.Kinds.{is_error}
 use Rattle.typst_kinds.specs.Head.{Head, inner_head}
@@ -9,14 +9,14 @@ use Rattle.typst_tree.specs.Tree.{Tree, forest, error_of}
 use Rattle.typst_language.specs.declared.calls.Block.{Block}
 use Rattle.typst_language.specs.declared.calls.Block.TheVariants as block
 use Rattle.typst_language.specs.Meaning.{Outcome, answered, joined, less, plain, reshaped}
-use Rattle.typst_language.specs.Shape.{hinted, Change, is_delimited, is_sign, ends_with, in_parens, Shape, shaped, after_shape}
-use Rattle.typst_language.specs.Shape.Change.{stays, turns_wrong, is_not, renamed, unparened}
+use Rattle.typst_language.specs.Shape.{hinted, NodeChange, is_delimited, is_sign, ends_with, in_parens, Shape, shaped, after_shape}
+use Rattle.typst_language.specs.Shape.NodeChange.{stays, turns_wrong, is_not, renamed, unparened}
 use Rattle.typst_language.specs.Shape.Shape.{keeps, holds, lacks, warns, fails}
 use Rattle.typst_language.proofs.Within.{on_if}
-use Rattle.typst_grammar.proofs.Fine.{is_ordinary, change_by, shape_by, and-left as and-first, and-right as and-second, or-left as or-first, or-right as or-second, or-both}
+use Rattle.typst_grammar.proofs.Fine.{is_ordinary, change_by, shape_by, or-left as or-first, or-right as or-second, or-both}
 use Rattle.typst_language.proofs.Backs.{changed-long as length-changed}
 use Rattle.typst_edits.specs.Hole.Deep.{bare, under}
-use Rattle.typst_edits.specs.Hole.{Deep, fill, top, path_in, Hole, plug, stub, between_parens, changed_deep, first_hole, change_hole, in_node, in_nodes, behind_nodes, lack_hole, warned_head, wrap_in, wrap_past, wrap_hole}
+use Rattle.typst_edits.specs.Hole.{Deep, fill, top, path_in, Hole, plug, stub, between_parens, changed_deep, first_hole, change_hole, in_node, in_nodes, after_nodes, lack_hole, warned_head, wrap_in, wrap_past, wrap_hole}
 use Rattle.typst_edits.specs.Occurrences.{last_spot, reshaped_spot}
 use Rattle.typst_edits.specs.Spot.{Spot, block_head, then_spot, after_spot, rehole}
 use Rattle.typst_edits.proofs.Complete.{Any, any-left, any-right}
@@ -77,7 +77,7 @@ only-between head b [] d right o t e = let f : true ≡ false = sym e ∙ and_le
 only-between head b (u ∷ left) d [] o t e = let f : true ≡ false = sym e ∙ and_right (is_sign 40 u) (ends_with 41 (left ++ stub d (block_head b) ∷ [])) (ends-none 41 left (stub d (block_head b)) (sign-none 41 _ (stub d (block_head b)) refl (top-bare d b o))) in absurd (cc)
 only-between head b (u ∷ left) d (v ∷ right) o t e = record { one = _; is = refl; path = refl; passes = (t, o) }
 
-only-deep : (change : Change) (b : Block) (d : Deep) (n : ℕ) → change_by is_ordinary change ≡ true → Stays change n n (path_in d) → Open d → OnlyDeep (changed_deep change (block_head b) d) (path_in d)
+only-deep : (change : NodeChange) (b : Block) (d : Deep) (n : ℕ) → change_by is_ordinary change ≡ true → Stays change n n (path_in d) → Open d → OnlyDeep (changed_deep change (block_head b) d) (path_in d)
 only-deep stays b d n a s o = record { one = d; is = refl; path = refl; passes = o }
 only-deep (turns_wrong message) b d n a s o = absurd (less-not n s)
 only-deep (is_not thing) b d n a s o = absurd (less-not n s)
@@ -94,10 +94,10 @@ only-deep unparened block.Content bare n a s o = record { one = bare; is = refl;
 only-deep unparened b (under head left d right) n a s o =
     let t = is_delimited head.kind && in_parens (left ++ stub d (block_head b) ∷ right) in
     on_if (λ ds. OnlyDeep ds (length left ∷ path_in d)) t (between_parens head left d right) (under head left d right ∷ [])
-    (λ e. only-between head b left d right o.1 (or-second (is_error head.kind) (has_text head.text) o.0) (and-second (is_delimited head.kind) (in_parens (left ++ stub d (block_head b) ∷ right)) e))
+    (λ e. only-between head b left d right o.1 (or-second (is_error head.kind) (has_text head.text) o.0) (and_parts (is_delimited head.kind) (in_parens (left ++ stub d (block_head b) ∷ right)) e).1)
     (λ e. record { one = under head left d right; is = refl; path = refl; passes = o })
 
-only-change : (change : Change) (b : Block) (left : List Tree) (d : Deep) (right : List Tree) (n i : ℕ) → change_by is_ordinary change ≡ true → i ≡ length left + n → Stays change n i (path_in d) → Open d → Only (change_hole change (block_head b) left d right) (length left) (path_in d)
+only-change : (change : NodeChange) (b : Block) (left : List Tree) (d : Deep) (right : List Tree) (n i : ℕ) → change_by is_ordinary change ≡ true → i ≡ length left + n → Stays change n i (path_in d) → Open d → Only (change_hole change (block_head b) left d right) (length left) (path_in d)
 only-change change b (t ∷ left) d right n i a e s o = record { one = _; is = refl; first = length-changed change (t ∷ left); path = refl; passes = o }
 only-change change b [] d right n i a e s o =
     let f : i ≡ n = omega (arith, e) in
@@ -119,10 +119,10 @@ only-nodes : (head : Head) (kept : List Tree) (hs : List Hole) (n : ℕ) (q : Li
 only-nodes head kept hs n q e h =
     only-as (in_node head kept h.one) (in_nodes head kept hs) (length kept) (length kept) (length h.one.left ∷ q) (n ∷ q) (ap (in_nodes head kept) h.is) refl (ap (λ m. m ∷ q) h.first) (only-in head kept h.one q e h.passes h.path)
 
-only-behind : (kept : List Tree) (hs : List Hole) (n : ℕ) (q : List ℕ) → Only hs n q → Only (behind_nodes kept hs) (length kept + n) q
+only-behind : (kept : List Tree) (hs : List Hole) (n : ℕ) (q : List ℕ) → Only hs n q → Only (after_nodes kept hs) (length kept + n) q
 only-behind kept hs n q h = record {
   one = record h.one { left = kept ++ h.one.left };
-  is = ap (behind_nodes kept) h.is;
+  is = ap (after_nodes kept) h.is;
   first = length-append kept h.one.left ∙ ap (λ m. length kept + m) h.first;
   path = h.path;
   passes = h.passes;
@@ -292,18 +292,18 @@ module _ {A : Type 0} (n : ℕ) (o : Outcome A) where
       only-as (wrap_in shape (block_head c.name) (take k c.hole.left) (drop k c.hole.left) c.hole.deep c.hole.right) (wrap_hole shape (block_head c.name) k c.hole) m j t r
       (ap (λ (a : Bool). if a then wrap_in shape (block_head c.name) (take k c.hole.left) (drop k c.hole.left) c.hole.deep c.hole.right else wrap_past shape (k - suc (length c.hole.left)) c.hole ∷ []) b.is) e f h
 
-  changed-hole : (change : Change) (i : ℕ) (q : List ℕ) (c : Spot A) → change_by is_ordinary change ≡ true → n + o.back ≤ i → Stays change (n + o.back) i q → Sits o i q c
+  changed-hole : (change : NodeChange) (i : ℕ) (q : List ℕ) (c : Spot A) → change_by is_ordinary change ≡ true → n + o.back ≤ i → Stays change (n + o.back) i q → Sits o i q c
       → Only (change_hole change (block_head c.name) (drop (n + c.back) c.hole.left) c.hole.deep c.hole.right) (length (drop (n + c.back) c.hole.left)) (path_in c.hole.deep)
   changed-hole change i q c a l st s =
       only-change change c.name (drop (n + c.back) c.hole.left) c.hole.deep c.hole.right (n + o.back) i a (sym (behind-of i q c l s).left) (subst (λ r. Stays change (n + o.back) i r) (sym s.path) st) s.passes
 
-  goes-keeps : (change : Change) (i j : ℕ) (q : List ℕ) → change_by is_ordinary change ≡ true → n + o.back ≤ i → i + length (take (n + o.back) o.nodes) ≡ j + (n + o.back) → Stays change (n + o.back) i q → Goes (keeps change) n o i j q q
+  goes-keeps : (change : NodeChange) (i j : ℕ) (q : List ℕ) → change_by is_ordinary change ≡ true → n + o.back ≤ i → i + length (take (n + o.back) o.nodes) ≡ j + (n + o.back) → Stays change (n + o.back) i q → Goes (keeps change) n o i j q q
   goes-keeps change i j q a l e st c s =
       let b = behind-of i q c l s in
       goes-in (keeps change) i j q c b _ (path_in c.hole.deep) (omega (arith, e, b.kept, b.left)) s.path
       (only-behind (take (n + c.back) c.hole.left) _ (length (drop (n + c.back) c.hole.left)) (path_in c.hole.deep) (changed-hole change i q c a l st s))
 
-  goes-holds : (change : Change) (k : SyntaxKind) (i j : ℕ) (q : List ℕ) → change_by is_ordinary change ≡ true → is_error k ≡ false → n + o.back ≤ i → i ≡ j + (n + o.back) → Stays change (n + o.back) i q
+  goes-holds : (change : NodeChange) (k : SyntaxKind) (i j : ℕ) (q : List ℕ) → change_by is_ordinary change ≡ true → is_error k ≡ false → n + o.back ≤ i → i ≡ j + (n + o.back) → Stays change (n + o.back) i q
       → Goes (holds change k) n o i (length (take (n + o.back) o.nodes)) q (j ∷ q)
   goes-holds change k i j q a ak l e st c s =
       let b = behind-of i q c l s in
@@ -342,7 +342,7 @@ module _ {A : Type 0} (n : ℕ) (o : Outcome A) where
 
     steps : (shape : Shape) → shape_by is_ordinary shape ≡ true → Lift shape → Step shape Late Q (n + o.back) (length (take (n + o.back) o.nodes))
     steps (keeps change) a f = λ i j q e st p. f i j q q (goes-keeps change i j q a p.0 e st) p.1
-    steps (holds change k) a f = λ i j q e st p. f i _ q (j ∷ q) (goes-holds change k i j q (and-first (change_by is_ordinary change) (is_ordinary k) a) (not-error k (and-second (change_by is_ordinary change) (is_ordinary k) a)) p.0 e st) p.1
+    steps (holds change k) a f = λ i j q e st p. f i _ q (j ∷ q) (goes-holds change k i j q (and_parts (change_by is_ordinary change) (is_ordinary k) a).0 (not-error k (and_parts (change_by is_ordinary change) (is_ordinary k) a).1) p.0 e st) p.1
     steps (lacks count message k) a f = (λ i j q e l p. f i _ q (j ∷ q) (goes-before count message k i j q (not-error k a) p.0 e l) p.1, λ i j q e l p. f i _ q (j ∷ q) (goes-behind count message k i j q (not-error k a) p.0 e l) p.1)
     steps (warns k message hint) a f = λ i j q e p. f i _ q (j ∷ q) (goes-warns k message hint i j q (not-error k a) p.0 e) p.1
     steps (fails message) a f = tt
@@ -361,7 +361,7 @@ module _ {A : Type 0} (n : ℕ) (o : Outcome A) where
     each-reshaped shape a f h = each-parts _ shape f h (each-shaped shape Late Q (n + o.back) (length (take (n + o.back) o.nodes)) (drop (n + o.back) o.nodes) a (steps shape a f))
 
     -- where they become a node of any kind, of which the same is known
-    pub each-enclosed : (change : Change) (k : SyntaxKind) → change_by is_ordinary change ≡ true → is_error k ≡ false → Q (length (take (n + o.back) o.nodes)) [] → Lift (holds change k) → Each (Stood o cs ds) 0 (forest o.nodes)
+    pub each-enclosed : (change : NodeChange) (k : SyntaxKind) → change_by is_ordinary change ≡ true → is_error k ≡ false → Q (length (take (n + o.back) o.nodes)) [] → Lift (holds change k) → Each (Stood o cs ds) 0 (forest o.nodes)
         → Each Q 0 (forest (reshaped (holds change k) n o).nodes)
     each-enclosed change k a e b f h =
         each-parts _ (holds change k) f h

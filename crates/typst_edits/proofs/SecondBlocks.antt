@@ -8,7 +8,7 @@ use Rattle.typst_language.specs.declared.calls.Block.TheVariants as block
 use Rattle.typst_language.specs.declared.calls.Mark.{Mark}
 use Rattle.typst_language.specs.declared.calls.Mark.TheVariants as mark
 use Rattle.typst_language.specs.declared.calls.Note.{Note}
-use Rattle.typst_candidates.specs.Units.{opens_content, starts, up_to_end, behind_first, cuts_in}
+use Rattle.typst_candidates.specs.Units.{opens_content, starts, up_to_end, after_first, cuts_in}
 use Rattle.typst_grammar.specs.Grammar.{max_depth, start_of, parsed, log}
 use Rattle.typst_edits.specs.Edit.{Among}
 use Rattle.typst_edits.specs.Hole.{Hole}
@@ -48,7 +48,7 @@ begins-at at (n ∷ ns) cuts e = by-tests (opens_content n.mark) (n.start == at)
     next : Begins at ns → Begins at (n ∷ ns)
     next b = record { earlier = n ∷ b.earlier; note = b.note; later = b.later; is = ap (λ us. n ∷ us) b.is; mark = b.mark; start = b.start }
 
-    by-tests : (a b : Bool) → opens_content n.mark ≡ a → (n.start == at) ≡ b → (cuts_in at ns ≡ Some cuts → Begins at ns) → (if a && b then behind_first (starts n.levels (up_to_end n.levels ns)) else cuts_in at ns) ≡ Some cuts → Begins at (n ∷ ns)
+    by-tests : (a b : Bool) → opens_content n.mark ≡ a → (n.start == at) ≡ b → (cuts_in at ns ≡ Some cuts → Begins at ns) → (if a && b then after_first (starts n.levels (up_to_end n.levels ns)) else cuts_in at ns) ≡ Some cuts → Begins at (n ∷ ns)
     by-tests true true f g more e = record { earlier = []; note = n; later = ns; is = refl; mark = content-is n.mark f; start = eqb-true n.start at g }
     by-tests true false f g more e = next (more e)
     by-tests false b f g more e = next (more e)

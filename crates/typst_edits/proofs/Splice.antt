@@ -1,9 +1,9 @@
 -- The units of two texts that are asked the same before a stretch and after it.
 use Rattle.std.proofs.Common.{◌≡◌, ℕ, zero, suc, ◌+◌, ◌-◌, ◌<◌, ◌≤◌, ◌^◌, max, min, List, [], ◌∷◌, ◌++◌, length, take, drop, length-append, append_assoc, append-nil, Option, Some, None, refl, ap, sym, ◌∙◌, subst, arith}
 use Rattle.std.proofs.Math.Seq.{take-append_seam, drop-append_seam}
-use Rattle.typst_candidates.specs.Entries.{Units, tag_of, count_of, back_of, entry_of, entries_by, last_start, units_by, units_of, spliced}
+use Rattle.typst_candidates.specs.Entries.{Units, entry_kind_of, count_of, back_of, entry_of, entries_by, last_start, units_by, units_of, spliced}
 use Rattle.typst_candidates.specs.declared.entry.Entry.{Entry}
-use Rattle.typst_candidates.specs.declared.entry.Tag.{Tag}
+use Rattle.typst_candidates.specs.declared.entry.EntryKind.{EntryKind}
 use Rattle.typst_lines.specs.Place.{Place, moved, moved_from}
 use Rattle.typst_tokens.specs.Sight.{width, position, stretch, far, near}
 use Rattle.typst_language.specs.declared.calls.Mark.{Mark}
@@ -190,10 +190,10 @@ reach-none e f x = omega arith
 pub least-none : (top e f big : ℕ) → e + top < big → f + top < big → SameLeast top e f big big
 least-none top e f big h k x l = omega (arith, h, k, l)
 
-abbrev entry_with : Tag → ℕ → ℕ → ℕ → ℕ → ℕ → Entry
-entry_with t count step gap forth back = record { tag = t; step = step; gap = gap; forth = forth; back = back; count = count }
+abbrev entry_with : EntryKind → ℕ → ℕ → ℕ → ℕ → ℕ → Entry
+entry_with t count step gap forth back = record { kind = t; step = step; gap = gap; forth = forth; back = back; count = count }
 
-entry-same : (t : Tag) (count a b c d e f g h : ℕ) → a ≡ e → b ≡ f → c ≡ g → d ≡ h → entry_with t count a b c d ≡ entry_with t count e f g h
+entry-same : (t : EntryKind) (count a b c d e f g h : ℕ) → a ≡ e → b ≡ f → c ≡ g → d ≡ h → entry_with t count a b c d ≡ entry_with t count e f g h
 entry-same t count a b c d e f g h i j k l = ap (λ n. entry_with t count n b c d) i ∙ ap (λ n. entry_with t count e n c d) j ∙ ap (λ n. entry_with t count e f n d) k ∙ ap (λ n. entry_with t count e f g n) l
 
 -- the place a given number of characters further on, after the stretch
@@ -269,7 +269,7 @@ module _ (lv : ℕ) (front old new rest : List ℕ) (past end stop : ℕ) (e : e
       let before = position-old at in
       let before_new = position-new at in
       let reach = i (wide (past + (at + gap))) in
-      entry-same (tag_of m s) (count_of m (lv - fewer)) _ _ _ _ _ _ _ _ (omega (arith, before, before_new)) (omega (arith, before, before_new, start, start_new)) (omega (arith, reach, start, start_new)) (j x h)
+      entry-same (entry_kind_of m s) (count_of m (lv - fewer)) _ _ _ _ _ _ _ _ (omega (arith, before, before_new)) (omega (arith, before, before_new, start, start_new)) (omega (arith, reach, start, start_new)) (j x h)
 
   pub rear : (asks : List Ask) (x r l t u : ℕ) → x ≤ top → b + top < 2 ^ 64 - 1 → c + top < 2 ^ 64 - 1 → SameReach b c r t → SameLeast top b c l u → AllBeginIn past rest asks → Rear x r l t u asks
   rear [] x r l t u h big big_new i j g = record { entries = refl; back = j x h }

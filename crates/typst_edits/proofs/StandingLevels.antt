@@ -12,7 +12,7 @@ use Rattle.typst_language.specs.Knot.{blocks_of, meaning_of, level_of}
 use Rattle.typst_language.specs.Meaning.{Outcome, Level, less, joined, plain, before, inside, reshaped, wrapped, blockless, start_point, run}
 use Rattle.typst_language.specs.Point.{Point, pending}
 use Rattle.typst_language.specs.Shape.{hinted, shaped}
-use Rattle.typst_language.specs.Shape.Change.{stays, turns_wrong}
+use Rattle.typst_language.specs.Shape.NodeChange.{stays, turns_wrong}
 use Rattle.typst_language.specs.Steps.{peek, node}
 use Rattle.typst_language.specs.Syntax.{Parser}
 use Rattle.typst_language.specs.Syntax.Begin.{at_token}

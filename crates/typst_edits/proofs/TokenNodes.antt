@@ -9,7 +9,7 @@ use Rattle.typst_language.specs.Nodes.{token_node}
 use Rattle.typst_tokens.specs.declared.token.Token.{Token}
 use Rattle.typst_kinds.specs.Kinds.{same}
 use Rattle.typst_lines.specs.Place.{Place, moved}
-use Rattle.typst_language.specs.Hand.{told, text_ahead, hand_at}
+use Rattle.typst_language.specs.Hand.{as_at_hand, text_ahead, hand_at}
 use Rattle.typst_language.specs.Meaning.{Outcome, plain, less, joined, entered, hand_of, asked, run, taken_node, done, hand_asks_of}
 use Rattle.typst_language.specs.Point.{Point}
 use Rattle.typst_language.specs.Shape.{after_node}
@@ -64,7 +64,7 @@ close-plain k levels m n s z w =
     let p = after_node false [] (inner_tail k levels m s w).state in
     let h = hand_of l y p in
     let a = asked h p in
-    let first = record (plain (told h) a) { asks = hand_asks_of l y p } in
+    let first = record (plain (as_at_hand h) a) { asks = hand_asks_of l y p } in
     let took = done l (takes false itself) (moved 0 y) a in
     let g = hand_of l (moved 0 y) a in
-    on_both (λ (o : Outcome _). Every NoMarkup (joined first o).nodes) (same kind.RightBracket (told h).kind) (joined took (plain true took.state)) (plain false a) (no-token k g.token (text_ahead g.len (moved g.gap (moved 0 y))), tt) tt
+    on_both (λ (o : Outcome _). Every NoMarkup (joined first o).nodes) (same kind.RightBracket (as_at_hand h).kind) (joined took (plain true took.state)) (plain false a) (no-token k g.token (text_ahead g.len (moved g.gap (moved 0 y))), tt) tt

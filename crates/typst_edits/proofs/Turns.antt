@@ -13,7 +13,7 @@ use Rattle.typst_language.specs.declared.reading.Reading.{Reading}
 use Rattle.typst_language.specs.Ask.{Ask, SameIn, shift, shift_one}
 use Rattle.typst_language.specs.Depth.{anywhere, too_deep, deeper, is_end}
 use Rattle.typst_tree.specs.Tree.{Tree}
-use Rattle.typst_language.specs.Hand.{AtHand, told, len_at, hand_at, hand_asks}
+use Rattle.typst_language.specs.Hand.{AtHand, as_at_hand, len_at, hand_at, hand_asks}
 use Rattle.typst_language.specs.Point.{Trivia, Point}
 use Rattle.typst_language.specs.Shape.{Making, hinted, Shape, encloses}
 use Rattle.typst_language.specs.Shape.Making.{itself, of_kind, surprise}
@@ -34,7 +34,7 @@ use Rattle.typst_grammar.specs.Embedded.{embedded}
 use Rattle.typst_grammar.specs.Equations.{between_dollars, equation}
 use Rattle.typst_edits.specs.Joint.{minds}
 use Rattle.typst_edits.specs.Occurrences.{goes}
-use Rattle.typst_edits.proofs.Led.{behind_trivia, SameJudged, before_trivia, none-less, none-of, Led, led-then, led-asked, Takes, asks-behind, takes-token, takes-next, takes-peek, takes-column, takes-scoped, takes-wraps, takes-calls, kind-behind, same-judged, led-like}
+use Rattle.typst_edits.proofs.Led.{after_trivia, SameJudged, before_trivia, none-less, none-of, Led, led-then, led-asked, Takes, asks-behind, takes-token, takes-next, takes-peek, takes-column, takes-scoped, takes-wraps, takes-calls, kind-behind, same-judged, led-like}
 use Rattle.typst_edits.proofs.Runs.{repeated-chain}
 use Rattle.typst_edits.proofs.Outcomes.{shift-zero}
 use Rattle.typst_edits.proofs.Reached.{flushed-held}
@@ -144,7 +144,7 @@ module _ (l : Level) (sd : (c : Call) → Sane (l.deeper c)) (sb : (b : Block) �
     takes-deeper : Takes h z t u trims (run l (deeper (MarkupExpr x.0 x.1) x.1))
     unfolding deeper run
     takes-deeper r e d a b same =
-        led-asked t u.nodes trims (l.levels == 0) (before_trivia r h e a t) (before_trivia r h d b (behind_trivia u)) [] [] (l.levels == 0) _ _ refl
+        led-asked t u.nodes trims (l.levels == 0) (before_trivia r h e a t) (before_trivia r h d b (after_trivia u)) [] [] (l.levels == 0) _ _ refl
         (takes-pick trims (l.levels == 0) (too_deep anywhere >> gives x.1) (calls (MarkupExpr x.0 x.1)) deep (takes-calls l h z t u alike trims (MarkupExpr x.0 x.1) call) r e d a b same)
 
     pub takes-turn : ends stops x.1 (hand_at l.classes h (Some t) z).kind ≡ false → Takes h z t u trims (run l (markup_turn true stops x))
@@ -256,11 +256,11 @@ module _ (l : Level) (stops : SyntaxKind → Bool) (taking : Taking l stops) whe
   behind x = run l (repeat (markup_turn true stops) x >>= λ _. flush_trivia)
 
   -- where no expression follows
-  pub stopped : (x : Bool × ℕ) (q : Place) (p : Point) → ends stops x.1 (told (hand_of l q p)).kind ≡ true → repeated (λ v. run l (markup_turn true stops v)) x q p ≡ record (plain x (asked (hand_of l q p) p)) { asks = hand_asks_of l q p ++ [] }
+  pub stopped : (x : Bool × ℕ) (q : Place) (p : Point) → ends stops x.1 (as_at_hand (hand_of l q p)).kind ≡ true → repeated (λ v. run l (markup_turn true stops v)) x q p ≡ record (plain x (asked (hand_of l q p) p)) { asks = hand_asks_of l q p ++ [] }
   unfolding run markup_turn less
   stopped x q p f =
       let m : Bool × ℕ → Meaning (Bool × (Bool × ℕ)) = λ (v : Bool × ℕ). run l (markup_turn true stops v) in
-      let v = told (hand_of l q p) in
+      let v = as_at_hand (hand_of l q p) in
       let first = record (plain v (asked (hand_of l q p) p)) { asks = hand_asks_of l q p } in
       let turn : m x q p ≡ joined first (plain (false, x) (asked (hand_of l q p) p)) = ap (joined first) (if-true (ends stops x.1 v.kind) _ _ f) in
       last-turn m (λ n. (sane-run l taking.calls_sane taking.blocks_sane (markup_turn true stops n)).within) x q p (ap goes turn) ∙ ap as_last turn
@@ -306,10 +306,10 @@ module _ (l : Level) (stops : SyntaxKind → Bool) (taking : Taking l stops) whe
     w = moved t.gap z
 
     abbrev y : Point
-    y = before_trivia r h d b (behind_trivia u)
+    y = before_trivia r h d b (after_trivia u)
 
     abbrev now : AtHand
-    now = told (hand_at l.classes h (Some t) z)
+    now = as_at_hand (hand_at l.classes h (Some t) z)
 
     -- the trivia at the end
     flushed : Fronted t u.nodes (run l flush_trivia z s) (run l flush_trivia w y)
@@ -343,7 +343,7 @@ module _ (l : Level) (stops : SyntaxKind → Bool) (taking : Taking l stops) whe
     ended-behind : ends stops x.1 now.kind ≡ true → Fronted t u.nodes (behind x z s) (behind x w y)
     unfolding run hand_at
     ended-behind f =
-        let g : ends stops x.1 (told (hand_of l w y)).kind ≡ true = ap (ends stops x.1) (kind-behind l h z t u alike) ∙ f in
+        let g : ends stops x.1 (as_at_hand (hand_of l w y)).kind ≡ true = ap (ends stops x.1) (kind-behind l h z t u alike) ∙ f in
         let ls = hand_asks_of l z s in
         let ks = hand_asks_of l w y in
         let old : behind x z s ≡ joined (record (plain x s) { asks = ls ++ [] }) (run l flush_trivia z s) = ap (λ o. joined o (run l flush_trivia (moved o.taken z) o.state)) (stopped x z s f) in
@@ -374,15 +374,15 @@ module _ (l : Level) (stops : SyntaxKind → Bool) (taking : Taking l stops) whe
     fronted-behind same = fronted-by same (ends stops x.1 now.kind) refl
 
   -- with the same trivia at hand
-  pub fronted-same : (h : Reading) (z : Place) (t : Trivia) (x : Bool × ℕ) (r : Reading) (e : ℕ) (a : Bool) → Fronted t t.nodes (behind x z (before_trivia r h e a t)) (behind x (moved t.gap z) (before_trivia r h e a (behind_trivia t)))
+  pub fronted-same : (h : Reading) (z : Place) (t : Trivia) (x : Bool × ℕ) (r : Reading) (e : ℕ) (a : Bool) → Fronted t t.nodes (behind x z (before_trivia r h e a t)) (behind x (moved t.gap z) (before_trivia r h e a (after_trivia t)))
   fronted-same h z t x r e a = fronted-behind h z t t (same-judged h t) x r e e a a (λ go p. refl)
 
   -- ---- a turn
 
   -- One that goes on gives the trivia before it, and takes the token after them.
-  pub turn-led : (x : Bool × ℕ) (z : Place) (r h : Reading) (e : ℕ) (a : Bool) (t : Trivia) → (let s = before_trivia r h e a t in ends stops x.1 (told (hand_of l z s)).kind ≡ false
-      → Led t t.nodes (minds (markup_head x.0 x.1 (hand_at l.classes h (Some t) z).kind)) (run l (markup_turn true stops x) z s) (run l (markup_turn true stops x) (moved t.gap z) (before_trivia r h e a (behind_trivia t))))
+  pub turn-led : (x : Bool × ℕ) (z : Place) (r h : Reading) (e : ℕ) (a : Bool) (t : Trivia) → (let s = before_trivia r h e a t in ends stops x.1 (as_at_hand (hand_of l z s)).kind ≡ false
+      → Led t t.nodes (minds (markup_head x.0 x.1 (hand_at l.classes h (Some t) z).kind)) (run l (markup_turn true stops x) z s) (run l (markup_turn true stops x) (moved t.gap z) (before_trivia r h e a (after_trivia t))))
   unfolding hand_at
   turn-led x z r h e a t go =
-      let some = hand-takes l.classes h (Some t) z (end-by stops taking.end_stops x.1 (told (hand_of l z (before_trivia r h e a t))).kind go) in
+      let some = hand-takes l.classes h (Some t) z (end-by stops taking.end_stops x.1 (as_at_hand (hand_of l z (before_trivia r h e a t))).kind go) in
       takes-turn l taking.calls_sane taking.blocks_sane h z t t (same-judged h t) taking.level_left stops x _ (taking.takes h z t t (same-judged h t) x some) go r e e a a (λ p. refl)

@@ -6,15 +6,15 @@ use Rattle.typst_language.specs.declared.calls.Block.{Block}
 use Rattle.typst_language.specs.declared.calls.Block.TheVariants as block
 use Rattle.typst_language.specs.declared.reading.Reading.{Reading}
 use Rattle.typst_language.specs.Calls.{Call, Answer}
-use Rattle.typst_language.specs.Hand.{AtHand, told}
+use Rattle.typst_language.specs.Hand.{AtHand, as_at_hand}
 use Rattle.typst_language.specs.Knot.{meaning_of, level_of}
 use Rattle.typst_language.specs.Meaning.{Level, before, blockless, asked, entered, hand_of, start_point, run}
 use Rattle.typst_language.specs.Point.{Point, forgot}
 use Rattle.typst_language.specs.Shape.{Shape}
 use Rattle.typst_language.specs.Shape.Shape.{keeps, holds, lacks, warns, fails}
 use Rattle.typst_language.specs.Shape.Making.{itself}
-use Rattle.typst_language.specs.Shape.{Change}
-use Rattle.typst_language.specs.Shape.Change.{stays, turns_wrong, is_not, renamed, unparened}
+use Rattle.typst_language.specs.Shape.{NodeChange}
+use Rattle.typst_language.specs.Shape.NodeChange.{stays, turns_wrong, is_not, renamed, unparened}
 use Rattle.typst_language.specs.Steps.{peek, eat, eat_making, node}
 use Rattle.typst_language.specs.Syntax.{Parser, Begin, ◌>>◌}
 use Rattle.typst_language.specs.Syntax.Begin.{at_token}
@@ -61,8 +61,8 @@ module _ (l : Level) (deep : (c : Call) → Spots (Answer c)) (in_block : Block 
   unfolding seconds run
   later-peek {A} f h z s e =
       let t = asked (hand_of l z s) s in
-      let ds = seconds l deep in_block deep_seconds seconds_inside (f (told (hand_of l z s))) (moved 0 z) t in
-      every-map (λ c. 0 < c.at) (λ c. 0 < c.at) (after_spot {A = A} (run l (does hand) z s)) (λ c x. omega (arith, x)) ds (h (told (hand_of l z s)) z t (omega (arith, left-again l z s, e)))
+      let ds = seconds l deep in_block deep_seconds seconds_inside (f (as_at_hand (hand_of l z s))) (moved 0 z) t in
+      every-map (λ c. 0 < c.at) (λ c. 0 < c.at) (after_spot {A = A} (run l (does hand) z s)) (λ c x. omega (arith, x)) ds (h (as_at_hand (hand_of l z s)) z t (omega (arith, left-again l z s, e)))
 
   later-scoped : {A : Type 0} (f : Reading → Reading) (p : Parser A) → Later p → Later (scoped f p)
   unfolding seconds
@@ -102,7 +102,7 @@ module _ (l : Level) (deep : (c : Call) → Spots (Answer c)) (in_block : Block 
 
 -- ---- no production notes a block's begin except where it reads the block
 
-any-change : (change : Change) → change_by anything change ≡ true
+any-change : (change : NodeChange) → change_by anything change ≡ true
 any-change stays = refl
 any-change (turns_wrong message) = refl
 any-change (is_not thing) = refl

@@ -9,13 +9,13 @@ use Rattle.typst_kinds.specs.Head.{Head, inner_head}
 use Rattle.typst_tree.specs.Tree.{Tree, forest, trees, inner_of, error_of, with_kind, topped, text_of}
 use Rattle.typst_tree.proofs.SpansAside.{trees_forest}
 use Rattle.typst_language.specs.Point.{Point}
-use Rattle.typst_language.specs.Shape.{Change, changed, first_changed, without_parens, is_delimited, is_sign, ends_with, in_parens, renamed_last, parens_renamed, Shape, shaped, after_node, after_change, after_shape}
-use Rattle.typst_language.specs.Shape.Change.{stays, turns_wrong, is_not, renamed, unparened}
+use Rattle.typst_language.specs.Shape.{NodeChange, changed, first_changed, without_parens, is_delimited, is_sign, ends_with, in_parens, renamed_last, parens_renamed, Shape, shaped, after_node, after_change, after_shape}
+use Rattle.typst_language.specs.Shape.NodeChange.{stays, turns_wrong, is_not, renamed, unparened}
 use Rattle.typst_language.specs.Shape.Shape.{keeps, holds, lacks, warns, fails}
 use Rattle.typst_language.proofs.Backs.{shape-counts}
 use Rattle.typst_tree.proofs.Stretches.{le_from as le-is}
 use Rattle.typst_edits.specs.Hole.Deep.{bare, under}
-use Rattle.typst_edits.specs.Hole.{Deep, fill, top, Hole, plug, stub, between_parens, changed_deep, first_hole, change_hole, in_node, in_nodes, behind_nodes, lack_hole, warned_head, wrap_in, wrap_past, wrap_hole}
+use Rattle.typst_edits.specs.Hole.{Deep, fill, top, Hole, plug, stub, between_parens, changed_deep, first_hole, change_hole, in_node, in_nodes, after_nodes, lack_hole, warned_head, wrap_in, wrap_past, wrap_hole}
 use Rattle.typst_edits.proofs.Every.{Every, every-map, every-if, every-by}
 use Rattle.typst_edits.proofs.Outcomes.{head-fill}
 use Rattle.std.proofs.lemmas.Bool.{leb-false}
@@ -32,24 +32,24 @@ Solid d h = is_error (top d h).kind ≡ false
 -- ---- the first node changes
 
 -- the hole of the changed nodes
-record Changes (change : Change) (h : Head) (left : List Tree) (d : Deep) (right : List Tree) (g : Hole) : Type 0 where
+record Changes (change : NodeChange) (h : Head) (left : List Tree) (d : Deep) (right : List Tree) (g : Hole) : Type 0 where
   nodes : (x : Tree) → x.head ≡ h → first_changed change (left ++ fill d x ∷ right) ≡ plug g x
   solid : Solid g.deep h
   state : (x y : Tree) (s : Point) → x.head ≡ h → y.head ≡ h → after_change change (left ++ fill d x ∷ right) s ≡ after_change change (left ++ fill d y ∷ right) s
   few : (x : Tree) (s : Point) (n : ℕ) → x.head ≡ h → s.empties ≤ length right → (after_change change (left ++ fill d x ∷ right) s).empties ≤ length g.right
 
-first-more : (change : Change) (t : Tree) (ts us : List Tree) → first_changed change ((t ∷ ts) ++ us) ≡ first_changed change (t ∷ ts) ++ us
+first-more : (change : NodeChange) (t : Tree) (ts us : List Tree) → first_changed change ((t ∷ ts) ++ us) ≡ first_changed change (t ∷ ts) ++ us
 first-more stays t ts us = refl
 first-more (turns_wrong message) t ts us = refl
 first-more (is_not thing) t ts us = refl
 first-more (renamed kind) t ts us = refl
 first-more unparened t ts us = refl
 
-after-more : (change : Change) (t : Tree) (ts : List Tree) (u : Tree) (us : List Tree) (s : Point) → after_change change ((t ∷ ts) ++ u ∷ us) s ≡ s
+after-more : (change : NodeChange) (t : Tree) (ts : List Tree) (u : Tree) (us : List Tree) (s : Point) → after_change change ((t ∷ ts) ++ u ∷ us) s ≡ s
 after-more change t [] u us s = refl
 after-more change t (v ∷ ts) u us s = refl
 
-changes-more : (change : Change) (h : Head) (t : Tree) (left : List Tree) (d : Deep) (right : List Tree) → Solid d h → Changes change h (t ∷ left) d right (record { left = first_changed change (t ∷ left); deep = d; right = right })
+changes-more : (change : NodeChange) (h : Head) (t : Tree) (left : List Tree) (d : Deep) (right : List Tree) → Solid d h → Changes change h (t ∷ left) d right (record { left = first_changed change (t ∷ left); deep = d; right = right })
 changes-more change h t left d right solid = record {
   nodes = λ x e. first-more change t left (fill d x ∷ right);
   solid = solid;
@@ -58,7 +58,7 @@ changes-more change h t left d right solid = record {
 }
 
 -- A node that is no error and doesn't become one.
-after-solid : (change : Change) (t u : Tree) (right : List Tree) (s : Point) → changed change t ≡ u → is_error t.head.kind ≡ false → is_error u.head.kind ≡ false
+after-solid : (change : NodeChange) (t u : Tree) (right : List Tree) (s : Point) → changed change t ≡ u → is_error t.head.kind ≡ false → is_error u.head.kind ≡ false
     → after_change change (t ∷ right) s ≡ (elim right as (λ _. Point) [ [] ↦ record s { empties = 0; is_after_error = false } | v ∷ vs ↦ s ])
 after-solid change t u [] s e f g = ap (λ (b : Bool). if b then s else after_node (is_error (changed change t).head.kind) (text_of t) s) f ∙ ap (λ (v : Tree). after_node (is_error v.head.kind) (text_of t) s) e ∙ ap (λ (b : Bool). after_node b (text_of t) s) g
 after-solid change t u (v ∷ vs) s e f g = refl
@@ -67,7 +67,7 @@ few-right : (right : List Tree) (s : Point) → s.empties ≤ length right → (
 few-right [] s h = omega arith
 few-right (u ∷ us) s h = h
 
-first-is : (change : Change) (t : Tree) (ts : List Tree) → first_changed change (t ∷ ts) ≡ changed change t ∷ ts
+first-is : (change : NodeChange) (t : Tree) (ts : List Tree) → first_changed change (t ∷ ts) ≡ changed change t ∷ ts
 first-is stays t ts = refl
 first-is (turns_wrong message) t ts = refl
 first-is (is_not thing) t ts = refl
@@ -75,11 +75,11 @@ first-is (renamed kind) t ts = refl
 first-is unparened t ts = refl
 
 -- The changed node is the other, with the same in its hole.
-record Turns (change : Change) (h : Head) (d e : Deep) : Type 0 where
+record Turns (change : NodeChange) (h : Head) (d e : Deep) : Type 0 where
   node : (x : Tree) → x.head ≡ h → changed change (fill d x) ≡ fill e x
   solid : Solid e h
 
-changes-first : (change : Change) (h : Head) (d e : Deep) (right : List Tree) → Solid d h → Turns change h d e → Changes change h [] d right (first_hole right e)
+changes-first : (change : NodeChange) (h : Head) (d e : Deep) (right : List Tree) → Solid d h → Turns change h d e → Changes change h [] d right (first_hole right e)
 changes-first change h d e right solid t = record {
   nodes = λ x i. first-is change (fill d x) right ∙ ap (λ u. u ∷ right) (t.node x i);
   solid = t.solid;
@@ -147,7 +147,7 @@ turns-between h head (t ∷ left) d (u ∷ right) e = (
 
 -- ---- the node with the hole changes
 
-every-turns : (change : Change) (h : Head) (d : Deep) → Solid d h → Every (Turns change h d) (changed_deep change h d)
+every-turns : (change : NodeChange) (h : Head) (d : Deep) → Solid d h → Every (Turns change h d) (changed_deep change h d)
 every-turns stays h d solid = (record { node = λ x i. refl; solid = solid }, tt)
 every-turns (turns_wrong message) h d solid = tt
 every-turns (is_not thing) h d solid = tt
@@ -162,7 +162,7 @@ every-turns unparened h (under head left d right) solid =
     every-if (Turns unparened h (under head left d right)) (is_delimited head.kind && in_parens (left ++ stub d h ∷ right)) (between_parens head left d right) _ (λ e. turns-between h head left d right e)
     (λ e. (record { node = λ x i. parens-on head left d right h x i e; solid = solid }, tt))
 
-every-changes : (change : Change) (h : Head) (left : List Tree) (d : Deep) (right : List Tree) → Solid d h → Every (Changes change h left d right) (change_hole change h left d right)
+every-changes : (change : NodeChange) (h : Head) (left : List Tree) (d : Deep) (right : List Tree) → Solid d h → Every (Changes change h left d right) (change_hole change h left d right)
 every-changes change h (t ∷ left) d right solid = (changes-more change h t left d right solid, tt)
 every-changes change h [] d right solid =
     every-map (Turns change h d) (Changes change h [] d right) (first_hole right) (λ e t. changes-first change h d e right solid t) (changed_deep change h d) (every-turns change h d solid)
@@ -200,14 +200,14 @@ wraps-node shape head kept left d right h p e f =
       tt,
     ))
 
-wraps-nodes : (change : Change) (kind : _) (kept left : List Tree) (d : Deep) (right : List Tree) (h : Head) (ps : List Hole) → Every (Changes change h left d right) ps
+wraps-nodes : (change : NodeChange) (kind : _) (kept left : List Tree) (d : Deep) (right : List Tree) (h : Head) (ps : List Hole) → Every (Changes change h left d right) ps
     → Every (WrapsIn (holds change kind) kept left d right h) (in_nodes (inner_head kind) kept ps)
 wraps-nodes change kind kept left d right h [] e = tt
 wraps-nodes change kind kept left d right h (p ∷ ps) e =
     wraps-node (holds change kind) (inner_head kind) kept left d right h p (λ x i. ap (λ u. inner_of kind (forest u) ∷ []) (e.0.nodes x i)) (λ ts s. refl)
 
-wraps-behind : (change : Change) (kept left : List Tree) (d : Deep) (right : List Tree) (h : Head) (ps : List Hole) → Every (Changes change h left d right) ps
-    → Every (WrapsIn (keeps change) kept left d right h) (behind_nodes kept ps)
+wraps-behind : (change : NodeChange) (kept left : List Tree) (d : Deep) (right : List Tree) (h : Head) (ps : List Hole) → Every (Changes change h left d right) ps
+    → Every (WrapsIn (keeps change) kept left d right h) (after_nodes kept ps)
 wraps-behind change kept left d right h [] e = tt
 wraps-behind change kept left d right h (p ∷ ps) e = (
   record {

@@ -17,7 +17,7 @@ use Rattle.typst_edits.specs.Every.{Every}
 use Rattle.typst_edits.specs.Frame.{Gives}
 use Rattle.typst_edits.specs.PieceNotes.{listed}
 
--- The candidates of replacing the bytes rs..re of a text are those of its tree in hand and of its reading's notes.
+-- The candidates of replacing the bytes rs..re of a text are those of its tree at hand and of its reading's notes.
 abbrev pub candidates : CharClasses → List ℕ → ℕ → ℕ → Tree → List Candidate
 candidates k text rs re root = candidate.candidates (listed (log k text).notes) rs re root
 

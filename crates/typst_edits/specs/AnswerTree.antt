@@ -17,7 +17,7 @@ GivesTreeLaw = (k : CharClasses) (front old new rest : List ℕ) (root : Tree) (
     → Among c (candidates k (front ++ (old ++ rest)) (width front) (width (front ++ old)) root) → Gives k front old new rest c ts
     → tree k (front ++ (new ++ rest)) ≡ put_at c.path c.from c.to ts (tree k (front ++ (old ++ rest)))
 
--- The law of an answer: where the tree in hand is, spans aside, that of the old text, what answers an edit is, spans aside, that of the new text.
+-- The law of an answer: where the tree at hand is, spans aside, that of the old text, what answers an edit is, spans aside, that of the new text.
 abbrev pub AnswerTreeLaw : Type 0
 AnswerTreeLaw = (k : CharClasses) (front old new rest : List ℕ) (root now : Tree) (range : Range ℕ) → bare root ≡ bare (tree k (front ++ (old ++ rest)))
     → IsAnswer k front old new rest (candidates k (front ++ (old ++ rest)) (width front) (width (front ++ old)) root) root now range → bare now ≡ bare (tree k (front ++ (new ++ rest)))

@@ -24,7 +24,7 @@ use Rattle.typst_edits.specs.Runs.{AllGo, asks_of, chain}
 use Rattle.typst_edits.specs.Sequence.{Sequence, first_of, first_end, then_of, then_end, rest_of}
 use Rattle.typst_edits.specs.Spot.{Spot, ended, last_node, unit_at}
 
--- ---- a content block, where so many levels are left for what is called in it
+-- ---- a content block, where a given number of levels are left for what is called in it
 
 module _ (k : CharClasses) (levels : ℕ) where
   -- where the block is read
@@ -51,11 +51,11 @@ module _ (k : CharClasses) (levels : ℕ) where
   abbrev pub inner_run : Place → Point → Sequence
   inner_run z s = record { level = inner; stops = ends_block; place = moved (bracket z s).taken z; point = (inner_lead z s).state }
 
-  -- the trivia after the run, so many characters after the run's start
+  -- the trivia after the run, a given number of characters after the run's start
   abbrev pub inner_tail : ℕ → Point → Place → Outcome (Unit {0})
   inner_tail n s z = run inner flush_trivia (moved n z) s
 
-  -- the bracket at the block's end, so many characters after the run's start
+  -- the bracket at the block's end, a given number of characters after the run's start
   abbrev pub inner_close : ℕ → Point → Place → Outcome Bool
   inner_close n s z = run inner (close_if (same kind.RightBracket)) (moved n z) (after_node false [] s)
 
@@ -122,8 +122,8 @@ pub record EndsBefore (k : CharClasses) (levels : ℕ) (front old rest : List �
       AllEndBy (length front) (shift (opened_at k levels c z) ((inner_lead k levels (moved c.at z) (point_of c.start)).asks ++ asks_of (first_of i (run_at k levels c z)))))
 
 -- What is looked at after the n pieces that follow the first i, in the block and after it, begins
--- at the stretch's end or after it, if these pieces go on so many characters past it.
-pub record BeginsBehind (k : CharClasses) (levels : ℕ) (front old rest : List ℕ) (c : Spot (Unit {0})) (i n past : ℕ) : Type 0 where
+-- at the stretch's end or after it, if these pieces go on a given number of characters past it.
+pub record BeginsAfter (k : CharClasses) (levels : ℕ) (front old rest : List ℕ) (c : Spot (Unit {0})) (i n past : ℕ) : Type 0 where
   pub inside : (let z = text_with front old rest in let r = rest_of i n (run_at k levels c z) in let t = tail_at k levels i n c z in
       AllBeginIn past rest (r.asks ++ shift r.taken (t.asks ++ shift t.taken (close_at k levels i n c z).asks)))
   pub behind : AllBeginIn (past + left_at k levels i n c (text_with front old rest)) rest c.after
@@ -143,13 +143,13 @@ pub record TakesPlace (k : CharClasses) (levels : ℕ) (front old new rest : Lis
   pub starts : c.at < length front
   pub looks : EndsBefore k levels front old rest c i
 
--- The test: in a content block, n pieces follow the first i of its run and go on so many characters
+-- The test: in a content block, n pieces follow the first i of its run and go on a given number of characters
 -- past a stretch `old`, which becomes `new`.
 pub record PassesInner (k : CharClasses) (levels : ℕ) (front old new rest : List ℕ) (c : Spot (Unit {0})) (i n m past : ℕ) : Type 0 where
   pub pieces : TakesPlace k levels front old new rest c i n m
   -- what was looked at after them, in the block and after it, begins at the stretch's end or after it
   pub ends : (let z = text_with front old rest in let r = run_at k levels c z in opened_at k levels c z + ((first_end i r).taken + (then_end i n r).taken) ≡ (length front + length old) + past)
-  pub looks : BeginsBehind k levels front old rest c i n past
+  pub looks : BeginsAfter k levels front old rest c i n past
   pub goes_on : 0 < past + left_at k levels i n c (text_with front old rest)
   -- the new ones end at the shifted end, with what was carried there and in the same state
   pub shifted : (let z = text_with front new rest in let r = run_at k levels c z in opened_at k levels c z + ((first_end i r).taken + (then_end i m r).taken) ≡ (length front + length new) + past)

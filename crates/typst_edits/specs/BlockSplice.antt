@@ -15,7 +15,7 @@ use Rattle.typst_edits.specs.Laws.{blocks_of_text}
 use Rattle.typst_edits.specs.Splice.{Noting, noting, notes_in, entries_from}
 use Rattle.typst_edits.specs.Spot.{Spot, unit_at, lowered}
 
--- the note where a block ends that takes so many characters
+-- the note where a block ends that takes a given number of characters
 abbrev pub closing : {A : Type 0} → Spot A → ℕ → Noting
 closing c taken = record { at = c.at + taken; gap = 0; fewer = c.fewer; mark = mark.Closes; state = state_of c.reached }
 

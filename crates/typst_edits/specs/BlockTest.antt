@@ -9,7 +9,7 @@ use Rattle.typst_tokens.specs.Sight.{width, position}
 use Rattle.typst_language.specs.declared.calls.Block.{Block}
 use Rattle.typst_language.specs.Log.{no_log, logged}
 use Rattle.typst_candidates.specs.declared.entry.Entry.{Entry}
-use Rattle.typst_candidates.specs.declared.entry.Tag.TheVariants as tag
+use Rattle.typst_candidates.specs.declared.entry.EntryKind.TheVariants as entry_kind
 use Rattle.typst_candidates.specs.Candidates.{Candidate}
 use Rattle.typst_candidates.specs.Cursors.{closing_of}
 use Rattle.typst_candidates.specs.Entries.{block_end, entries_by, last_start, units_of, spliced, front_of, rear_of}
@@ -24,7 +24,7 @@ use Rattle.typst_edits.specs.Spot.{last_node}
 
 -- ---- a block by itself
 
--- The entries of a block that is read by itself from a place on, where so many levels are left and its first token is read in a mode: those of its notes, and that of its end.
+-- The entries of a block that is read by itself from a place on, where a given number of levels are left and its first token is read in a mode: those of its notes, and that of its end.
 abbrev pub entries_alone : CharClasses → ℕ → Block → SyntaxMode → Place → List Entry
 entries_alone k levels b mode z =
     let o = block_alone k levels b mode z in
@@ -50,7 +50,7 @@ rear_in k front old rest = let u = units_of (log k (front ++ (old ++ rest))) in 
 pub record SaysBlock (es : List Entry) (from to levels : ℕ) (b : Block) (mode : SyntaxMode) : Type 0 where
   pub entry : Entry
   pub is : slice_get es from ≡ Some entry
-  pub tag : entry.tag ≡ tag.Opens b mode
+  pub kind : entry.kind ≡ entry_kind.Opens b mode
   pub count : entry.count ≡ levels
   pub closes : closing_of 0 (suc from) (drop (suc from) es) ≡ Some to
 
@@ -71,7 +71,7 @@ pub record FoundBlock (k : CharClasses) (front old new rest : List ℕ) (c : Can
   pub block : Block
   pub mode : SyntaxMode
   pub says : SaysBlock (entries_in k (front ++ (old ++ rest))) from to levels block mode
-  -- it begins so many characters on, in both texts
+  -- it begins a given number of characters further on, in both texts
   pub at : ℕ
   pub start : c.start ≡ width (take at (front ++ (old ++ rest)))
   pub start_now : position (moved at (text_with front new rest)) ≡ c.start

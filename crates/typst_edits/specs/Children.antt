@@ -57,7 +57,7 @@ ChildrenLaw = (k : CharClasses) (front old new rest : List ℕ) (i n m past : �
 -- Pieces take back no more errors than stand before them, and what comes after them no more than stand at their end; the states of the notes there say how many.
 pub record TakesBack (k : CharClasses) (text : List ℕ) (i n : ℕ) : Type 0 where
   pub pieces_back : (read_from k i n (start_of text)).back ≤ (end_at k i (start_of text)).state.empties
-  pub behind_back : (onwards_from k i n (start_of text)).back ≤ (end_from k i n (start_of text)).state.empties
+  pub after_back : (onwards_from k i n (start_of text)).back ≤ (end_from k i n (start_of text)).state.empties
 
 abbrev pub BackLaw : Type 0
 BackLaw = (k : CharClasses) (text : List ℕ) (i n : ℕ) → TakesBack k text i n

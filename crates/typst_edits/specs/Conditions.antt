@@ -34,7 +34,7 @@ pub record Conditions (beyond : CharClasses) : Type 0 where
   pub step_starts : map (λ (s : Step). s.start) (walk_to 2 (by_law beyond) (codes "@a[") (codes "b") (codes "] c")) ≡ 0 ∷ 2 ∷ []
   -- a look before: `a~b`, and an `x` put in after the first piece, which looked at the tilde; nothing is read in its place
   pub ahead_seen : most ((lead (by_law beyond) (start_of (codes "a~b"))).asks ++ asks_of (pieces (by_law beyond) 1 (start_of (codes "a~b")))) ≡ 2
-  pub ahead_behind : least (onwards_from (by_law beyond) 1 0 (start_of (codes "a~b"))).asks ≡ 0
+  pub ahead_after : least (onwards_from (by_law beyond) 1 0 (start_of (codes "a~b"))).asks ≡ 0
   pub ahead_ends : map (λ s. (end_at (by_law beyond) 1 (start_of s)).taken) (codes "a~b" ∷ codes "ax~b" ∷ []) ≡ 1 ∷ 2 ∷ []
   pub ahead_value : (end_at (by_law beyond) 1 (start_of (codes "ax~b"))).value ≡ (end_at (by_law beyond) 1 (start_of (codes "a~b"))).value
   pub ahead_state : (end_at (by_law beyond) 1 (start_of (codes "ax~b"))).state ≡ (end_at (by_law beyond) 1 (start_of (codes "a~b"))).state

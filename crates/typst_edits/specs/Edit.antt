@@ -17,7 +17,7 @@ pub data Among {X : Type 0} (x : X) : List X → Type 0 where
 abbrev pub text_with : List ℕ → List ℕ → List ℕ → Place
 text_with front mid rest = record { before = []; ahead = front ++ (mid ++ rest) }
 
--- every look ends so many characters on, or before
+-- every look ends a given number of characters further on, or before
 abbrev pub AllEndBy : ℕ → List Ask → Type 0
 AllEndBy n [] = Unit {0}
 AllEndBy n (looked at look ∷ asks) = (at + look.front ≤ n) × AllEndBy n asks
@@ -29,7 +29,7 @@ AllBeginIn past rest [] = Unit {0}
 AllBeginIn past rest (looked at look ∷ asks) = (look.back ≤ past + at) × (past + at ≤ length rest) × AllBeginIn past rest asks
 AllBeginIn past rest (marked at gap fewer mark s ∷ asks) = AllBeginIn past rest asks
 
--- The test: a block that goes on so many characters past a stretch `old`, which becomes `new`.
+-- The test: a block that goes on a given number of characters past a stretch `old`, which becomes `new`.
 pub record Passes {A : Type 0} (front old new rest : List ℕ) (c : Spot A) (past : ℕ) : Type 0 where
   -- the block covers the stretch strictly
   pub starts : c.at < length front

@@ -27,7 +27,7 @@ pub record Blocks (beyond : CharClasses) : Type 0 where
   pub levels : map (λ c. c.fewer) (blocks_of_text (by_law beyond) (codes "@a[@b[c]]")) ≡ 1 ∷ 2 ∷ []
   -- what is looked at before a block ends at its bracket, and after it nothing before its end is looked at
   pub looked_before : map (λ c. most c.before) (blocks_of_text (by_law beyond) (codes "@a[@b[c]]")) ≡ 3 ∷ 6 ∷ []
-  pub looked_behind : map (λ c. least c.after) (blocks_of_text (by_law beyond) (codes "@a[@b[c]]")) ≡ 0 ∷ 0 ∷ []
+  pub looked_after : map (λ c. least c.after) (blocks_of_text (by_law beyond) (codes "@a[@b[c]]")) ≡ 0 ∷ 0 ∷ []
   -- a star after a block looks at its last character
   pub star_behind : map (λ c. least c.after) (blocks_of_text (by_law beyond) (codes "@a[b]*c*")) ≡ 1 ∷ []
   -- a block in what is delimited by parens, which it loses above a fraction's slash: where the block begins, and its path

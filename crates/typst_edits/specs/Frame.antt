@@ -50,9 +50,9 @@ Before k front old rest (inner c levels a b l) i = EndsBefore k levels front old
 
 -- What is looked at after the n pieces that follow the first i, and their trivia, begins at the
 -- stretch's end or after it.
-abbrev pub Behind : (k : CharClasses) (front old rest : List ℕ) → Run k (front ++ (old ++ rest)) → ℕ → ℕ → ℕ → Trivia → Type 0
-Behind k front old rest top i n past t = AllBeginIn past rest (asked_past k i n t (text_with front old rest))
-Behind k front old rest (inner c levels a b l) i n past t = BeginsPast k levels front old rest c i n past t
+abbrev pub After : (k : CharClasses) (front old rest : List ℕ) → Run k (front ++ (old ++ rest)) → ℕ → ℕ → ℕ → Trivia → Type 0
+After k front old rest top i n past t = AllBeginIn past rest (asked_past k i n t (text_with front old rest))
+After k front old rest (inner c levels a b l) i n past t = BeginsPast k levels front old rest c i n past t
 
 -- Where the n pieces that follow the first i end, with the trivia after them.
 abbrev pub end_by : {k : CharClasses} {text : List ℕ} → Run k text → ℕ → ℕ → Trivia → Place → ℕ
@@ -82,7 +82,7 @@ pub record PassesPieces (k : CharClasses) (front old new rest : List ℕ) (r : R
   pub old_go : AllGo (then_of i n (read_as r (text_with front old rest)))
   pub new_go : AllGo (then_of i m (read_as r (text_with front new rest)))
   pub before : Before k front old rest r i
-  pub after : Behind k front old rest r i n past t
+  pub after : After k front old rest r i n past t
   pub known : (then_end i n (read_as r (text_with front old rest))).state.known ≡ Some t
   pub known_now : (then_end i m (read_as r (text_with front new rest))).state.known ≡ Some u
   pub ends : end_by r i n t (text_with front old rest) ≡ (length front + length old) + past

@@ -40,17 +40,17 @@ abbrev pub onwards_by : ℕ → ℕ → Sequence → Outcome (Unit {0})
 onwards_by i n r = let e = then_end i n r in onwards r e.value (then_place i n r) e.state
 
 -- the nodes after the trivia that are known at a point
-abbrev pub behind_known : Point → List Tree → List Tree
-behind_known s ts = drop (length (pending s.known)) ts
+abbrev pub after_known : Point → List Tree → List Tree
+after_known s ts = drop (length (pending s.known)) ts
 
 -- What the first node of pieces, and the first after them, say of what is taken back.
 pub record Headed (r : Sequence) (i n : ℕ) : Type 0 where
   -- pieces whose first node is no error begin with an expression that takes nothing back, and then they take nothing back
-  pub first : 0 < n → begins_wrong (behind_known (first_end i r).state (read_by i n r).nodes) ≡ false → minds_at r (first_place i r) (first_end i r) ≡ false
+  pub first : 0 < n → begins_wrong (after_known (first_end i r).state (read_by i n r).nodes) ≡ false → minds_at r (first_place i r) (first_end i r) ≡ false
   pub pieces_back : minds_at r (first_place i r) (first_end i r) ≡ false → (read_by i n r).back ≡ 0
   -- the same of what comes after them
-  pub next : begins_wrong (behind_known (then_end i n r).state (onwards_by i n r).nodes) ≡ false → is_over_at r (then_place i n r) (then_end i n r) ≡ false → minds_at r (then_place i n r) (then_end i n r) ≡ false
-  pub behind_back : (is_over_at r (then_place i n r) (then_end i n r) ≡ false → minds_at r (then_place i n r) (then_end i n r) ≡ false) → (onwards_by i n r).back ≡ 0
+  pub next : begins_wrong (after_known (then_end i n r).state (onwards_by i n r).nodes) ≡ false → is_over_at r (then_place i n r) (then_end i n r) ≡ false → minds_at r (then_place i n r) (then_end i n r) ≡ false
+  pub after_back : (is_over_at r (then_place i n r) (then_end i n r) ≡ false → minds_at r (then_place i n r) (then_end i n r) ≡ false) → (onwards_by i n r).back ≡ 0
 
 -- The law of heads, of a text's run and of a content block's.
 abbrev pub HeadLaw : Type 0
@@ -82,15 +82,15 @@ InnerNoneBackLaw = (k : CharClasses) (levels : ℕ) (front old new rest : List �
 
 -- where an expression follows, its first node is no error
 abbrev pub GoesOnWell : ℕ → ℕ → Sequence → Type 0
-GoesOnWell i n r = is_over_at r (then_place i n r) (then_end i n r) ≡ false → begins_wrong (behind_known (then_end i n r).state (onwards_by i n r).nodes) ≡ false
+GoesOnWell i n r = is_over_at r (then_place i n r) (then_end i n r) ≡ false → begins_wrong (after_known (then_end i n r).state (onwards_by i n r).nodes) ≡ false
 
 -- The law of what is taken back after pieces: where such an edit passes the test of the joint, what comes after them takes nothing back in either text.
-abbrev pub NoneBehindLaw : Type 0
-NoneBehindLaw = (k : CharClasses) (front old new rest : List ℕ) (i n m past : ℕ) (t u : Trivia) → PassesJoint k front old new rest i n m past t u
+abbrev pub NoneAfterLaw : Type 0
+NoneAfterLaw = (k : CharClasses) (front old new rest : List ℕ) (i n m past : ℕ) (t u : Trivia) → PassesJoint k front old new rest i n m past t u
     → GoesOnWell i n (text_run k (text_with front old rest)) → NoneBack (onwards_from k i n (text_with front old rest)) (onwards_from k i m (text_with front new rest))
 
-abbrev pub InnerNoneBehindLaw : Type 0
-InnerNoneBehindLaw = (k : CharClasses) (levels : ℕ) (front old new rest : List ℕ) (c : Spot (Unit {0})) (i n m past : ℕ) (t u : Trivia) → Among c (blocks_of_text k (front ++ (old ++ rest)))
+abbrev pub InnerNoneAfterLaw : Type 0
+InnerNoneAfterLaw = (k : CharClasses) (levels : ℕ) (front old new rest : List ℕ) (c : Spot (Unit {0})) (i n m past : ℕ) (t u : Trivia) → Among c (blocks_of_text k (front ++ (old ++ rest)))
     → PassesInnerJoint k levels front old new rest c i n m past t u → GoesOnWell i n (run_at k levels c (text_with front old rest))
     → NoneBack (onwards_in k levels i n c (text_with front old rest)) (onwards_in k levels i m c (text_with front new rest))
 

@@ -6,8 +6,8 @@ use Rattle.typst_kinds.specs.Kinds.{is_error}
 use Rattle.typst_kinds.specs.Head.{Head, inner_head}
 use Rattle.typst_tree.specs.Diagnostic.{hint_with, warning_with}
 use Rattle.typst_tree.specs.Tree.{Tree, forest, inner_of, error_of, with_kind, advised, remarked}
-use Rattle.typst_language.specs.Shape.{Change, first_changed, Shape, shaped, is_delimited, in_parens, renamed_last}
-use Rattle.typst_language.specs.Shape.Change.{stays, turns_wrong, is_not, renamed, unparened}
+use Rattle.typst_language.specs.Shape.{NodeChange, first_changed, Shape, shaped, is_delimited, in_parens, renamed_last}
+use Rattle.typst_language.specs.Shape.NodeChange.{stays, turns_wrong, is_not, renamed, unparened}
 use Rattle.typst_language.specs.Shape.Shape.{keeps, holds, lacks, warns, fails}
 
 -- a tree with a hole
@@ -73,7 +73,7 @@ unparened_deep h bare = if is_delimited h.kind then [] else bare ∷ []
 unparened_deep h (under head left d right) = if is_delimited head.kind && in_parens (left ++ stub d h ∷ right) then between_parens head left d right else under head left d right ∷ []
 
 -- the tree after a change; nothing if the change may make a text of it
-abbrev pub changed_deep : Change → Head → Deep → List Deep
+abbrev pub changed_deep : NodeChange → Head → Deep → List Deep
 changed_deep stays h d = d ∷ []
 changed_deep (turns_wrong message) h d = []
 changed_deep (is_not thing) h d = []
@@ -85,7 +85,7 @@ abbrev pub first_hole : List Tree → Deep → Hole
 first_hole right d = record { left = []; deep = d; right = right }
 
 -- the hole after the first of the nodes was changed
-abbrev pub change_hole : Change → Head → List Tree → Deep → List Tree → List Hole
+abbrev pub change_hole : NodeChange → Head → List Tree → Deep → List Tree → List Hole
 change_hole change h (t ∷ left) d right = record { left = first_changed change (t ∷ left); deep = d; right = right } ∷ []
 change_hole change h [] d right = map (first_hole right) (changed_deep change h d)
 
@@ -100,9 +100,9 @@ in_nodes head kept [] = []
 in_nodes head kept (h ∷ hs) = in_node head kept h
 
 -- the hole with `kept` before its nodes, if there is a hole
-abbrev pub behind_nodes : List Tree → List Hole → List Hole
-behind_nodes kept [] = []
-behind_nodes kept (h ∷ hs) = record h { left = kept ++ h.left } ∷ []
+abbrev pub after_nodes : List Tree → List Hole → List Hole
+after_nodes kept [] = []
+after_nodes kept (h ∷ hs) = record h { left = kept ++ h.left } ∷ []
 
 -- the hole with an empty error put after the first `count` nodes, before or after the hole. In
 -- `show [a]` the error comes after `show`: the index of `[a]` is 3; with 2 an edit would replace the
@@ -131,7 +131,7 @@ warned_head kind message hint = (advised (hint_with None hint) (remarked (warnin
 -- comes to be in the Strong node; in `#f([a]: 1)` `[a]` becomes an error (`name_change` of
 -- Arguments.antt), and there is no node that an edit could replace
 abbrev pub wrap_in : Shape → Head → List Tree → List Tree → Deep → List Tree → List Hole
-wrap_in (keeps change) h kept left d right = behind_nodes kept (change_hole change h left d right)
+wrap_in (keeps change) h kept left d right = after_nodes kept (change_hole change h left d right)
 wrap_in (holds change kind) h kept left d right = in_nodes (inner_head kind) kept (change_hole change h left d right)
 wrap_in (lacks count message kind) h kept left d right = in_node (inner_head kind) kept (lack_hole count (error_of message []) left d right)
 wrap_in (warns kind message hint) h kept left d right = in_node (warned_head kind message hint) kept (record { left = left; deep = d; right = right })

@@ -6,7 +6,7 @@ use Rattle.typst_tokens.specs.Sight.{width}
 use Rattle.typst_language.specs.declared.calls.Block.TheVariants as block
 use Rattle.typst_language.specs.Point.{Trivia, gap_of}
 use Rattle.typst_grammar.specs.Grammar.{max_depth, log}
-use Rattle.typst_edits.specs.BlockRuns.{run_at, opened_at, EndsBefore, BeginsBehind}
+use Rattle.typst_edits.specs.BlockRuns.{run_at, opened_at, EndsBefore, BeginsAfter}
 use Rattle.typst_edits.specs.Bytes.{highest, lowest}
 use Rattle.typst_edits.specs.Edit.{Among, text_with}
 use Rattle.typst_edits.specs.InnerJoint.{BeginsPast}
@@ -35,7 +35,7 @@ pub record DecidedInner (k : CharClasses) (levels : ℕ) (front old rest : List 
   pub token_first : i ≡ 0 → begins.note.start ≡ width (take (inner_end k levels i c (text_with front old rest)).taken (front ++ (old ++ rest)))
   -- the second says where the trivia after the pieces end
   pub trivia_end : (let e = inner_both k levels i n c (text_with front old rest) in 0 < i + n → ends.note.start ≡ width (take (e.taken + gap_of e.state.known) (front ++ (old ++ rest))))
-  -- so many notes stand before them
+  -- a given number of notes stand before them
   pub number : length begins.earlier ≡ notes_in c.before + notes_in (asks_of (first_of i (run_at k levels c (text_with front old rest))))
   pub number_end : length ends.earlier ≡ (notes_in c.before + notes_in (asks_of (first_of i (run_at k levels c (text_with front old rest))))) + notes_in (asks_of (then_of i n (run_at k levels c (text_with front old rest))))
   -- the test of looks before the pieces, in both directions
@@ -43,9 +43,9 @@ pub record DecidedInner (k : CharClasses) (levels : ℕ) (front old rest : List 
   pub before_too : EndsBefore k levels front old rest c i → highest begins.earlier begins.note.reach ≤ width front
   -- the test of looks after pieces that go on past the stretch
   pub after : (past : ℕ) → (inner_both k levels i n c (text_with front old rest)).taken ≡ (length front + length old) + past
-      → width (front ++ old) < lowest ends.later (log k (front ++ (old ++ rest))).least → BeginsBehind k levels front old rest c i n past
+      → width (front ++ old) < lowest ends.later (log k (front ++ (old ++ rest))).least → BeginsAfter k levels front old rest c i n past
   pub after_too : (past : ℕ) → (inner_both k levels i n c (text_with front old rest)).taken ≡ (length front + length old) + past
-      → 0 < i + n → width (front ++ old) < 2 ^ 64 - 1 → BeginsBehind k levels front old rest c i n past → width (front ++ old) < lowest ends.later (log k (front ++ (old ++ rest))).least
+      → 0 < i + n → width (front ++ old) < 2 ^ 64 - 1 → BeginsAfter k levels front old rest c i n past → width (front ++ old) < lowest ends.later (log k (front ++ (old ++ rest))).least
   -- and of looks after the trivia, where the pieces go on, with these, past the stretch
   pub after_trivia : (past : ℕ) (t : Trivia) → (let e = inner_both k levels i n c (text_with front old rest) in e.state.known ≡ Some t → e.taken + t.gap ≡ (length front + length old) + past
       → width (front ++ old) < lowest ends.later (log k (front ++ (old ++ rest))).least → BeginsPast k levels front old rest c i n past t)

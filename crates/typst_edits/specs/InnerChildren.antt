@@ -58,7 +58,7 @@ InnerChildrenLaw = (k : CharClasses) (levels : ℕ) (front old new rest : List �
 -- In a content block, too, pieces take back no more errors than stand before them, and what comes after them no more than stand at their end.
 pub record TakesBackIn (k : CharClasses) (levels : ℕ) (text : List ℕ) (c : Spot (Unit {0})) (i n : ℕ) : Type 0 where
   pub pieces_back : (read_in k levels i n c (start_of text)).back ≤ (first_end i (run_at k levels c (start_of text))).state.empties
-  pub behind_back : (onwards_in k levels i n c (start_of text)).back ≤ (then_end i n (run_at k levels c (start_of text))).state.empties
+  pub after_back : (onwards_in k levels i n c (start_of text)).back ≤ (then_end i n (run_at k levels c (start_of text))).state.empties
 
 abbrev pub InnerBackLaw : Type 0
 InnerBackLaw = (k : CharClasses) (levels : ℕ) (text : List ℕ) (c : Spot (Unit {0})) (i n : ℕ) → TakesBackIn k levels text c i n

@@ -78,7 +78,7 @@ read_alone k levels x m z = pieces_on (level_in k levels) (stops_of of.Block) x 
 abbrev pub end_alone : CharClasses → ℕ → Bool × ℕ → ℕ → Place → End (Bool × ℕ)
 end_alone k levels x m z = end_on (level_in k levels) (stops_of of.Block) x m z
 
--- Where a candidate's pieces begin in both texts m pieces are read of the new one by themselves, with what is carried there; they end, with their trivia, so many characters past the stretch, agree with the old ones there, and these are their nodes.
+-- Where a candidate's pieces begin in both texts m pieces are read of the new one by themselves, with what is carried there; they end, with their trivia, a given number of characters past the stretch, agree with the old ones there, and these are their nodes.
 pub record ReadsInner (k : CharClasses) (levels : ℕ) (front old new rest : List ℕ) (s : Spot (Unit {0})) (among : Among s (blocks_of_text k (front ++ (old ++ rest)))) (name : s.name ≡ block.Content) (level : max_depth - s.fewer ≡ suc levels)
     (i n m past : ℕ) (ts : List Tree) : Type 0 where
   pub go : (let a = cut_at (block_run s levels among name level) i (text_with front old rest) in let x = (first_end i (run_at k levels s (text_with front old rest))).value in

@@ -46,8 +46,8 @@ KeptNodesLaw = (k : CharClasses) (text : List ℕ) (r : Run k text) (a d : ℕ) 
     → StandsBetween k text r a d from mid → KeptNodes k text r a d t from mid root
 
 -- The law of a larger candidate's answer: its nodes put in its place are those of the reading put where this begins.
-abbrev pub PutBehindLaw : Type 0
-PutBehindLaw = (k : CharClasses) (front old new rest : List ℕ) (r : Run k (front ++ (old ++ rest))) (a d m : ℕ) (t u : Trivia) (from mid to : ℕ) (root : Tree) → bare root ≡ bare (tree k (front ++ (old ++ rest))) → 0 < d
+abbrev pub PutAfterLaw : Type 0
+PutAfterLaw = (k : CharClasses) (front old new rest : List ℕ) (r : Run k (front ++ (old ++ rest))) (a d m : ℕ) (t u : Trivia) (from mid to : ℕ) (root : Tree) → bare root ≡ bare (tree k (front ++ (old ++ rest))) → 0 < d
     → AllGo (first_of (suc (a + d)) (read_as r (text_with front old rest))) → Before k front old rest r (a + d) → (first_end (a + d) (read_as r (text_with front old rest))).state.known ≡ Some t
     → TakesNone (a + d) (read_as r (text_with front old rest)) → StandsBetween k (front ++ (old ++ rest)) r a d from mid → mid ≤ to
     → AllGo (then_of (a + d) m (read_as r (text_with front new rest))) → (then_end (a + d) m (read_as r (text_with front new rest))).state.known ≡ Some u

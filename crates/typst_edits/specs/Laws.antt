@@ -31,7 +31,7 @@ abbrev pub BlockLaw : Type 0
 BlockLaw = (k : CharClasses) (front old new rest : List ℕ) (c : Spot (Unit {0})) (past : ℕ)
     → Among c (blocks_of_text k (front ++ (old ++ rest))) → Passes front old new rest c past → Kept k front old new rest c (last_node (unit_at c (text_with front new rest)).nodes)
 
--- what a block reads, where so many levels are left
+-- what a block reads, where a given number of levels are left
 abbrev pub block_at : CharClasses → ℕ → Block → Meaning (Unit {0})
 block_at k levels b = blocks_of (rules k) k levels (meaning_of (rules k) k levels) b
 

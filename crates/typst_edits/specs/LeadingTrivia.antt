@@ -25,7 +25,7 @@ abbrev pub trivia_in : {A : Type 0} → CharClasses → ℕ → ℕ → Spot A �
 trivia_in k levels i c z = length (pending (first_end i (run_at k levels c z)).state.known)
 
 -- What the tree of the new text is: the old one with the new nodes after the leading trivia in place of the old ones after them.
-pub record KeptBehind (k : CharClasses) (front old new rest : List ℕ) (i n m : ℕ) (t u : Trivia) : Type 0 where
+pub record KeptAfter (k : CharClasses) (front old new rest : List ℕ) (i n m : ℕ) (t u : Trivia) : Type 0 where
   -- as many trivia lead in both texts
   pub trivia_same : trivia_at k i (text_with front new rest) ≡ trivia_at k i (text_with front old rest)
   pub tree_now : (let z = text_with front old rest in
@@ -37,10 +37,10 @@ pub record KeptBehind (k : CharClasses) (front old new rest : List ℕ) (i n m :
 abbrev pub LeadingTriviaLaw : Type 0
 LeadingTriviaLaw = (k : CharClasses) (front old new rest : List ℕ) (i n m past : ℕ) (t u : Trivia) → 0 < i → PassesJoint k front old new rest i n m past t u
     → Settles n (onwards_from k i n (text_with front old rest)) → Settles m (onwards_from k i m (text_with front new rest))
-    → (read_from k i m (text_with front new rest)).back ≡ (read_from k i n (text_with front old rest)).back → KeptBehind k front old new rest i n m t u
+    → (read_from k i m (text_with front new rest)).back ≡ (read_from k i n (text_with front old rest)).back → KeptAfter k front old new rest i n m t u
 
 -- So in a content block.
-pub record KeptInnerBehind (k : CharClasses) (levels : ℕ) (front old new rest : List ℕ) (c : Spot (Unit {0})) (i n m : ℕ) (t u : Trivia) : Type 0 where
+pub record KeptInnerAfter (k : CharClasses) (levels : ℕ) (front old new rest : List ℕ) (c : Spot (Unit {0})) (i n m : ℕ) (t u : Trivia) : Type 0 where
   pub trivia_same : trivia_in k levels i c (text_with front new rest) ≡ trivia_in k levels i c (text_with front old rest)
   pub tree_now : (let z = text_with front old rest in
       let first = length (standing_in k levels i n c z) in
@@ -51,4 +51,4 @@ abbrev pub InnerLeadingTriviaLaw : Type 0
 InnerLeadingTriviaLaw = (k : CharClasses) (levels : ℕ) (front old new rest : List ℕ) (c : Spot (Unit {0})) (i n m past : ℕ) (t u : Trivia) → 0 < i → Among c (blocks_of_text k (front ++ (old ++ rest)))
     → PassesInnerJoint k levels front old new rest c i n m past t u
     → Settles n (onwards_in k levels i n c (text_with front old rest)) → Settles m (onwards_in k levels i m c (text_with front new rest))
-    → (read_in k levels i m c (text_with front new rest)).back ≡ (read_in k levels i n c (text_with front old rest)).back → KeptInnerBehind k levels front old new rest c i n m t u
+    → (read_in k levels i m c (text_with front new rest)).back ≡ (read_in k levels i n c (text_with front old rest)).back → KeptInnerAfter k levels front old new rest c i n m t u

@@ -8,7 +8,7 @@ use Rattle.typst_language.specs.Point.{state_of}
 use Rattle.typst_language.specs.Meaning.{Meaning}
 use Rattle.typst_edits.specs.Spot.{Spot, ended}
 
--- where so many levels are left for the whole, by what each block reads at each level
+-- where a given number of levels are left for the whole, by what each block reads at each level
 pub record Named {A : Type 0} (meant : ℕ → Block → Meaning (Unit {0})) (levels : ℕ) (c : Spot A) : Type 0 where
   -- it is read as its name says, with the levels that are left there
   pub reads : c.reads ≡ (λ y t. ended (meant (levels - c.fewer) c.name y t))

@@ -19,7 +19,7 @@ use Rattle.typst_edits.specs.Runs.{AllGo, End, piece_at, pieces, end_at}
 use Rattle.typst_edits.specs.Sequence.{turn_of, first_of, first_end}
 use Rattle.typst_edits.specs.Spot.{Spot, unit_at}
 
--- the notes that say that so many levels are left
+-- the notes that say that a given number of levels are left
 abbrev pub of_level : ℕ → List Note → List Note
 of_level levels [] = []
 of_level levels (n ∷ ns) = if n.levels == levels then n ∷ of_level levels ns else of_level levels ns
@@ -30,14 +30,14 @@ Numbered P i [] = Unit {0}
 Numbered P i (n ∷ ns) = P i n × Numbered P (suc i) ns
 
 -- where the token after so many pieces begins; before the first piece it is where the run begins
-abbrev pub cut_behind : ℕ → End (Bool × ℕ) → ℕ
-cut_behind zero e = e.taken
-cut_behind (suc i) e = e.taken + gap_of e.state.known
+abbrev pub cut_after : ℕ → End (Bool × ℕ) → ℕ
+cut_after zero e = e.taken
+cut_after (suc i) e = e.taken + gap_of e.state.known
 
 -- A note says that so many pieces of a run end so, and that the token after them begins at its start.
 pub record SaysOf (text : List ℕ) (e : ℕ → End (Bool × ℕ)) (i : ℕ) (note : Note) : Type 0 where
   pub says : Says text note (e i)
-  pub start : note.start ≡ width (take (cut_behind i (e i)) text)
+  pub start : note.start ≡ width (take (cut_after i (e i)) text)
 
 -- The notes of a text's run: one more than it has pieces, each where as many pieces end as its number says.
 pub record NumberedRun (k : CharClasses) (text : List ℕ) : Type 0 where
@@ -47,7 +47,7 @@ pub record NumberedRun (k : CharClasses) (text : List ℕ) : Type 0 where
   pub all : length (of_level max_depth (listed (log k text).notes)) ≡ suc count
   pub each : Numbered (SaysOf text (λ i. end_at k i (start_of text))) 0 (of_level max_depth (listed (log k text).notes))
 
--- The law of the numbers of a run's notes: of the notes that say that all levels are left the one of each number stands where so many pieces of the run end.
+-- The law of the numbers of a run's notes: of the notes that say that all levels are left the one of each number stands where a given number of pieces of the run end.
 abbrev pub NumberedRunLaw : Type 0
 NumberedRunLaw = (k : CharClasses) (text : List ℕ) → NumberedRun k text
 
@@ -72,25 +72,25 @@ pub record NumberedInner (k : CharClasses) (levels : ℕ) (text : List ℕ) (c :
   pub all : length (of_level (suc levels) inner) ≡ suc count
   pub each : Numbered (SaysOf text (λ i. inner_end k levels i c (start_of text))) 0 (of_level (suc levels) inner)
 
--- The law of the numbers of a content block's notes: of those between its two notes that say as many levels as are left in it the one of each number stands where so many pieces of its run end.
+-- The law of the numbers of a content block's notes: of those between its two notes that say as many levels as are left in it the one of each number stands where a given number of pieces of its run end.
 abbrev pub NumberedInnerLaw : Type 0
 NumberedInnerLaw = (k : CharClasses) (levels : ℕ) (text : List ℕ) (c : Spot (Unit {0})) → Among c (blocks_of_text k text) → c.name ≡ block.Content → max_depth - c.fewer ≡ suc levels → NumberedInner k levels text c
 
--- The law of a note's number: a note where so many pieces of a text's run end has as many of the run's notes before it.
+-- The law of a note's number: a note where a given number of pieces of a text's run end has as many of the run's notes before it.
 abbrev pub NumberLaw : Type 0
 NumberLaw = (k : CharClasses) (text : List ℕ) (i : ℕ) → AllGo (pieces k i (start_of text)) → (p : PieceNote (log k text) max_depth text (end_at k i (start_of text))) → length (of_level max_depth p.earlier) ≡ i
 
 -- The law of cuts: after more pieces of a text's run the next token begins at a later byte.
 abbrev pub CutsLaw : Type 0
 CutsLaw = (k : CharClasses) (text : List ℕ) (i j : ℕ) → i < j → AllGo (pieces k j (start_of text))
-    → (let z = start_of text in width (take (cut_behind i (end_at k i z)) text) < width (take (cut_behind j (end_at k j z)) text))
+    → (let z = start_of text in width (take (cut_after i (end_at k i z)) text) < width (take (cut_after j (end_at k j z)) text))
 
 -- So in a content block.
 abbrev pub InnerCutsLaw : Type 0
 InnerCutsLaw = (k : CharClasses) (levels : ℕ) (text : List ℕ) (c : Spot (Unit {0})) (i j : ℕ) → i < j → AllGo (first_of j (run_at k levels c (start_of text)))
-    → (let z = start_of text in width (take (cut_behind i (inner_end k levels i c z)) text) < width (take (cut_behind j (inner_end k levels j c z)) text))
+    → (let z = start_of text in width (take (cut_after i (inner_end k levels i c z)) text) < width (take (cut_after j (inner_end k levels j c z)) text))
 
--- A note stands between the two notes of a content block, with so many notes of the block's run before it.
+-- A note stands between the two notes of a content block, with a given number of notes of the block's run before it.
 pub record InnerNumber (k : CharClasses) (levels : ℕ) (text : List ℕ) (c : Spot (Unit {0})) (i : ℕ) (n : NumberedInner k levels text c) (p : PieceNote (log k text) (suc levels) text (inner_end k levels i c (start_of text))) : Type 0 where
   pub mid : List Note
   pub more : List Note
@@ -98,7 +98,7 @@ pub record InnerNumber (k : CharClasses) (levels : ℕ) (text : List ℕ) (c : S
   pub inner : n.inner ≡ mid ++ p.note ∷ more
   pub number : length (of_level (suc levels) mid) ≡ i
 
--- The law of a note's number in a content block: so does a note where so many pieces of its run end, if they end before the block does.
+-- The law of a note's number in a content block: so does a note where a given number of pieces of its run end, if they end before the block does.
 abbrev pub InnerNumberLaw : Type 0
 InnerNumberLaw = (k : CharClasses) (levels : ℕ) (text : List ℕ) (c : Spot (Unit {0})) (i : ℕ) → Among c (blocks_of_text k text) → c.name ≡ block.Content → max_depth - c.fewer ≡ suc levels
     → AllGo (first_of i (run_at k levels c (start_of text))) → (n : NumberedInner k levels text c) (p : PieceNote (log k text) (suc levels) text (inner_end k levels i c (start_of text)))

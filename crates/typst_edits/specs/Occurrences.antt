@@ -81,7 +81,7 @@ growths_spots m sp n (suc k) o cs z =
 unfoldable pub growing_spots : {A : Type 0} → (A → Meaning (Option Shape × A)) → (A → Spots (Option Shape × A)) → ℕ → Meaning A → Spots A → Spots A
 growing_spots m sp n first firsts z s = growths_spots m sp n (suc (bound z s)) (first z s) (firsts z s) z
 
--- the spots of what nests, at most so many turns: those of a turn and of all after it go into the
+-- the spots of what nests, at most a given number of turns: those of a turn and of all after it go into the
 -- turn's node. In `if a {b} else if c {d}` the hole for `{d}` is in the second conditional, which
 -- is in the first
 abbrev pub nestings_spots : {A : Type 0} → (A → Shape) → Begin → (A → Meaning (Bool × A)) → (A → Spots (Bool × A)) → ℕ → A → Spots A
@@ -127,16 +127,16 @@ module _ (l : Level) (deep_spots : (c : Call) → Spots (Answer c)) (block_spots
       let o = done l flushes z s in
       if l.has b then map (after_spot o) (bounded_spots b (l.blocks b) (block_spots b) (moved o.taken z) o.state) else []
 
--- the spots of what a call reads by these rules, with so many levels left; none at the limit
+-- the spots of what a call reads by these rules, with a given number of levels left; none at the limit
 unfoldable pub call_spots : Rules → CharClasses → ℕ → (call : Call) → Spots (Answer call)
 call_spots r k zero call z s = []
 call_spots r k (suc levels) call z s =
     spots (level_of r k levels) (call_spots r k levels) (λ b. spots (blockless k levels (meaning_of r k levels)) (call_spots r k levels) (λ c y t. []) (peek >> r.block_production b)) (r.production call) z s
 
--- the spots of what is in a block, by these rules, with so many levels left
+-- the spots of what is in a block, by these rules, with a given number of levels left
 abbrev pub block_spots : Rules → CharClasses → ℕ → Block → Spots (Unit {0})
 block_spots r k levels b = spots (blockless k levels (meaning_of r k levels)) (call_spots r k levels) (λ c y t. []) (peek >> r.block_production b)
 
--- the spots of what a parser reads by these rules, with so many levels left
+-- the spots of what a parser reads by these rules, with a given number of levels left
 abbrev pub level_spots : {A : Type 0} → Rules → CharClasses → ℕ → Parser A → Spots A
 level_spots r k levels p = spots (level_of r k levels) (call_spots r k levels) (block_spots r k levels) p

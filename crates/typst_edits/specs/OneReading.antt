@@ -6,7 +6,7 @@ use Rattle.typst_language.specs.Point.{Trivia}
 use Rattle.typst_language.specs.Meaning.{Outcome}
 use Rattle.typst_edits.specs.Children.{together}
 use Rattle.typst_edits.specs.Edit.{text_with}
-use Rattle.typst_edits.specs.Frame.{Run, read_as, opened_by, end_by, is_over, nodes_now, Before, Behind, Agrees, PassesPieces}
+use Rattle.typst_edits.specs.Frame.{Run, read_as, opened_by, end_by, is_over, nodes_now, Before, After, Agrees, PassesPieces}
 use Rattle.typst_edits.specs.Heads.{first_place, minds_at}
 use Rattle.typst_edits.specs.Resumed.{fresh, read_again}
 use Rattle.typst_edits.specs.Runs.{AllGo, End, end_of}
@@ -19,11 +19,11 @@ TakesNone i q = minds_at q (first_place i q) (first_end i q) ≡ true → (first
 -- What the test says of the old text after the first a pieces: n more end, with their trivia, so many characters past the stretch, and what is looked at after them begins at its end or after it.
 pub record EndsOld (k : CharClasses) (front old rest : List ℕ) (r : Run k (front ++ (old ++ rest))) (a n past : ℕ) (t : Trivia) : Type 0 where
   pub old_go : AllGo (then_of a n (read_as r (text_with front old rest)))
-  pub after : Behind k front old rest r a n past t
+  pub after : After k front old rest r a n past t
   pub known : (then_end a n (read_as r (text_with front old rest))).state.known ≡ Some t
   pub ends : end_by r a n t (text_with front old rest) ≡ (length front + length old) + past
 
--- What it says of the new text, by a reading that begins d pieces later: m pieces of it end, with their trivia, so many characters past the new stretch, and carry there what n old pieces do.
+-- What it says of the new text, by a reading that begins d pieces later: m pieces of it end, with their trivia, a given number of characters past the new stretch, and carry there what n old pieces do.
 pub record EndsNew (k : CharClasses) (front old new rest : List ℕ) (r : Run k (front ++ (old ++ rest))) (a n d m past : ℕ) (u : Trivia) : Type 0 where
   pub new_go : AllGo (then_of (a + d) m (read_as r (text_with front new rest)))
   pub known_now : (then_end (a + d) m (read_as r (text_with front new rest))).state.known ≡ Some u

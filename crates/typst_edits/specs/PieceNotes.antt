@@ -26,7 +26,7 @@ pub record Says (text : List ℕ) (note : Note) (e : End (Bool × ℕ)) : Type 0
   pub before : note.before ≡ width (take e.taken text)
   pub state : note.state ≡ state_of e.state
 
--- It is the note where so many pieces of a text's run end.
+-- It is the note where a given number of pieces of a text's run end.
 pub record OfRun (k : CharClasses) (text : List ℕ) (note : Note) : Type 0 where
   pub count : ℕ
   pub go : AllGo (pieces k count (start_of text))
@@ -36,7 +36,7 @@ pub record OfRun (k : CharClasses) (text : List ℕ) (note : Note) : Type 0 wher
 abbrev pub RunNotesLaw : Type 0
 RunNotesLaw = (k : CharClasses) (text : List ℕ) (note : Note) → Among note (listed (log k text).notes) → note.levels ≡ max_depth → OfRun k text note
 
--- It is the note where so many pieces of a content block's run end.
+-- It is the note where a given number of pieces of a content block's run end.
 pub record OfInnerRun (k : CharClasses) (levels : ℕ) (text : List ℕ) (c : Spot (Unit {0})) (note : Note) : Type 0 where
   pub count : ℕ
   pub go : AllGo (first_of count (run_at k levels c (start_of text)))

@@ -13,10 +13,10 @@ use Rattle.typst_candidates.specs.Candidates.{Candidate}
 use Rattle.typst_candidates.specs.Entries.{units_of, spliced}
 use Rattle.typst_edits.specs.Answer.{candidates}
 use Rattle.typst_edits.specs.Edit.{Among, text_with}
-use Rattle.typst_edits.specs.Frame.{Gives, cut_at, is_over, nodes_now, Agrees, Before, Behind, PassesPieces}
+use Rattle.typst_edits.specs.Frame.{Gives, cut_at, is_over, nodes_now, Agrees, Before, After, PassesPieces}
 use Rattle.typst_edits.specs.InnerPiecesTest.{front_count, rear_count}
 use Rattle.typst_edits.specs.Joint.{text_run, PassesJoint}
-use Rattle.typst_edits.specs.NumberedNotes.{of_level, cut_behind}
+use Rattle.typst_edits.specs.NumberedNotes.{of_level, cut_after}
 use Rattle.typst_edits.specs.OneReading.{TakesNone}
 use Rattle.typst_edits.specs.RootPieces.{root_run}
 use Rattle.typst_edits.specs.RunBytes.{PieceNote, both_end}
@@ -36,14 +36,14 @@ pub record RunEntries (k : CharClasses) (front old rest : List ℕ) (i n past : 
   -- and among all notes, by those of the pieces
   pub from : length begins.earlier ≡ notes_in (asks_of (pieces k i (text_with front old rest)))
   pub to : length ends.earlier ≡ length begins.earlier + notes_in (asks_of (pieces_from k i n (text_with front old rest)))
-  pub start : begins.note.start ≡ width (take (cut_behind i (end_at k i (text_with front old rest))) (front ++ (old ++ rest)))
+  pub start : begins.note.start ≡ width (take (cut_after i (end_at k i (text_with front old rest))) (front ++ (old ++ rest)))
   pub end : 0 < i + n → ends.note.start ≡ width (front ++ (old ++ take past rest))
   -- the first is one of those that stand before the stretch with all looks exactly if the looks before the pieces end there
   pub before : length begins.earlier < front_count k (front ++ (old ++ rest)) (width front) → Before k front old rest (root_run k (front ++ (old ++ rest))) i
   pub before_too : Before k front old rest (root_run k (front ++ (old ++ rest))) i → length begins.earlier < front_count k (front ++ (old ++ rest)) (width front)
   -- the second is one of those from which on all looks begin after the stretch exactly if the looks after the pieces do
-  pub after : 0 < i + n → rear_count k (front ++ (old ++ rest)) (width (front ++ old)) ≤ length ends.earlier → Behind k front old rest (root_run k (front ++ (old ++ rest))) i n past t
-  pub after_too : 0 < i + n → Behind k front old rest (root_run k (front ++ (old ++ rest))) i n past t → rear_count k (front ++ (old ++ rest)) (width (front ++ old)) ≤ length ends.earlier
+  pub after : 0 < i + n → rear_count k (front ++ (old ++ rest)) (width (front ++ old)) ≤ length ends.earlier → After k front old rest (root_run k (front ++ (old ++ rest))) i n past t
+  pub after_too : 0 < i + n → After k front old rest (root_run k (front ++ (old ++ rest))) i n past t → rear_count k (front ++ (old ++ rest)) (width (front ++ old)) ≤ length ends.earlier
 
 -- The law of the entries of pieces in a text's run: where they go on, with the trivia after them, past the stretch, two notes by their numbers decide the test of looks, in a text that a machine word counts.
 abbrev pub RunEntriesLaw : Type 0
@@ -55,7 +55,7 @@ RunEntriesLaw = (k : CharClasses) (front old rest : List ℕ) (i n past : ℕ) (
 -- The law of cuts by themselves: of a text's run no two numbers of pieces end before tokens at one byte.
 abbrev pub CutOnceLaw : Type 0
 CutOnceLaw = (k : CharClasses) (text : List ℕ) (i j : ℕ) → AllGo (pieces k i (start_of text)) → AllGo (pieces k j (start_of text))
-    → (let z = start_of text in width (take (cut_behind i (end_at k i z)) text) ≡ width (take (cut_behind j (end_at k j z)) text)) → i ≡ j
+    → (let z = start_of text in width (take (cut_after i (end_at k i z)) text) ≡ width (take (cut_after j (end_at k j z)) text)) → i ≡ j
 
 -- ---- the pieces that are read
 
@@ -71,7 +71,7 @@ read_alone k x m z = pieces_on (level_of k) (stops_of of.Text) x m z
 abbrev pub end_alone : CharClasses → Bool × ℕ → ℕ → Place → End (Bool × ℕ)
 end_alone k x m z = end_on (level_of k) (stops_of of.Text) x m z
 
--- Where a candidate's pieces begin in both texts m pieces are read of the new one by themselves, with what is carried there; they end, with their trivia, so many characters past the stretch, agree with the old ones there, and these are their nodes.
+-- Where a candidate's pieces begin in both texts m pieces are read of the new one by themselves, with what is carried there; they end, with their trivia, a given number of characters past the stretch, agree with the old ones there, and these are their nodes.
 pub record ReadsPieces (k : CharClasses) (front old new rest : List ℕ) (i n m past : ℕ) (ts : List Tree) : Type 0 where
   pub go : (let a = cut_at (root_run k (front ++ (old ++ rest))) i (text_with front old rest) in let x = (end_at k i (text_with front old rest)).value in
       AllGo (read_alone k x m (moved a (text_with front new rest))))
@@ -93,7 +93,7 @@ abbrev pub RunReadLaw : Type 0
 RunReadLaw = (k : CharClasses) (front old new rest : List ℕ) (i n m past : ℕ) (t : Trivia) (ts : List Tree) → AllGo (pieces k i (text_with front old rest)) → AllGo (pieces_from k i n (text_with front old rest))
     → (end_from k i n (text_with front old rest)).state.known ≡ Some t
     → ((end_at k i (text_with front old rest)).taken + (end_from k i n (text_with front old rest)).taken) + t.gap ≡ (length front + length old) + past
-    → (0 < i → TakesNone i (text_run k (text_with front old rest))) → Before k front old rest (root_run k (front ++ (old ++ rest))) i → Behind k front old rest (root_run k (front ++ (old ++ rest))) i n past t
+    → (0 < i → TakesNone i (text_run k (text_with front old rest))) → Before k front old rest (root_run k (front ++ (old ++ rest))) i → After k front old rest (root_run k (front ++ (old ++ rest))) i n past t
     → ReadsPieces k front old new rest i n m past ts ↔ GivesPieces k front old new rest i n m past t ts
 
 -- ---- a candidate of the run

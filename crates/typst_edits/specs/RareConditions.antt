@@ -9,7 +9,7 @@ use Rattle.typst_language.specs.declared.reading.Newlines.{Newlines}
 use Rattle.typst_language.specs.Ask.{Ask}
 use Rattle.typst_language.specs.Point.{Trivia, no_newlines, gap_of, state_of}
 use Rattle.typst_language.specs.Shape.{becomes}
-use Rattle.typst_language.specs.Shape.Change.{renamed, unparened}
+use Rattle.typst_language.specs.Shape.NodeChange.{renamed, unparened}
 use Rattle.typst_language.specs.Shape.Shape.{keeps}
 use Rattle.typst_language.specs.Steps.{eat, node}
 use Rattle.typst_language.specs.Syntax.{Parser, ◌>>◌, ◌>>=◌}
@@ -34,14 +34,14 @@ newlines_in None = no_newlines
 newlines_in (Some t) = t.newlines
 
 -- what is asked after the trivia that follow the first piece of a text
-abbrev pub asked_behind : CharClasses → List ℕ → List Ask
-asked_behind k s = elim (end_from k 0 1 (start_of s)).state.known [ None ↦ [] | Some t ↦ asked_past k 0 1 t (start_of s) ]
+abbrev pub asked_after : CharClasses → List ℕ → List Ask
+asked_after k s = elim (end_from k 0 1 (start_of s)).state.known [ None ↦ [] | Some t ↦ asked_past k 0 1 t (start_of s) ]
 
 -- a content block in brackets, with these nodes in it
 abbrev pub in_brackets : List Tree → Tree
 in_brackets ts = branch kind.ContentBlock (leaf_of kind.LeftBracket (codes "[") ∷ markup ts ∷ leaf_of kind.RightBracket (codes "]") ∷ [])
 
--- a content block, where so many levels are left
+-- a content block, where a given number of levels are left
 abbrev pub block_of : CharClasses → List ℕ → ℕ → Outcome (Unit {0})
 block_of k s levels = block_at k levels block.Content (start_of s) (start_point markup_reading)
 
@@ -107,7 +107,7 @@ pub record RareConditions (beyond : CharClasses) : Type 0 where
   pub column_value : (end_from (by_law beyond) 0 1 (start_of less_indented)).value ≡ (end_from (by_law beyond) 0 1 (start_of indented)).value
   pub column_state : state_of (end_from (by_law beyond) 0 1 (start_of less_indented)).state ≡ state_of (end_from (by_law beyond) 0 1 (start_of indented)).state
   -- but the item after the comment, two characters past the stretch, looks three back for its column
-  pub column_behind : least (asked_behind (by_law beyond) indented) ≡ 3
+  pub column_after : least (asked_after (by_law beyond) indented) ≡ 3
   -- and the second item is no longer in the first
   pub column_old : kinds (by_law beyond) indented ≡ kind.Text ∷ kind.Space ∷ kind.BlockComment ∷ kind.ListItem ∷ []
   pub column_new : kinds (by_law beyond) less_indented ≡ kind.Text ∷ kind.Space ∷ kind.BlockComment ∷ kind.ListItem ∷ kind.Space ∷ kind.ListItem ∷ []
@@ -126,13 +126,13 @@ pub record RareConditions (beyond : CharClasses) : Type 0 where
   pub given_up_tree : kinds_in (by_law beyond) both_readings (codes "[a]") ≡ kind.LeftBracket ∷ []
   -- a look from before the block into it: what stands after its bracket is asked for before, and is no longer a letter
   pub ahead_before : map (λ c. most c.before) (spots_in (by_law beyond) peeking (codes "[a]")) ≡ 3 ∷ []
-  pub ahead_behind : map (λ c. least c.after) (spots_in (by_law beyond) peeking (codes "[a]")) ≡ 0 ∷ []
+  pub ahead_after : map (λ c. least c.after) (spots_in (by_law beyond) peeking (codes "[a]")) ≡ 0 ∷ []
   pub ahead_ends : map (λ c. (unit_at c (start_of (codes "[~]"))).taken) (spots_in (by_law beyond) peeking (codes "[a]")) ≡ 3 ∷ []
   pub ahead_old : kinds_in (by_law beyond) peeking (codes "[a]") ≡ kind.ContentBlock ∷ []
   pub ahead_new : kinds_in (by_law beyond) peeking (codes "[~]") ≡ kind.ContentBlock ∷ kind.Error ∷ []
   -- a look from after the block into it: the column of what stands after it is asked for, and is greater now
   pub back_before : map (λ c. most c.before) (spots_in (by_law beyond) measuring (codes "[a]b")) ≡ 1 ∷ []
-  pub back_behind : map (λ c. least c.after) (spots_in (by_law beyond) measuring (codes "[a]b")) ≡ 4 ∷ []
+  pub back_after : map (λ c. least c.after) (spots_in (by_law beyond) measuring (codes "[a]b")) ≡ 4 ∷ []
   pub back_ends : map (λ c. (unit_at c (start_of (codes "[aa]b"))).taken) (spots_in (by_law beyond) measuring (codes "[a]b")) ≡ 4 ∷ []
   pub back_old : kinds_in (by_law beyond) measuring (codes "[a]b") ≡ kind.ContentBlock ∷ []
   pub back_new : kinds_in (by_law beyond) measuring (codes "[aa]b") ≡ kind.ContentBlock ∷ kind.Error ∷ []

@@ -12,7 +12,7 @@ use Rattle.typst_edits.specs.Bytes.{highest, lowest}
 use Rattle.typst_edits.specs.Edit.{text_with, AllEndBy, AllBeginIn}
 use Rattle.typst_edits.specs.Runs.{AllGo, End, asks_of, lead, pieces, end_at, pieces_from, end_from, rest_from, tail}
 
--- The note of a text's log where some pieces of a run end, and the next begins or the run ends; so many levels are left there.
+-- The note of a text's log where some pieces of a run end, and the next begins or the run ends; a given number of levels are left there.
 pub record PieceNote (h : Log) (left : ℕ) (text : List ℕ) (e : End (Bool × ℕ)) : Type 0 where
   pub earlier : List Note
   pub note : Note

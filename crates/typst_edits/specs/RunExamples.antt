@@ -32,7 +32,7 @@ pub record Runs (beyond : CharClasses) : Type 0 where
   pub same_value : (end_from (by_law beyond) 1 1 (start_of (codes "a--b"))).value ≡ (end_from (by_law beyond) 1 1 (start_of (codes "a~b"))).value
   pub same_state : (end_from (by_law beyond) 1 1 (start_of (codes "a--b"))).state ≡ (end_from (by_law beyond) 1 1 (start_of (codes "a~b"))).state
   -- what follows it begins after it
-  pub none_behind : least (rest_from (by_law beyond) 1 1 (start_of (codes "a~b"))).asks ≡ 0
+  pub none_after : least (rest_from (by_law beyond) 1 1 (start_of (codes "a~b"))).asks ≡ 0
   -- `~*b*`, and an escape in place of the tilde: it ends where it should and leaves what was left, but a star looks back
   pub star_value : (end_from (by_law beyond) 0 1 (start_of (codes "\\a*b*"))).value ≡ (end_from (by_law beyond) 0 1 (start_of (codes "~*b*"))).value
   pub star_state : (end_from (by_law beyond) 0 1 (start_of (codes "\\a*b*"))).state ≡ (end_from (by_law beyond) 0 1 (start_of (codes "~*b*"))).state

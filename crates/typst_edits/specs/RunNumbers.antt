@@ -14,7 +14,7 @@ use Rattle.typst_edits.specs.Frame.{is_over}
 use Rattle.typst_edits.specs.InnerBytes.{inner_end}
 use Rattle.typst_edits.specs.Joint.{text_run}
 use Rattle.typst_edits.specs.Laws.{blocks_of_text}
-use Rattle.typst_edits.specs.NumberedNotes.{cut_behind}
+use Rattle.typst_edits.specs.NumberedNotes.{cut_after}
 use Rattle.typst_edits.specs.RunTest.{SaysPiece, IsLast, BeginsAt}
 use Rattle.typst_edits.specs.Runs.{AllGo, asks_of, pieces, end_at}
 use Rattle.typst_edits.specs.Sequence.{first_of}
@@ -25,13 +25,13 @@ use Rattle.typst_edits.specs.Spot.{Spot}
 
 -- the byte at which the token after the first i pieces begins; before the first piece it is where the run begins
 abbrev pub cut_of : CharClasses → List ℕ → ℕ → ℕ
-cut_of k text i = let z = start_of text in width (take (cut_behind i (end_at k i z)) text)
+cut_of k text i = let z = start_of text in width (take (cut_after i (end_at k i z)) text)
 
 -- the number of the entry where i pieces end
 abbrev pub number_of : CharClasses → List ℕ → ℕ → ℕ
 number_of k text i = notes_in (asks_of (pieces k i (start_of text)))
 
--- A text's run has so many pieces, and its entries are found by where the pieces begin.
+-- A text's run has a given number of pieces, and its entries are found by where the pieces begin.
 pub record RunNumbers (k : CharClasses) (text : List ℕ) : Type 0 where
   pub count : ℕ
   pub go : AllGo (pieces k count (start_of text))
@@ -52,13 +52,13 @@ RunNumbersLaw = (k : CharClasses) (text : List ℕ) → RunNumbers k text
 
 -- the byte at which the token after the first i pieces of it begins; before the first piece it is where the run begins
 abbrev pub cut_in : CharClasses → ℕ → List ℕ → Spot (Unit {0}) → ℕ → ℕ
-cut_in k levels text s i = width (take (cut_behind i (inner_end k levels i s (start_of text))) text)
+cut_in k levels text s i = width (take (cut_after i (inner_end k levels i s (start_of text))) text)
 
 -- the number of the entry where i pieces of it end
 abbrev pub number_in : CharClasses → ℕ → List ℕ → Spot (Unit {0}) → ℕ → ℕ
 number_in k levels text s i = notes_in s.before + notes_in (asks_of (first_of i (run_at k levels s (start_of text))))
 
--- A content block's entries are found by where it begins; its run has so many pieces, and their entries are found by where the pieces begin.
+-- A content block's entries are found by where it begins; its run has a given number of pieces, and their entries are found by where the pieces begin.
 pub record InnerNumbers (k : CharClasses) (levels : ℕ) (text : List ℕ) (s : Spot (Unit {0})) : Type 0 where
   pub opens : ℕ
   pub closes : ℕ

@@ -13,7 +13,7 @@ use Rattle.typst_language.specs.declared.calls.Note.{Note}
 use Rattle.typst_language.specs.declared.calls.Block.TheVariants as block
 use Rattle.typst_kinds.specs.declared.mode.SyntaxMode.{SyntaxMode}
 use Rattle.typst_candidates.specs.declared.entry.Entry.{Entry}
-use Rattle.typst_candidates.specs.declared.entry.Tag.TheVariants as tag
+use Rattle.typst_candidates.specs.declared.entry.EntryKind.TheVariants as entry_kind
 use Rattle.typst_candidates.specs.Candidates.{Candidate}
 use Rattle.typst_candidates.specs.Cursors.{closing_of, piece_of, first_piece}
 use Rattle.typst_candidates.specs.Entries.{end_of, entries_by, units_of, spliced}
@@ -54,8 +54,8 @@ abbrev pub carried_by : CharClasses → Reading → ℕ → Bool × ℕ
 carried_by k r m = (end_on (run_level k r.levels r.which) (stops_of r.which) r.carried m r.place).value
 
 -- the byte at which the token after them begins
-abbrev pub byte_behind : CharClasses → Reading → ℕ → ℕ
-byte_behind k r m = let e = end_on (run_level k r.levels r.which) (stops_of r.which) r.carried m r.place in position (moved (e.taken + gap_of e.state.known) r.place)
+abbrev pub byte_after : CharClasses → Reading → ℕ → ℕ
+byte_after k r m = let e = end_on (run_level k r.levels r.which) (stops_of r.which) r.carried m r.place in position (moved (e.taken + gap_of e.state.known) r.place)
 
 -- their nodes, with the trivia after them
 abbrev pub nodes_by : CharClasses → Reading → ℕ → List Tree
@@ -71,7 +71,7 @@ notes_by k r m = listed (logged r.levels r.place no_log ((first_look (run_level 
 pub record SaysPiece (es : List Entry) (number : ℕ) (x : Bool × ℕ) : Type 0 where
   pub entry : Entry
   pub is : slice_get es number ≡ Some entry
-  pub tag : entry.tag ≡ tag.Piece x.0
+  pub kind : entry.kind ≡ entry_kind.Piece x.0
   pub count : entry.count ≡ x.1
 
 -- no piece of the run stands after an entry
@@ -105,10 +105,10 @@ pub record PassesRead (k : CharClasses) (front old new rest : List ℕ) (c : Can
   pub before : from < front_in k front old rest
   pub behind : rear_in k front old rest ≤ looks
   pub go : AllGo (read_by k r m)
-  pub shifted : byte_behind k r m + width old ≡ c.end + width new
+  pub shifted : byte_after k r m + width old ≡ c.end + width new
   pub meets : Meets (entries_in k (front ++ (old ++ rest))) r.which to m x (carried_by k r m)
 
--- What is found of a candidate that is pieces of a run, whose first entry has a number: by what the entries say of it, it passes exactly where so many pieces do that are read by themselves, and these are its nodes.
+-- What is found of a candidate that is pieces of a run, whose first entry has a number: by what the entries say of it, it passes exactly where a given number of pieces do that are read by themselves, and these are its nodes.
 pub record FoundRun (k : CharClasses) (front old new rest : List ℕ) (c : Candidate) (which : RunKind) (levels first : ℕ) : Type 0 where
   pub from : ℕ
   pub to : ℕ
@@ -119,7 +119,7 @@ pub record FoundRun (k : CharClasses) (front old new rest : List ℕ) (c : Candi
   pub looks_from : LooksFrom (entries_in k (front ++ (old ++ rest))) which from to looks
   pub says : SaysPiece (entries_in k (front ++ (old ++ rest))) from carried
   pub says_end : SaysPiece (entries_in k (front ++ (old ++ rest))) to carried_end
-  -- it begins so many characters on, in both texts, if its entry is among those before the stretch
+  -- it begins a given number of characters further on, in both texts, if its entry is among those before the stretch
   pub at : ℕ
   pub start : c.start ≡ width (take at (front ++ (old ++ rest)))
   pub start_now : from < front_in k front old rest → position (moved at (text_with front new rest)) ≡ c.start
@@ -127,7 +127,7 @@ pub record FoundRun (k : CharClasses) (front old new rest : List ℕ) (c : Candi
       Gives k front old new rest c ts ↔ ((m : ℕ) × PassesRead k front old new rest c r from to looks carried_end m × (ts ≡ nodes_by k r m)))
   -- more pieces end at a later byte, and after the end of the run there are none
   pub rises : from < front_in k front old rest → (m j : ℕ) → (let r = reading_on which levels carried (moved at (text_with front new rest)) in
-      m < j → AllGo (read_by k r j) → byte_behind k r m < byte_behind k r j)
+      m < j → AllGo (read_by k r j) → byte_after k r m < byte_after k r j)
   -- its entries are exchanged for those of the pieces; so it is in a block where there are pieces in both texts
   pub units : (m : ℕ) → (let r = reading_on which levels carried (moved at (text_with front new rest)) in
       PassesRead k front old new rest c r from to looks carried_end m → (which ≡ of.Block → (IsLast (entries_in k (front ++ (old ++ rest))) from → ⊥) × (0 < m))
@@ -152,7 +152,7 @@ pub record FoundInner (k : CharClasses) (front old new rest : List ℕ) (root : 
   pub says : SaysBlock (entries_in k (front ++ (old ++ rest))) opens to levels block.Content mode
   pub some : 0 < levels
   pub run : FoundRun k front old new rest c of.Block levels (suc opens)
-  -- the block begins so many characters on, in both texts
+  -- the block begins a given number of characters further on, in both texts
   pub at : ℕ
   pub start : start_at (take (length c.path - 1) c.path) 0 root ≡ width (take at (front ++ (old ++ rest)))
   pub start_now : position (moved at (text_with front new rest)) ≡ start_at (take (length c.path - 1) c.path) 0 root

@@ -95,15 +95,15 @@ pub record KeptRun (k : CharClasses) (front old new rest : List ℕ) (i n m past
       parsed k max_depth (front ++ (new ++ rest)) ≡ whole_of (lead k w) (chain (pieces k i z) (chain (pieces_from k i m w) (rest_from k i n z))) (tail k r.taken r.state z))
 
 -- what is read after the first n pieces
-abbrev pub behind_pieces : CharClasses → ℕ → Place → Outcome (Bool × ℕ)
-behind_pieces k n z = let e = end_at k n z in repeated (piece_at k) e.value (moved e.taken z) e.state
+abbrev pub after_pieces : CharClasses → ℕ → Place → Outcome (Bool × ℕ)
+after_pieces k n z = let e = end_at k n z in repeated (piece_at k) e.value (moved e.taken z) e.state
 
 -- What the reading of the new text is where nothing is kept after the first i pieces.
 pub record KeptStart (k : CharClasses) (front old new rest : List ℕ) (i : ℕ) : Type 0 where
   pub first : pieces k i (text_with front new rest) ≡ pieces k i (text_with front old rest)
   pub lead_same : 0 < i → lead k (text_with front new rest) ≡ lead k (text_with front old rest)
   pub now : (let w = text_with front new rest in
-      let r = chain (pieces k i (text_with front old rest)) (behind_pieces k i w) in
+      let r = chain (pieces k i (text_with front old rest)) (after_pieces k i w) in
       parsed k max_depth (front ++ (new ++ rest)) ≡ whole_of (lead k w) r (tail k r.taken r.state w))
 
 -- The law of a run's start: where what was looked at before the first i pieces end ends at the stretch or before it, the reading of the new text begins with them.

@@ -20,7 +20,7 @@ use Rattle.typst_edits.specs.Answer.{candidates}
 use Rattle.typst_edits.specs.BlockTest.{SaysBlock, entries_in, front_in, rear_in}
 use Rattle.typst_edits.specs.Edit.{Among, text_with}
 use Rattle.typst_edits.specs.Frame.{Gives}
-use Rattle.typst_edits.specs.RunTest.{Reading, reading_on, read_by, carried_by, byte_behind, nodes_by, notes_by, IsLast, FoundRun}
+use Rattle.typst_edits.specs.RunTest.{Reading, reading_on, read_by, carried_by, byte_after, nodes_by, notes_by, IsLast, FoundRun}
 
 -- If pieces follow, the pieces that go on after old ones, at least one with these, end with the same line start and open brackets; at a block's end with the same open brackets.
 pub record MeetsOn (es : List Entry) (which : RunKind) (to : ℕ) (led : Type 0) (m : ℕ) (x y : Bool × ℕ) : Type 0 where
@@ -31,14 +31,14 @@ pub record MeetsOn (es : List Entry) (which : RunKind) (to : ℕ) (led : Type 0)
 pub record PassesOn (k : CharClasses) (front old new rest : List ℕ) (first c : Candidate) (r : Reading) (to looks : ℕ) (x : Bool × ℕ) (m : ℕ) : Type 0 where
   pub behind : rear_in k front old rest ≤ looks
   pub go : AllGo (read_by k r m)
-  pub shifted : byte_behind k r m + width old ≡ c.end + width new
+  pub shifted : byte_after k r m + width old ≡ c.end + width new
   pub meets : MeetsOn (entries_in k (front ++ (old ++ rest))) r.which to (c.start < first.start) m x (carried_by k r m)
 
 -- the reading of the new text that begins where what is found of a candidate says
 abbrev pub reading_of : {k : CharClasses} {front old new rest : List ℕ} {c : Candidate} {which : RunKind} {levels first : ℕ} → FoundRun k front old new rest c which levels first → Reading
 reading_of {k} {front} {old} {new} {rest} {c} {which} {levels} {first} f = reading_on which levels f.carried (moved f.at (text_with front new rest))
 
--- The reading that begins with one candidate serves another one of its run, which begins there or earlier: this passes exactly where so many pieces of the reading do, and then its nodes are in a numbered tree those of the reading, put where the reading begins, and the entries from there on are exchanged.
+-- The reading that begins with one candidate serves another one of its run, which begins there or earlier: this passes exactly where a given number of pieces of the reading do, and then its nodes are in a numbered tree those of the reading, put where the reading begins, and the entries from there on are exchanged.
 pub record Served (k : CharClasses) (front old new rest : List ℕ) (root : Tree) (which : RunKind) (levels entry : ℕ) (first c : Candidate)
     (f : FoundRun k front old new rest first which levels entry) (g : FoundRun k front old new rest c which levels entry) : Type 0 where
   -- what is looked at before the candidate ends before the stretch, too

@@ -30,7 +30,7 @@ notes_in [] = 0
 notes_in (looked at look ∷ asks) = notes_in asks
 notes_in (marked at gap fewer m s ∷ asks) = suc (notes_in asks)
 
--- every note's token begins so many characters on, or before
+-- every note's token begins a given number of characters further on, or before
 abbrev pub AllNotedBy : ℕ → List Ask → Type 0
 AllNotedBy n [] = Unit {0}
 AllNotedBy n (looked at look ∷ asks) = AllNotedBy n asks

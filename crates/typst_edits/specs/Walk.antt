@@ -27,7 +27,7 @@ abbrev pub walk : ℕ → ℕ → ℕ → ℕ → List Tree → List Step
 walk zero from to at ts = []
 walk (suc n) from to at ts = elim (over from to at ts) as (λ _. List Step) [ None ↦ [] | Some s ↦ s ∷ walk n from to (s.start + length s.node.head.text) (trees s.node.kids) ]
 
--- the first so many steps from the top of a text's tree, by a stretch in characters
+-- a given number of steps from the top of a text's tree, by a stretch in characters
 abbrev pub walk_to : ℕ → CharClasses → List ℕ → List ℕ → List ℕ → List Step
 walk_to n k front old rest = walk n (width front) (width (front ++ old)) 0 (parsed k max_depth (front ++ (old ++ rest))).nodes
 

@@ -21,7 +21,7 @@ ghost use Rattle.typst_edits.specs.Conditions.{Conditions};
 ghost use Rattle.typst_edits.specs.EmptyRuns.{EmptyBlockLaw, EmptyTextLaw};
 ghost use Rattle.typst_edits.specs.Examples.{Blocks};
 ghost use Rattle.typst_edits.specs.RunExamples.{Runs};
-ghost use Rattle.typst_edits.specs.Heads.{HeadLaw, InnerHeadLaw, InnerMeetsLaw, InnerNoneBackLaw, InnerNoneBehindLaw, MeetsLaw, NoneBackLaw, NoneBehindLaw};
+ghost use Rattle.typst_edits.specs.Heads.{HeadLaw, InnerHeadLaw, InnerMeetsLaw, InnerNoneBackLaw, InnerNoneAfterLaw, MeetsLaw, NoneBackLaw, NoneAfterLaw};
 ghost use Rattle.typst_edits.specs.InOrder.{InOrderLaw};
 ghost use Rattle.typst_edits.specs.InnerBytes.{InnerDecisionLaw};
 ghost use Rattle.typst_edits.specs.InnerChildren.{InnerBackLaw, InnerChildrenLaw};
@@ -40,7 +40,7 @@ ghost use Rattle.typst_edits.specs.InnerWorth.{InnerWorthLaw};
 ghost use Rattle.typst_edits.specs.LeadingTrivia.{InnerLeadingTriviaLaw, LeadingTriviaLaw};
 ghost use Rattle.typst_edits.specs.Lost.{CompleteLaw};
 ghost use Rattle.typst_edits.specs.NumberedNotes.{NumberLaw, NumberedInnerLaw, NumberedRunLaw, CutsLaw, InnerCutsLaw, InnerNumberLaw};
-ghost use Rattle.typst_edits.specs.KeptNodes.{KeptNodesLaw, PutBehindLaw};
+ghost use Rattle.typst_edits.specs.KeptNodes.{KeptNodesLaw, PutAfterLaw};
 ghost use Rattle.typst_edits.specs.OneReading.{GivesAgainLaw, OneReadingLaw};
 ghost use Rattle.typst_edits.specs.Origins.{Origins};
 ghost use Rattle.typst_edits.specs.PiecesLog.{PiecesLogLaw};
@@ -134,8 +134,8 @@ pub fn children_law()
     ensures inner { InnerChildrenLaw }
     ensures back { BackLaw }
     ensures inner_back { InnerBackLaw }
-    ensures behind_trivia { LeadingTriviaLaw }
-    ensures inner_behind_trivia { InnerLeadingTriviaLaw }
+    ensures after_trivia { LeadingTriviaLaw }
+    ensures inner_after_trivia { InnerLeadingTriviaLaw }
 {}
 
 /// An expression of a run that wasn't expected gives one error first, and only such a one takes back the empty errors
@@ -150,8 +150,8 @@ pub fn head_law()
     ensures inner { InnerHeadLaw }
     ensures edit { NoneBackLaw }
     ensures inner_edit { InnerNoneBackLaw }
-    ensures behind { NoneBehindLaw }
-    ensures inner_behind { InnerNoneBehindLaw }
+    ensures behind { NoneAfterLaw }
+    ensures inner_behind { InnerNoneAfterLaw }
     ensures meets { MeetsLaw }
     ensures inner_meets { InnerMeetsLaw }
 {}
@@ -416,7 +416,7 @@ pub fn one_reading_law()
     ensures serves { OneReadingLaw }
     ensures again { GivesAgainLaw }
     ensures kept { KeptNodesLaw }
-    ensures behind { PutBehindLaw }
+    ensures behind { PutAfterLaw }
 {}
 
 /// What code finds of a candidate that is pieces in a content block: the notes where they begin and end say by their

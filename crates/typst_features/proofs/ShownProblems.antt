@@ -1,10 +1,13 @@
 -- What is shown of problems, one after the other.
-use Rattle.std.proofs.Common.{◌≡◌, ℕ, ◌+◌, ◌<◌, max, min, Bool, true, false, List, [], ◌∷◌, ◌++◌, length, drop, get_or, Option, None, Some, Result, Ok, Err, OnOk, refl, ap, sym, ◌∙◌, arith, append_assoc, append-nil, if◌then◌else◌}
+use Rattle.std.proofs.Common.{◌≡◌, ℕ, ◌+◌, ◌<◌, ◌||◌, max, min, Bool, true, false, List, [], ◌∷◌, ◌++◌, length, drop, get_or, Option, None, Some, Result, Ok, Err, OnOk, refl, ap, sym, ◌∙◌, arith, append_assoc, append-nil, if◌then◌else◌}
+use Rattle.std.proofs.lemmas.Bool.{or_parts, true≢false}
 use Rattle.std.proofs.lemmas.List.{drop_more}
 use Rattle.std.specs.Prelude.{map}
 use Rattle.typst_kinds.specs.Diagnostic.{Diagnostic}
+use Rattle.typst_kinds.specs.Head.{has_any}
 use Rattle.typst_kinds.specs.Span.{Bytes}
-use Rattle.typst_tree.specs.Tree.{Tree, forest, saturated}
+use Rattle.typst_tree.specs.Tree.{Forest, none, more, Tree, forest, saturated, text_of, have_diagnostics, has_diagnostics}
+use Rattle.typst_names.specs.Bytes.{inner, behind}
 use Rattle.typst_features.specs.Problems.{Reported, about, reported}
 use Rattle.typst_features.specs.Shown.{Inside, hidden_to, is_error, own_in, row_in, shown_after, swallowed_to, swallows_to}
 use Rattle.typst_features.specs.ShownRows.{Takes, left, left_all, shown_from, steps_all, steps_left, told, unless_before}
@@ -90,3 +93,26 @@ none_of e a (t ∷ ts) h = absurd (omega (arith, h))
 -- nothing is left where no trees are
 pub none_left : (r : Row) → length r.trees.now ≡ 0 → left r ≡ []
 none_left r h = none_of r.end r.start r.trees.now h
+
+none_own : (e a n : ℕ) (ds : List Diagnostic) → has_any ds ≡ false → own_in e a n ds ≡ []
+none_own e a n [] h = refl
+none_own e a n (d ∷ ds) h = absurd (true≢false h)
+
+none_in : (e a : ℕ) (f : Forest) → have_diagnostics f ≡ false → row_in e a f ≡ []
+none_in e a none h = refl
+none_in e a (more hd ks r) h =
+    let t : Tree = record { head = hd; kids = ks } in
+    let b = behind a hd ks in
+    let p = or_parts (has_any hd.diagnostics) (have_diagnostics ks || have_diagnostics r) h in
+    let q = or_parts (have_diagnostics ks) (have_diagnostics r) p.1 in
+    ap (λ xs. xs ++ (row_in b (inner a hd) ks ++ row_in e b r)) (none_own e a (length (text_of t)) hd.diagnostics p.0)
+    ∙ ap (λ xs. xs ++ row_in e b r) (none_in b (inner a hd) ks q.0)
+    ∙ none_in e b r q.1
+
+-- a tree without errors and warnings is passed
+pub past_clean : (e a : ℕ) (t : Tree) (ts : List Tree) → has_diagnostics t ≡ false → row_in e a (forest (t ∷ ts)) ≡ row_in e (behind a t.head t.kids) (forest ts)
+past_clean e a t ts h =
+    let b = behind a t.head t.kids in
+    let p = or_parts (has_any t.head.diagnostics) (have_diagnostics t.kids) h in
+    ap (λ xs. xs ++ (row_in b (inner a t.head) t.kids ++ row_in e b (forest ts))) (none_own e a (length (text_of t)) t.head.diagnostics p.0)
+    ∙ ap (λ xs. xs ++ row_in e b (forest ts)) (none_in b (inner a t.head) t.kids p.1)

@@ -28,7 +28,8 @@ pub struct Fix<'a> {
 }
 
 /// The edits that remove errors and warnings which touch a range of bytes, those of a node before those of its
-/// children: they add a missing closing delimiter, or do what a hint says. It goes through each node once.
+/// children: they add a missing closing delimiter, or do what a hint says. It looks at the nodes that have errors
+/// and warnings, at them or below them, and at their children.
 pub fn quick_fixes<'a>(
     alloc: Global,
     root: &'a SyntaxNode,
@@ -43,7 +44,7 @@ pub fn quick_fixes<'a>(
     };
     let mut around = Parents::new(alloc);
     let mut walk = root.preorder(alloc);
-    while let Some(visit) = walk.next()? {
+    while let Some(visit) = walk.next_marked()? {
         let parent = around.enter(visit)?;
         for diagnostic in visit.node.diagnostics() {
             let problem = range_of(diagnostic, visit.offset, visit.node.len());

@@ -12,7 +12,8 @@ pub struct Parent {
     pub end: usize,
 }
 
-/// The nodes above the one that a walk in preorder has come to, the outermost first.
+/// The nodes above the one that a walk in preorder has come to, the outermost first. The walk may pass a node with
+/// all below it.
 #[derive(Drop)]
 pub struct Parents {
     above: Vec<Parent>,

@@ -18,14 +18,14 @@ pub struct Problem<'a> {
     pub diagnostic: &'a Diagnostic,
 }
 
-/// The errors and warnings of a tree, those of a node before those of its children. It goes through each
-/// node once.
+/// The errors and warnings of a tree, those of a node before those of its children. It looks at the nodes that
+/// have some, at them or below them, and at their children.
 pub fn problems<'a>(alloc: Global, root: &'a SyntaxNode) -> Result<Vec<Problem<'a>>, AllocError>
     ensures { IfOk result (λ found. map spec.reported found.items ≡ spec.node 0 root.now) }
 {
     let mut found = Vec::new(alloc);
     let mut walk = root.preorder(alloc);
-    while let Some(visit) = walk.next()? {
+    while let Some(visit) = walk.next_diagnosed()? {
         add_own(&mut found, visit.node, visit.offset)?;
     }
     Ok(found)

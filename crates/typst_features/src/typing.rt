@@ -36,7 +36,7 @@ struct Shown<'a> {
 }
 
 /// The errors and warnings of a tree. Of the errors after an unclosed delimiter, in the node around it, only the
-/// first is given. It goes through each node once.
+/// first is given. It looks at the nodes that have some, at them or below them, and at their children.
 pub fn shown_problems<'a>(
     alloc: Global,
     root: &'a SyntaxNode,
@@ -74,15 +74,16 @@ fn take_next<'a>(
     Ok(())
 }
 
-/// Puts a row on the others, unless there is nothing in it.
+/// Puts a row on the others, from its first node on that has errors or warnings, unless none has.
 fn push_row<'a>(rows: &mut Vec<Row<'a>>, row: Row<'a>) -> Result<(), AllocError>
     ensures left { OnOk result (left_all rows.new.items ≡ left row.entry ++ left_all rows.old.items) }
     ensures steps { OnOk result (steps_all rows.new.items ≤ steps_left row.entry + steps_all rows.old.items) }
 {
-    if row.trees.is_empty() {
+    let marked = row.past_unmarked();
+    if marked.trees.is_empty() {
         return Ok(());
     }
-    rows.push(row)?;
+    rows.push(marked)?;
     Ok(())
 }
 
@@ -96,6 +97,25 @@ impl<'a> Row<'a> {
             start: 0,
             end: 0,
         }
+    }
+
+    /// The row from its first node on that has errors or warnings, at it or below it.
+    fn past_unmarked(self) -> Row<'a>
+        ensures left { left result ≡ left self.entry }
+        ensures steps { steps_left result ≤ steps_left self.entry }
+    {
+        let mut row = self;
+        while let Some((node, rest)) = row.trees.split_first() {
+            if node.has_diagnostics() {
+                return row;
+            }
+            let node = Placed {
+                node,
+                start: row.start,
+            };
+            row = row.behind(node, rest);
+        }
+        row
     }
 
     /// The row of what follows the first node.

@@ -20,7 +20,7 @@ use Rattle.typst_language.specs.declared.reading.Reading.{Reading}
 use Rattle.typst_language.specs.Log.{Log, no_log, with_more, with_hull, with_note, logged}
 use Rattle.typst_language.specs.Knot.{meaning_of}
 use Rattle.typst_language.specs.Meaning.{Guess, Level, Meaning, Outcome, apart, less, standing, start_point, run}
-use Rattle.typst_language.specs.declared.calls.Behind.{Behind}
+use Rattle.typst_language.specs.declared.calls.AfterName.{AfterName}
 use Rattle.typst_language.specs.Calls.{Call, Answer}
 use Rattle.typst_language.specs.Calls.Call.{MarkupExpr, CodeExpr, MathExpr, Pattern}
 use Rattle.typst_language.specs.Steps.{peek}
@@ -40,32 +40,32 @@ use Rattle.typst_language.specs.Noted.{listed}
 use Rattle.typst_code.specs.Outside.{Blocks}
 use Rattle.typst_grammar.specs.Grammar.{rules, production, meaning, level_at, max_depth, start_of, parsed, parsed_in, whole, whole_code, whole_math, whole_in, log}
 use Rattle.typst_grammar.specs.Read.{IsParsed}
-use Rattle.typst_grammar.specs.Told.{guesses, told_at}
+use Rattle.typst_grammar.specs.Guessing.{guesses, guessing_at}
 
-pub sound-at : (k : CharClasses) (levels : ℕ) → Sound (told_at k levels)
+pub sound-at : (k : CharClasses) (levels : ℕ) → Sound (guessing_at k levels)
 sound-at k levels = let s = sound-level (rules k) k levels in record { within = s.within; backs = s.backs; within_block = s.within_block; backs_block = s.backs_block }
 
--- what is told of first readings changes nothing that is read
-pub told-run : {A : Type 0} (k : CharClasses) (levels : ℕ) (p : Parser A) (z : Place) (s : Point) → run (told_at k levels) p z s ≡ run (level_at k levels) p z s
+-- what is known of first readings changes nothing that is read
+pub told-run : {A : Type 0} (k : CharClasses) (levels : ℕ) (p : Parser A) (z : Place) (s : Point) → run (guessing_at k levels) p z s ≡ run (level_at k levels) p z s
 told-run {A = A} k levels p z s = ap {A = Meaning A} {B = Outcome A} (λ m. m z s) (run-blind (guesses k) (level_at k levels) p)
 
 -- nor where no block may be read
-told-block : (k : CharClasses) (levels : ℕ) (p : Parser (Unit {0})) (z : Place) (s : Point) → run (apart (level_at k levels)) p z s ≡ run (apart (told_at k levels)) p z s
+told-block : (k : CharClasses) (levels : ℕ) (p : Parser (Unit {0})) (z : Place) (s : Point) → run (apart (level_at k levels)) p z s ≡ run (apart (guessing_at k levels)) p z s
 told-block k levels p z s = sym (ap {A = Meaning (Unit {0})} {B = Outcome (Unit {0})} (λ m. m z s) (run-blind (guesses k) (apart (level_at k levels)) p))
 
--- each block may be read there, and what is told of first readings is what they find
-pub blocks-at : (k : CharClasses) (levels : ℕ) → Blocks (told_at k levels)
+-- each block may be read there, and what is known of first readings is what they find
+pub blocks-at : (k : CharClasses) (levels : ℕ) → Blocks (guessing_at k levels)
 blocks-at k levels = record {
   content = record { has = refl; same = λ z s. told-block k levels (peek >> content_block) z s };
   code = record { has = refl; same = λ z s. told-block k levels (peek >> code_block) z s };
-  guess = λ z outer. ap {A = Outcome Behind} {B = Guess} (λ o. record { behind = o.value; asks = o.asks }) (sym (told-run k levels after_paren z _));
+  guess = λ z outer. ap {A = Outcome AfterName} {B = Guess} (λ o. record { after = o.value; asks = o.asks }) (sym (told-run k levels after_paren z _));
 }
 
 -- what is at hand doesn't depend on the level
-fits-level : (k : CharClasses) (i j : ℕ) {v : View} → Fits (told_at k i) v → Fits (told_at k j) v
+fits-level : (k : CharClasses) (i j : ℕ) {v : View} → Fits (guessing_at k i) v → Fits (guessing_at k j) v
 fits-level k i j c = record { known = c.known; hand = c.hand; own = c.own; here = c.here; there = c.there; log = c.log; knows = c.knows }
 
-pub makes-production : (k : CharClasses) (levels : ℕ) {call : Call} {a : Answer call} {old new : View} → Does (told_at k levels) (production k call) a old new → Makes (told_at k (suc levels)) call a old new
+pub makes-production : (k : CharClasses) (levels : ℕ) {call : Call} {a : Answer call} {old new : View} → Does (guessing_at k levels) (production k call) a old new → Makes (guessing_at k (suc levels)) call a old new
 unfolding meaning_of
 makes-production k levels {call = call} {a = a} {old = old} {new = new} h =
     let e : levels ≡ suc levels - 1 = omega arith in
@@ -83,14 +83,14 @@ calls-at l call r {w = w} {old = old} e f h = subst (λ (y : View). Calls l call
 
 -- calls fill a level where each gives what the level says
 pub fills-level : (k : CharClasses) (levels : ℕ) {f : Frame} → k ≡ f.classes → levels ≡ f.levels
-    → ((old new : View) (at_start : Bool) (nesting : ℕ) (r : Result ℕ AllocError) → f.gives (MarkupExpr at_start nesting) old r new → Calls (told_at k levels) (MarkupExpr at_start nesting) old r new)
-    → ((old new : View) (atomic : Bool) (least : ℕ) (r : Result (Unit {0}) AllocError) → f.gives (CodeExpr atomic least) old r new → Calls (told_at k levels) (CodeExpr atomic least) old r new)
-    → ((old new : View) (least : ℕ) (signs : ChainSet) (r : Result (Unit {0}) AllocError) → f.gives (MathExpr least signs) old r new → Calls (told_at k levels) (MathExpr least signs) old r new)
-    → ((old new : View) (role : Role) (names : List (List ℕ)) (r : Result (List (List ℕ)) AllocError) → f.gives (Pattern role names) old r new → Calls (told_at k levels) (Pattern role names) old r new)
-    → Fills (told_at k levels) f
+    → ((old new : View) (at_start : Bool) (nesting : ℕ) (r : Result ℕ AllocError) → f.gives (MarkupExpr at_start nesting) old r new → Calls (guessing_at k levels) (MarkupExpr at_start nesting) old r new)
+    → ((old new : View) (atomic : Bool) (least : ℕ) (r : Result (Unit {0}) AllocError) → f.gives (CodeExpr atomic least) old r new → Calls (guessing_at k levels) (CodeExpr atomic least) old r new)
+    → ((old new : View) (least : ℕ) (signs : ChainSet) (r : Result (Unit {0}) AllocError) → f.gives (MathExpr least signs) old r new → Calls (guessing_at k levels) (MathExpr least signs) old r new)
+    → ((old new : View) (role : Role) (names : List (List ℕ)) (r : Result (List (List ℕ)) AllocError) → f.gives (Pattern role names) old r new → Calls (guessing_at k levels) (Pattern role names) old r new)
+    → Fills (guessing_at k levels) f
 fills-level k levels {f = f} classes same markup code math pattern = record { classes = classes; sound = sound-at k levels; levels = same; reads = reads }
   where
-    reads : (old new : View) (call : Call) (r : Result (Answer call) AllocError) → f.gives call old r new → Calls (told_at k levels) call old r new
+    reads : (old new : View) (call : Call) (r : Result (Answer call) AllocError) → f.gives call old r new → Calls (guessing_at k levels) call old r new
     reads old new (MarkupExpr at_start nesting) r h = markup old new at_start nesting r h
     reads old new (CodeExpr atomic least) r h = code old new atomic least r h
     reads old new (MathExpr least signs) r h = math old new least signs r h
@@ -106,10 +106,10 @@ hinted-nil (h ∷ hs) = refl
 
 -- what the code read and noted from the start is what is read and noted of the text
 pub parsed-is : (k : CharClasses) (keeps : Bool) (text : List ℕ) (reading : Reading) (p : Parser (Unit {0})) (v w : View) → IsStart text reading keeps v
-    → Goes (told_at k max_depth) (Bare (told_at k max_depth)) (Fits (told_at k max_depth)) p tt v w → IsParsed keeps (chars text) (run (level_at k max_depth) p (start_of (chars text)) (start_point reading)) w
+    → Goes (guessing_at k max_depth) (Bare (guessing_at k max_depth)) (Fits (guessing_at k max_depth)) p tt v w → IsParsed keeps (chars text) (run (level_at k max_depth) p (start_of (chars text)) (start_point reading)) w
 parsed-is k keeps text reading p v w h d =
     let l = level_at k max_depth in
-    let bare : Bare (told_at k max_depth) v = record { known = ap (λ (s : Point). s.known) h.state; knows = knows-none h.memo } in
+    let bare : Bare (guessing_at k max_depth) v = record { known = ap (λ (s : Point). s.known) h.state; knows = knows-none h.memo } in
     let r : Runs max_depth (at l p v) tt v w = subst (λ (x : Outcome (Unit {0})). Runs max_depth x tt v w) (told-run k max_depth p v.place v.state) (d.ran bare).runs in
     let o = run l p (start_of (chars text)) (start_point reading) in
     let same : at l p v ≡ o = rw (h.place, h.state) refl in
@@ -121,7 +121,7 @@ parsed-is k keeps text reading p v w h d =
 
 -- the same of a text that is read in a mode
 pub parsed-in : (k : CharClasses) (keeps : Bool) (text : List ℕ) (m : SyntaxMode) (v w : View) → IsStart text (record { mode = m; at_newline = newline.Continue }) keeps v
-    → Goes (told_at k max_depth) (Bare (told_at k max_depth)) (Fits (told_at k max_depth)) (whole_in m) tt v w → IsParsed keeps (chars text) (parsed_in m k max_depth (chars text)) w
+    → Goes (guessing_at k max_depth) (Bare (guessing_at k max_depth)) (Fits (guessing_at k max_depth)) (whole_in m) tt v w → IsParsed keeps (chars text) (parsed_in m k max_depth (chars text)) w
 parsed-in k keeps text mode.Markup v w h d = parsed-is k keeps text markup_reading whole v w h d
 parsed-in k keeps text mode.Code v w h d = parsed-is k keeps text code_reading whole_code v w h d
 parsed-in k keeps text mode.Math v w h d = parsed-is k keeps text math_reading whole_math v w h d

@@ -51,7 +51,7 @@ module _ (k : CharClasses) where
   pub level-binds : {A : Type 0} (levels : ℕ) → CallsBind levels → (p : _) → Plain {A = A} p → AllBind (run (level_at k levels) p)
   level-binds levels d p w = binds-run (level_at k levels) d (blocks-bind levels d) p (plain-weaker tame_kind unbinary tame-unbinary p w)
 
-  -- an operand, and what binds less tightly behind it
+  -- an operand, and what binds less tightly after it
   abbrev pub Operands : ℕ → Meaning (Unit {0}) → Type 0
   Operands least m = (z : Place) (s : Point) → All Still (pending s.known) → Operand k least z s (m z s)
 

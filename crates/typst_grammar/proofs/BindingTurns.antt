@@ -8,6 +8,7 @@ use Rattle.typst_kinds.specs.declared.kind.SyntaxKind.TheVariants as kind
 use Rattle.typst_kinds.specs.declared.operator.BinOp.{BinOp}
 use Rattle.typst_kinds.specs.declared.operator.BinOp.TheVariants as binary
 use Rattle.typst_tree.specs.Tree.{Tree, forest, trees, inner_of}
+use Rattle.typst_tree.proofs.SpansAside.{trees_forest}
 use Rattle.typst_code.specs.declared.heads.CodeTail.{CodeTail}
 use Rattle.typst_code.specs.declared.heads.CodeTail.TheVariants as tail
 use Rattle.typst_code.specs.Arguments.{calls_directly}
@@ -18,10 +19,6 @@ use Rattle.typst_grammar.proofs.Fine.{All, or-left, or-right, or-both, and-both}
 use Rattle.typst_grammar.proofs.Heads.{LastIs}
 
 -- ---- children of a binary node
-
-trees-of : (ts : List Tree) → trees (forest ts) ≡ ts
-trees-of [] = refl
-trees-of (t ∷ ts) = ap (λ us. t ∷ us) (trees-of ts)
 
 abbrev pub BindsBy : ℕ → Tree → Type 0
 BindsBy n t = binds_by n t ≡ true
@@ -41,11 +38,11 @@ right-of n [] h = refl
 right-of n (r ∷ []) h = h
 right-of n (r ∷ v ∷ rs) h = right-of n (v ∷ rs) h
 
-last-behind : (n : ℕ) (ls : List Tree) (sgn : Tree) (rs : List Tree) → LastIs (Unit {0}) (BindsBy n) rs → BindsBy n sgn → LastIs (Unit {0}) (BindsBy n) (ls ++ sgn ∷ rs)
-last-behind n [] sgn [] h b = b
-last-behind n [] sgn (r ∷ rs) h b = h
-last-behind n (t ∷ []) sgn rs h b = last-behind n [] sgn rs h b
-last-behind n (t ∷ u ∷ ls) sgn rs h b = last-behind n (u ∷ ls) sgn rs h b
+last-after : (n : ℕ) (ls : List Tree) (sgn : Tree) (rs : List Tree) → LastIs (Unit {0}) (BindsBy n) rs → BindsBy n sgn → LastIs (Unit {0}) (BindsBy n) (ls ++ sgn ∷ rs)
+last-after n [] sgn [] h b = b
+last-after n [] sgn (r ∷ rs) h b = h
+last-after n (t ∷ []) sgn rs h b = last-after n [] sgn rs h b
+last-after n (t ∷ u ∷ ls) sgn rs h b = last-after n (u ∷ ls) sgn rs h b
 
 pub bare-binds : (n : ℕ) (t : Tree) → operator_of t ≡ None → BindsBy n t
 bare-binds n t e = rw (e, binds_by) refl
@@ -55,12 +52,12 @@ pub binary-binds : (op : BinOp) (ls : List Tree) (sgn : Tree) (rs : List Tree) �
     → (operator_of (inner_of kind.Binary (forest (ls ++ sgn ∷ rs))) ≡ Some op) × (node_binds (inner_of kind.Binary (forest (ls ++ sgn ∷ rs))) ≡ true)
 binary-binds op ls sgn rs s e none no_signs left right =
     let ts = ls ++ sgn ∷ rs in
-    let is : operator_of (inner_of kind.Binary (forest ts)) ≡ Some op = ap (first_sign false) (trees-of ts) ∙ s in
+    let is : operator_of (inner_of kind.Binary (forest ts)) ≡ Some op = ap (first_sign false) (trees_forest ts) ∙ s in
     let bare : (n : ℕ) → BindsBy n sgn = (λ n. bare-binds n sgn none) in
     let both : operands_bind op ts ≡ true = and-both (left_binds (binary_precedence op) ts) (right_binds (right_least op) ts)
     (left-is sgn rs (binary_precedence op) ls left (bare (binary_precedence op)) e)
-    (right-of (right_least op) ts (last-behind (right_least op) ls sgn rs right (bare (right_least op)))) in
-    (is, rw (is, node_binds) (ap (operands_bind op) (trees-of ts) ∙ both))
+    (right-of (right_least op) ts (last-after (right_least op) ls sgn rs right (bare (right_least op)))) in
+    (is, rw (is, node_binds) (ap (operands_bind op) (trees_forest ts) ∙ both))
 
 -- ---- errors
 

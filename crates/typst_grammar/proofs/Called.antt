@@ -1,4 +1,4 @@
--- Arguments directly behind what is called.
+-- Arguments directly after what is called.
 use Rattle.std.proofs.Common.{◌≡◌, ℕ, ◌+◌, ◌≤◌, ◌<◌, Bool, true, false, not, ◌&&◌, ◌||◌, if◌then◌else◌, nat_lt, List, [], ◌++◌, length, take, Some, refl, ap, sym, ◌∙◌, subst, arith}
 use Rattle.typst_kinds.specs.Kinds.{same}
 use Rattle.typst_kinds.specs.declared.kind.SyntaxKind.{SyntaxKind}
@@ -11,7 +11,7 @@ use Rattle.typst_language.specs.declared.calls.Block.TheVariants as block
 use Rattle.typst_code.specs.Arguments.{argument_list, arguments, begin_arguments, calls_directly, content_turn, listed_arguments, missing_arguments, opens_arguments}
 use Rattle.typst_language.specs.Depth.{is_end}
 use Rattle.typst_code.specs.Expressions.{call_tail}
-use Rattle.typst_language.specs.Hand.{Hand, AtHand, told}
+use Rattle.typst_language.specs.Hand.{Hand, AtHand, as_at_hand}
 use Rattle.typst_language.specs.Point.{Point, is_nil, pending}
 use Rattle.typst_language.specs.Shape.{hinted, becomes, encloses}
 use Rattle.typst_language.specs.Sound.{Tidy, Backs}
@@ -48,7 +48,7 @@ takes-of n o h some = record { none = h.none; room = h.room; first = h.first; ta
 takes-joined : {A B : Type 0} (n : ℕ) (o : Outcome B) (q : Outcome A) → Takes n o → Tidy o.state q → Takes n (joined o q)
 takes-joined n o q h t = let some = h.taken in takes-of n (joined o q) (leads-joined n o q (leads-of n o h) t) (omega (arith, some))
 
--- behind what gives nothing
+-- after what gives nothing
 takes-after : {A B : Type 0} (n : ℕ) (o : Outcome B) (q : Outcome A) → o.nodes ≡ [] → o.back ≡ 0 → Takes n q → Takes n (joined o q)
 takes-after n o q e f h =
     let same = ap (λ ts. hinted q.hints (less q.back ts) ++ q.nodes) e ∙ standing-none q in
@@ -102,13 +102,13 @@ module _ (k : CharClasses) (levels : ℕ) where
     leads-at s o a x = subst (λ (v : Hand). Leads (length v.trivia) o) a.hand x
 
     abbrev look : Point → Outcome AtHand
-    look s = record (plain (told (hand_of l w s)) (next_of s)) { asks = hand_asks_of l w s }
+    look s = record (plain (as_at_hand (hand_of l w s)) (next_of s)) { asks = hand_asks_of l w s }
 
     takes-look : {A : Type 0} (s : Point) (o : Outcome A) → Takes n o → Takes n (joined (look s) o)
     takes-look s o x = takes-after n (look s) o refl refl x
 
     looked-nodes : {A : Type 0} (s : Point) (a : A) → (joined (look s) (plain a (next_of s))).nodes ≡ []
-    looked-nodes s a = (exact-joined (look s) (plain a (next_of s)) [] [] (exact-plain (told (hand_of l w s)) (next_of s) (hand_asks_of l w s)) (exact-plain a (next_of s) [])).nodes
+    looked-nodes s a = (exact-joined (look s) (plain a (next_of s)) [] [] (exact-plain (as_at_hand (hand_of l w s)) (next_of s) (hand_asks_of l w s)) (exact-plain a (next_of s) [])).nodes
 
     -- a content block
     content-by : (s : Point) → At s → (b : Bool) → b ≡ true → Takes {A = Bool × Unit {0}} n (joined (look s) (if b then run l (read_block block.Content >> gives (true, tt)) w (next_of s) else plain (false, tt) (next_of s)))
@@ -141,14 +141,14 @@ module _ (k : CharClasses) (levels : ℕ) where
         (takes-joined n o rest x (backs-turns m (λ v. tidy (content_turn v)) (bound w s) o.value.1 (moved o.taken w) o.state))
         (record { none = x.none; room = x.room; first = x.first; taken = x.taken })
 
-    abbrev behind_list : Bool → Parser Bool
-    behind_list closed = repeat content_turn tt >>= λ _. gives closed
+    abbrev after_list : Bool → Parser Bool
+    after_list closed = repeat content_turn tt >>= λ _. gives closed
 
     moves-list : Moves l argument_list
     unfolding argument_list
     moves-list = moves-within l _ _ (moves-next l _ _ (moves-eat l))
 
-    listed-by : (s : Point) → At s → (b : Bool) → same kind.LeftParen h.kind ≡ b → Takes n (followed (joined (look s) (if b then run l argument_list w (next_of s) else plain true (next_of s))) (λ v. run l (behind_list v)) w)
+    listed-by : (s : Point) → At s → (b : Bool) → same kind.LeftParen h.kind ≡ b → Takes n (followed (joined (look s) (if b then run l argument_list w (next_of s) else plain true (next_of s))) (λ v. run l (after_list v)) w)
     unfolding run
     listed-by s a true f =
         let t = next_of s in
@@ -156,7 +156,7 @@ module _ (k : CharClasses) (levels : ℕ) where
         let o = run l argument_list w t in
         let q = joined (look s) o in
         let first = takes-look s o (takes-of n o (leads-at t o x (fills-arguments l (calls-back k levels) (blocks-back k levels) w t x.still)) (moves-list w t (some t x))) in
-        takes-joined n q (run l (behind_list q.value) (moved q.taken w) q.state) first (tidy (behind_list q.value) (moved q.taken w) q.state)
+        takes-joined n q (run l (after_list q.value) (moved q.taken w) q.state) first (tidy (after_list q.value) (moved q.taken w) q.state)
     listed-by s a false f =
         let t = next_of s in
         let x = at-next s a in
@@ -165,7 +165,7 @@ module _ (k : CharClasses) (levels : ℕ) where
         (takes-joined n o (plain true o.state) (takes-contents t x f) (record { back = omega arith; left = omega arith }))
 
     abbrev inner : Parser Bool
-    inner = listed_arguments >>= behind_list
+    inner = listed_arguments >>= after_list
 
     takes-inner : (s : Point) → At s → Takes n (run l inner w s)
     unfolding run listed_arguments

@@ -24,9 +24,9 @@ use Rattle.typst_language.proofs.Ends.{hand-again}
 use Rattle.typst_code.specs.Markup.{content_block}
 use Rattle.typst_code.specs.Starts.{begins_code}
 use Rattle.typst_code.specs.Equations.{between_dollars, equation}
-use Rattle.typst_language.specs.declared.calls.Behind.{Behind}
+use Rattle.typst_language.specs.declared.calls.AfterName.{AfterName}
 use Rattle.typst_code.specs.Bindings.{let_binding}
-use Rattle.typst_code.specs.Closures.{behind_name, behind_underscore, headed, name_shape, named, placeholder, underscore_shape}
+use Rattle.typst_code.specs.Closures.{after_name, after_underscore, headed, name_shape, named, placeholder, underscore_shape}
 use Rattle.typst_code.specs.Params.{params}
 use Rattle.typst_code.specs.Patterns.{destructuring}
 use Rattle.typst_code.specs.Parens.{as_group, either_reading, parens, readings}
@@ -79,16 +79,16 @@ module _ (l : Level) where
   unfolding parens
   moves-parens = moves-next l _ _ (moves-node l _ _ (moves-next l readings _ moves-readings))
 
-  moves-headed : (what : SyntaxKind → Behind) (shape : Behind → Shape) → Moves l (headed what shape)
+  moves-headed : (what : SyntaxKind → AfterName) (shape : AfterName → Shape) → Moves l (headed what shape)
   moves-headed what shape = moves-next l _ _ (moves-node l _ _ (moves-next l _ _ (moves-node l _ _ (eats-first _))))
 
   moves-named : Moves l named
   unfolding named
-  moves-named = moves-headed behind_name name_shape
+  moves-named = moves-headed after_name name_shape
 
   moves-placeholder : Moves l placeholder
   unfolding placeholder
-  moves-placeholder = moves-headed behind_underscore underscore_shape
+  moves-placeholder = moves-headed after_underscore underscore_shape
 
   moves-let : Moves l let_binding
   unfolding let_binding

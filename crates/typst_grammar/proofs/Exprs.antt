@@ -15,7 +15,7 @@ use Rattle.typst_language.specs.Syntax.{◌>>◌}
 use Rattle.typst_language.specs.Syntax.Parser.{gives, repeat}
 use Rattle.typst_language.specs.Expected.{expect_identifier}
 use Rattle.typst_code.specs.Expressions.{binary_expr, call_tail, code_expr, code_primary, code_tail, code_tail_turn, direct_field, not_in, tail_by}
-use Rattle.typst_language.specs.Hand.{Hand, told}
+use Rattle.typst_language.specs.Hand.{Hand, as_at_hand}
 use Rattle.typst_language.specs.Point.{Point, pending}
 use Rattle.typst_language.specs.Shape.{Shape, shaped}
 use Rattle.typst_language.specs.Shape.Shape.{fails}
@@ -32,7 +32,7 @@ use Rattle.typst_grammar.proofs.FineRuns.{if_by, Gives, gives-all, gives-run, Pl
 use Rattle.typst_grammar.proofs.Heads.{LastIs, standing-none}
 use Rattle.typst_grammar.proofs.PlainParts.{plain-eat, plain-expected, plain-deep, plain-deeper}
 use Rattle.typst_grammar.proofs.PlainCode.{plain-field, plain-call, plain-primary}
-use Rattle.typst_grammar.proofs.Grown.{errors-behind, kind_at, Ended, Grown, Operand, operand-growths}
+use Rattle.typst_grammar.proofs.Grown.{errors-after, kind_at, Ended, Grown, Operand, operand-growths}
 use Rattle.typst_grammar.proofs.BindingLevels.{CallsBind, DeeperOperands, level-binds}
 use Rattle.typst_grammar.proofs.Lost.{Holds, Lost, operand-lost}
 use Rattle.typst_grammar.proofs.Primary.{primary-begins}
@@ -129,9 +129,9 @@ ordinary-expr least = (
 
 -- ---- expressions
 
--- behind a look
-operand-behind : (k : CharClasses) (least : ℕ) {A B : Type 0} (z : Place) (s t : Point) (b : B) (asks : List _) (m : Bool) (o : Outcome A) → t.is_after_error ≡ s.is_after_error → Operand k least z t o → Operand k least z s (joined (record (plain b t) { asks = asks; met = m }) o)
-operand-behind k least z s t b asks m o e h =
+-- after a look
+operand-after : (k : CharClasses) (least : ℕ) {A B : Type 0} (z : Place) (s t : Point) (b : B) (asks : List _) (m : Bool) (o : Outcome A) → t.is_after_error ≡ s.is_after_error → Operand k least z t o → Operand k least z s (joined (record (plain b t) { asks = asks; met = m }) o)
+operand-after k least z s t b asks m o e h =
     let e2 = standing-none o in
     let same : 0 + o.taken ≡ o.taken = omega arith in
     let there = ap (λ (n : ℕ). kind_at k least (moved n z) o.state) same in
@@ -167,7 +167,7 @@ module _ (k : CharClasses) (levels : ℕ) (d : CallsBind k levels) (ops : Deeper
       let n = length h.trivia in
       let begun = subst (λ (v : Hand). Grown k least (length v.trivia) z t o ⊎ Lost k least (length v.trivia) z t o) (hand-again k s.held s.known z) first in
       let within = (sane-at (rules k) k levels (code_primary false)).within z t in
-      operand-behind k least z s t (told h) (hand_asks_of l z s) false (growths turns_by n (suc (bound z t)) o z) refl (grown-operand z t n o (omega (arith, within)) begun)
+      operand-after k least z s t (as_at_hand h) (hand_asks_of l z s) false (growths turns_by n (suc (bound z t)) o z) refl (grown-operand z t n o (omega (arith, within)) begun)
 
 -- ---- one level deeper
 
@@ -177,7 +177,7 @@ module _ (k : CharClasses) where
 
   by-depth : (least : ℕ) (z : Place) (s : Point) (a : Outcome (Unit {0})) (c : Outcome (Unit {0})) → Operand k least z s c → (b : Bool) → b ≡ false → Operand k least z s (joined (record (plain b s) { met = b }) (if b then a else c))
   by-depth least z s a c h true e = absurd (cc)
-  by-depth least z s a c h false e = operand-behind k least z s s false [] false c refl h
+  by-depth least z s a c h false e = operand-after k least z s s false [] false c refl h
 
   call-binds : (levels : ℕ) (d : CallsBind k levels) → DeeperOperands k levels → (least : ℕ) (z : Place) (s : Point) → All Still (pending s.known) → Operand k least z s (deeper_by_one (meaning_of (rules k) k (suc levels) (CodeExpr false least) z s))
   unfolding meaning_of
@@ -199,12 +199,12 @@ module _ (k : CharClasses) where
       let y = run l (too_deep anywhere) z s in
       let inner : x.nodes ≡ w.nodes = standing-none (joined w (plain o.value w.state)) ∙ sym (no-end w.nodes) in
       let all : (run l (too_deep anywhere >> gives (tt {0})) z s).nodes ≡ w.nodes = sym (no-end y.nodes) ∙ sym (no-end x.nodes) ∙ inner in
-      let last = errors-behind (take (n + o.back) o.nodes) (shaped (fails (codes "maximum parsing depth exceeded")) (inside n o)) (subst (λ (ts : List Tree). any_errors (forest ts) ≡ false) all sane) in
+      let last = errors-after (take (n + o.back) o.nodes) (shaped (fails (codes "maximum parsing depth exceeded")) (inside n o)) (subst (λ (ts : List Tree). any_errors (forest ts) ≡ false) all sane) in
       cc
 
   pub limit-binds : CallsBind k 0 → DeeperOperands k 0
   unfolding run deeper
   limit-binds d least z s still =
       let l = level_at k 0 in
-      operand-behind k least z s s true [] true (run l (too_deep anywhere >> gives (tt {0})) z s) refl
+      operand-after k least z s s true [] true (run l (too_deep anywhere >> gives (tt {0})) z s) refl
       (record { binds = level-binds k 0 d (too_deep anywhere >> gives (tt {0})) (plain-deep anywhere, λ _. tt) z s still; last = λ sane. absurd (too-wrong z s sane) })

@@ -1,5 +1,6 @@
 -- Trees that bind where they have no errors.
 use Rattle.std.proofs.Common.{◌≡◌, ℕ, zero, suc, Bool, true, false, ◌&&◌, ◌||◌, if◌then◌else◌, List, [], ◌∷◌, ◌++◌, take, drop, None, refl, ap, sym, subst, ◌⊎◌, inl, inr}
+use Rattle.std.proofs.lemmas.Bool.{and_parts}
 use Rattle.typst_kinds.specs.Kinds.{same, is_error}
 use Rattle.typst_kinds.specs.Names.{name_of}
 use Rattle.typst_kinds.specs.declared.kind.SyntaxKind.{SyntaxKind}
@@ -8,9 +9,10 @@ use Rattle.typst_tree.specs.Diagnostic.{hint_with}
 use Rattle.typst_tree.specs.Messages.{made_unexpected, made_expected, expected_error, expected_message, unexpected_message, is_lost_name, keyword_hint}
 use Rattle.typst_tree.specs.Tree.{Tree, Forest, forest, trees, text_of, leaf_of, inner_of, error_of, topped, with_kind, made_error, advised, all_advised}
 use Rattle.typst_tree.specs.Tree.Forest.{none, more}
-use Rattle.typst_language.specs.Shape.{Making, made, hinted_last, hinted, Change, is_delimited, in_parens, renamed_last, parens_renamed, without_parens, on_first, first_changed, Shape, shaped}
+use Rattle.typst_tree.proofs.SpansAside.{forest_trees}
+use Rattle.typst_language.specs.Shape.{Making, made, hinted_last, hinted, NodeChange, is_delimited, in_parens, renamed_last, parens_renamed, without_parens, on_first, first_changed, Shape, shaped}
 use Rattle.typst_language.specs.Shape.Making.{itself, of_kind, surprise, wanted}
-use Rattle.typst_language.specs.Shape.Change.{stays, turns_wrong, is_not, renamed, unparened}
+use Rattle.typst_language.specs.Shape.NodeChange.{stays, turns_wrong, is_not, renamed, unparened}
 use Rattle.typst_language.specs.Shape.Shape.{keeps, holds, lacks, warns, fails}
 use Rattle.typst_language.proofs.Within.{on_both, on_if}
 pub use Rattle.typst_grammar.proofs.Lists.{All, all-append, all-take, all-drop, all-map}
@@ -29,14 +31,6 @@ or-right false b h = h
 pub or-both : (a b : Bool) → a ≡ false → b ≡ false → (a || b) ≡ false
 or-both true b h i = absurd (cc)
 or-both false b h i = i
-
-pub and-left : (a b : Bool) → (a && b) ≡ true → a ≡ true
-and-left true b h = refl
-and-left false b h = absurd (cc)
-
-pub and-right : (a b : Bool) → (a && b) ≡ true → b ≡ true
-and-right true b h = h
-and-right false b h = absurd (cc)
 
 pub and-both : (a b : Bool) → a ≡ true → b ≡ true → (a && b) ≡ true
 and-both true b h i = i
@@ -81,8 +75,8 @@ all-bind-fine (t ∷ ts) h e =
     let r = any_errors (forest ts) in
     let e2 = or-right k (a || r) e in
     let f = h.0 (or-both k a (or-left k (a || r) e) (or-left a r e2)) in
-    and-both (node_binds t) (all_bind t.kids && all_bind (forest ts)) (and-left (node_binds t) (all_bind t.kids) f)
-    (and-both (all_bind t.kids) (all_bind (forest ts)) (and-right (node_binds t) (all_bind t.kids) f) (all-bind-fine ts h.1 (or-right a r e2)))
+    and-both (node_binds t) (all_bind t.kids && all_bind (forest ts)) (and_parts (node_binds t) (all_bind t.kids) f).0
+    (and-both (all_bind t.kids) (all_bind (forest ts)) (and_parts (node_binds t) (all_bind t.kids) f).1 (all-bind-fine ts h.1 (or-right a r e2)))
 
 -- an inner node over them that is no binary one
 pub fine-inner : (k : SyntaxKind) (ts : List Tree) → same kind.Binary k ≡ false → All Fine ts → Fine (inner_of k (forest ts))
@@ -154,7 +148,7 @@ module _ (k : SyntaxKind) (e : same kind.Binary k ≡ false) (t : Tree) where
   renamed-to = topped t (record t.head { kind = k })
 
   binds-renamed : binds t ≡ true → binds renamed-to ≡ true
-  binds-renamed b = and-both (node_binds renamed-to) (all_bind t.kids) (binds-bare renamed-to (no-operator renamed-to e)) (and-right (node_binds t) (all_bind t.kids) b)
+  binds-renamed b = and-both (node_binds renamed-to) (all_bind t.kids) (binds-bare renamed-to (no-operator renamed-to e)) (and_parts (node_binds t) (all_bind t.kids) b).1
 
   pub binds-kind : binds t ≡ true → binds (with_kind k t) ≡ true
   binds-kind b = on_both (λ (u : Tree). binds u ≡ true) (is_error t.head.kind) t renamed-to b (binds-renamed b)
@@ -198,10 +192,10 @@ kept-first t u ts us e b h = (
       (let x = node_binds t in
       let a = all_bind t.kids in
       let r = all_bind (forest ts) in
-      let n2 = and-right x (a && r) n in
-      let new = b (and-both x a (and-left x (a && r) n) (and-left a r n2)) in
-      and-both (node_binds u) (all_bind u.kids && all_bind (forest us)) (and-left (node_binds u) (all_bind u.kids) new)
-      (and-both (all_bind u.kids) (all_bind (forest us)) (and-right (node_binds u) (all_bind u.kids) new) (h.1 (and-right a r n2)))),
+      let n2 = (and_parts x (a && r) n).1 in
+      let new = b (and-both x a (and_parts x (a && r) n).0 (and_parts a r n2).0) in
+      and-both (node_binds u) (all_bind u.kids && all_bind (forest us)) (and_parts (node_binds u) (all_bind u.kids) new).0
+      (and-both (all_bind u.kids) (all_bind (forest us)) (and_parts (node_binds u) (all_bind u.kids) new).1 (h.1 (and_parts a r n2).1))),
 )
 
 kept-last : (k : SyntaxKind) → same kind.Binary k ≡ false → (ts : List Tree) → Kept ts (renamed_last k ts)
@@ -212,10 +206,6 @@ kept-last k e (t ∷ u ∷ ts) = kept-first t t (u ∷ ts) (renamed_last k (u �
 kept-parens : (ts : List Tree) → Kept ts (parens_renamed ts)
 kept-parens [] = (λ n. n, λ n. n)
 kept-parens (t ∷ ts) = kept-first t (with_kind kind.LeftParen t) ts (renamed_last kind.RightParen ts) (errors-kind kind.LeftParen refl t) (binds-kind kind.LeftParen refl t) (kept-last kind.RightParen refl ts)
-
-trees-forest : (f : Forest) → forest (trees f) ≡ f
-trees-forest none = refl
-trees-forest (more h ks r) = ap (more h ks) (trees-forest r)
 
 delimited-sound : (k : SyntaxKind) → is_delimited k ≡ true → is_error k ≡ false
 delimited-sound kind.MathDelimited h = refl
@@ -228,16 +218,16 @@ fine-parens t h =
     on_if Fine (is_delimited t.head.kind && in_parens ts) new t
     (λ d n.
     (let k = kept-parens ts in
-    let same-kids = trees-forest t.kids in
+    let same-kids = forest_trees t.kids in
     let old = subst (λ (f : Forest). any_errors f ≡ false) same-kids (k.0 n) in
-    let b = h (or-both (is_error t.head.kind) (any_errors t.kids) (delimited-sound t.head.kind (and-left (is_delimited t.head.kind) (in_parens ts) d)) old) in
-    k.1 (subst (λ (f : Forest). all_bind f ≡ true) (sym same-kids) (and-right (node_binds t) (all_bind t.kids) b))))
+    let b = h (or-both (is_error t.head.kind) (any_errors t.kids) (delimited-sound t.head.kind (and_parts (is_delimited t.head.kind) (in_parens ts) d).0) old) in
+    k.1 (subst (λ (f : Forest). all_bind f ≡ true) (sym same-kids) (and_parts (node_binds t) (all_bind t.kids) b).1)))
     (λ _. h)
 
 -- ---- what becomes of several nodes
 
 -- what this allows of the kinds that are made
-abbrev pub change_by : (SyntaxKind → Bool) → Change → Bool
+abbrev pub change_by : (SyntaxKind → Bool) → NodeChange → Bool
 change_by allows (renamed k) = allows k
 change_by allows _ = true
 
@@ -267,7 +257,7 @@ is_ordinary _ = true
 abbrev pub tame_kind : SyntaxKind → Bool
 tame_kind k = is_ordinary k && unbinary k
 
-abbrev pub tame_change : Change → Bool
+abbrev pub tame_change : NodeChange → Bool
 tame_change change = change_by tame_kind change
 
 abbrev pub tame : Shape → Bool
@@ -277,10 +267,10 @@ abbrev pub tame_making : Making → Bool
 tame_making making = making_by tame_kind making
 
 pub tame-unbinary : (k : SyntaxKind) → tame_kind k ≡ true → unbinary k ≡ true
-tame-unbinary k h = and-right (is_ordinary k) (unbinary k) h
+tame-unbinary k h = (and_parts (is_ordinary k) (unbinary k) h).1
 
 pub tame-ordinary : (k : SyntaxKind) → tame_kind k ≡ true → is_ordinary k ≡ true
-tame-ordinary k h = and-left (is_ordinary k) (unbinary k) h
+tame-ordinary k h = (and_parts (is_ordinary k) (unbinary k) h).0
 
 pub is-unbinary : (k : SyntaxKind) → unbinary k ≡ true → same kind.Binary k ≡ false
 is-unbinary k h = by-test (same kind.Binary k) h
@@ -291,7 +281,7 @@ is-unbinary k h = by-test (same kind.Binary k) h
 
 -- what allows more
 module _ (f g : SyntaxKind → Bool) (more : (k : SyntaxKind) → f k ≡ true → g k ≡ true) where
-  change-weaker : (change : Change) → change_by f change ≡ true → change_by g change ≡ true
+  change-weaker : (change : NodeChange) → change_by f change ≡ true → change_by g change ≡ true
   change-weaker stays h = refl
   change-weaker (turns_wrong message) h = refl
   change-weaker (is_not thing) h = refl
@@ -300,7 +290,7 @@ module _ (f g : SyntaxKind → Bool) (more : (k : SyntaxKind) → f k ≡ true �
 
   pub shape-weaker : (shape : Shape) → shape_by f shape ≡ true → shape_by g shape ≡ true
   shape-weaker (keeps change) h = change-weaker change h
-  shape-weaker (holds change k) h = and-both (change_by g change) (g k) (change-weaker change (and-left (change_by f change) (f k) h)) (more k (and-right (change_by f change) (f k) h))
+  shape-weaker (holds change k) h = and-both (change_by g change) (g k) (change-weaker change (and_parts (change_by f change) (f k) h).0) (more k (and_parts (change_by f change) (f k) h).1)
   shape-weaker (lacks count message k) h = more k h
   shape-weaker (warns k message hint) h = more k h
   shape-weaker (fails message) h = refl
@@ -330,14 +320,14 @@ wrong-kind k t e = on_if Wrong (is_error t.head.kind) t (topped t (record t.head
 wrong-parens : (t : Tree) → Wrong t → Wrong (without_parens t)
 wrong-parens t e =
     on_if Wrong (is_delimited t.head.kind && in_parens (trees t.kids)) _ t
-    (λ d. let x = delimited-sound t.head.kind (and-left (is_delimited t.head.kind) (in_parens (trees t.kids)) d) in absurd (cc)) (λ _. e)
+    (λ d. let x = delimited-sound t.head.kind (and_parts (is_delimited t.head.kind) (in_parens (trees t.kids)) d).0 in absurd (cc)) (λ _. e)
 
 fines-first : (f : Tree → Tree) → ((t : Tree) → Fine t → Fine (f t)) → ((t : Tree) → Wrong t → Wrong (f t)) → (ts : List Tree) → Fines ts → Fines (on_first f ts)
 fines-first f g w [] h = tt
 fines-first f g w (t ∷ ts) (x, inl e) = (g t x, inl (w t e))
 fines-first f g w (t ∷ ts) (x, inr h) = (g t x, inr h)
 
-fines-change : (change : Change) (ts : List Tree) → change_by unbinary change ≡ true → Fines ts → Fines (first_changed change ts)
+fines-change : (change : NodeChange) (ts : List Tree) → change_by unbinary change ≡ true → Fines ts → Fines (first_changed change ts)
 fines-change stays ts e h = h
 fines-change (turns_wrong message) ts e h = fines-first (made_error message) (fine-wrong message) (wrong-wrong message) ts h
 fines-change (is_not thing) ts e h = fines-first (made_expected thing) (fine-wanted thing) (wrong-wanted thing) ts h
@@ -347,21 +337,21 @@ fines-change unparened ts e h = fines-first without_parens fine-parens wrong-par
 fines-shaped : (shape : Shape) (ts : List Tree) → shape_by unbinary shape ≡ true → Fines ts → Fines (shaped shape ts)
 fines-shaped (keeps change) ts e h = fines-change change ts e h
 fines-shaped (holds change k) ts e h =
-    (fine-over k (first_changed change ts) (is-unbinary k (and-right (change_by unbinary change) (unbinary k) e)) (fines-change change ts (and-left (change_by unbinary change) (unbinary k) e) h), inr tt)
+    (fine-over k (first_changed change ts) (is-unbinary k (and_parts (change_by unbinary change) (unbinary k) e).1) (fines-change change ts (and_parts (change_by unbinary change) (unbinary k) e).0 h), inr tt)
 fines-shaped (lacks count message k) ts e h =
     (fine-over k (take count ts ++ error_of message [] ∷ drop count ts) (is-unbinary k e) (fines-append (take count ts) (error_of message [] ∷ drop count ts) (fines-take count ts h) (fine-error message [], inl refl)), inr tt)
 fines-shaped (warns k message hint) ts e h = (fine-over k ts (is-unbinary k e) h, inr tt)
 fines-shaped (fails message) ts e h = (λ n. absurd (cc), inl refl)
 
 -- what stands before them stays
-pub fines-behind : (m : ℕ) (ts us : List Tree) → Fines ts → (Fines (drop m ts) → Fines us) → Fines (take m ts ++ us)
-fines-behind zero ts us h f = f h
-fines-behind (suc m) [] us h f = f tt
-fines-behind (suc m) (t ∷ ts) us (x, inl e) f = (x, inl e)
-fines-behind (suc m) (t ∷ ts) us (x, inr h) f = (x, inr (fines-behind m ts us h f))
+pub fines-after : (m : ℕ) (ts us : List Tree) → Fines ts → (Fines (drop m ts) → Fines us) → Fines (take m ts ++ us)
+fines-after zero ts us h f = f h
+fines-after (suc m) [] us h f = f tt
+fines-after (suc m) (t ∷ ts) us (x, inl e) f = (x, inl e)
+fines-after (suc m) (t ∷ ts) us (x, inr h) f = (x, inr (fines-after m ts us h f))
 
 pub fines-reshaped : (m : ℕ) (shape : Shape) (ts : List Tree) → shape_by unbinary shape ≡ true → Fines ts → Fines (take m ts ++ shaped shape (drop m ts))
-fines-reshaped m shape ts e h = fines-behind m ts (shaped shape (drop m ts)) h (fines-shaped shape (drop m ts) e)
+fines-reshaped m shape ts e h = fines-after m ts (shaped shape (drop m ts)) h (fines-shaped shape (drop m ts) e)
 
 -- ---- what becomes of a token
 

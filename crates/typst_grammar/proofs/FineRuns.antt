@@ -1,5 +1,6 @@
 -- Parsers that give trees which bind where they have no errors: the words of the language.
 use Rattle.std.proofs.Common.{◌≡◌, ℕ, zero, suc, ◌+◌, ◌-◌, Bool, true, false, if◌then◌else◌, nat_lt, List, [], ◌∷◌, ◌++◌, length, take, drop, Option, Some, None, refl, ap, sym, subst, encode_utf8_all, ◌==◌, ◌&&◌, inl, inr}
+use Rattle.std.proofs.lemmas.Bool.{and_parts}
 use Rattle.std.specs.Prelude.{codes}
 use Rattle.typst_lines.specs.Classes.{CharClasses}
 use Rattle.typst_kinds.specs.Kinds.{same, is_error, is_trivia}
@@ -10,7 +11,7 @@ use Rattle.typst_lines.specs.Place.{Place, moved}
 use Rattle.typst_tree.specs.Diagnostic.{hint_with}
 use Rattle.typst_tree.specs.Tree.{Tree, leaf_of, error_of, advised, all_advised}
 use Rattle.typst_language.specs.Raw.{raw_node, delimited_node, closed_node, block_node, inline_node, delimited, two_delimiters, tag_leaves, is_pair, before_ticks, ticks}
-use Rattle.typst_language.specs.RawLines.{leaf, Row, trimmed, first_line, later_rows, is_blank, dedent, front, closing, line_leaves, first_leaves, block_of, block_leaves, inline_leaves}
+use Rattle.typst_language.specs.RawLines.{leaf, RawLine, trimmed, first_line, later_lines, is_blank, dedent, front, closing, line_leaves, first_leaves, block_of, block_leaves, inline_leaves}
 use Rattle.typst_language.specs.RawTag.{tag, warned, is_whole, only_tag}
 use Rattle.typst_language.specs.Faults.{hints, message}
 use Rattle.typst_language.specs.Fields.{field_node, fields_node, name_node, named_node, names_of, access_node}
@@ -33,7 +34,7 @@ use Rattle.typst_language.specs.Meaning.{Outcome, Meaning, Level, less, joined, 
 use Rattle.typst_language.proofs.Within.{on_both, on_if}
 use Rattle.typst_grammar.specs.Binding.{has_errors, operator_of}
 use Rattle.typst_grammar.proofs.Signs.{sign_of}
-use Rattle.typst_grammar.proofs.Fine.{All, Fine, Fines, fines-all, fines-append, fines-take, fines-hinted, fines-reshaped, and-left, all-append, fine-inner, fine-error, fine-leaf, fine-made, no-operator, shape_by, making_by, unbinary, tame_kind, shape-weaker, making-weaker}
+use Rattle.typst_grammar.proofs.Fine.{All, Fine, Fines, fines-all, fines-append, fines-take, fines-hinted, fines-reshaped, all-append, fine-inner, fine-error, fine-leaf, fine-made, no-operator, shape_by, making_by, unbinary, tame_kind, shape-weaker, making-weaker}
 
 -- ---- nodes of tokens
 
@@ -67,7 +68,7 @@ fine-trimmed : (cs : List ℕ) → All Fine (trimmed cs)
 fine-trimmed [] = tt
 fine-trimmed (c ∷ cs) = (λ n. refl, tt)
 
-fine-lines : (d : ℕ) (held : List ℕ) (rs : List Row) (closing : List ℕ) → All Fine (line_leaves d held rs closing)
+fine-lines : (d : ℕ) (held : List ℕ) (rs : List RawLine) (closing : List ℕ) → All Fine (line_leaves d held rs closing)
 fine-lines d held [] closing = fine-trimmed (held ++ closing)
 fine-lines d held (r ∷ rs) closing = (λ n. refl, (λ n. refl, fine-lines d [] rs closing))
 
@@ -77,14 +78,14 @@ fine-start (c ∷ cs) = on_both (All Fine) (c == 32) _ _ (λ n. refl, (λ n. ref
 
 fine-block : (cs : List ℕ) → All Fine (block_leaves cs)
 unfolding block_leaves
-fine-block cs = by-parts (dedent cs) (first_line (front cs)) (later_rows (front cs)) (closing cs)
+fine-block cs = by-parts (dedent cs) (first_line (front cs)) (later_lines (front cs)) (closing cs)
   where
-    by-parts : (d : ℕ) (first : List ℕ) (rs : List Row) (closing : List ℕ) → All Fine (block_of d first rs closing)
+    by-parts : (d : ℕ) (first : List ℕ) (rs : List RawLine) (closing : List ℕ) → All Fine (block_of d first rs closing)
     by-parts d first rs closing = on_both (All Fine) (is_blank first) _ _ (fine-lines d first rs closing) (all-append Fine (first_leaves first) (line_leaves d [] rs closing) (fine-start first) (fine-lines d [] rs closing))
 
 fine-inline : (cs : List ℕ) → All Fine (inline_leaves cs)
 unfolding inline_leaves
-fine-inline cs = (λ n. refl, fine-lines 0 [] (later_rows cs) [])
+fine-inline cs = (λ n. refl, fine-lines 0 [] (later_lines cs) [])
 
 fine-tag : (cs : List ℕ) → All Fine (tag_leaves cs)
 fine-tag [] = tt
@@ -162,7 +163,7 @@ still-ahead k m (suc n) z =
     let l = len_at k m z in
     let node = token_node k t (take l z.ahead) in
     on_if (λ (a : Ahead). All Still a.trivia) (at_trivia k m z) (after_trivia t l node (ahead_by k m n (moved l z))) (direct t l)
-    (λ e. (still-token k t (take l z.ahead) (and-left (is_trivia t.kind) (nat_lt 0 l) e), still-ahead k m n (moved l z))) (λ e. tt)
+    (λ e. (still-token k t (take l z.ahead) (and_parts (is_trivia t.kind) (nat_lt 0 l) e).0, still-ahead k m n (moved l z))) (λ e. tt)
 
 still-known : (k : CharClasses) (held : Reading) (known : Option Trivia) (z : Place) → All Still (pending known) → All Still (hand_at k held known z).trivia
 unfolding hand_at ahead

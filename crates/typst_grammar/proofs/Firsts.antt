@@ -5,7 +5,7 @@ use Rattle.typst_kinds.specs.declared.operator.UnOp.{UnOp}
 use Rattle.typst_lines.specs.Place.{Place, moved}
 use Rattle.typst_tree.specs.Tree.{Tree}
 use Rattle.typst_lines.specs.Classes.{CharClasses}
-use Rattle.typst_language.specs.declared.calls.Behind.{Behind}
+use Rattle.typst_language.specs.declared.calls.AfterName.{AfterName}
 use Rattle.typst_language.specs.declared.calls.Block.{Block}
 use Rattle.typst_language.specs.declared.calls.Block.TheVariants as block
 use Rattle.typst_language.specs.Calls.{Call}
@@ -20,7 +20,7 @@ use Rattle.typst_language.specs.Steps.{eat, read_block}
 use Rattle.typst_code.specs.Markup.{content_block}
 use Rattle.typst_code.specs.Equations.{between_dollars, equation}
 use Rattle.typst_code.specs.Bindings.{let_binding}
-use Rattle.typst_code.specs.Closures.{behind_name, behind_underscore, headed, name_shape, named, placeholder, underscore_shape}
+use Rattle.typst_code.specs.Closures.{after_name, after_underscore, headed, name_shape, named, placeholder, underscore_shape}
 use Rattle.typst_code.specs.Params.{params}
 use Rattle.typst_code.specs.Patterns.{destructuring}
 use Rattle.typst_code.specs.Parens.{as_group, either_reading, parens, readings}
@@ -91,16 +91,16 @@ module _ (l : Level) (d : (c : Call) → Backs (l.deeper c)) (e : (b : Block) �
   unfolding parens
   fills-parens = fills-next l d e _ _ (fills-node l d e _ _ (fills-next l d e readings _ fills-readings))
 
-  fills-headed : (what : SyntaxKind → Behind) (shape : Behind → Shape) → Fills l (headed what shape)
+  fills-headed : (what : SyntaxKind → AfterName) (shape : AfterName → Shape) → Fills l (headed what shape)
   fills-headed what shape = fills-next l d e _ _ (fills-node l d e _ _ (fills-next l d e _ _ (fills-node l d e _ _ (eats-first _))))
 
   pub fills-named : Fills l named
   unfolding named
-  fills-named = fills-headed behind_name name_shape
+  fills-named = fills-headed after_name name_shape
 
   pub fills-placeholder : Fills l placeholder
   unfolding placeholder
-  fills-placeholder = fills-headed behind_underscore underscore_shape
+  fills-placeholder = fills-headed after_underscore underscore_shape
 
   pub fills-let : Fills l let_binding
   unfolding let_binding
@@ -174,7 +174,7 @@ module _ (k : CharClasses) (levels : ℕ) where
   unfolding run
   fills-inside b z s = fills-peek within_blocks (λ _. block_production b) (λ a. fills-production within_blocks calls-back (λ x y t. record { back = omega arith; left = omega arith }) b) z (forgot s) tt
 
-  -- behind nodes that are no operators
+  -- after nodes that are no operators
   leads-flushed : (n : ℕ) (ts : List Tree) (o : Outcome (Unit {0})) (q : Outcome (Unit {0})) → o.nodes ≡ ts → o.back ≡ 0 → n ≡ length ts → All Bare ts → q.back ≡ 0 → q.state.empties ≤ length q.nodes → Leads n (joined o q)
   leads-flushed n ts o q e f g h none room =
       let long = ap length e in

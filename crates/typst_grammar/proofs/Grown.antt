@@ -19,9 +19,9 @@ use Rattle.typst_language.proofs.HintedNodes.{length-hinted}
 use Rattle.typst_language.proofs.Places.{moved-sum, less-none, length-less}
 use Rattle.typst_grammar.specs.Binding.{any_errors, has_errors, first_sign, operator_of, binds_by, right_least, node_binds}
 use Rattle.typst_grammar.proofs.Signs.{sign_of, NoSign}
-use Rattle.typst_grammar.proofs.Fine.{All, or-left, or-right, all-append, all-drop, all-map, fines-behind, fine-binary, leaf-operator, no-operator, is-unbinary, tame-unbinary, tame_kind}
+use Rattle.typst_grammar.proofs.Fine.{All, or-left, or-right, all-append, all-drop, all-map, fines-after, fine-binary, leaf-operator, no-operator, is-unbinary, tame-unbinary, tame_kind}
 use Rattle.typst_grammar.proofs.FineRuns.{Binds, Still, binds-joined, binds-reshaped}
-use Rattle.typst_grammar.proofs.Heads.{Silent, standing-silent, Leafy, LastIs, last-map, last-one, behind-take}
+use Rattle.typst_grammar.proofs.Heads.{Silent, standing-silent, Leafy, LastIs, last-map, last-one, after-take}
 use Rattle.typst_grammar.proofs.BindingTurns.{tight-binds, bare-binds, BindsBy, Sane, below, Tight, binary-binds, all-sane, all-with, last-with, all-left, all-right}
 
 -- ---- what stands left and right of an operator
@@ -76,9 +76,9 @@ last-left E P Q (t ∷ u ∷ ts) h f = last-left E P Q (u ∷ ts) h f
 pub errors-second : (t : Tree) (ts : List Tree) → any_errors (forest (t ∷ ts)) ≡ false → any_errors (forest ts) ≡ false
 errors-second t ts n = or-right (any_errors t.kids) (any_errors (forest ts)) (or-right (is_error t.head.kind) (any_errors t.kids || any_errors (forest ts)) n)
 
-pub errors-behind : (ts us : List Tree) → any_errors (forest (ts ++ us)) ≡ false → any_errors (forest us) ≡ false
-errors-behind [] us n = n
-errors-behind (t ∷ ts) us n = errors-behind ts us (errors-second t (ts ++ us) n)
+pub errors-after : (ts us : List Tree) → any_errors (forest (ts ++ us)) ≡ false → any_errors (forest us) ≡ false
+errors-after [] us n = n
+errors-after (t ∷ ts) us n = errors-after ts us (errors-second t (ts ++ us) n)
 
 -- the node over them binds, and as tightly as what comes
 abbrev Fits : SyntaxKind → BinOp → List Tree → Type 0
@@ -91,11 +91,11 @@ module _ (i j : SyntaxKind) (op : BinOp) (text : List ℕ) (sgn : Tree) (ds : Li
   fits-leaf is ls no_signs left n =
       let sane = all-sane (ls ++ sgn ∷ ds) n in
       let here = all-right Sane ls (sgn ∷ ds) sane in
-      let r = last-with (has_errors sgn ≡ true) (λ t. BindsBy (right_least op) t × (below (right_least op) j ≡ true)) ds (right (errors-second sgn ds (errors-behind ls (sgn ∷ ds) n))) here.1 in
+      let r = last-with (has_errors sgn ≡ true) (λ t. BindsBy (right_least op) t × (below (right_least op) j ≡ true)) ds (right (errors-second sgn ds (errors-after ls (sgn ∷ ds) n))) here.1 in
       let wrong : has_errors sgn ≡ true → ⊥ = (λ w. let s = here.0 in absurd (cc)) in
       let tight = last-left (has_errors sgn ≡ true) (below (right_least op) j ≡ true) (BindsBy (right_least op)) ds r (λ w. absurd (wrong w)) in
       let k : sgn.head.kind ≡ i = ap (λ (t : Tree). t.head.kind) is in
-      let b = binary-binds op ls sgn ds (reads (errors-second sgn ds (errors-behind ls (sgn ∷ ds) n)) is ls no_signs) (ap is_trivia k ∙ sign-trivia i op e) (ap operator_of is ∙ leaf-operator i text) no_signs (all-with (BindsBy (binary_precedence op)) ls left (all-left Sane ls (sgn ∷ ds) sane))
+      let b = binary-binds op ls sgn ds (reads (errors-second sgn ds (errors-after ls (sgn ∷ ds) n)) is ls no_signs) (ap is_trivia k ∙ sign-trivia i op e) (ap operator_of is ∙ leaf-operator i text) no_signs (all-with (BindsBy (binary_precedence op)) ls left (all-left Sane ls (sgn ∷ ds) sane))
       (last-map (has_errors sgn ≡ true) (Unit {0}) (λ t. BindsBy (right_least op) t × (below (right_least op) j ≡ true)) (BindsBy (right_least op)) (λ w. tt) (λ t x. x.0) ds r) in
       (b.0, (b.1, below-more (right_least op) (suc (binary_precedence op)) j (right-most op) tight))
 
@@ -170,8 +170,8 @@ module _ (k : CharClasses) (least : ℕ) where
         let there : kind_at (moved (o.taken + p.taken) z) p.state ≡ j = ap (λ (v : Place). kind_at v p.state) (moved-sum o.taken p.taken z) in
         let leftward : Leftward j node = (refl, λ y. tight-of j op node (fit y).0 (fit y).1.1) in
         record {
-          binds = record { nodes = fines-behind m x.nodes (node ∷ []) all.nodes (λ h. (fine-binary cs h (λ y. (fit y).1.0), inr tt)); known = all.known };
-          inside = behind-take (Leftward (kind_at (moved (o.taken + p.taken) z) p.state)) m x.nodes (node ∷ []) (subst (λ (v : SyntaxKind). Leftward v node) (sym there) leftward, tt);
+          binds = record { nodes = fines-after m x.nodes (node ∷ []) all.nodes (λ h. (fine-binary cs h (λ y. (fit y).1.0), inr tt)); known = all.known };
+          inside = after-take (Leftward (kind_at (moved (o.taken + p.taken) z) p.state)) m x.nodes (node ∷ []) (subst (λ (v : SyntaxKind). Leftward v node) (sym there) leftward, tt);
           last = last-one (s.is_after_error ≡ true) (λ t. Sane t → BindsBy least t) (take m x.nodes) node (λ y. by-operator node (fit y).0);
           enough = (let a1 = length-append o.nodes (trivia ++ sgn ∷ ds) in let a2 = length-append trivia (sgn ∷ ds) in let a3 = ap (λ (ts : List Tree). length ts) is in let a4 = length-take m x.nodes in let a5 = length-append (take m x.nodes) (node ∷ []) in omega (arith, a1, a2, a3, a4, a5, en, same-m));
         }
@@ -200,7 +200,7 @@ module _ (k : CharClasses) (least : ℕ) where
         let j = kind_at (moved (o.taken + p.taken) z) p.state in
         record {
           binds = binds-reshaped (becomes i) (tame-unbinary i e) n x (record { nodes = all.nodes; known = all.known });
-          inside = behind-take (Leftward j) m x.nodes (node ∷ []) ((f, λ y. tight-none j node none), tt);
+          inside = after-take (Leftward j) m x.nodes (node ∷ []) ((f, λ y. tight-none j node none), tt);
           last = last-one (s.is_after_error ≡ true) (λ t. Sane t → BindsBy least t) (take m x.nodes) node (λ y. bare-binds least node none);
           enough = omega (arith, back, long, en, a1, a2, a3, a4, a5);
         }

@@ -1,5 +1,6 @@
 -- Parsers that read a block only where a token is at hand, and note only what they are allowed to: steps, markup and patterns.
 use Rattle.std.proofs.Common.{◌≡◌, ℕ, Bool, true, false, List, [], Option, refl}
+use Rattle.std.proofs.lemmas.Bool.{and_parts}
 use Rattle.std.specs.Prelude.{codes, not}
 use Rattle.typst_kinds.specs.Kinds.{same}
 use Rattle.typst_kinds.specs.declared.kind.SyntaxKind.{SyntaxKind}
@@ -10,14 +11,14 @@ use Rattle.typst_language.specs.declared.calls.Block.{Block}
 use Rattle.typst_language.specs.declared.calls.Mark.{Mark}
 use Rattle.typst_language.specs.declared.calls.Role.{Role}
 use Rattle.typst_language.specs.declared.calls.Way.{Way}
-use Rattle.typst_language.specs.declared.calls.Behind.{Behind}
-use Rattle.typst_language.specs.declared.calls.Behind.TheVariants as behind
+use Rattle.typst_language.specs.declared.calls.AfterName.{AfterName}
+use Rattle.typst_language.specs.declared.calls.AfterName.TheVariants as after
 use Rattle.typst_code.specs.head.MarkupHead.{MarkupHead}
 use Rattle.typst_code.specs.head.MarkupHead.TheVariants as head
 use Rattle.typst_language.specs.declared.reading.Reading.{Reading}
 use Rattle.typst_code.specs.Bindings.{bound_name as bound_function, bound_part, equals, binding, let_binding}
 use Rattle.typst_language.specs.Calls.{Call, Answer}
-use Rattle.typst_code.specs.Closures.{right_side, headed, name_shape, underscore_shape, behind_name, behind_underscore, named, placeholder}
+use Rattle.typst_code.specs.Closures.{right_side, headed, name_shape, underscore_shape, after_name, after_underscore, named, placeholder}
 use Rattle.typst_language.specs.Depth.{anywhere, skip_one, too_deep, deeper, is_end}
 use Rattle.typst_code.specs.Embedded.{embedded_end, embedded_expr, embedded}
 use Rattle.typst_code.specs.Equations.{math_expression, math_item, math_turn, math_exprs, math, between_dollars, equation}
@@ -33,7 +34,6 @@ use Rattle.typst_language.specs.Syntax.{Parser, Op}
 use Rattle.typst_language.specs.Syntax.Parser.{does, scoped, gives, next, pick, repeat, wraps, grows, nests, either, calls, block}
 use Rattle.typst_language.specs.declared.calls.Mark.TheVariants as mark
 use Rattle.typst_language.specs.Syntax.Op.{hand, marks}
-use Rattle.typst_grammar.proofs.Fine.{and-left}
 use Rattle.typst_grammar.proofs.PlainParts.{inside_content}
 
 -- whether a token is at hand, and not the end, once this was answered
@@ -171,13 +171,13 @@ module _ (notes : Mark → Bool) where
   unfolding embedded_end
   guarded-end seen is_statement = (refl, λ _. (λ _. guarded-eat _, λ _. (λ _. guarded-expected _ _, λ _. tt)))
 
-  guarded-behind-hash : (seen : Bool) → Guarded notes seen embedded_expr
+  guarded-after-hash : (seen : Bool) → Guarded notes seen embedded_expr
   unfolding embedded_expr
-  guarded-behind-hash seen = (refl, λ _. (λ _. guarded-expected _ _, λ _. (guarded-deeper _ _ _, λ _. guarded-end _ _)))
+  guarded-after-hash seen = (refl, λ _. (λ _. guarded-expected _ _, λ _. (guarded-deeper _ _ _, λ _. guarded-end _ _)))
 
   pub guarded-embedded : (seen : Bool) → Guarded notes seen embedded
   unfolding embedded
-  guarded-embedded seen = guarded-within _ _ _ (guarded-eat _, λ _. guarded-behind-hash _)
+  guarded-embedded seen = guarded-within _ _ _ (guarded-eat _, λ _. guarded-after-hash _)
 
   -- ---- formulas
 
@@ -256,7 +256,7 @@ module _ (notes : Mark → Bool) where
 
   guarded-direct : (seen : Bool) → Guarded notes seen direct_content
   unfolding direct_content
-  guarded-direct seen = (refl, λ a. (λ e. guarded-read _ _ (bracket-there a.kind (and-left _ _ e)), λ _. tt))
+  guarded-direct seen = (refl, λ a. (λ e. guarded-read _ _ (bracket-there a.kind (and_parts _ _ e).0), λ _. tt))
 
   guarded-reference : (seen : Bool) → Guarded notes seen reference
   unfolding reference
@@ -354,21 +354,21 @@ module _ (notes : Mark → Bool) where
   unfolding params
   guarded-params seen = (guarded-node _ _ _ (guarded-within _ _ _ (guarded-eat _, λ _. (λ x. guarded-param-turn _ x, λ _. guarded-if _ _))), λ _. tt)
 
-  guarded-right : (seen : Bool) (b : Behind) → Guarded notes seen (right_side b)
-  guarded-right seen behind.Arrow = (guarded-eat _, λ _. guarded-deeper _ _ _)
-  guarded-right seen behind.Eq = (guarded-eat _, λ _. guarded-deeper _ _ _)
-  guarded-right seen behind.Nothing = tt
+  guarded-right : (seen : Bool) (b : AfterName) → Guarded notes seen (right_side b)
+  guarded-right seen after.Arrow = (guarded-eat _, λ _. guarded-deeper _ _ _)
+  guarded-right seen after.Eq = (guarded-eat _, λ _. guarded-deeper _ _ _)
+  guarded-right seen after.Nothing = tt
 
-  guarded-headed : (seen : Bool) (what : SyntaxKind → Behind) (shape : Behind → Shape) → Guarded notes seen (headed what shape)
+  guarded-headed : (seen : Bool) (what : SyntaxKind → AfterName) (shape : AfterName → Shape) → Guarded notes seen (headed what shape)
   guarded-headed seen what shape = (guarded-node _ _ _ (guarded-node _ _ _ (guarded-eat _, λ _. (refl, λ _. tt)), λ b. (guarded-right _ b, λ _. tt)), λ _. tt)
 
   pub guarded-named : (seen : Bool) → Guarded notes seen named
   unfolding named
-  guarded-named seen = guarded-headed _ behind_name name_shape
+  guarded-named seen = guarded-headed _ after_name name_shape
 
   pub guarded-placeholder : (seen : Bool) → Guarded notes seen placeholder
   unfolding placeholder
-  guarded-placeholder seen = guarded-headed _ behind_underscore underscore_shape
+  guarded-placeholder seen = guarded-headed _ after_underscore underscore_shape
 
   guarded-bound-function : (seen : Bool) → Guarded notes seen bound_function
   unfolding bound_function

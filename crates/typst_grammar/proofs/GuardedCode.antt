@@ -1,17 +1,18 @@
 -- Parsers that read a block only where a token is at hand, and note only what they are allowed to: code, formulas, and all that calls and blocks read.
 use Rattle.std.proofs.Common.{◌≡◌, ℕ, Bool, true, false, List, [], refl}
+use Rattle.std.proofs.lemmas.Bool.{and_parts}
 use Rattle.typst_lines.specs.Classes.{CharClasses}
 use Rattle.typst_kinds.specs.declared.kind.SyntaxKind.{SyntaxKind}
 use Rattle.typst_kinds.specs.declared.kind.SyntaxKind.TheVariants as kind
 use Rattle.typst_kinds.specs.declared.operator.UnOp.{UnOp}
 use Rattle.typst_language.specs.declared.calls.ChainSet.{ChainSet}
-use Rattle.typst_language.specs.declared.calls.Behind.{Behind}
-use Rattle.typst_language.specs.declared.calls.Behind.TheVariants as behind
+use Rattle.typst_language.specs.declared.calls.AfterName.{AfterName}
+use Rattle.typst_language.specs.declared.calls.AfterName.TheVariants as after
 use Rattle.typst_code.specs.declared.heads.CodeHead.{CodeHead}
 use Rattle.typst_code.specs.declared.heads.CodeHead.TheVariants as head
 use Rattle.typst_code.specs.declared.heads.CodeTail.{CodeTail}
 use Rattle.typst_code.specs.declared.heads.CodeTail.TheVariants as tail
-use Rattle.typst_code.specs.declared.listing.Items.{Items}
+use Rattle.typst_code.specs.declared.listing.ParenItems.{ParenItems}
 use Rattle.typst_code.specs.Arguments.{argument, argument_turn, argument_list, listed_arguments, content_turn, missing_arguments, begin_arguments, arguments}
 use Rattle.typst_code.specs.Expressions.{code_head, code_by, unary_expr, code_primary, code_tail, direct_field, call_tail, tail_by, code_tail_turn, code_expr, binary_expr, not_in}
 use Rattle.typst_code.specs.Groups.{spread, pair, item, group_turn, group_rest, group}
@@ -41,7 +42,6 @@ use Rattle.typst_language.specs.Depth.{is_end}
 use Rattle.typst_language.specs.Syntax.{◌>>◌}
 use Rattle.typst_code.specs.Markup.{content_block}
 use Rattle.typst_grammar.specs.Grammar.{production, block_production, whole}
-use Rattle.typst_grammar.proofs.Fine.{and-left}
 use Rattle.typst_grammar.proofs.PlainCode.{inside_code}
 use Rattle.typst_grammar.proofs.Guarded.{Guarded, bracket-there, brace-there, guarded-close, guarded-convert, guarded-deep, guarded-deeper, guarded-destructuring, guarded-eat, guarded-embedded, guarded-equation, guarded-expect, guarded-expected, guarded-expects, guarded-expression-if, guarded-exprs, guarded-flush, guarded-grow, guarded-identifier, guarded-if, guarded-inside-content, guarded-let, guarded-making, guarded-markup-expr, guarded-named, guarded-nest, guarded-node, guarded-params, guarded-pattern, guarded-placeholder, guarded-read, guarded-run, guarded-seeing, guarded-separator, guarded-so, guarded-unexpected, guarded-within}
 
@@ -67,11 +67,11 @@ module _ (notes : Mark → Bool) where
   unfolding pair
   guarded-pair seen = (guarded-seeing notes _ _ (guarded-deeper notes _ _ _), λ _. (refl, λ _. (λ _. ((guarded-eat notes _, λ _. guarded-deeper notes _ _ _), λ _. tt), λ _. tt)))
 
-  guarded-item : (seen : Bool) (items : Items) → Guarded notes seen (item items)
+  guarded-item : (seen : Bool) (items : ParenItems) → Guarded notes seen (item items)
   unfolding item
   guarded-item seen items = (refl, λ _. (λ _. (guarded-spread _, λ _. tt), λ _. (guarded-node notes _ _ _ (guarded-node notes _ _ _ (guarded-pair _)), λ _. tt)))
 
-  guarded-group-turn : (seen : Bool) (items : Items) → Guarded notes seen (group_turn items)
+  guarded-group-turn : (seen : Bool) (items : ParenItems) → Guarded notes seen (group_turn items)
   unfolding group_turn
   guarded-group-turn seen items = (refl, λ _. (λ _. tt, λ _. (λ _. (guarded-item _ items, λ _. (guarded-separator notes _, λ _. tt)), λ _. (guarded-unexpected notes _ [], λ _. tt))))
 
@@ -93,10 +93,10 @@ module _ (notes : Mark → Bool) where
   unfolding readings
   guarded-readings seen = (refl, λ _. (λ _. ((guarded-as-group _, (guarded-params notes _, λ _. tt)), (guarded-destructuring notes _ _ _, λ _. tt)), λ _. guarded-as-group _))
 
-  guarded-sign : (seen : Bool) (b : Behind) → Guarded notes seen (sign b)
-  guarded-sign seen behind.Arrow = guarded-expects notes _ _ _
-  guarded-sign seen behind.Eq = guarded-expects notes _ _ _
-  guarded-sign seen behind.Nothing = tt
+  guarded-sign : (seen : Bool) (b : AfterName) → Guarded notes seen (sign b)
+  guarded-sign seen after.Arrow = guarded-expects notes _ _ _
+  guarded-sign seen after.Eq = guarded-expects notes _ _ _
+  guarded-sign seen after.Nothing = tt
 
   guarded-parens : (seen : Bool) → Guarded notes seen parens
   unfolding parens
@@ -122,7 +122,7 @@ module _ (notes : Mark → Bool) where
 
   guarded-content-turn : (seen : Bool) (x : Unit {0}) → Guarded notes seen (content_turn x)
   unfolding content_turn
-  guarded-content-turn seen x = (refl, λ a. (λ e. (guarded-read notes _ _ (bracket-there a.kind (and-left _ _ e)), λ _. tt), λ _. tt))
+  guarded-content-turn seen x = (refl, λ a. (λ e. (guarded-read notes _ _ (bracket-there a.kind (and_parts _ _ e).0), λ _. tt), λ _. tt))
 
   guarded-missing : (seen : Bool) → Guarded notes seen missing_arguments
   unfolding missing_arguments
@@ -391,7 +391,7 @@ module _ (notes : Mark → Bool) where
   unfolding fraction
   guarded-fraction seen = (guarded-eat notes _, λ _. guarded-operand _ _ _)
 
-  -- what stands behind an expression
+  -- what stands after an expression
   guarded-math-tail : (seen : Bool) (stops : ChainSet) (t : MathTail) → Guarded notes seen (math_tail_by stops t)
   guarded-math-tail seen stops math_tails.Call = (guarded-math-arguments _, λ _. tt)
   guarded-math-tail seen stops math_tails.Delimited = (guarded-delimited _, λ _. tt)

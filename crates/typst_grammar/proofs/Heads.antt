@@ -17,9 +17,9 @@ use Rattle.typst_tokens.specs.declared.token.Fault.{Fault}
 use Rattle.typst_language.specs.Point.{Point, Trivia, pending}
 use Rattle.typst_language.specs.Ask.{Ask}
 use Rattle.typst_language.specs.declared.reading.Reading.{Reading}
-use Rattle.typst_language.specs.Hand.{Hand, AtHand, told, hand_at}
+use Rattle.typst_language.specs.Hand.{Hand, AtHand, as_at_hand, hand_at}
 use Rattle.typst_language.specs.Shape.{Making, Shape, shaped, hinted}
-use Rattle.typst_language.specs.Shape.Change.{stays}
+use Rattle.typst_language.specs.Shape.NodeChange.{stays}
 use Rattle.typst_language.specs.Shape.Making.{itself}
 use Rattle.typst_language.specs.Shape.Shape.{keeps}
 use Rattle.std.proofs.lemmas.List.{take-append-drop}
@@ -67,15 +67,15 @@ last-map E F P Q f g [] h = f h
 last-map E F P Q f g (t ∷ []) h = g t h
 last-map E F P Q f g (t ∷ u ∷ ts) h = last-map E F P Q f g (u ∷ ts) h
 
--- what stands behind the first of them
-pub behind-take : (P : Tree → Type 0) (m : ℕ) (ts us : List Tree) → All P us → All P (drop m (take m ts ++ us))
-behind-take P zero ts us h = h
-behind-take P (suc m) [] us h = all-drop P (suc m) us h
-behind-take P (suc m) (t ∷ ts) us h = behind-take P m ts us h
+-- what stands after the first of them
+pub after-take : (P : Tree → Type 0) (m : ℕ) (ts us : List Tree) → All P us → All P (drop m (take m ts ++ us))
+after-take P zero ts us h = h
+after-take P (suc m) [] us h = all-drop P (suc m) us h
+after-take P (suc m) (t ∷ ts) us h = after-take P m ts us h
 
-pub behind-front : (P : Tree → Type 0) (ts us : List Tree) → All P us → All P (drop (length ts) (ts ++ us))
-behind-front P [] us h = h
-behind-front P (t ∷ ts) us h = behind-front P ts us h
+pub after-front : (P : Tree → Type 0) (ts us : List Tree) → All P us → All P (drop (length ts) (ts ++ us))
+after-front P [] us h = h
+after-front P (t ∷ ts) us h = after-front P ts us h
 
 -- one node
 abbrev pub Single : List Tree → Type 0
@@ -94,12 +94,12 @@ single-last E ts (t ∷ []) h = last-one E Unary ts t h.1
 single-last E ts (t ∷ u ∷ us) h = absurd h
 
 -- what stands before some of them
-pub last-behind : (E F : Type 0) (P : Tree → Type 0) → (F → ⊥) → (ts us : List Tree) → LastIs F P us → LastIs E P (ts ++ us)
-last-behind E F P f [] [] h = absurd (f h)
-last-behind E F P f [] (u ∷ us) h = last-map F E P P (λ x. absurd (f x)) (λ t x. x) (u ∷ us) h
-last-behind E F P f (t ∷ []) [] h = absurd (f h)
-last-behind E F P f (t ∷ []) (u ∷ us) h = last-behind E F P f [] (u ∷ us) h
-last-behind E F P f (t ∷ u ∷ ts) us h = last-behind E F P f (u ∷ ts) us h
+pub last-after : (E F : Type 0) (P : Tree → Type 0) → (F → ⊥) → (ts us : List Tree) → LastIs F P us → LastIs E P (ts ++ us)
+last-after E F P f [] [] h = absurd (f h)
+last-after E F P f [] (u ∷ us) h = last-map F E P P (λ x. absurd (f x)) (λ t x. x) (u ∷ us) h
+last-after E F P f (t ∷ []) [] h = absurd (f h)
+last-after E F P f (t ∷ []) (u ∷ us) h = last-after E F P f [] (u ∷ us) h
+last-after E F P f (t ∷ u ∷ ts) us h = last-after E F P f (u ∷ ts) us h
 
 -- several nodes of which each is no operator and has none
 pub last-all : (E : Type 0) (ts : List Tree) → All Bare ts → 0 < length ts → LastIs E Unary ts
@@ -117,13 +117,13 @@ hinted-nil : (hints : List (List ℕ)) → hinted hints [] ≡ []
 hinted-nil [] = refl
 hinted-nil (hint ∷ hints) = refl
 
--- behind what gave none
+-- after what gave none
 pub standing-none : {A : Type 0} (o : Outcome A) → standing o [] ≡ o.nodes
 standing-none o = ap (λ ts. hinted o.hints ts ++ o.nodes) (less-nil o.back) ∙ ap (λ ts. ts ++ o.nodes) (hinted-nil o.hints)
 
 -- ---- what an expression begins with
 
--- behind the trivia nothing is an operator or has one, and the last node has none
+-- after the trivia nothing is an operator or has one, and the last node has none
 pub record Head {A : Type 0} (n : ℕ) (s : Point) (o : Outcome A) : Type 0 where
   pub inside : All Bare (drop (n + o.back) o.nodes)
   pub last : LastIs (s.is_after_error ≡ true) Unary o.nodes
@@ -134,25 +134,25 @@ head-same n s o p e b h = record {
   last = subst (λ (ts : List Tree). LastIs (s.is_after_error ≡ true) Unary ts) (sym e) h.last;
 }
 
--- an answer behind it
+-- an answer after it
 pub head-gives : {A B : Type 0} (n : ℕ) (s : Point) (o : Outcome A) (b : B) → Head n s o → Head n s (joined o (plain b o.state))
 head-gives n s o b h = head-same n s o (joined o (plain b o.state)) (sym (no-end o.nodes)) (omega arith) h
 
 -- a look before it
-pub head-behind : {A B : Type 0} (n : ℕ) (s t : Point) (b : B) (asks : List Ask) (p : Outcome A) → Head n s p → Head n s (joined (record (plain b t) { asks = asks }) p)
-head-behind n s t b asks p h = head-same n s p (joined (record (plain b t) { asks = asks }) p) (standing-none p) (omega arith) h
+pub head-after : {A B : Type 0} (n : ℕ) (s t : Point) (b : B) (asks : List Ask) (p : Outcome A) → Head n s p → Head n s (joined (record (plain b t) { asks = asks }) p)
+head-after n s t b asks p h = head-same n s p (joined (record (plain b t) { asks = asks }) p) (standing-none p) (omega arith) h
 
 pub head-reshaped : {A : Type 0} (n : ℕ) (s : Point) (shape : Shape) (o : Outcome A) → Single (shaped shape (inside n o)) → Head n s (reshaped shape n o)
 head-reshaped n s shape o h = record {
-  inside = behind-take Bare (n + o.back) o.nodes (shaped shape (inside n o)) (single-all (shaped shape (inside n o)) h);
+  inside = after-take Bare (n + o.back) o.nodes (shaped shape (inside n o)) (single-all (shaped shape (inside n o)) h);
   last = single-last (s.is_after_error ≡ true) (take (n + o.back) o.nodes) (shaped shape (inside n o)) h;
 }
 
 -- a shape of nodes of which none is an operator or has one
 pub head-shaped : {A : Type 0} (n : ℕ) (s : Point) (shape : Shape) (o : Outcome A) → All Bare (shaped shape (inside n o)) → 0 < length (shaped shape (inside n o)) → Head n s (reshaped shape n o)
 head-shaped n s shape o h l = record {
-  inside = behind-take Bare (n + o.back) o.nodes (shaped shape (inside n o)) h;
-  last = last-behind (s.is_after_error ≡ true) ⊥ Unary (λ x. x) (take (n + o.back) o.nodes) (shaped shape (inside n o)) (last-all ⊥ (shaped shape (inside n o)) h l);
+  inside = after-take Bare (n + o.back) o.nodes (shaped shape (inside n o)) h;
+  last = last-after (s.is_after_error ≡ true) ⊥ Unary (λ x. x) (take (n + o.back) o.nodes) (shaped shape (inside n o)) (last-all ⊥ (shaped shape (inside n o)) h l);
 }
 
 -- the same nodes
@@ -172,16 +172,16 @@ module _ (l : Level) where
   head-peek i f h z s k e =
       let t = asked (hand_of l z s) s in
       let again = hand-again l.classes s.held s.known z in
-      let a = told (hand_of l z s) in
+      let a = as_at_hand (hand_of l z s) in
       let first = h a e z t (still-hand l z s k) (ap (λ (x : Hand). x.kind) again ∙ e) in
-      head-behind (trivia_at z s) s t a (hand_asks_of l z s) (run l (f a) z t)
+      head-after (trivia_at z s) s t a (hand_asks_of l z s) (run l (f a) z t)
       (let same = subst (λ (x : Hand). Head (length x.trivia) t (run l (f a) z t)) again first in record { inside = same.inside; last = same.last })
 
   pub head-next : {A B : Type 0} (i : SyntaxKind) (p : Parser A) (f : A → B) → Heads i p → Heads i (next p (λ a. gives (f a)))
   unfolding run
   head-next i p f h z s k e = let o = run l p z s in head-gives (trivia_at z s) s o (f o.value) (h z s k e)
 
-  -- one node, behind what stands at any point
+  -- one node, after what stands at any point
   pub head-wrapped : {A : Type 0} (r : Point) (shape : A → Shape) (p : Parser A) (z : Place) (s : Point) → (let o = run l p z (asked (hand_of l z s) s) in Head (trivia_at z s) r (reshaped (shape o.value) (trivia_at z s) o)) → Head (trivia_at z s) r (run l (node shape p) z s)
   unfolding run node
   head-wrapped r shape p z s h =
@@ -189,7 +189,7 @@ module _ (l : Level) where
       let n = trivia_at z s in
       let o = run l p z t in
       let w = wrapped shape n o in
-      head-behind n r t (told (hand_of l z s)) (hand_asks_of l z s) (joined w (plain w.value.0 w.state)) (head-gives n r w w.value.0 (record { inside = h.inside; last = h.last }))
+      head-after n r t (as_at_hand (hand_of l z s)) (hand_asks_of l z s) (joined w (plain w.value.0 w.state)) (head-gives n r w w.value.0 (record { inside = h.inside; last = h.last }))
 
   pub head-node-at : {A : Type 0} (r : Point) (shape : A → Shape) (p : Parser A) → ((a : A) (ts : List Tree) → Single (shaped (shape a) ts)) → (z : Place) (s : Point) → Head (trivia_at z s) r (run l (node shape p) z s)
   head-node-at r shape p h z s = let o = run l p z (asked (hand_of l z s) s) in let n = trivia_at z s in head-wrapped r shape p z s (head-reshaped n r (shape o.value) o (h o.value (inside n o)))
@@ -205,7 +205,7 @@ module _ (l : Level) where
       let n = trivia_at z s in
       let o = run l (turn x) z t in
       let p = if o.value.0 && nat_lt 0 o.taken then followed o (λ v. nestings shape at_token (λ y. run l (turn y)) (bound z t) v.1) z else as_last o in
-      head-behind n s t (told (hand_of l z s)) (hand_asks_of l z s) (reshaped (shape p.value) n p) (head-reshaped n s (shape p.value) p (h p.value (inside n p)))
+      head-after n s t (as_at_hand (hand_of l z s)) (hand_asks_of l z s) (reshaped (shape p.value) n p) (head-reshaped n s (shape p.value) p (h p.value (inside n p)))
 
 -- ---- what adds no node
 
@@ -269,7 +269,7 @@ judged-kind : (b : Bool) (j i : SyntaxKind) → is_end i ≡ false → (if b the
 judged-kind true j i e h = let x = ap is_end h in absurd (cc)
 judged-kind false j i e h = h
 
--- the token at hand has the kind that is told, but at an end
+-- the token at hand has the kind that is given, except at an end
 pub hand-kind : (k : CharClasses) (held : Reading) (known : Option Trivia) (z : Place) (i : SyntaxKind) → is_end i ≡ false → (hand_at k held known z).kind ≡ i → (hand_at k held known z).token.kind ≡ i
 unfolding hand_at
 hand-kind k held known z i e h = judged-kind _ _ i e h
@@ -327,7 +327,7 @@ module _ (l : Level) where
   unfolding run eat eat_making
   back-eat z s = omega arith
 
-  -- its node, alone behind the trivia
+  -- its node, alone after the trivia
   head-taken : (z : Place) (s : Point) → Bare (taken_node l.classes itself (hand_of l z s) z) → Head (length (hand_of l z s).trivia) s (run l eat z s)
   unfolding eat
   head-taken z s b =
@@ -338,7 +338,7 @@ module _ (l : Level) where
       let same : length h.trivia + (run l eat z s).back ≡ length h.trivia = omega (arith, none) in
       record {
         inside = subst (λ (ts : List Tree). All Bare (drop (length h.trivia + (run l eat z s).back) ts)) (sym t.nodes)
-            (subst (λ n. All Bare (drop n (h.trivia ++ node ∷ []))) (sym same) (behind-front Bare h.trivia (node ∷ []) (b, tt)));
+            (subst (λ n. All Bare (drop n (h.trivia ++ node ∷ []))) (sym same) (after-front Bare h.trivia (node ∷ []) (b, tt)));
         last = subst (λ (ts : List Tree). LastIs (s.is_after_error ≡ true) Unary ts) (sym t.nodes) (last-one (s.is_after_error ≡ true) Unary h.trivia node b.1);
       }
 

@@ -5,7 +5,7 @@ use Rattle.typst_lines.specs.Place.{Place, moved}
 use Rattle.typst_tree.specs.Tree.{Tree, text_of}
 use Rattle.typst_language.specs.declared.calls.Block.{Block}
 use Rattle.typst_language.specs.Calls.{Call}
-use Rattle.typst_language.specs.Hand.{Hand, AtHand, told}
+use Rattle.typst_language.specs.Hand.{Hand, AtHand, as_at_hand}
 use Rattle.typst_language.specs.Point.{Point, pending}
 use Rattle.typst_language.specs.declared.reading.Reading.{Reading}
 use Rattle.typst_language.specs.Shape.{Making, hinted_last, hinted, Shape, shaped, count_empty, after_node}
@@ -126,9 +126,9 @@ module _ (l : Level) where
         first = all-front Bare x.trivia (t ∷ []) (all-bare x.trivia (still-hand l z s h));
       }
 
-  -- behind a look
-  pub leads-behind : {A B : Type 0} (n : ℕ) (b : B) (t : Point) (asks : List _) (q : Outcome A) → Leads n q → Leads n (joined (record (plain b t) { asks = asks }) q)
-  leads-behind n b t asks q h =
+  -- after a look
+  pub leads-after : {A B : Type 0} (n : ℕ) (b : B) (t : Point) (asks : List _) (q : Outcome A) → Leads n q → Leads n (joined (record (plain b t) { asks = asks }) q)
+  leads-after n b t asks q h =
       let e = standing-none q in
       let long = ap length e in
       let a = h.none in let r = h.room in
@@ -142,10 +142,10 @@ module _ (l : Level) where
   unfolding run
   fills-peek f h z s k =
       let t = asked (hand_of l z s) s in
-      let a = told (hand_of l z s) in
+      let a = as_at_hand (hand_of l z s) in
       let q = run l (f a) z t in
       let first = h a z t (still-hand l z s k) in
-      leads-behind (length (hand_of l z s).trivia) a t (hand_asks_of l z s) q (subst (λ (x : Hand). Leads (length x.trivia) q) (hand-again l.classes s.held s.known z) first)
+      leads-after (length (hand_of l z s).trivia) a t (hand_asks_of l z s) q (subst (λ (x : Hand). Leads (length x.trivia) q) (hand-again l.classes s.held s.known z) first)
 
   pub fills-scoped : {A : Type 0} (f : Reading → Reading) (p : Parser A) → Fills p → Fills (scoped f p)
   unfolding run
@@ -192,7 +192,7 @@ module _ (l : Level) where
         let first = subst (λ (x : Hand). Leads (length x.trivia) o) (hand-again l.classes s.held s.known z) (h z t (still-hand l z s k)) in
         let r = leads-reshaped n (shape o.value) o first in
         let w = reshaped (shape o.value) n o in
-        leads-behind n (told (hand_of l z s)) t (hand_asks_of l z s) (joined w (plain o.value w.state)) (leads-joined n w (plain o.value w.state) r (record { back = omega arith; left = omega arith }))
+        leads-after n (as_at_hand (hand_of l z s)) t (hand_asks_of l z s) (joined w (plain o.value w.state)) (leads-joined n w (plain o.value w.state) r (record { back = omega arith; left = omega arith }))
 
     pub fills-nest : {A : Type 0} (shape : A → Shape) (turn : A → Parser (Bool × A)) (x : A) → Fills (turn x) → Fills (nest shape turn x)
     unfolding run nest nesting
@@ -206,4 +206,4 @@ module _ (l : Level) where
         let p = if b then joined o more else as_last o in
         let last : Leads n (as_last o) = record { none = first.none; room = first.room; first = first.first } in
         let inner = on_both (Leads n) b (joined o more) (as_last o) (leads-joined n o more first (tidy-nestings shape at_token (λ y. run l (turn y)) (λ y. backs-run l d e (turn y)) (bound z t) o.value.1 (moved o.taken z) o.state)) last in
-        leads-behind n (told (hand_of l z s)) t (hand_asks_of l z s) (reshaped (shape p.value) n p) (leads-reshaped n (shape p.value) p inner)
+        leads-after n (as_at_hand (hand_of l z s)) t (hand_asks_of l z s) (reshaped (shape p.value) n p) (leads-reshaped n (shape p.value) p inner)

@@ -1,5 +1,6 @@
--- Behind an error that stands before a node, nothing is said of it.
+-- After an error that stands before a node, nothing is said of it.
 use Rattle.std.proofs.Common.{◌≡◌, ℕ, zero, suc, ◌+◌, Bool, true, false, ◌&&◌, ◌||◌, nat_lt, List, [], ◌∷◌, ◌++◌, take, Option, Some, None, refl, ap, sym, ◌∙◌, ◌⊎◌, inl, inr, subst, arith}
+use Rattle.std.proofs.lemmas.Bool.{and_parts}
 use Rattle.typst_kinds.specs.Kinds.{is_error}
 use Rattle.typst_lines.specs.Place.{Place, moved}
 use Rattle.typst_tree.specs.Diagnostic.{hint_with}
@@ -17,7 +18,7 @@ use Rattle.typst_grammar.proofs.Fine.{Fines, or-left, or-right}
 use Rattle.typst_grammar.proofs.FineRuns.{AllBind, Binds, binds-joined, still-shaped}
 use Rattle.typst_grammar.proofs.Grown.{Operand}
 
--- an error is among the first so many nodes
+-- an error is among a given number of first nodes
 abbrev pub Stuck : ℕ → List Tree → Type 0
 Stuck zero ts = ⊥
 Stuck (suc m) [] = ⊥
@@ -106,10 +107,6 @@ module _ (k : CharClasses) (least : ℕ) {A : Type 0} (n : ℕ) (z : Place) (s :
     few-more (Some (warns i message hint)) e o f = absurd e
     few-more (Some (fails message)) e o f = absurd e
 
-    and-true : (a b : Bool) → (a && b) ≡ true → a ≡ true
-    and-true true b e = refl
-    and-true false b e = absurd (cc)
-
     pub operand-lost : (fuel : ℕ) (o : Outcome A) → Lost o → Operand k least z s (growths m n fuel o z)
     operand-lost zero o h = operand-stuck (n + o.back) o h.binds h.stuck
     operand-lost (suc fuel) o h =
@@ -122,5 +119,5 @@ module _ (k : CharClasses) (least : ℕ) {A : Type 0} (n : ℕ) (z : Place) (s :
         let next = next-lost p.value.0 (shapes o.value w o.state) x (record { nodes = all.nodes; known = all.known }) (stuck-joined o p (omega (arith, back, few)) h.stuck) in
         let grew = grown n p.value.0 x in
         on_if (λ (u : Outcome A). Operand k least z s u) (is_more p.value.0 && nat_lt 0 p.taken) (growths m n fuel grew z) grew
-        (λ c. operand-lost fuel grew (record { binds = next.0; stuck = next.1; few = few-more p.value.0 (shapes o.value w o.state) x (and-true (is_more p.value.0) (nat_lt 0 p.taken) c) }))
+        (λ c. operand-lost fuel grew (record { binds = next.0; stuck = next.1; few = few-more p.value.0 (shapes o.value w o.state) x (and_parts (is_more p.value.0) (nat_lt 0 p.taken) c).0 }))
         (λ c. operand-stuck (n + grew.back) grew next.0 next.1)

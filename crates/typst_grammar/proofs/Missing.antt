@@ -8,7 +8,7 @@ use Rattle.typst_lines.specs.Place.{Place, moved}
 use Rattle.typst_tree.specs.Tree.{Tree, error_of}
 use Rattle.typst_language.specs.Nodes.{token_node, plain_node, fault_node}
 use Rattle.typst_tokens.specs.declared.token.Token.{Token}
-use Rattle.typst_language.specs.Hand.{Hand, AtHand, text_ahead, told}
+use Rattle.typst_language.specs.Hand.{Hand, AtHand, text_ahead, as_at_hand}
 use Rattle.typst_language.specs.Point.{Point}
 use Rattle.typst_language.specs.Shape.Making.{itself}
 use Rattle.typst_language.specs.Depth.{is_end}
@@ -72,7 +72,7 @@ module _ (l : Level) (thing : List ℕ) (z : Place) (s : Point) where
   t = asked h s
 
   abbrev first : Outcome AtHand
-  first = record (plain (told h) t) { asks = hand_asks_of l z s }
+  first = record (plain (as_at_hand h) t) { asks = hand_asks_of l z s }
 
   abbrev asked_error : Outcome Bool
   asked_error = plain s.is_after_error t
@@ -87,14 +87,14 @@ module _ (l : Level) (thing : List ℕ) (z : Place) (s : Point) where
   unfolding run
   by-after true e = inr (inr (record {
     after = e;
-    exact = exact-joined first (joined asked_error (plain tt t)) [] [] (exact-plain (told h) t (hand_asks_of l z s)) (exact-joined asked_error (plain tt t) [] [] (exact-plain s.is_after_error t []) (exact-plain tt t []));
+    exact = exact-joined first (joined asked_error (plain tt t)) [] [] (exact-plain (as_at_hand h) t (hand_asks_of l z s)) (exact-joined asked_error (plain tt t) [] [] (exact-plain s.is_after_error t []) (exact-plain tt t []));
     taken = refl;
     same = again;
   }))
   by-after false e = inr (inl (record {
     node = error_of (codes "expected " ++ thing) [];
     is_wrong = refl;
-    exact = exact-joined first (joined asked_error complaint) [] (error_of (codes "expected " ++ thing) [] ∷ []) (exact-plain (told h) t (hand_asks_of l z s))
+    exact = exact-joined first (joined asked_error complaint) [] (error_of (codes "expected " ++ thing) [] ∷ []) (exact-plain (as_at_hand h) t (hand_asks_of l z s))
         (exact-joined asked_error complaint [] (error_of (codes "expected " ++ thing) [] ∷ []) (exact-plain s.is_after_error t []) (record { nodes = refl; back = refl; hints = refl }));
     taken = refl;
     same = again;

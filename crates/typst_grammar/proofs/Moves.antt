@@ -6,7 +6,7 @@ use Rattle.typst_kinds.specs.declared.kind.SyntaxKind.{SyntaxKind}
 use Rattle.typst_lines.specs.Place.{Place, moved}
 use Rattle.typst_language.specs.declared.reading.Reading.{Reading}
 use Rattle.typst_language.specs.Point.{Point}
-use Rattle.typst_language.specs.Hand.{Hand, AtHand, told}
+use Rattle.typst_language.specs.Hand.{Hand, AtHand, as_at_hand}
 use Rattle.typst_language.specs.Shape.{Making, Shape}
 use Rattle.typst_language.specs.Shape.Making.{itself, of_kind, surprise}
 use Rattle.typst_language.specs.Expected.{seeing}
@@ -35,7 +35,7 @@ module _ (l : Level) where
   unfolding run
   moves-peek f e z s h =
       let t = asked (hand_of l z s) s in
-      let rest : 0 < (run l (f (told (hand_of l z s))) (moved 0 z) t).taken = e (told (hand_of l z s)) z t (omega (arith, left-again z s)) in omega arith
+      let rest : 0 < (run l (f (as_at_hand (hand_of l z s))) (moved 0 z) t).taken = e (as_at_hand (hand_of l z s)) z t (omega (arith, left-again z s)) in omega arith
 
   pub moves-takes : (trims : Bool) (making : Making) → Moves l (does (takes trims making))
   unfolding run

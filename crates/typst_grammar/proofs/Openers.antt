@@ -5,9 +5,9 @@ use Rattle.typst_kinds.specs.declared.kind.SyntaxKind.TheVariants as kind
 use Rattle.typst_kinds.specs.declared.operator.UnOp.{UnOp}
 use Rattle.typst_lines.specs.Place.{Place, moved}
 use Rattle.typst_tree.specs.Tree.{Tree, text_of, error_of, advised}
-use Rattle.typst_language.specs.declared.calls.Behind.{Behind}
-use Rattle.typst_language.specs.declared.calls.Behind.TheVariants as behind
-use Rattle.typst_language.specs.Hand.{Hand, told}
+use Rattle.typst_language.specs.declared.calls.AfterName.{AfterName}
+use Rattle.typst_language.specs.declared.calls.AfterName.TheVariants as after
+use Rattle.typst_language.specs.Hand.{Hand, as_at_hand}
 use Rattle.typst_language.specs.Point.{Point, forgot}
 use Rattle.typst_language.specs.declared.calls.Block.{Block}
 use Rattle.typst_language.specs.declared.calls.Block.TheVariants as block
@@ -19,7 +19,7 @@ use Rattle.typst_tree.specs.Messages.{made_expected, expected_error, expected_me
 use Rattle.typst_grammar.specs.Grammar.{block_production, level_at}
 use Rattle.typst_grammar.proofs.Signs.{sign_of}
 use Rattle.typst_language.specs.Shape.{Shape, becomes, hinted, on_first, shaped, encloses}
-use Rattle.typst_language.specs.Shape.Change.{stays, is_not}
+use Rattle.typst_language.specs.Shape.NodeChange.{stays, is_not}
 use Rattle.typst_language.specs.Shape.Shape.{keeps}
 use Rattle.typst_language.specs.Depth.{is_end}
 use Rattle.typst_language.specs.Syntax.{Parser, ◌>>=◌}
@@ -27,7 +27,7 @@ use Rattle.typst_language.specs.Syntax.Parser.{gives, block}
 use Rattle.typst_language.specs.Steps.{peek, eat, node, read_block}
 use Rattle.typst_code.specs.Markup.{content_block}
 use Rattle.typst_code.specs.Sequences.{code_block}
-use Rattle.typst_code.specs.Closures.{behind_name, behind_underscore, name_shape, underscore_shape, named, placeholder, headed, closure_shape, right_side}
+use Rattle.typst_code.specs.Closures.{after_name, after_underscore, name_shape, underscore_shape, named, placeholder, headed, closure_shape, right_side}
 use Rattle.typst_language.proofs.Within.{on_both}
 use Rattle.typst_code.specs.Equations.{equation}
 use Rattle.typst_code.specs.Bindings.{let_binding}
@@ -38,7 +38,7 @@ use Rattle.typst_language.specs.Meaning.{Outcome, Level, plain, less, closed, fl
 use Rattle.typst_language.proofs.Ends.{hand-again}
 use Rattle.typst_grammar.proofs.Fine.{All, all-append, all-drop, all-take, all-hinted}
 use Rattle.typst_grammar.proofs.FineRuns.{still-hand}
-use Rattle.typst_grammar.proofs.Heads.{Bare, bare-advised, Unary, last-behind, Single, Head, Heads, head-behind, head-gives, head-next, head-wrapped, head-reshaped, head-shaped, head-stays, head-node-at, head-node, head-nest, head-silent, standing-silent, silent-joined, silent-plain, is_plain, head-eat}
+use Rattle.typst_grammar.proofs.Heads.{Bare, bare-advised, Unary, last-after, Single, Head, Heads, head-after, head-gives, head-next, head-wrapped, head-reshaped, head-shaped, head-stays, head-node-at, head-node, head-nest, head-silent, standing-silent, silent-joined, silent-plain, is_plain, head-eat}
 use Rattle.typst_grammar.proofs.Operands.{exact-eat, taken_sign}
 use Rattle.typst_grammar.proofs.Leads.{Leads, all-bare}
 use Rattle.typst_grammar.proofs.Firsts.{within_blocks, fills-inside}
@@ -146,7 +146,7 @@ module _ (k : CharClasses) (levels : ℕ) where
       let t = asked (hand_of within_it z y) y in
       let q = run within_it (block_production b) z t in
       let first = subst (λ (v : Hand). Head (length v.trivia) r q) (hand-again k y.held y.known z) (head-block b r z t) in
-      head-behind (length (hand_of within_it z y).trivia) r t (told (hand_of within_it z y)) (hand_asks_of within_it z y) q first
+      head-after (length (hand_of within_it z y).trivia) r t (as_at_hand (hand_of within_it z y)) (hand_asks_of within_it z y) q first
 
   head-flushed : (s : Point) (n m : ℕ) (ts : List Tree) (o : Outcome (Unit {0})) (q : Outcome (Unit {0})) → o.nodes ≡ ts → All Bare ts → Leads m q → Head m (record s { is_after_error = false }) q → Head n s (joined o q)
   head-flushed s n m ts o q e h lead hd =
@@ -156,7 +156,7 @@ module _ (k : CharClasses) (levels : ℕ) where
       let before : All Bare (hinted q.hints (less q.back o.nodes)) = all-hinted Bare bare-advised q.hints (less q.back o.nodes) (all-less Bare q.back o.nodes (subst (All Bare) (sym e) h)) in
       record {
         inside = all-drop Bare (n + (joined o q).back) (joined o q).nodes (all-append Bare (hinted q.hints (less q.back o.nodes)) q.nodes before rest);
-        last = last-behind (s.is_after_error ≡ true) (false ≡ true) Unary (λ x. absurd (cc)) (hinted q.hints (less q.back o.nodes)) q.nodes hd.last;
+        last = last-after (s.is_after_error ≡ true) (false ≡ true) Unary (λ x. absurd (cc)) (hinted q.hints (less q.back o.nodes)) q.nodes hd.last;
       }
 
   pub head-read : (i : SyntaxKind) (b : Block) → Heads here i (read_block b)
@@ -204,20 +204,20 @@ head-kept n s o h l shape (inr (inr e)) =
     head-shaped n s shape o (subst (λ (x : Shape). All Bare (shaped x (inside n o))) (sym e) (bare-first (codes "expression") (inside n o) h.inside))
     (subst (λ (x : Shape). 0 < length (shaped x (inside n o))) (sym e) (omega (arith, long, l)))
 
--- what comes behind a name
-after-name : (l : Level) (n : ℕ) (s : Point) (z : Place) (o : Outcome Behind) → Head n s o → (b : Behind)
+-- what comes after a name
+after-name : (l : Level) (n : ℕ) (s : Point) (z : Place) (o : Outcome AfterName) → Head n s o → (b : AfterName)
     → (let q = joined o (run l (right_side b >>= λ rest. gives b) (moved o.taken z) o.state) in Head n s (reshaped (closure_shape q.value) n q))
 unfolding run
-after-name l n s z o h behind.Arrow = let q = joined o (run l (right_side behind.Arrow >>= λ rest. gives behind.Arrow) (moved o.taken z) o.state) in head-reshaped n s (becomes kind.Closure) q (refl, refl)
-after-name l n s z o h behind.Eq = let q = joined o (run l (right_side behind.Eq >>= λ rest. gives behind.Eq) (moved o.taken z) o.state) in head-reshaped n s (becomes kind.DestructAssignment) q (refl, refl)
-after-name l n s z o h behind.Nothing =
+after-name l n s z o h after.Arrow = let q = joined o (run l (right_side after.Arrow >>= λ rest. gives after.Arrow) (moved o.taken z) o.state) in head-reshaped n s (becomes kind.Closure) q (refl, refl)
+after-name l n s z o h after.Eq = let q = joined o (run l (right_side after.Eq >>= λ rest. gives after.Eq) (moved o.taken z) o.state) in head-reshaped n s (becomes kind.DestructAssignment) q (refl, refl)
+after-name l n s z o h after.Nothing =
     let p = plain (tt {0}) o.state in
-    let q = joined p (plain behind.Nothing o.state) in
-    head-stays n s (keeps stays) (joined o q) refl (head-silent n s o q (silent-joined p (plain behind.Nothing o.state) (silent-plain (tt {0}) o.state) (silent-plain behind.Nothing o.state)) h)
+    let q = joined p (plain after.Nothing o.state) in
+    head-stays n s (keeps stays) (joined o q) refl (head-silent n s o q (silent-joined p (plain after.Nothing o.state) (silent-plain (tt {0}) o.state) (silent-plain after.Nothing o.state)) h)
 
 module _ (l : Level) (i : SyntaxKind) (goes : is_end i ≡ false) (plain_kind : is_plain i ≡ false) (no_sign : sign_of i ≡ None) (no_binary : same kind.Binary i ≡ false) where
-  module _ (what : SyntaxKind → Behind) (shape : Behind → Shape) (kept : (b : Behind) → Kept (shape b)) where
-    abbrev token : Parser Behind
+  module _ (what : SyntaxKind → AfterName) (shape : AfterName → Shape) (kept : (b : AfterName) → Kept (shape b)) where
+    abbrev token : Parser AfterName
     token = eat >>= λ taken. peek >>= λ ahead. gives (what ahead.kind)
 
     head-token : Heads l i (node shape token)
@@ -261,21 +261,21 @@ module _ (l : Level) (i : SyntaxKind) (goes : is_end i ≡ false) (plain_kind : 
     head-headed = head-next l i (node closure_shape _) _ head-closure
 
 -- where a name is at hand
-kept-name : (b : Behind) → Kept (name_shape b)
-kept-name behind.Arrow = inl (λ ts. (refl, refl))
-kept-name behind.Eq = inr (inl refl)
-kept-name behind.Nothing = inr (inl refl)
+kept-name : (b : AfterName) → Kept (name_shape b)
+kept-name after.Arrow = inl (λ ts. (refl, refl))
+kept-name after.Eq = inr (inl refl)
+kept-name after.Nothing = inr (inl refl)
 
-kept-underscore : (b : Behind) → Kept (underscore_shape b)
-kept-underscore behind.Arrow = inl (λ ts. (refl, refl))
-kept-underscore behind.Eq = inr (inl refl)
-kept-underscore behind.Nothing = inr (inr refl)
+kept-underscore : (b : AfterName) → Kept (underscore_shape b)
+kept-underscore after.Arrow = inl (λ ts. (refl, refl))
+kept-underscore after.Eq = inr (inl refl)
+kept-underscore after.Nothing = inr (inr refl)
 
 module _ (l : Level) where
   pub head-named : Heads l kind.Ident named
   unfolding named
-  head-named = head-headed l kind.Ident refl refl refl refl behind_name name_shape kept-name
+  head-named = head-headed l kind.Ident refl refl refl refl after_name name_shape kept-name
 
   pub head-placeholder : Heads l kind.Underscore placeholder
   unfolding placeholder
-  head-placeholder = head-headed l kind.Underscore refl refl refl refl behind_underscore underscore_shape kept-underscore
+  head-placeholder = head-headed l kind.Underscore refl refl refl refl after_underscore underscore_shape kept-underscore

@@ -1,4 +1,4 @@
--- An operator and what is read behind it.
+-- An operator and what is read after it.
 use Rattle.std.proofs.Common.{◌≡◌, ℕ, zero, suc, ◌<◌, ◌≤◌, Bool, true, false, if◌then◌else◌, nat_lt, List, [], ◌∷◌, ◌++◌, length, length-append, length-take, append_assoc, append-nil, None, refl, ap, sym, ◌∙◌, inl, inr, arith}
 use Rattle.std.proofs.lemmas.Str.{length-le-encodes}
 use borrow.Author.Tests.{lt-ltb, le-ltb}
@@ -65,7 +65,7 @@ no-hints true c hs js e f = e
 no-hints false true hs js e f = f
 no-hints false false hs js e f = ap (λ u. u ++ js) e ∙ f
 
--- one behind the other
+-- one after the other
 pub exact-joined : {A B : Type 0} (o : Outcome B) (q : Outcome A) (xs ys : List Tree) → Exact o xs → Exact q ys → Exact (joined o q) (xs ++ ys)
 exact-joined o q xs ys h i =
     let a = h.back in let b = i.back in
@@ -75,7 +75,7 @@ exact-joined o q xs ys h i =
       hints = no-hints (nat_lt q.back (length o.nodes)) (nat_lt (length o.nodes) q.back) o.hints q.hints h.hints i.hints;
     }
 
--- an answer behind it
+-- an answer after it
 pub exact-gives : {A B : Type 0} (o : Outcome B) (a : A) (xs : List Tree) → Exact o xs → Exact (joined o (plain a o.state)) xs
 exact-gives o a xs h = let j = exact-joined o (plain a o.state) xs [] h (exact-plain a o.state []) in record { nodes = j.nodes ∙ append-nil xs; back = j.back; hints = j.hints }
 
@@ -94,7 +94,7 @@ node-text l z s some =
     let more = length-le-encodes text in
     omega (arith, e, more, long, some)
 
--- where it has characters no empty error stands behind it
+-- where it has characters no empty error stands after it
 module _ (l : Level) (z : Place) (s : Point) where
   abbrev pub taken_sign : Tree
   taken_sign = taken_node l.classes itself (hand_of l z s) z
@@ -135,7 +135,7 @@ last-kind (hint ∷ hints) t e = on_both (λ (u : Tree). is_error u.head.kind �
     all-kind [] t = refl
     all-kind (hint ∷ hints) t = all-kind hints (advised (hint_with None hint) t)
 
--- the token of an operator, what is read behind it, and an answer
+-- the token of an operator, what is read after it, and an answer
 module _ (l : Level) {A B : Type 0} (z : Place) (s : Point) (d : Outcome A) (b : B) (none : d.back ≡ 0) where
   abbrev sign : Tree
   sign = taken_sign l z s

@@ -5,23 +5,23 @@ use Rattle.typst_kinds.specs.declared.kind.SyntaxKind.{SyntaxKind}
 use Rattle.typst_kinds.specs.declared.kind.SyntaxKind.TheVariants as kind
 use Rattle.typst_lines.specs.Place.{Place, moved}
 use Rattle.typst_tree.specs.Tree.{Tree, forest, inner_of}
-use Rattle.typst_language.specs.declared.calls.Behind.{Behind}
-use Rattle.typst_language.specs.declared.calls.Behind.TheVariants as behind
+use Rattle.typst_language.specs.declared.calls.AfterName.{AfterName}
+use Rattle.typst_language.specs.declared.calls.AfterName.TheVariants as after
 use Rattle.typst_language.specs.declared.calls.Block.{Block}
 use Rattle.typst_language.specs.Calls.{Call}
 use Rattle.typst_language.specs.declared.calls.Role.{Role}
-use Rattle.typst_code.specs.declared.listing.Items.{Items}
+use Rattle.typst_code.specs.declared.listing.ParenItems.{ParenItems}
 use Rattle.typst_code.specs.Closures.{closure_shape}
 use Rattle.typst_language.specs.Expected.{expects}
 use Rattle.typst_code.specs.Groups.{group, group_kind, group_rest, group_shape, list_kind}
-use Rattle.typst_language.specs.Hand.{Hand, AtHand, told}
+use Rattle.typst_language.specs.Hand.{Hand, AtHand, as_at_hand}
 use Rattle.typst_code.specs.Params.{params}
-use Rattle.typst_code.specs.Parens.{as_group, behind_group, behind_if, parens, readings, sign}
+use Rattle.typst_code.specs.Parens.{as_group, after_group, after_if, parens, readings, sign}
 use Rattle.typst_code.specs.Parts.{expression_if}
 use Rattle.typst_code.specs.Patterns.{destructuring}
 use Rattle.typst_language.specs.Point.{Point, pending}
 use Rattle.typst_language.specs.Shape.{encloses, first_changed, hinted_last, hinted, shaped}
-use Rattle.typst_language.specs.Shape.Change.{stays, turns_wrong}
+use Rattle.typst_language.specs.Shape.NodeChange.{stays, turns_wrong}
 use Rattle.typst_language.specs.Shape.Shape.{keeps}
 use Rattle.typst_language.specs.Sound.{Tidy, Backs}
 use Rattle.typst_language.specs.Steps.{peek, eat, eat_if, expect, expected, node, within}
@@ -35,11 +35,11 @@ use Rattle.typst_grammar.proofs.Signs.{sign_of}
 use Rattle.typst_grammar.proofs.Fine.{All, Steady, all-append, no-operator}
 use Rattle.typst_grammar.proofs.FineRuns.{Gives, gives-all, gives-run, Still, still-hand}
 use Rattle.typst_grammar.proofs.Firsts.{fills-readings}
-use Rattle.typst_grammar.proofs.Heads.{Bare, bare-advised, bare-error, Unary, last-behind, last-all, Single, Head, Heads, Silent, head-next, head-peek, head-wrapped, head-reshaped, head-stays, head-node, head-silent, silent-joined, silent-plain, standing-none, standing-silent}
+use Rattle.typst_grammar.proofs.Heads.{Bare, bare-advised, bare-error, Unary, last-after, last-all, Single, Head, Heads, Silent, head-next, head-peek, head-wrapped, head-reshaped, head-stays, head-node, head-silent, silent-joined, silent-plain, standing-none, standing-silent}
 use Rattle.typst_grammar.proofs.Leads.{Leads, all-bare}
 use Rattle.typst_grammar.proofs.Missing.{Missed, missed}
 
--- ---- behind what leads
+-- ---- after what leads
 
 all-drop-take : (P : Tree → Type 0) (n m : ℕ) (ts : List Tree) → All P (drop n ts) → All P (drop n (take m ts))
 all-drop-take P zero zero ts h = tt
@@ -83,7 +83,7 @@ head-then n s o q lead h tidy all some =
     let before = all-drop-hinted Bare bare-advised q.hints (n + o.back) (less q.back o.nodes) (all-drop-less Bare (n + o.back) q.back o.nodes h.inside) in
     record {
       inside = subst (λ (i : ℕ). All Bare (drop i (joined o q).nodes)) (sym at) (all-drop-append Bare (n + o.back) (hinted q.hints (less q.back o.nodes)) q.nodes before all);
-      last = last-behind (s.is_after_error ≡ true) ⊥ Unary (λ x. x) (hinted q.hints (less q.back o.nodes)) q.nodes (last-all ⊥ q.nodes all some);
+      last = last-after (s.is_after_error ≡ true) ⊥ Unary (λ x. x) (hinted q.hints (less q.back o.nodes)) q.nodes (last-all ⊥ q.nodes all some);
     }
 
 -- ---- what may stand in parens
@@ -105,7 +105,7 @@ quiet-list None = (refl, refl)
 quiet-list (Some true) = (refl, refl)
 quiet-list (Some false) = (refl, refl)
 
-quiet-group : (items : Items) → Quiet (group_kind items)
+quiet-group : (items : ParenItems) → Quiet (group_kind items)
 quiet-group items = on_both Quiet (items.any && items.is_plain) kind.Parenthesized (list_kind items.are_pairs) (refl, refl) (quiet-list items.are_pairs)
 
 gives-rest : Gives (λ x. (h : AtHand) → Quiet x.1) group_rest
@@ -137,7 +137,7 @@ module _ (l : Level) (i : SyntaxKind) where
   head-as-group z s still e =
       let o = run l group z s in
       let p = run l peek (moved o.taken z) o.state in
-      let v = behind_group o.value p.value.kind in
+      let v = after_group o.value p.value.kind in
       head-silent _ s o (joined p (plain v p.state)) (silent-joined p (plain v p.state) (record { nodes = refl; back = refl; hints = refl }) (silent-plain v p.state)) (head-group z s still e)
 
   head-either : {A : Type 0} (p : Parser A) (is_wrong : A → Bool) (q : Parser A) → Heads l i p → Heads l i q → Heads l i (either p is_wrong q)
@@ -168,8 +168,8 @@ unmet-same : {A B : Type 0} (o : Outcome A) (p : Outcome B) → p.nodes ≡ o.no
 unmet-same o p e f (inl x) = inl (f x)
 unmet-same o p e f (inr x) = let long = ap length e in let some = x.1 in inr (subst (All Bare) (sym e) x.0, omega (arith, long, some))
 
-unmet-behind : {A B : Type 0} (b : B) (t : Point) (asks : List _) (o : Outcome A) → Unmet o → Unmet (joined (record (plain b t) { asks = asks }) o)
-unmet-behind b t asks o x = let first = record (plain b t) { asks = asks } in unmet-same o (joined first o) (standing-none o) (λ y. silent-joined first o (record { nodes = refl; back = refl; hints = refl }) y) x
+unmet-after : {A B : Type 0} (b : B) (t : Point) (asks : List _) (o : Outcome A) → Unmet o → Unmet (joined (record (plain b t) { asks = asks }) o)
+unmet-after b t asks o x = let first = record (plain b t) { asks = asks } in unmet-same o (joined first o) (standing-none o) (λ y. silent-joined first o (record { nodes = refl; back = refl; hints = refl }) y) x
 
 unmet-before : {A B : Type 0} (o : Outcome A) (p : Outcome B) → Silent p → Unmet o → Unmet (joined o p)
 unmet-before o p q x = unmet-same o (joined o p) (standing-silent p q o.nodes) (λ y. silent-joined o p y q) x
@@ -192,64 +192,64 @@ module _ (l : Level) where
   unfolding run expect
   unmet-expect is thing z s still e =
       let t = asked (hand_of l z s) s in
-      unmet-behind (told (hand_of l z s)) t (hand_asks_of l z s) _ (unmet-by is thing z t (still-hand l z s still) (is (hand_of l z s).kind) e)
+      unmet-after (as_at_hand (hand_of l z s)) t (hand_asks_of l z s) _ (unmet-by is thing z t (still-hand l z s still) (is (hand_of l z s).kind) e)
 
-  -- behind a second reading
-  module _ (n : ℕ) (s : Point) (z : Place) (o : Outcome Behind) (lead : Leads n o) (h : Head n s o) (still : All Still (pending o.state.known)) where
+  -- after a second reading
+  module _ (n : ℕ) (s : Point) (z : Place) (o : Outcome AfterName) (lead : Leads n o) (h : Head n s o) (still : All Still (pending o.state.known)) where
     abbrev w : Place
     w = moved o.taken z
 
     abbrev t : Point
     t = asked (hand_of l w o.state) o.state
 
-    abbrev rest_of : Behind → Parser Behind
-    rest_of v = sign v >>= λ came. expression_if came >>= λ rest. gives (behind_if came v)
+    abbrev rest_of : AfterName → Parser AfterName
+    rest_of v = sign v >>= λ came. expression_if came >>= λ rest. gives (after_if came v)
 
     module _ (is : SyntaxKind → Bool) (thing : List ℕ) where
       abbrev met : Outcome (Unit {0})
       met = run l (expect is thing) w t
 
       abbrev signed : Bool → Outcome Bool
-      signed came = joined (record (plain (told (hand_of l w o.state)) t) { asks = hand_asks_of l w o.state }) (joined met (plain came met.state))
+      signed came = joined (record (plain (as_at_hand (hand_of l w o.state)) t) { asks = hand_asks_of l w o.state }) (joined met (plain came met.state))
 
-      abbrev behind_sign : Bool → Behind → Outcome Behind
-      behind_sign came v = let x = signed came in let y = run l (expression_if came) (moved x.taken w) x.state in joined x (joined y (plain (behind_if came v) y.state))
+      abbrev after_sign : Bool → AfterName → Outcome AfterName
+      after_sign came v = let x = signed came in let y = run l (expression_if came) (moved x.taken w) x.state in joined x (joined y (plain (after_if came v) y.state))
 
-      by-sign : (v : Behind) → ((ts : List Tree) → Single (shaped (closure_shape v) ts)) → (came : Bool) → is (hand_of l w o.state).kind ≡ came → Tidy o.state (behind_sign came v) → Head n s (reshaped (closure_shape (joined o (behind_sign came v)).value) n (joined o (behind_sign came v)))
+      by-sign : (v : AfterName) → ((ts : List Tree) → Single (shaped (closure_shape v) ts)) → (came : Bool) → is (hand_of l w o.state).kind ≡ came → Tidy o.state (after_sign came v) → Head n s (reshaped (closure_shape (joined o (after_sign came v)).value) n (joined o (after_sign came v)))
       unfolding run
-      by-sign v single true e tidy = let q = joined o (behind_sign true v) in head-reshaped n s (closure_shape v) q (single (inside n q))
+      by-sign v single true e tidy = let q = joined o (after_sign true v) in head-reshaped n s (closure_shape v) q (single (inside n q))
       by-sign v single false e tidy =
-          let q = behind_sign false v in
+          let q = after_sign false v in
           let x = signed false in
           let y = plain (tt {0}) x.state in
-          let end = joined y (plain behind.Nothing x.state) in
-          let silent = silent-joined y (plain behind.Nothing x.state) (silent-plain (tt {0}) x.state) (silent-plain behind.Nothing x.state) in
+          let end = joined y (plain after.Nothing x.state) in
+          let silent = silent-joined y (plain after.Nothing x.state) (silent-plain (tt {0}) x.state) (silent-plain after.Nothing x.state) in
           let known = still-hand l w o.state still in
           let again = hand-again l.classes o.state.held o.state.known w in
           let none = unmet-expect is thing w t known (ap (λ (u : Hand). is u.kind) again ∙ e) in
-          let all = unmet-before x end silent (unmet-behind (told (hand_of l w o.state)) t (hand_asks_of l w o.state) (joined met (plain false met.state)) (unmet-before met (plain false met.state) (silent-plain false met.state) none)) in
+          let all = unmet-before x end silent (unmet-after (as_at_hand (hand_of l w o.state)) t (hand_asks_of l w o.state) (joined met (plain false met.state)) (unmet-before met (plain false met.state) (silent-plain false met.state) none)) in
           head-stays n s (keeps stays) (joined o q) refl (by-unmet all)
         where
-          by-unmet : Unmet (behind_sign false v) → Head n s (joined o (behind_sign false v))
-          by-unmet (inl u) = head-silent n s o (behind_sign false v) u h
-          by-unmet (inr u) = head-then n s o (behind_sign false v) lead h tidy u.0 u.1
+          by-unmet : Unmet (after_sign false v) → Head n s (joined o (after_sign false v))
+          by-unmet (inl u) = head-silent n s o (after_sign false v) u h
+          by-unmet (inr u) = head-then n s o (after_sign false v) lead h tidy u.0 u.1
 
-    module _ (tidy : (v : Behind) → Tidy o.state (run l (rest_of v) w o.state)) where
-      pub after-readings : (v : Behind) → let q = joined o (run l (rest_of v) w o.state) in Head n s (reshaped (closure_shape q.value) n q)
+    module _ (tidy : (v : AfterName) → Tidy o.state (run l (rest_of v) w o.state)) where
+      pub after-readings : (v : AfterName) → let q = joined o (run l (rest_of v) w o.state) in Head n s (reshaped (closure_shape q.value) n q)
       unfolding run expects
-      after-readings behind.Arrow = by-sign (same kind.Arrow) (codes "arrow") behind.Arrow (λ ts. (refl, refl)) (same kind.Arrow (hand_of l w o.state).kind) refl (tidy behind.Arrow)
-      after-readings behind.Eq = by-sign (same kind.Eq) (codes "equals sign") behind.Eq (λ ts. (refl, refl)) (same kind.Eq (hand_of l w o.state).kind) refl (tidy behind.Eq)
-      after-readings behind.Nothing =
+      after-readings after.Arrow = by-sign (same kind.Arrow) (codes "arrow") after.Arrow (λ ts. (refl, refl)) (same kind.Arrow (hand_of l w o.state).kind) refl (tidy after.Arrow)
+      after-readings after.Eq = by-sign (same kind.Eq) (codes "equals sign") after.Eq (λ ts. (refl, refl)) (same kind.Eq (hand_of l w o.state).kind) refl (tidy after.Eq)
+      after-readings after.Nothing =
           let a = plain false o.state in
           let y = plain (tt {0}) o.state in
-          let end = joined y (plain behind.Nothing o.state) in
+          let end = joined y (plain after.Nothing o.state) in
           let q = joined a end in
           head-stays n s (keeps stays) (joined o q) refl
-          (head-silent n s o q (silent-joined a end (silent-plain false o.state) (silent-joined y (plain behind.Nothing o.state) (silent-plain (tt {0}) o.state) (silent-plain behind.Nothing o.state))) h)
+          (head-silent n s o q (silent-joined a end (silent-plain false o.state) (silent-joined y (plain after.Nothing o.state) (silent-plain (tt {0}) o.state) (silent-plain after.Nothing o.state))) h)
 
 module _ (l : Level) (d : (c : Call) → Backs (l.deeper c)) (e : (b : Block) → Backs (l.blocks b)) (binds : (z : Place) (s : Point) → All Still (pending s.known) → All Still (pending (run l readings z s).state.known)) (i : SyntaxKind) where
-  abbrev inner : Parser Behind
-  inner = readings >>= λ follows. sign follows >>= λ came. expression_if came >>= λ rest. gives (behind_if came follows)
+  abbrev inner : Parser AfterName
+  inner = readings >>= λ follows. sign follows >>= λ came. expression_if came >>= λ rest. gives (after_if came follows)
 
   head-closure : Heads l i (node closure_shape inner)
   unfolding run
@@ -262,7 +262,7 @@ module _ (l : Level) (d : (c : Call) → Backs (l.deeper c)) (e : (b : Block) �
       let x = subst (λ (v : Hand). Head (length v.trivia) t o) again (head-readings l i z t known (ap (λ (v : Hand). v.kind) again ∙ f)) in
       let lead = subst (λ (v : Hand). Leads (length v.trivia) o) again (fills-readings l d e z t known) in
       head-wrapped l s closure_shape inner z s (after-readings l n s z o lead (record { inside = x.inside; last = x.last }) (binds z t known)
-      (λ v. backs-run l d e (sign v >>= λ came. expression_if came >>= λ rest. gives (behind_if came v)) (moved o.taken z) o.state) o.value)
+      (λ v. backs-run l d e (sign v >>= λ came. expression_if came >>= λ rest. gives (after_if came v)) (moved o.taken z) o.state) o.value)
 
   pub head-parens : Heads l i parens
   unfolding parens

@@ -1,5 +1,5 @@
 -- Pieces of a run, which are read one after the other.
-use Rattle.std.proofs.Common.{◌≡◌, ℕ, zero, suc, ◌+◌, ◌<◌, ◌≤◌, ◌==◌, min, Bool, true, false, ◌&&◌, if◌then◌else◌, nat_lt, Option, Some, None, List, [], ◌∷◌, ◌++◌, length, length-append, encode_utf8_all, take, drop, append_assoc, append-nil, refl, ap, sym, ◌∙◌, subst, arith}
+use Rattle.std.proofs.Common.{◌≡◌, ℕ, zero, suc, ◌+◌, ◌<◌, ◌≤◌, ◌==◌, Bool, true, false, ◌&&◌, if◌then◌else◌, nat_lt, List, [], ◌∷◌, ◌++◌, length, length-append, encode_utf8_all, drop, append_assoc, append-nil, refl, ap, sym, ◌∙◌, subst, arith}
 use Rattle.std.specs.Prelude.{IsSome}
 use Rattle.std.specs.Char.{encode_utf8}
 use Rattle.typst_lines.proofs.PlaceLemmas.{encode_utf8_nonempty}
@@ -15,7 +15,7 @@ use Rattle.typst_language.specs.Calls.Call.{MarkupExpr}
 use Rattle.typst_language.specs.Ask.{Ask, shift, shift_one}
 use Rattle.typst_language.specs.Ask.Ask.{looked, marked}
 use Rattle.typst_language.specs.Depth.{is_end, deeper}
-use Rattle.typst_language.specs.Hand.{Hand, AtHand, told}
+use Rattle.typst_language.specs.Hand.{Hand, AtHand, as_at_hand}
 use Rattle.typst_language.specs.Knot.{meaning_of}
 use Rattle.typst_language.specs.Log.{Log, no_log, logged}
 use Rattle.typst_language.specs.Meaning.{Outcome, Meaning, Level, guessing, hand_of, asked, joined, standing, run}
@@ -40,23 +40,13 @@ use Rattle.typst_grammar.specs.declared.part.RunKind.TheVariants as of
 use Rattle.typst_code.specs.Markup.{ends, note_piece, markup_turn, markup_expr, markup_reading}
 use Rattle.typst_grammar.specs.Pieces.{stops_of}
 use borrow.Author.Tests.{lt-ltb}
-use Rattle.std.proofs.Math.Seq.{take-append_seam, drop-append_seam}
-use Rattle.typst_language.specs.declared.calls.Note.{Note}
-use Rattle.typst_language.specs.Hand.{known_by}
 use Rattle.typst_language.specs.Meaning.{flushed_state}
-use Rattle.typst_language.specs.Point.{Trivia}
-use Rattle.typst_language.proofs.Places.{take-all, drop-all}
-use Rattle.typst_language.specs.Checkpoint.{first_of, is_some, saved, trivia_back, went_back}
-use Rattle.typst_language.specs.Noted.{listed, unnoted}
-use Rattle.typst_language.specs.Remembered.{Knows, end_of as text_end}
-use Rattle.typst_language.proofs.Checkpoints.{back-is}
-use Rattle.typst_language.proofs.Knowing.{end-moved, knows-at}
 use Rattle.typst_grammar.specs.Grammar.{level_at}
-use Rattle.typst_grammar.specs.Part.{IsResumed, IsGiven, HasRead, HasReadOn, IsTokenStart, ArePieces}
+use Rattle.typst_grammar.specs.Part.{IsResumed, IsGiven, HasRead, HasReadOn, ArePieces}
 use Rattle.typst_grammar.specs.Pieces.{made, goes, AllGo, End, end_of, asks_of, given, run_level, first_look, pieces_on, end_on}
 use Rattle.typst_grammar.specs.declared.part.ReadPart.{ReadPart}
 use Rattle.typst_grammar.specs.declared.part.PieceReader.{PieceReader}
-use Rattle.typst_grammar.specs.Told.{guesses, told_at}
+use Rattle.typst_grammar.specs.Guessing.{guesses, guessing_at}
 use Rattle.typst_grammar.proofs.AtLevels.{sound-at, still-kept}
 use Rattle.typst_grammar.proofs.Parts.{standing-nil}
 use Rattle.typst_grammar.proofs.Whole.{eats-expr}
@@ -83,7 +73,7 @@ falls (suc n) (x ∷ xs) l h = absurd (omega (arith, size-drop n xs, size-more x
 none-taken : (n : ℕ) (y z : Place) → y ≡ moved n z → n ≤ length z.ahead → bytes_left z ≤ bytes_left y → n ≡ 0
 none-taken n y z e l h = falls n z.ahead l (omega (arith, h, ap bytes_left e, ap size (moved-ahead n z)))
 
--- ---- turns of a loop, and those behind them
+-- ---- turns of a loop, and those after them
 
 pub shift-zero : (asks : List Ask) → shift 0 asks ≡ asks
 shift-zero [] = refl
@@ -143,12 +133,12 @@ on_either P false x y p q = q refl
 -- it asks for the token at hand, and then ends or does the rest
 turn-either : {A : Type 0} (l : Level) (test : SyntaxKind → Bool) (x : A) (rest : AtHand → Parser (Bool × A)) (z : Place) (s : Point) (P : Outcome (Bool × A) → Type 0)
     → (let h = hand_of l z s in (test h.kind ≡ true → P (joined (run l (does hand) z s) (run l (gives (false, x)) (moved 0 z) (asked h s))))
-    → (test h.kind ≡ false → P (joined (run l (does hand) z s) (run l (rest (told h)) (moved 0 z) (asked h s))))
+    → (test h.kind ≡ false → P (joined (run l (does hand) z s) (run l (rest (as_at_hand h)) (moved 0 z) (asked h s))))
     → P (run l (next (does hand) (λ h. pick (test h.kind) (gives (false, x)) (rest h))) z s))
 unfolding run
 turn-either l test x rest z s P p q =
     let h = hand_of l z s in
-    on_either (λ o. P (joined (run l (does hand) z s) o)) (test h.kind) (run l (gives (false, x)) (moved 0 z) (asked h s)) (run l (rest (told h)) (moved 0 z) (asked h s)) p q
+    on_either (λ o. P (joined (run l (does hand) z s) o)) (test h.kind) (run l (gives (false, x)) (moved 0 z) (asked h s)) (run l (rest (as_at_hand h)) (moved 0 z) (asked h s)) p q
 
 -- where a sequence goes on, the text isn't at its end
 not-end : (which : RunKind) (n : ℕ) (i : SyntaxKind) → ends (stops_of which) n i ≡ false → is_end i ≡ false
@@ -211,24 +201,21 @@ takes-at : (k : CharClasses) (levels : ℕ) (which : RunKind) (x : Bool × ℕ) 
 takes-at k zero which x z s some = absurd (omega arith)
 takes-at k (suc n) which x z s some = turn-takes k n which x z s
 
--- the same level, with what is told of first readings
-abbrev pub told_in : CharClasses → ℕ → RunKind → Level
-told_in k levels which = guessing (guesses k) (run_level k levels which)
+-- the same level, with what is known of first readings
+abbrev pub guessing_in : CharClasses → ℕ → RunKind → Level
+guessing_in k levels which = guessing (guesses k) (run_level k levels which)
 
 -- calls are made there as around it
-pub fills-in : (k : CharClasses) (levels : ℕ) (which : RunKind) {f : Frame} → Fills (told_at k levels) f → Fills (told_in k levels which) f
+pub fills-in : (k : CharClasses) (levels : ℕ) (which : RunKind) {f : Frame} → Fills (guessing_at k levels) f → Fills (guessing_in k levels which) f
 fills-in k levels of.Text h = h
 fills-in k levels of.Block h = fills-apart h
 
-sound-in : (k : CharClasses) (levels : ℕ) (which : RunKind) → Sound (told_in k levels which)
+sound-in : (k : CharClasses) (levels : ℕ) (which : RunKind) → Sound (guessing_in k levels which)
 sound-in k levels of.Text = sound-at k levels
 sound-in k levels of.Block = sound-apart (sound-at k levels)
 
-pub fills-at : (k : CharClasses) (n levels : ℕ) (which : RunKind) {f : Frame} → n ≡ levels → Fills (told_at k n) f → Fills (told_in k levels which) f
-fills-at k n levels which {f = f} e h = fills-in k levels which (subst (λ m. Fills (told_at k m) f) e h)
-
-same-number : (n : ℕ) → (n == n) ≡ true
-same-number n = grind (arith, nat_tests)
+pub fills-at : (k : CharClasses) (n levels : ℕ) (which : RunKind) {f : Frame} → n ≡ levels → Fills (guessing_at k n) f → Fills (guessing_in k levels which) f
+fills-at k n levels which {f = f} e h = fills-in k levels which (subst (λ m. Fills (guessing_at k m) f) e h)
 
 -- what became of the trivia at hand
 record Left (v w : View) : Type 0 where
@@ -245,48 +232,12 @@ flushed-is {l = l} {v = v} {w = w} d fits =
     let r = (d.ran fits).runs in
     record { nodes = r.nodes ∙ sym q.nodes; place = r.place ∙ sym q.place; log = r.log ∙ sym q.log }
 
-known-back : (h : Hand) (x : Option Trivia) → x ≡ known_by h → (if is_some x then known_by h else None) ≡ x
-known-back h None e = refl
-known-back h (Some t) e = sym e
-
--- behind going back to where trivia became nodes all is as it was
-pub back-again : {l : Level} {v mid w : View} → v.state.empties ≤ length v.nodes → Fits l v → Does l flush_trivia tt v mid → w ≡ went_back (saved v) mid → IsTokenStart l v w (position mid.place)
-back-again {l = l} {v = v} {mid = mid} {w = w} few fits d e =
-    let f = flushed-is d fits in
-    let nodes : v.nodes ≡ take (length v.nodes) mid.nodes = sym (ap (take (length v.nodes)) f.nodes ∙ take-append_seam v.nodes v.hand.trivia) in
-    let rest : drop (length v.nodes) mid.nodes ≡ v.hand.trivia = ap (drop (length v.nodes)) f.nodes ∙ drop-append_seam v.nodes v.hand.trivia in
-    let trivia : v.hand.trivia ≡ trivia_back (saved v) mid = sym (ap (λ ts. first_of (length v.hand.trivia) ts mid.hand.trivia) rest ∙ all-back v.hand.trivia mid.hand.trivia) in
-    let empties : v.state.empties ≡ min v.state.empties (length v.nodes) = omega arith in
-    let log : v.log ≡ unnoted (length (listed v.log.notes)) mid.log = sym (ap (unnoted (length (listed v.log.notes))) f.log ∙ unnoted-same v.log) in
-    let back = back-is (saved v) mid v.nodes v.hand.trivia v.state.empties v.log nodes trivia empties log in
-    let same : w ≡ record v { memo = mid.memo } = e ∙ sym back ∙ ap (λ (x : Option Trivia). record v { state = record v.state { known = x }; memo = mid.memo }) (known-back v.hand v.state.known fits.known) in
-    let memo : w.memo ≡ mid.memo = ap (λ (u : View). u.memo) same in
-    let knows : Knows l.guess (text_end v.place) mid.memo = knows-at refl (sym (ap text_end f.place ∙ end-moved v.hand.gap v.place)) (d.ready fits).knows in
-    record {
-      start_is = ap position f.place;
-      same = same ∙ ap (λ xs. record v { memo = xs }) (sym memo);
-      fits = subst (Fits l) (sym same) (record { known = fits.known; hand = fits.hand; own = fits.own; here = fits.here; there = fits.there; log = fits.log; knows = knows });
-    }
-  where
-    all-back : (ts us : List Tree) → first_of (length ts) ts us ≡ ts
-    all-back ts us = let whole = take-all (length ts) ts (omega arith) in rw (whole, same-number (length ts)) refl
-
-    unnoted-same : (h : Log) → unnoted (length (listed h.notes)) h ≡ h
-    unnoted-same h = by-notes h.notes refl
-      where
-        by-notes : (ns : Option (List Note)) → h.notes ≡ ns → unnoted (length (listed h.notes)) h ≡ h
-        by-notes None e = rw e refl
-        by-notes (Some ns) e =
-            let all = take-all (length ns) ns (omega arith) in
-            let none = drop-all (length ns) ns (omega arith) in
-            rw (e, all, none) refl
-
 module _ (k : CharClasses) (levels : ℕ) (which : RunKind) (x : Bool × ℕ) (z : Place) where
   abbrev l : Level
   l = run_level k levels which
 
-  abbrev told_l : Level
-  told_l = told_in k levels which
+  abbrev guessing_l : Level
+  guessing_l = guessing_in k levels which
 
   abbrev piece : Bool × ℕ → Meaning (Bool × (Bool × ℕ))
   piece y = run l (markup_turn true (stops_of which) y)
@@ -297,78 +248,75 @@ module _ (k : CharClasses) (levels : ℕ) (which : RunKind) (x : Bool × ℕ) (z
   abbrev end : ℕ → End (Bool × ℕ)
   end m = end_on l (stops_of which) x m z
 
-  untold : {A : Type 0} (p : Parser A) (v : View) → at told_l p v ≡ run l p v.place v.state
+  untold : {A : Type 0} (p : Parser A) (v : View) → at guessing_l p v ≡ run l p v.place v.state
   untold {A = A} p v = ap {A = Meaning A} {B = Outcome A} (λ m. m v.place v.state) (run-blind (guesses k) l p)
 
   -- where the token at hand begins
-  start-known : (v w : View) (n : ℕ) → IsTokenStart told_l v w n → n ≡ position (moved (gap_of w.state.known) w.place)
-  start-known v w n t =
-      let hands : w.hand ≡ v.hand = ap (λ (u : View). u.hand) t.same in
-      let places : w.place ≡ v.place = ap (λ (u : View). u.place) t.same in
-      let gap : gap_of w.state.known ≡ v.hand.gap = ap gap_of t.fits.known ∙ ap (λ (h : Hand). h.gap) hands in
-      t.start_is ∙ sym (ap (λ j. position (moved j w.place)) gap ∙ ap (λ y. position (moved v.hand.gap y)) places)
+  start-known : (w : View) (n : ℕ) → Fits guessing_l w → n ≡ position (moved w.hand.gap w.place) → n ≡ position (moved (gap_of w.state.known) w.place)
+  start-known w n fits at_token =
+      let gap : gap_of w.state.known ≡ w.hand.gap = ap gap_of fits.known in
+      at_token ∙ sym (ap (λ j. position (moved j w.place)) gap)
 
   -- before the first piece
-  pub starts : (v w : View) (p : PieceReader) → 0 < levels → IsResumed z markup_reading v → Goes told_l (Bare told_l) (Fits told_l) peek (told w.hand) v w → (Fits told_l w → IsTokenStart told_l w p.parser p.end)
+  pub starts : (v : View) (p : PieceReader) → 0 < levels → IsResumed z markup_reading v → Goes guessing_l (Bare guessing_l) (Fits guessing_l) peek (as_at_hand p.parser.hand) v p.parser → p.end ≡ position (moved p.parser.hand.gap p.parser.place)
       → p.levels ≡ levels → p.kind ≡ which → p.carried ≡ x → HasRead k levels which x z 0 p
   unfolding run
-  starts v w p some h d began levels_are kind_is carried =
-      let bare : Bare told_l v = record { known = ap (λ (s : Point). s.known) h.state; knows = knows-none h.memo } in
-      let t = began (d.ready bare) in
+  starts v p some h d at_token levels_are kind_is carried =
+      let w = p.parser in
+      let bare : Bare guessing_l v = record { known = ap (λ (s : Point). s.known) h.state; knows = knows-none h.memo } in
+      let fits = d.ready bare in
       let o = first_look l z in
-      let same : at told_l peek v ≡ o = untold peek v ∙ ap (λ y. run l peek y v.state) h.place ∙ ap (run l peek z) h.state in
-      let q : Runs levels o (told w.hand) v w = subst (λ u. Runs levels u (told w.hand) v w) same (d.ran bare).runs in
+      let same : at guessing_l peek v ≡ o = untold peek v ∙ ap (λ y. run l peek y v.state) h.place ∙ ap (run l peek z) h.state in
+      let q : Runs levels o (as_at_hand w.hand) v w = subst (λ u. Runs levels u (as_at_hand w.hand) v w) same (d.ran bare).runs in
       record {
         levels_are = levels_are;
         some = some;
         kind_is = kind_is;
         go = tt;
         carried = carried;
-        place = ap (λ (u : View). u.place) t.same ∙ q.place ∙ h.place;
-        state = ap (λ (u : View). u.state) t.same ∙ q.state;
-        nodes = ap (λ (u : View). u.nodes) t.same ∙ q.nodes ∙ ap (standing o) h.nodes ∙ standing-nil o;
-        log = ap (λ (u : View). u.log) t.same ∙ q.log ∙ ap (λ y. logged levels y v.log o.asks) h.place ∙ ap (λ g. logged levels z g o.asks) h.log ∙ ap (logged levels z no_log) (sym (append-nil o.asks));
-        fits = t.fits;
-        end = start-known w p.parser p.end t;
+        place = q.place ∙ h.place;
+        state = q.state;
+        nodes = q.nodes ∙ ap (standing o) h.nodes ∙ standing-nil o;
+        log = q.log ∙ ap (λ y. logged levels y v.log o.asks) h.place ∙ ap (λ g. logged levels z g o.asks) h.log ∙ ap (logged levels z no_log) (sym (append-nil o.asks));
+        fits = fits;
+        end = start-known w p.end fits at_token;
       }
 
-  turn-is : (m : ℕ) (p : PieceReader) → HasRead k levels which x z m p → at told_l (markup_turn true (stops_of which) p.carried) p.parser ≡ piece (end m).value (moved (end m).taken z) (end m).state
+  turn-is : (m : ℕ) (p : PieceReader) → HasRead k levels which x z m p → at guessing_l (markup_turn true (stops_of which) p.carried) p.parser ≡ piece (end m).value (moved (end m).taken z) (end m).state
   turn-is m p h =
       let e = end m in
       let v = p.parser in
       untold (markup_turn true (stops_of which) p.carried) v ∙ ap (λ u. piece u v.place v.state) h.carried ∙ ap (λ u. piece e.value u v.state) h.place ∙ ap (piece e.value (moved e.taken z)) h.state
 
-  -- what a reader does next is the piece behind those that it read
-  runs-next : (m : ℕ) (p : PieceReader) (y : Bool × (Bool × ℕ)) (w : View) → HasRead k levels which x z m p → Does told_l (markup_turn true (stops_of which) p.carried) y p.parser w
+  -- what a reader does next is the piece after those that it read
+  runs-next : (m : ℕ) (p : PieceReader) (y : Bool × (Bool × ℕ)) (w : View) → HasRead k levels which x z m p → Does guessing_l (markup_turn true (stops_of which) p.carried) y p.parser w
       → Runs levels (piece (end m).value (moved (end m).taken z) (end m).state) y p.parser w
   runs-next m p y w h d = subst (λ o. Runs levels o y p.parser w) (turn-is m p h) (d.ran h.fits).runs
 
   -- with a piece more read fewer bytes are left
-  pub shorter : (m : ℕ) (p q : PieceReader) (y : Bool × ℕ) (w : View) → HasRead k levels which x z m p → Does told_l (markup_turn true (stops_of which) p.carried) (true, y) p.parser w → (Fits told_l w → IsTokenStart told_l w q.parser q.end)
-      → bytes_left q.parser.place < bytes_left p.parser.place
-  shorter m p q y w h d began =
+  pub shorter : (m : ℕ) (p : PieceReader) (y : Bool × ℕ) (w : View) → HasRead k levels which x z m p → Does guessing_l (markup_turn true (stops_of which) p.carried) (true, y) p.parser w
+      → bytes_left w.place < bytes_left p.parser.place
+  shorter m p y w h d =
       let v = p.parser in
       let e = end m in
-      let t = began (d.ready h.fits) in
       let r = runs-next m p (true, y) w h d in
       let o = piece e.value (moved e.taken z) e.state in
       let some : 0 < o.taken = takes-at k levels which e.value (moved e.taken z) e.state h.some (ap (λ (u : Bool × (Bool × ℕ)). u.0) r.value) in
-      let same : at told_l (markup_turn true (stops_of which) p.carried) v ≡ o = turn-is m p h in
+      let same : at guessing_l (markup_turn true (stops_of which) p.carried) v ≡ o = turn-is m p h in
       let taken = ap (λ (u : Outcome (Bool × (Bool × ℕ))). u.taken) same in
       let sound = sound-in k levels which in
-      let most = within-run told_l sound.within sound.within_block (markup_turn true (stops_of which) p.carried) v.place v.state in
+      let most = within-run guessing_l sound.within sound.within_block (markup_turn true (stops_of which) p.carried) v.place v.state in
       let few = known-few h.fits in
       let there : o.taken ≤ length v.place.ahead = omega (arith, most, few, taken) in
       let none = none-taken o.taken w.place v.place r.place there in
-      let place : q.parser.place ≡ w.place = ap (λ (u : View). u.place) t.same in
-      let left = ap bytes_left place in
-      grind (arith, some, none, left)
+      grind (arith, some, none)
 
   -- a piece more
-  pub reads-on : (m : ℕ) (p q : PieceReader) (y : Bool × ℕ) (w : View) → HasRead k levels which x z m p → Does told_l (markup_turn true (stops_of which) p.carried) (true, y) p.parser w → (Fits told_l w → IsTokenStart told_l w q.parser q.end)
+  pub reads-on : (m : ℕ) (p q : PieceReader) (y : Bool × ℕ) → HasRead k levels which x z m p → Does guessing_l (markup_turn true (stops_of which) p.carried) (true, y) p.parser q.parser → q.end ≡ position (moved q.parser.hand.gap q.parser.place)
       → q.levels ≡ levels → q.kind ≡ which → q.carried ≡ y → HasRead k levels which x z (m + 1) q
-  reads-on m p q y w h d began levels_are kind_is carried =
-      let t = began (d.ready h.fits) in
+  reads-on m p q y h d at_token levels_are kind_is carried =
+      let w = q.parser in
+      let fits = d.ready h.fits in
       let e = end m in
       let first = first_look l z in
       let o = piece e.value (moved e.taken z) e.state in
@@ -395,12 +343,12 @@ module _ (k : CharClasses) (levels : ℕ) (which : RunKind) (x : Bool × ℕ) (z
         kind_is = kind_is;
         go = subst AllGo (sym sum) (go-append os more h.go (goes_on, tt));
         carried = carried ∙ sym (ap (λ (u : End (Bool × ℕ)). u.value) at_end ∙ ap (λ (u : Bool × (Bool × ℕ)). u.1) r.value);
-        place = ap (λ (u : View). u.place) t.same ∙ r.place ∙ ap (moved o.taken) h.place ∙ sym (moved-sum e.taken o.taken z) ∙ ap (λ j. moved j z) (one ∙ sym (ap (λ (u : End (Bool × ℕ)). u.taken) at_end));
-        state = ap (λ (u : View). u.state) t.same ∙ r.state ∙ sym (ap (λ (u : End (Bool × ℕ)). u.state) at_end);
-        nodes = ap (λ (u : View). u.nodes) t.same ∙ r.nodes ∙ ap (standing o) h.nodes ∙ sym (given-append os more []) ∙ ap (λ us. given us []) (sym sum);
-        log = ap (λ (u : View). u.log) t.same ∙ log;
-        fits = t.fits;
-        end = start-known w q.parser q.end t;
+        place = r.place ∙ ap (moved o.taken) h.place ∙ sym (moved-sum e.taken o.taken z) ∙ ap (λ j. moved j z) (one ∙ sym (ap (λ (u : End (Bool × ℕ)). u.taken) at_end));
+        state = r.state ∙ sym (ap (λ (u : End (Bool × ℕ)). u.state) at_end);
+        nodes = r.nodes ∙ ap (standing o) h.nodes ∙ sym (given-append os more []) ∙ ap (λ us. given us []) (sym sum);
+        log = log;
+        fits = fits;
+        end = start-known w q.end fits at_token;
       }
 
   -- the trivia at hand are those that are known
@@ -411,7 +359,7 @@ module _ (k : CharClasses) (levels : ℕ) (which : RunKind) (x : Bool × ℕ) (z
   gap-known m p h = sym (ap gap_of (ap (λ (s : Point). s.known) (sym h.state) ∙ h.fits.known))
 
   -- no piece more, where nothing was read
-  pub reads-none : (m : ℕ) (p q : PieceReader) (y : Bool × ℕ) → HasRead k levels which x z m p → Does told_l (markup_turn true (stops_of which) p.carried) (false, y) p.parser q.parser
+  pub reads-none : (m : ℕ) (p q : PieceReader) (y : Bool × ℕ) → HasRead k levels which x z m p → Does guessing_l (markup_turn true (stops_of which) p.carried) (false, y) p.parser q.parser
       → q.levels ≡ p.levels → q.kind ≡ p.kind → q.carried ≡ p.carried → q.end ≡ p.end → HasReadOn k levels which x z m false q
   unfolding markup_turn
   reads-none m p q y h d levels_are kind_is carried ends_at =
@@ -422,7 +370,7 @@ module _ (k : CharClasses) (levels : ℕ) (which : RunKind) (x : Bool × ℕ) (z
       let over : ends (stops_of which) e.value.1 (hand_of l (moved e.taken z) e.state).kind ≡ true = turn-ends l which e.value (moved e.taken z) e.state (ap (λ (u : Bool × (Bool × ℕ)). u.0) r.value) in
       let hands : v.hand ≡ hand_of l (moved e.taken z) e.state = h.fits.hand ∙ ap (λ u. hand_of l u v.state) h.place ∙ ap (hand_of l (moved e.taken z)) h.state in
       let is : ends (stops_of which) p.carried.1 v.hand.kind ≡ true = ap (λ (u : Bool × ℕ). ends (stops_of which) u.1 v.hand.kind) h.carried ∙ ap (λ (u : Hand). ends (stops_of which) e.value.1 u.kind) hands ∙ over in
-      let still : Does told_l (markup_turn true (stops_of which) p.carried) (false, p.carried) v v = does-next (does-peek v) (does-pick is does-gives) in
+      let still : Does guessing_l (markup_turn true (stops_of which) p.carried) (false, p.carried) v v = does-next (does-peek v) (does-pick is does-gives) in
       let a = (d.ran h.fits).runs in
       let b = (still.ran h.fits).runs in
       let place : w.place ≡ v.place = a.place ∙ sym b.place in
@@ -443,8 +391,8 @@ module _ (k : CharClasses) (levels : ℕ) (which : RunKind) (x : Bool × ℕ) (z
         over,
       )
 
-  -- the pieces with the trivia behind them
-  pub given-pieces : (m : ℕ) (p : PieceReader) (w : View) (r : ReadPart) → HasRead k levels which x z m p → Does told_l flush_trivia tt p.parser w → IsGiven w r → ArePieces k levels which x z m r
+  -- the pieces with the trivia after them
+  pub given-pieces : (m : ℕ) (p : PieceReader) (w : View) (r : ReadPart) → HasRead k levels which x z m p → Does guessing_l flush_trivia tt p.parser w → IsGiven w r → ArePieces k levels which x z m r
   given-pieces m p w r h d g =
       let e = end m in
       let v = p.parser in

@@ -1,4 +1,4 @@
--- What makes no binary node and no block's: code but for its operators, and formulas.
+-- What makes no binary node and no block's: code except for its operators, and formulas.
 use Rattle.std.proofs.Common.{◌≡◌, ℕ, Bool, true, false, ◌&&◌, ◌||◌, ◌==◌, if◌then◌else◌, List, [], ◌∷◌, ◌++◌, Option, Some, None, refl}
 use Rattle.std.specs.Prelude.{codes}
 use Rattle.std.specs.Str.{bytes_eq}
@@ -9,13 +9,13 @@ use Rattle.typst_kinds.specs.declared.kind.SyntaxKind.TheVariants as kind
 use Rattle.typst_kinds.specs.declared.operator.UnOp.{UnOp}
 use Rattle.typst_kinds.specs.SeenNames.{has_name}
 use Rattle.typst_language.specs.declared.calls.ChainSet.{ChainSet}
-use Rattle.typst_language.specs.declared.calls.Behind.{Behind}
-use Rattle.typst_language.specs.declared.calls.Behind.TheVariants as behind
+use Rattle.typst_language.specs.declared.calls.AfterName.{AfterName}
+use Rattle.typst_language.specs.declared.calls.AfterName.TheVariants as after
 use Rattle.typst_code.specs.declared.heads.CodeHead.{CodeHead}
 use Rattle.typst_code.specs.declared.heads.CodeHead.TheVariants as head
 use Rattle.typst_code.specs.declared.heads.CodeTail.{CodeTail}
 use Rattle.typst_code.specs.declared.heads.CodeTail.TheVariants as tail
-use Rattle.typst_code.specs.declared.listing.Items.{Items}
+use Rattle.typst_code.specs.declared.listing.ParenItems.{ParenItems}
 use Rattle.typst_code.specs.keys.Key.{Key}
 use Rattle.typst_code.specs.keys.Key.TheVariants as key
 use Rattle.typst_code.specs.Arguments.{argument_shape, argument, argument_turn, argument_list, listed_arguments, content_turn, missing_arguments, begin_arguments, arguments, calls_directly}
@@ -28,7 +28,7 @@ use Rattle.typst_code.specs.Parens.{as_group, readings, sign, parens}
 use Rattle.typst_code.specs.Sequences.{missing_break, statement_end, statement, code_turn, code_exprs, code, code_reading, ends_code}
 use Rattle.typst_code.specs.Statements.{any_block, field, target_turn, target, set_rule, show_shape, show_rule, contextual, other_branch, conditional_turn, conditional, while_loop, second_pattern, loop_names, for_loop, module_include, jump, func_return}
 use Rattle.typst_language.specs.Shape.{Seen, becomes}
-use Rattle.typst_language.specs.Shape.Change.{stays, turns_wrong}
+use Rattle.typst_language.specs.Shape.NodeChange.{stays, turns_wrong}
 use Rattle.typst_language.specs.Shape.Making.{itself, surprise, wanted}
 use Rattle.typst_language.specs.Shape.Seen.{leaf_seen, inner_seen}
 use Rattle.typst_language.specs.Shape.Shape.{keeps, holds}
@@ -74,11 +74,11 @@ tame-misfit (Some true) false = refl
 tame-misfit (Some false) true = refl
 tame-misfit (Some false) false = refl
 
-plain-item : (items : Items) → Plain (item items)
+plain-item : (items : ParenItems) → Plain (item items)
 unfolding item
 plain-item items = (refl, λ _. ((plain-spread, λ _. tt), (plain-node _ _ (λ _. tame-misfit _ _) (plain-node _ _ (tame-item _) plain-pair), λ _. tt)))
 
-plain-group-turn : (items : Items) → Plain (group_turn items)
+plain-group-turn : (items : ParenItems) → Plain (group_turn items)
 unfolding group_turn
 plain-group-turn items = (refl, λ _. (tt, ((plain-item items, λ _. (plain-separator, λ _. tt)), (plain-unexpected [], λ _. tt))))
 
@@ -87,7 +87,7 @@ tame-list None = refl
 tame-list (Some true) = refl
 tame-list (Some false) = refl
 
-tame-group : (items : Items) (closed : Bool) → tame (group_shape (closed, group_kind items)) ≡ true
+tame-group : (items : ParenItems) (closed : Bool) → tame (group_shape (closed, group_kind items)) ≡ true
 tame-group items closed =
     tame-closed (group_kind items) (on_both (λ k. tame_kind k ≡ true) (items.any && items.is_plain) kind.Parenthesized (list_kind items.are_pairs) refl (tame-list items.are_pairs)) closed
 
@@ -113,10 +113,10 @@ pub plain-readings : Plain readings
 unfolding readings
 plain-readings = (refl, λ _. (((plain-as-group, (plain-params, λ _. tt)), (plain-destructuring _ _, λ _. tt)), plain-as-group))
 
-plain-sign : (b : Behind) → Plain (sign b)
-plain-sign behind.Arrow = plain-expects _ _
-plain-sign behind.Eq = plain-expects _ _
-plain-sign behind.Nothing = tt
+plain-sign : (b : AfterName) → Plain (sign b)
+plain-sign after.Arrow = plain-expects _ _
+plain-sign after.Eq = plain-expects _ _
+plain-sign after.Nothing = tt
 
 plain-parens : Plain parens
 unfolding parens
@@ -465,7 +465,7 @@ plain-fraction : Plain fraction
 unfolding fraction
 plain-fraction = (plain-eat, λ _. plain-operand _ _)
 
--- what stands behind an expression
+-- what stands after an expression
 plain-math-tail : (stops : ChainSet) (t : MathTail) → Gives (λ v. tame_if v.0 ≡ true) (math_tail_by stops t) × Plain (math_tail_by stops t)
 plain-math-tail stops math_tails.Call = (gives-all _ (λ _. refl) math_arguments, (plain-math-arguments, λ _. tt))
 plain-math-tail stops math_tails.Delimited = (gives-all _ (λ _. refl) delimited, (plain-delimited, λ _. tt))

@@ -11,14 +11,14 @@ use Rattle.typst_language.specs.declared.calls.Block.{Block}
 use Rattle.typst_language.specs.declared.calls.Mark.{Mark}
 use Rattle.typst_language.specs.declared.calls.Role.{Role}
 use Rattle.typst_language.specs.declared.calls.Way.{Way}
-use Rattle.typst_language.specs.declared.calls.Behind.{Behind}
-use Rattle.typst_language.specs.declared.calls.Behind.TheVariants as behind
+use Rattle.typst_language.specs.declared.calls.AfterName.{AfterName}
+use Rattle.typst_language.specs.declared.calls.AfterName.TheVariants as after
 use Rattle.typst_code.specs.head.MarkupHead.{MarkupHead}
 use Rattle.typst_code.specs.head.MarkupHead.TheVariants as head
 use Rattle.typst_language.specs.declared.reading.Reading.{Reading}
 use Rattle.typst_code.specs.Bindings.{bound_name as bound_function, bound_part, equals, bound_shape, binding, let_binding}
 use Rattle.typst_language.specs.Calls.{Call, Answer}
-use Rattle.typst_code.specs.Closures.{closure_shape, right_side, headed, name_shape, underscore_shape, behind_name, behind_underscore, named, placeholder}
+use Rattle.typst_code.specs.Closures.{closure_shape, right_side, headed, name_shape, underscore_shape, after_name, after_underscore, named, placeholder}
 use Rattle.typst_language.specs.Depth.{anywhere, skip_one, too_deep, deeper}
 use Rattle.typst_code.specs.Embedded.{embedded_end, embedded_expr, embedded}
 use Rattle.typst_code.specs.Equations.{math_expression, math_item, math_turn, math_exprs, math, between_dollars, equation}
@@ -28,7 +28,7 @@ use Rattle.typst_code.specs.Params.{defaulted, param, param_turn, params}
 use Rattle.typst_code.specs.Parts.{expression_if, separator}
 use Rattle.typst_code.specs.Patterns.{duplicate, bound_change, bound_name, pattern_leaf, sink, sink_shape, name_and_colon, key, key_or_pattern, named_shape, part, Found, destructuring_item, destructuring_turn, destructuring, pattern}
 use Rattle.typst_language.specs.Shape.{Making, Shape, encloses}
-use Rattle.typst_language.specs.Shape.Change.{stays, turns_wrong}
+use Rattle.typst_language.specs.Shape.NodeChange.{stays, turns_wrong}
 use Rattle.typst_language.specs.Shape.Making.{itself, of_kind, surprise, wanted}
 use Rattle.typst_language.specs.Steps.{eat_making, eat, convert_and_eat, eat_so, eat_if, close_if, unexpected, expected, expect, flush_trivia, within, node, node_with_trivia, grow, nest, note, read_block}
 use Rattle.typst_language.specs.Syntax.{Parser, ◌>>=◌}
@@ -149,13 +149,13 @@ plain-end : (is_statement : Bool) → Plain (embedded_end is_statement)
 unfolding embedded_end
 plain-end is_statement = (refl, λ _. (plain-eat, (plain-expected _, tt)))
 
-plain-behind-hash : Plain embedded_expr
+plain-after-hash : Plain embedded_expr
 unfolding embedded_expr
-plain-behind-hash = (refl, λ _. (plain-expected _, (plain-deeper _ _, λ _. plain-end _)))
+plain-after-hash = (refl, λ _. (plain-expected _, (plain-deeper _ _, λ _. plain-end _)))
 
 pub plain-embedded : Plain embedded
 unfolding embedded
-plain-embedded = plain-within _ _ (plain-eat, λ _. plain-behind-hash)
+plain-embedded = plain-within _ _ (plain-eat, λ _. plain-after-hash)
 
 -- ---- formulas
 
@@ -365,36 +365,36 @@ pub plain-params : Plain params
 unfolding params
 plain-params = (plain-node _ _ (tame-closed kind.Params refl) (plain-within _ _ (plain-eat, λ _. (λ x. plain-param-turn x, λ _. plain-if _))), λ _. tt)
 
-pub tame-closure : (b : Behind) → tame (closure_shape b) ≡ true
-tame-closure behind.Arrow = refl
-tame-closure behind.Eq = refl
-tame-closure behind.Nothing = refl
+pub tame-closure : (b : AfterName) → tame (closure_shape b) ≡ true
+tame-closure after.Arrow = refl
+tame-closure after.Eq = refl
+tame-closure after.Nothing = refl
 
-plain-right : (b : Behind) → Plain (right_side b)
-plain-right behind.Arrow = (plain-eat, λ _. plain-deeper _ _)
-plain-right behind.Eq = (plain-eat, λ _. plain-deeper _ _)
-plain-right behind.Nothing = tt
+plain-right : (b : AfterName) → Plain (right_side b)
+plain-right after.Arrow = (plain-eat, λ _. plain-deeper _ _)
+plain-right after.Eq = (plain-eat, λ _. plain-deeper _ _)
+plain-right after.Nothing = tt
 
-plain-headed : (what : SyntaxKind → Behind) (shape : Behind → Shape) → ((b : Behind) → tame (shape b) ≡ true) → Plain (headed what shape)
+plain-headed : (what : SyntaxKind → AfterName) (shape : AfterName → Shape) → ((b : AfterName) → tame (shape b) ≡ true) → Plain (headed what shape)
 plain-headed what shape e = (plain-node _ _ tame-closure (plain-node _ _ e (plain-eat, λ _. (refl, λ _. tt)), λ b. (plain-right b, λ _. tt)), λ _. tt)
 
-tame-name : (b : Behind) → tame (name_shape b) ≡ true
-tame-name behind.Arrow = refl
-tame-name behind.Eq = refl
-tame-name behind.Nothing = refl
+tame-name : (b : AfterName) → tame (name_shape b) ≡ true
+tame-name after.Arrow = refl
+tame-name after.Eq = refl
+tame-name after.Nothing = refl
 
-tame-underscore : (b : Behind) → tame (underscore_shape b) ≡ true
-tame-underscore behind.Arrow = refl
-tame-underscore behind.Eq = refl
-tame-underscore behind.Nothing = refl
+tame-underscore : (b : AfterName) → tame (underscore_shape b) ≡ true
+tame-underscore after.Arrow = refl
+tame-underscore after.Eq = refl
+tame-underscore after.Nothing = refl
 
 pub plain-named : Plain named
 unfolding named
-plain-named = plain-headed behind_name name_shape tame-name
+plain-named = plain-headed after_name name_shape tame-name
 
 pub plain-placeholder : Plain placeholder
 unfolding placeholder
-plain-placeholder = plain-headed behind_underscore underscore_shape tame-underscore
+plain-placeholder = plain-headed after_underscore underscore_shape tame-underscore
 
 plain-bound-function : Plain bound_function
 unfolding bound_function

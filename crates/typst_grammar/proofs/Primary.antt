@@ -10,7 +10,7 @@ use Rattle.typst_language.specs.declared.calls.Block.TheVariants as block
 use Rattle.typst_code.specs.declared.heads.CodeHead.{CodeHead}
 use Rattle.typst_code.specs.declared.heads.CodeHead.TheVariants as head
 use Rattle.typst_code.specs.Expressions.{code_by, code_head, code_primary}
-use Rattle.typst_language.specs.Hand.{Hand, AtHand, told}
+use Rattle.typst_language.specs.Hand.{Hand, AtHand, as_at_hand}
 use Rattle.typst_code.specs.Parens.{readings}
 use Rattle.typst_language.specs.Point.{Point, pending}
 use Rattle.typst_language.specs.Steps.{peek, expected}
@@ -32,10 +32,10 @@ use Rattle.typst_grammar.proofs.Missing.{Missed, missed}
 use Rattle.typst_grammar.proofs.Openers.{head-unary, head-let, head-set, head-show, head-context, head-conditional, head-while, head-for, head-import, head-include, head-break, head-continue, head-return, head-equation, head-read, head-named, head-placeholder}
 use Rattle.typst_grammar.proofs.Parens.{head-parens}
 
-stuck-behind : (m : ℕ) (ts : List Tree) (t : Tree) → is_error t.head.kind ≡ true → length ts < m → Stuck m (ts ++ t ∷ [])
-stuck-behind zero ts t e h = absurd (omega arith)
-stuck-behind (suc m) [] t e h = inl e
-stuck-behind (suc m) (u ∷ ts) t e h = inr (stuck-behind m ts t e (omega arith))
+stuck-after : (m : ℕ) (ts : List Tree) (t : Tree) → is_error t.head.kind ≡ true → length ts < m → Stuck m (ts ++ t ∷ [])
+stuck-after zero ts t e h = absurd (omega arith)
+stuck-after (suc m) [] t e h = inl e
+stuck-after (suc m) (u ∷ ts) t e h = inr (stuck-after m ts t e (omega arith))
 
 module _ (k : CharClasses) (levels : ℕ) (d : CallsBind k levels) (least : ℕ) where
   abbrev l : Level
@@ -43,7 +43,7 @@ module _ (k : CharClasses) (levels : ℕ) (d : CallsBind k levels) (least : ℕ)
 
   -- ---- by the token at hand
 
-  -- where a token of this kind is at hand, this is no operator and has none, behind the trivia
+  -- where a token of this kind is at hand, this is no operator and has none, after the trivia
   abbrev Opens : SyntaxKind → CodeHead → Type 0
   Opens i h = Heads l i (code_by false h) × Fills l (code_by false h)
 
@@ -96,7 +96,7 @@ module _ (k : CharClasses) (levels : ℕ) (d : CallsBind k levels) (least : ℕ)
     t = asked h s
 
     abbrev first : Outcome AtHand
-    first = record (plain (told h) t) { asks = hand_asks_of l z s }
+    first = record (plain (as_at_hand h) t) { asks = hand_asks_of l z s }
 
     again : hand_of l z t ≡ h
     again = hand-again k s.held s.known z
@@ -164,7 +164,7 @@ module _ (k : CharClasses) (levels : ℕ) (d : CallsBind k levels) (least : ℕ)
             let back = x.back in
             inr (record {
               binds = b;
-              stuck = subst (Stuck (n + p.back)) (sym nodes) (stuck-behind (n + p.back) (hand_of l z t).trivia x.node (ap is_error x.is_wrong) (omega (arith, long, back, f)));
+              stuck = subst (Stuck (n + p.back)) (sym nodes) (stuck-after (n + p.back) (hand_of l z t).trivia x.node (ap is_error x.is_wrong) (omega (arith, long, back, f)));
               few = x.empties;
             })
     missing (inr (inl x)) b =

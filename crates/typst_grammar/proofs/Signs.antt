@@ -38,21 +38,21 @@ module _ (us : List Tree) where
       let x = is-none t.head.kind h.0 in
       ap (λ (o : Option BinOp). elim o as (λ _. Option BinOp) [ None ↦ first_sign (same kind.Not t.head.kind) (ls ++ us) | Some op ↦ Some op ]) x.0 ∙ ap (λ (b : Bool). first_sign b (ls ++ us)) x.1 ∙ first-front ls h.1
 
-  -- neither behind `not`
-  first-behind : (ls : List Tree) → All NoSign ls → first_sign true (ls ++ us) ≡ first_sign true us
-  first-behind [] h = refl
-  first-behind (t ∷ ls) h =
+  -- neither after `not`
+  first-after : (ls : List Tree) → All NoSign ls → first_sign true (ls ++ us) ≡ first_sign true us
+  first-after [] h = refl
+  first-after (t ∷ ls) h =
       let x = is-none t.head.kind h.0 in
       let y = not-in t.head.kind x.0 in
       ap (λ (b : Bool). elim (if b then Some binary.NotIn else binary_of t.head.kind) as (λ _. Option BinOp) [ None ↦ first_sign true (ls ++ us) | Some op ↦ Some op ]) y
-      ∙ ap (λ (o : Option BinOp). elim o as (λ _. Option BinOp) [ None ↦ first_sign true (ls ++ us) | Some op ↦ Some op ]) x.0 ∙ first-behind ls h.1
+      ∙ ap (λ (o : Option BinOp). elim o as (λ _. Option BinOp) [ None ↦ first_sign true (ls ++ us) | Some op ↦ Some op ]) x.0 ∙ first-after ls h.1
 
 -- the token of an operator
 pub reads-sign : (op : BinOp) (i : SyntaxKind) → binary_of i ≡ Some op → (text : List _) (ls : List Tree) → All NoSign ls → (ds : List Tree) → first_sign false (ls ++ leaf_of i text ∷ ds) ≡ Some op
 reads-sign op i e text ls h ds =
     first-front (leaf_of i text ∷ ds) ls h ∙ ap (λ (o : Option BinOp). elim o as (λ _. Option BinOp) [ None ↦ first_sign (same kind.Not i) ds | Some x ↦ Some x ]) e
 
--- `not`, and `in` behind it
+-- `not`, and `in` after it
 pub reads-not : (i : SyntaxKind) → same kind.Not i ≡ true → (text : List _) (ls : List Tree) → All NoSign ls → (before : List Tree) → All NoSign before → (u : Tree) → same kind.In u.head.kind ≡ true → (us : List Tree)
     → first_sign false (ls ++ leaf_of i text ∷ (before ++ u ∷ us)) ≡ Some binary.NotIn
 reads-not i e text ls h before g u f us =
@@ -60,5 +60,5 @@ reads-not i e text ls h before g u f us =
     let none : binary_of i ≡ None = ap binary_of (same-is kind.Not i e) in
     first-front (leaf_of i text ∷ rest) ls h
     ∙ ap (λ (o : Option BinOp). elim o as (λ _. Option BinOp) [ None ↦ first_sign (same kind.Not i) rest | Some x ↦ Some x ]) none
-    ∙ ap (λ (b : Bool). first_sign b rest) e ∙ first-behind (u ∷ us) before g
+    ∙ ap (λ (b : Bool). first_sign b rest) e ∙ first-after (u ∷ us) before g
     ∙ ap (λ (b : Bool). elim (if b then Some binary.NotIn else binary_of u.head.kind) as (λ _. Option BinOp) [ None ↦ first_sign true us | Some x ↦ Some x ]) f

@@ -15,7 +15,7 @@ use Rattle.typst_code.specs.declared.heads.CodeTail.{CodeTail}
 use Rattle.typst_code.specs.declared.heads.CodeTail.TheVariants as tail
 use Rattle.typst_language.specs.Depth.{deeper, is_end}
 use Rattle.typst_code.specs.Expressions.{code_tail_turn, call_tail, not_in, binary_expr, code_tail, operand_least, tail_by}
-use Rattle.typst_language.specs.Hand.{Hand, AtHand, told, text_ahead}
+use Rattle.typst_language.specs.Hand.{Hand, AtHand, as_at_hand, text_ahead}
 use Rattle.typst_language.specs.Point.{is_nil, Point, Trivia, pending, gap_of}
 use Rattle.typst_language.specs.Shape.{Shape, becomes, hinted}
 use Rattle.typst_language.specs.Steps.{peek, eat, expected}
@@ -35,7 +35,7 @@ use Rattle.typst_grammar.proofs.PlainParts.{plain-eat, plain-expected, plain-dee
 use Rattle.typst_grammar.proofs.Heads.{standing-none, silent-joined, silent-plain, Leafy, LastIs, last-map, is_plain, leafy-token, hand-kind}
 use Rattle.typst_grammar.proofs.BindingTurns.{Sane, all-sane, below, nothing-below, sign-comes, not-comes, call-comes, dot-comes, no-direct}
 use Rattle.typst_grammar.proofs.Operands.{Exact, exact-plain, exact-gives, exact-joined, taken_sign, exact-eat, eat-empties, eat-error, last_hinted, leafy-last, last-kind, operation-exact}
-use Rattle.typst_grammar.proofs.Grown.{grown-other, errors-second, errors-behind, kind_at, Grown, Ended, Stopped, WentOn, turned, grown-binary, stopped-silent}
+use Rattle.typst_grammar.proofs.Grown.{grown-other, errors-second, errors-after, kind_at, Grown, Ended, Stopped, WentOn, turned, grown-binary, stopped-silent}
 use Rattle.typst_grammar.proofs.PlainCode.{plain-field, plain-call}
 use Rattle.typst_grammar.proofs.Leads.{fills-peek}
 use Rattle.typst_grammar.proofs.Firsts.{calls-back, blocks-back, fills-field}
@@ -64,7 +64,7 @@ second-false false b h = h
 no-error : (t : Tree) → t.head.kind ≡ kind.Error → any_errors (forest (t ∷ [])) ≡ false → ⊥
 no-error t e n = let x = or-left (is_error t.head.kind) (any_errors t.kids || false) n in let y = ap is_error e in cc
 
--- the last of several nodes behind one without errors
+-- the last of several nodes after one without errors
 last-front : (E : Type 0) (P : Tree → Type 0) (ts : List Tree) (u : Tree) (us : List Tree) → Sane u → LastIs (has_errors u ≡ true) P us → LastIs E P (ts ++ u ∷ us)
 last-front E P [] u [] n h = absurd (cc)
 last-front E P [] u (v ∷ us) n h = last-map (has_errors u ≡ true) E P P (λ e. absurd (cc)) (λ t x. x) (v ∷ us) h
@@ -94,14 +94,14 @@ module _ (k : CharClasses) (levels : ℕ) (d : CallsBind k levels) (ops : Deeper
     abbrev eaten : Outcome (Unit {0})
     eaten = run l eat v y
 
-    abbrev behind : Place
-    behind = moved eaten.taken v
+    abbrev after : Place
+    after = moved eaten.taken v
 
     abbrev operand : Outcome (Unit {0})
-    operand = run l (deeper (CodeExpr false (operand_least op)) tt) behind eaten.state
+    operand = run l (deeper (CodeExpr false (operand_least op)) tt) after eaten.state
 
     none : operand.back ≡ 0
-    none = let t = ((sane-at (rules k) k levels (deeper (CodeExpr false (operand_least op)) tt)).backs behind eaten.state).back in let f = eat-empties l v y some in omega (arith, t, f)
+    none = let t = ((sane-at (rules k) k levels (deeper (CodeExpr false (operand_least op)) tt)).backs after eaten.state).back in let f = eat-empties l v y some in omega (arith, t, f)
 
     abbrev pub sgn : Tree
     sgn = last_hinted operand.hints (taken_sign l v y)
@@ -135,13 +135,13 @@ module _ (k : CharClasses) (levels : ℕ) (d : CallsBind k levels) (ops : Deeper
     unfolding run binary_expr
     whole-state = refl
 
-    whole-kind : kind_at k 0 (moved whole.taken v) whole.state ≡ kind_at k 0 (moved operand.taken behind) operand.state
+    whole-kind : kind_at k 0 (moved whole.taken v) whole.state ≡ kind_at k 0 (moved operand.taken after) operand.state
     whole-kind = ap (λ (t : Point). kind_at k 0 (moved whole.taken v) t) whole-state ∙ ap (λ (p : Place). kind_at k 0 p operand.state) (ap (λ (n : ℕ). moved n v) whole-taken ∙ moved-sum eaten.taken operand.taken v)
 
     pub whole-right : any_errors (forest operands) ≡ false → LastIs (has_errors sgn ≡ true) (Ended k (right_least op) (kind_at k 0 (moved whole.taken v) whole.state)) operands
     whole-right n =
-        let o = ops (operand_least op) behind eaten.state (level-binds k levels d eat plain-eat v y still).known in
-        last-map (eaten.state.is_after_error ≡ true) (has_errors sgn ≡ true) (Ended k (right_least op) (kind_at k 0 (moved operand.taken behind) operand.state)) (Ended k (right_least op) (kind_at k 0 (moved whole.taken v) whole.state))
+        let o = ops (operand_least op) after eaten.state (level-binds k levels d eat plain-eat v y still).known in
+        last-map (eaten.state.is_after_error ≡ true) (has_errors sgn ≡ true) (Ended k (right_least op) (kind_at k 0 (moved operand.taken after) operand.state)) (Ended k (right_least op) (kind_at k 0 (moved whole.taken v) whole.state))
         wrong-sign (λ t h x. ((h x).0, ap (below (right_least op)) whole-kind ∙ (h x).1)) operands (o.last n)
 
   -- ---- each turn
@@ -198,7 +198,7 @@ module _ (k : CharClasses) (levels : ℕ) (d : CallsBind k levels) (ops : Deeper
       unfolding run
       turn-nothing has_trivia e =
           let p = p_of tail.Nothing in
-          let first = record (plain (told h) t) { asks = hand_asks_of l w o.state } in
+          let first = record (plain (as_at_hand h) t) { asks = hand_asks_of l w o.state } in
           inl (stopped-silent k least n z s o p g (silent-joined first (plain nothing t) (record { nodes = refl; back = refl; hints = refl }) (silent-plain nothing t)) refl
           (level-binds k levels d (turn_by tail.Nothing) (refl, λ _. tt) w o.state g.binds.known) (ap (λ (x : Hand). x.kind) again) (nothing-below least h.kind has_trivia e))
 
@@ -219,10 +219,10 @@ module _ (k : CharClasses) (levels : ℕ) (d : CallsBind k levels) (ops : Deeper
       turn-binary op has_trivia e =
           let c = sign-comes least h.kind has_trivia op e in
           let p = p_of (tail.Binary op) in
-          let first = record (plain (told h) t) { asks = hand_asks_of l w o.state } in
+          let first = record (plain (as_at_hand h) t) { asks = hand_asks_of l w o.state } in
           let there : (is_end (hand_of l w t).kind || is_plain (hand_of l w t).kind) ≡ false = ap (λ (x : Hand). is_end x.kind || is_plain x.kind) again ∙ sign-leaf h.kind op c.0 in
           let q = run l (binary_expr op) w t in
-          let x = exact-joined first q [] ((hand_of l w t).trivia ++ sgn op w t still there ∷ operands op w t still there) (exact-plain (told h) t (hand_asks_of l w o.state)) (whole-exact op w t still there) in
+          let x = exact-joined first q [] ((hand_of l w t).trivia ++ sgn op w t still there ∷ operands op w t still there) (exact-plain (as_at_hand h) t (hand_asks_of l w o.state)) (whole-exact op w t still there) in
           let same_taken : 0 + q.taken ≡ q.taken = omega arith in
           let same_kind : kind_at k 0 (moved p.taken w) p.state ≡ kind_at k 0 (moved q.taken w) q.state = ap (λ (m : ℕ). kind_at k 0 (moved m w) q.state) same_taken in
           went p (fits (tail.Binary op)) refl (moves-peek l (λ _. binary_expr op) (λ a. moves-binary op) w o.state (comes (first-false (is_end h.kind) (is_plain h.kind) (sign-leaf h.kind op c.0))))
@@ -248,7 +248,7 @@ module _ (k : CharClasses) (levels : ℕ) (d : CallsBind k levels) (ops : Deeper
         some_not : 0 < (hand_of l w t).len
         some_not = hand-takes k t.held t.known w no_end_not
 
-        -- behind `not`
+        -- after `not`
         abbrev e1 : Outcome (Unit {0})
         e1 = run l eat w t
 
@@ -262,10 +262,10 @@ module _ (k : CharClasses) (levels : ℕ) (d : CallsBind k levels) (ops : Deeper
         t2 = asked h2 e1.state
 
         abbrev pk1 : Outcome AtHand
-        pk1 = record (plain (told h) t) { asks = hand_asks_of l w o.state }
+        pk1 = record (plain (as_at_hand h) t) { asks = hand_asks_of l w o.state }
 
         abbrev pk2 : Outcome AtHand
-        pk2 = record (plain (told h2) t2) { asks = hand_asks_of l w2 e1.state }
+        pk2 = record (plain (as_at_hand h2) t2) { asks = hand_asks_of l w2 e1.state }
 
         abbrev not_sign : Tree
         not_sign = taken_sign l w t
@@ -279,14 +279,14 @@ module _ (k : CharClasses) (levels : ℕ) (d : CallsBind k levels) (ops : Deeper
         again2 : hand_of l w2 t2 ≡ h2
         again2 = hand-again k e1.state.held e1.state.known w2
 
-        -- with what comes behind it
-        abbrev behind_not : Outcome (Option Shape × Unit {0}) → Outcome (Option Shape × Unit {0})
-        behind_not r = joined pk1 (joined e1 (joined pk2 r))
+        -- with what comes after it
+        abbrev after_not : Outcome (Option Shape × Unit {0}) → Outcome (Option Shape × Unit {0})
+        after_not r = joined pk1 (joined e1 (joined pk2 r))
 
-        exact-behind : (r : Outcome (Option Shape × Unit {0})) (ts : List Tree) → Exact r ts → Exact (behind_not r) (h.trivia ++ not_sign ∷ ts)
-        exact-behind r ts x =
-            let y = exact-joined pk1 (joined e1 (joined pk2 r)) [] (((hand_of l w t).trivia ++ not_sign ∷ []) ++ ts) (exact-plain (told h) t (hand_asks_of l w o.state))
-            (exact-joined e1 (joined pk2 r) ((hand_of l w t).trivia ++ not_sign ∷ []) ts (exact-eat l w t) (exact-joined pk2 r [] ts (exact-plain (told h2) t2 (hand_asks_of l w2 e1.state)) x)) in
+        exact-after : (r : Outcome (Option Shape × Unit {0})) (ts : List Tree) → Exact r ts → Exact (after_not r) (h.trivia ++ not_sign ∷ ts)
+        exact-after r ts x =
+            let y = exact-joined pk1 (joined e1 (joined pk2 r)) [] (((hand_of l w t).trivia ++ not_sign ∷ []) ++ ts) (exact-plain (as_at_hand h) t (hand_asks_of l w o.state))
+            (exact-joined e1 (joined pk2 r) ((hand_of l w t).trivia ++ not_sign ∷ []) ts (exact-eat l w t) (exact-joined pk2 r [] ts (exact-plain (as_at_hand h2) t2 (hand_asks_of l w2 e1.state)) x)) in
             record { nodes = y.nodes ∙ append_assoc (hand_of l w t).trivia (not_sign ∷ []) ts ∙ ap (λ (v : Hand). v.trivia ++ not_sign ∷ ts) again; back = y.back; hints = y.hints }
 
         abbrev with_in : Outcome (Option Shape × Unit {0})
@@ -310,11 +310,11 @@ module _ (k : CharClasses) (levels : ℕ) (d : CallsBind k levels) (ops : Deeper
         in-leaf kind.MathFieldAccess x = absurd (cc)
         in-leaf _ x = refl
 
-        says-more : is_more (behind_not with_in).value.0 ≡ true
+        says-more : is_more (after_not with_in).value.0 ≡ true
         unfolding run binary_expr
         says-more = refl
 
-        grown-more : Grown k least n z s (reshaped (becomes kind.Binary) n (answered (tt {0}) (joined o (behind_not with_in)))) → Grown k least n z s (turned k least n o (behind_not with_in))
+        grown-more : Grown k least n z s (reshaped (becomes kind.Binary) n (answered (tt {0}) (joined o (after_not with_in)))) → Grown k least n z s (turned k least n o (after_not with_in))
         unfolding run binary_expr
         grown-more x = x
 
@@ -329,55 +329,55 @@ module _ (k : CharClasses) (levels : ℕ) (d : CallsBind k levels) (ops : Deeper
             by-leaf (inl x) = absurd (let a = or-left (is_error u.head.kind) (any_errors u.kids) sane in let b = ap is_error x in cc)
             by-leaf (inr x) = ap (λ (v : Tree). same kind.In v.head.kind) x ∙ ap (λ (v : Hand). same kind.In v.kind) again2 ∙ f
 
-        went-in : same kind.In h2.kind ≡ true → Fits (behind_not with_in) → Binds (behind_not with_in) → Turned (behind_not with_in)
+        went-in : same kind.In h2.kind ≡ true → Fits (after_not with_in) → Binds (after_not with_in) → Turned (after_not with_in)
         went-in is_in less b =
             let there : (is_end (hand_of l w2 t2).kind || is_plain (hand_of l w2 t2).kind) ≡ false = in-leaf (hand_of l w2 t2).kind (ap (λ (v : Hand). same kind.In v.kind) again2 ∙ is_in) in
             let in_sign = sgn binary.NotIn w2 t2 still2 there in
             let right = operands binary.NotIn w2 t2 still2 there in
             let before = (hand_of l w2 t2).trivia in
-            let p = behind_not with_in in
-            let x = exact-behind with_in (before ++ in_sign ∷ right) (whole-exact binary.NotIn w2 t2 still2 there) in
+            let p = after_not with_in in
+            let x = exact-after with_in (before ++ in_sign ∷ right) (whole-exact binary.NotIn w2 t2 still2 there) in
             let sum : p.taken ≡ e1.taken + with_in.taken = omega arith in
             let same_kind : kind_at k 0 (moved p.taken w) p.state ≡ kind_at k 0 (moved with_in.taken w2) with_in.state = ap (λ (v : Place). kind_at k 0 v with_in.state) (ap (λ (m : ℕ). moved m w) sum ∙ moved-sum e1.taken with_in.taken w) in
             let gap = ap (λ (v : Hand). v.len) again in
             let some = moves-eat l w t (omega (arith, some_not)) in
             went p less says-more (omega (arith, sum, some))
-            (grown-more (grown-binary k least n z s o p (tt {0}) g binary.NotIn (encode_utf8_all (text_ahead (hand_of l w t).len (moved (hand_of l w t).gap w))) not_sign (before ++ in_sign ∷ right) sign_not (λ sane is ls no_signs. ap (λ (u : Tree). first_sign false (ls ++ u ∷ (before ++ in_sign ∷ right))) is ∙ reads-not h.kind (not-comes least h.kind has_trivia e).0 (encode_utf8_all (text_ahead (hand_of l w t).len (moved (hand_of l w t).gap w))) ls no_signs before (all-map Still NoSign (λ u x. x.no_sign) before (still-hand l w2 t2 still2)) in_sign (is-in there is_in (all-sane (in_sign ∷ right) (errors-behind before (in_sign ∷ right) sane)).0) right) (not-comes least h.kind has_trivia e).1 leafy_not still
+            (grown-more (grown-binary k least n z s o p (tt {0}) g binary.NotIn (encode_utf8_all (text_ahead (hand_of l w t).len (moved (hand_of l w t).gap w))) not_sign (before ++ in_sign ∷ right) sign_not (λ sane is ls no_signs. ap (λ (u : Tree). first_sign false (ls ++ u ∷ (before ++ in_sign ∷ right))) is ∙ reads-not h.kind (not-comes least h.kind has_trivia e).0 (encode_utf8_all (text_ahead (hand_of l w t).len (moved (hand_of l w t).gap w))) ls no_signs before (all-map Still NoSign (λ u x. x.no_sign) before (still-hand l w2 t2 still2)) in_sign (is-in there is_in (all-sane (in_sign ∷ right) (errors-after before (in_sign ∷ right) sane)).0) right) (not-comes least h.kind has_trivia e).1 leafy_not still
             x.nodes x.back x.hints b
-            (λ sane. (let rest = errors-behind before (in_sign ∷ right) sane in
+            (λ sane. (let rest = errors-after before (in_sign ∷ right) sane in
             subst (λ (v : SyntaxKind). LastIs (has_errors not_sign ≡ true) (Ended k (right_least binary.NotIn) v) (before ++ in_sign ∷ right)) (sym same_kind)
             (last-front (has_errors not_sign ≡ true) (Ended k (right_least binary.NotIn) (kind_at k 0 (moved with_in.taken w2) with_in.state)) before in_sign right (all-sane (in_sign ∷ right) rest).0 (whole-right binary.NotIn w2 t2 still2 there (errors-second in_sign right rest)))))))
 
-        left-over : (r : Outcome (Option Shape × Unit {0})) → any_errors (forest (behind_not r).nodes) ≡ false → any_errors (forest r.nodes) ≡ false
+        left-over : (r : Outcome (Option Shape × Unit {0})) → any_errors (forest (after_not r).nodes) ≡ false → any_errors (forest r.nodes) ≡ false
         left-over r n =
             let q = joined pk2 r in
             let a = subst (λ (ts : List Tree). any_errors (forest ts) ≡ false) (standing-none (joined e1 q)) n in
-            subst (λ (ts : List Tree). any_errors (forest ts) ≡ false) (standing-none r) (errors-behind (hinted q.hints (less q.back e1.nodes)) q.nodes a)
+            subst (λ (ts : List Tree). any_errors (forest ts) ≡ false) (standing-none r) (errors-after (hinted q.hints (less q.back e1.nodes)) q.nodes a)
 
-        missing-left : any_errors (forest (behind_not without_in).nodes) ≡ false → any_errors (forest missing.nodes) ≡ false
+        missing-left : any_errors (forest (after_not without_in).nodes) ≡ false → any_errors (forest missing.nodes) ≡ false
         missing-left n = subst (λ (ts : List Tree). any_errors (forest ts) ≡ false) (sym (no-end missing.nodes)) (left-over without_in n)
 
-        never : Missed l w2 t2 missing → any_errors (forest (behind_not without_in).nodes) ≡ false → ⊥
-        never (inl x) n = no-error x.node x.is_wrong (errors-behind (hand_of l w2 t2).trivia (x.node ∷ []) (subst (λ (ts : List Tree). any_errors (forest ts) ≡ false) x.nodes (missing-left n)))
+        never : Missed l w2 t2 missing → any_errors (forest (after_not without_in).nodes) ≡ false → ⊥
+        never (inl x) n = no-error x.node x.is_wrong (errors-after (hand_of l w2 t2).trivia (x.node ∷ []) (subst (λ (ts : List Tree). any_errors (forest ts) ≡ false) x.nodes (missing-left n)))
         never (inr (inl x)) n = no-error x.node x.is_wrong (subst (λ (ts : List Tree). any_errors (forest ts) ≡ false) x.exact.nodes (missing-left n))
         never (inr (inr x)) n =
-            let y = exact-behind without_in [] (exact-gives missing nothing [] x.exact) in
+            let y = exact-after without_in [] (exact-gives missing nothing [] x.exact) in
             let wrong : is_error not_sign.head.kind ≡ true = sym (eat-error l w t) ∙ x.after in
-            no-error not_sign (error-kind not_sign.head.kind wrong) (errors-behind h.trivia (not_sign ∷ []) (subst (λ (ts : List Tree). any_errors (forest ts) ≡ false) y.nodes n))
+            no-error not_sign (error-kind not_sign.head.kind wrong) (errors-after h.trivia (not_sign ∷ []) (subst (λ (ts : List Tree). any_errors (forest ts) ≡ false) y.nodes n))
 
-        stopped-in : Binds (behind_not without_in) → Turned (behind_not without_in)
+        stopped-in : Binds (after_not without_in) → Turned (after_not without_in)
         stopped-in b =
-            let p = behind_not without_in in
+            let p = after_not without_in in
             let all = binds-joined o p g.binds b in
             inl (record {
               says = refl;
               operand = record {
                 binds = record { nodes = all.nodes; known = all.known };
-                last = λ sane. absurd (never (missed l (codes "keyword `in`") w2 t2) (errors-behind (hinted p.hints (less p.back o.nodes)) p.nodes sane));
+                last = λ sane. absurd (never (missed l (codes "keyword `in`") w2 t2) (errors-after (hinted p.hints (less p.back o.nodes)) p.nodes sane));
               };
             })
 
-        by-in : (b : Bool) → same kind.In h2.kind ≡ b → Fits (behind_not (if b then with_in else without_in)) → Binds (behind_not (if b then with_in else without_in)) → Turned (behind_not (if b then with_in else without_in))
+        by-in : (b : Bool) → same kind.In h2.kind ≡ b → Fits (after_not (if b then with_in else without_in)) → Binds (after_not (if b then with_in else without_in)) → Turned (after_not (if b then with_in else without_in))
         by-in true is less b = went-in is less b
         by-in false is less b = stopped-in b
 

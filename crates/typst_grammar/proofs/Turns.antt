@@ -8,7 +8,7 @@ use Rattle.typst_lines.specs.Classes.{CharClasses}
 use Rattle.typst_language.specs.declared.reading.AtNewline.TheVariants as newline
 use Rattle.typst_language.specs.declared.reading.Reading.{Reading}
 use Rattle.typst_language.specs.Point.{Point}
-use Rattle.typst_language.specs.Hand.{Hand, AtHand, hand_at, told}
+use Rattle.typst_language.specs.Hand.{Hand, AtHand, hand_at, as_at_hand}
 use Rattle.typst_language.specs.Syntax.{Parser, ◌>>◌}
 use Rattle.typst_language.specs.Syntax.Op.{hand, is_deepest}
 use Rattle.typst_language.specs.Syntax.Parser.{gives, does, next, pick, repeat}
@@ -57,7 +57,7 @@ module _ (k : CharClasses) where
 
   -- ---- one turn
 
-  -- the last turn, with the same token at hand behind it
+  -- the last turn, with the same token at hand after it
   pub record Stops {A : Type 0} (z : Place) (s : Point) (o : Outcome (Bool × A)) : Type 0 where
     pub says : o.value.0 ≡ false
     pub taken : o.taken ≡ 0
@@ -78,19 +78,19 @@ module _ (k : CharClasses) where
   unfolding run
   turn-stops test x rest same goes = record {
     stops = λ z s e.
-        on_true (λ o. Stops z s (joined (run top (does hand) z s) o)) (test (kind_at z s)) (run top (gives (false, x)) (moved 0 z) (known z s)) (run top (rest (told (hand_of top z s))) (moved 0 z) (known z s))
+        on_true (λ o. Stops z s (joined (run top (does hand) z s) o)) (test (kind_at z s)) (run top (gives (false, x)) (moved 0 z) (known z s)) (run top (rest (as_at_hand (hand_of top z s))) (moved 0 z) (known z s))
         (same (kind_at z s) ∙ e) (record { says = refl; taken = refl; kind = kind-again z s });
     goes = λ z s e.
         let t = known z s in
-        let more = goes (told (hand_of top z s)) z t (hand-takes k t.held t.known z (ap is_end (kind-again z s) ∙ e)) in
-        let some : 0 < (run top (rest (told (hand_of top z s))) (moved 0 z) t).taken = more.taken in
-        on_false (λ o. GoesOn (joined (run top (does hand) z s) o)) (test (kind_at z s)) (run top (gives (false, x)) (moved 0 z) t) (run top (rest (told (hand_of top z s))) (moved 0 z) t)
+        let more = goes (as_at_hand (hand_of top z s)) z t (hand-takes k t.held t.known z (ap is_end (kind-again z s) ∙ e)) in
+        let some : 0 < (run top (rest (as_at_hand (hand_of top z s))) (moved 0 z) t).taken = more.taken in
+        on_false (λ o. GoesOn (joined (run top (does hand) z s) o)) (test (kind_at z s)) (run top (gives (false, x)) (moved 0 z) t) (run top (rest (as_at_hand (hand_of top z s))) (moved 0 z) t)
         (same (kind_at z s) ∙ e) (record { says = more.says; taken = omega (arith, some) });
   }
 
   -- ---- all turns
 
-  -- the end of the text is at hand behind it
+  -- the end of the text is at hand after it
   abbrev pub Ended : {A : Type 0} → Place → Outcome A → Type 0
   Ended z o = is_end (kind_at (moved o.taken z) o.state) ≡ true
 

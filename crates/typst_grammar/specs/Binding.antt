@@ -26,13 +26,13 @@ has_errors t = is_error t.head.kind || any_errors t.kids
 -- ---- operators and operands
 
 -- the binary operator that a node of this kind is, after `not` or not: `in` after `not` is `not in`
-abbrev pub sign_behind : Bool → SyntaxKind → Option BinOp
-sign_behind behind_not k = if behind_not && same kind.In k then Some binary.NotIn else binary_of k
+abbrev pub sign_after : Bool → SyntaxKind → Option BinOp
+sign_after after_not k = if after_not && same kind.In k then Some binary.NotIn else binary_of k
 
 -- the first operator among several nodes; `not` alone isn't one, and is remembered
 abbrev pub first_sign : Bool → List Tree → Option BinOp
-first_sign behind_not [] = None
-first_sign behind_not (t ∷ ts) = elim (sign_behind behind_not t.head.kind) [ None ↦ first_sign (behind_not || same kind.Not t.head.kind) ts | Some op ↦ Some op ]
+first_sign after_not [] = None
+first_sign after_not (t ∷ ts) = elim (sign_after after_not t.head.kind) [ None ↦ first_sign (after_not || same kind.Not t.head.kind) ts | Some op ↦ Some op ]
 
 -- the operator of a node, if it is a binary one
 abbrev pub operator_of : Tree → Option BinOp

@@ -43,11 +43,11 @@ block_production block.Code = code_block
 abbrev pub rules : CharClasses → Rules
 rules k = record { production = production k; has = has; block_production = block_production }
 
--- what a call gives where so many levels are left
+-- what a call gives where a given number of levels are left
 abbrev pub meaning : CharClasses → ℕ → (call : Call) → Meaning (Answer call)
 meaning k levels call = meaning_of (rules k) k levels call
 
--- where a parser runs with so many levels left
+-- where a parser runs with a given number of levels left
 abbrev pub level_at : CharClasses → ℕ → Level
 level_at k levels = level_of (rules k) k levels
 
@@ -63,7 +63,7 @@ start_of text = record { before = []; ahead = text }
 unfoldable pub whole : Parser (Unit {0})
 whole = markup_run is_end >> flush_trivia
 
--- what is read of the characters of a text, where so many levels are left
+-- what is read of the characters of a text, where a given number of levels are left
 abbrev pub parsed : CharClasses → ℕ → List ℕ → Outcome (Unit {0})
 parsed k levels text = run (level_at k levels) whole (start_of text) (start_point markup_reading)
 
@@ -79,7 +79,7 @@ tree k text = inner_of kind.Markup (forest (parsed k max_depth text).nodes)
 unfoldable pub whole_code : Parser (Unit {0})
 whole_code = peek >> code_exprs is_end >> flush_trivia
 
--- what is read of the characters of a text of code, where so many levels are left
+-- what is read of the characters of a text of code, where a given number of levels are left
 abbrev pub parsed_code : CharClasses → ℕ → List ℕ → Outcome (Unit {0})
 parsed_code k levels text = run (level_at k levels) whole_code (start_of text) (start_point code_reading)
 
@@ -91,7 +91,7 @@ tree_code k text = inner_of kind.Code (forest (parsed_code k max_depth text).nod
 unfoldable pub whole_math : Parser (Unit {0})
 whole_math = peek >> math_exprs is_end >> flush_trivia
 
--- what is read of the characters of the text of a formula, where so many levels are left
+-- what is read of the characters of the text of a formula, where a given number of levels are left
 abbrev pub parsed_math : CharClasses → ℕ → List ℕ → Outcome (Unit {0})
 parsed_math k levels text = run (level_at k levels) whole_math (start_of text) (start_point math_reading)
 
@@ -99,13 +99,13 @@ parsed_math k levels text = run (level_at k levels) whole_math (start_of text) (
 unfoldable pub tree_math : CharClasses → List ℕ → Tree
 tree_math k text = inner_of kind.Math (forest (parsed_math k max_depth text).nodes)
 
--- the whole of a text in a mode, with all trivia
+-- a whole text in a mode, with all trivia
 abbrev pub whole_in : SyntaxMode → Parser (Unit {0})
 whole_in mode.Markup = whole
 whole_in mode.Code = whole_code
 whole_in mode.Math = whole_math
 
--- what is read of the characters of a text in a mode, where so many levels are left
+-- what is read of the characters of a text in a mode, where a given number of levels are left
 abbrev pub parsed_in : SyntaxMode → CharClasses → ℕ → List ℕ → Outcome (Unit {0})
 parsed_in mode.Markup = parsed
 parsed_in mode.Code = parsed_code

@@ -3,7 +3,7 @@ use Rattle.std.specs.Prelude.{◌≡◌, ℕ, Bool, List, encode_utf8_all}
 use Rattle.typst_kinds.specs.declared.kind.SyntaxKind.{SyntaxKind}
 use Rattle.typst_tree.specs.Tree.{text_of}
 use Rattle.typst_lines.specs.Classes.{CharClasses}
-use Rattle.typst_language.specs.declared.calls.Behind.{Behind}
+use Rattle.typst_language.specs.declared.calls.AfterName.{AfterName}
 use Rattle.typst_language.specs.declared.calls.Block.{Block}
 use Rattle.typst_language.specs.declared.calls.Role.{Role}
 use Rattle.typst_language.specs.Calls.{Call}
@@ -59,12 +59,12 @@ CallLaws = (k : CharClasses) (call : Call) → Lawful (λ levels. meaning k leve
 -- ---- readings of what begins with a paren
 
 -- Parens as a group, an array or a dictionary, with the look at the token after them.
-abbrev pub group_reading : CharClasses → ℕ → Meaning Behind
+abbrev pub group_reading : CharClasses → ℕ → Meaning AfterName
 group_reading k levels = run (level_at k levels) as_group
 
 -- Parens as a group, an array or a dictionary, from after the first one on: what is remembered of a
 -- first reading is what this gives.
-abbrev pub rest_reading : CharClasses → ℕ → Meaning Behind
+abbrev pub rest_reading : CharClasses → ℕ → Meaning AfterName
 rest_reading k levels = run (level_at k levels) after_paren
 
 -- Parens as the parameters of a closure.
@@ -76,7 +76,7 @@ abbrev pub destructuring_reading : CharClasses → Role → List (List ℕ) → 
 destructuring_reading k role names levels = run (level_at k levels) (destructuring role names)
 
 -- Parens by the first reading, or by the second one if what comes after them asks for it.
-abbrev pub counted_reading : CharClasses → ℕ → Meaning Behind
+abbrev pub counted_reading : CharClasses → ℕ → Meaning AfterName
 counted_reading k levels = run (level_at k levels) readings
 
 -- The laws of the first reading.

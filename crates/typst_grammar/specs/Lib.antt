@@ -3,7 +3,7 @@ pub mod Grammar
 pub mod Laws
 pub mod Notes
 pub mod Read
-pub mod Told
+pub mod Guessing
 pub mod Pieces
 pub mod Part
 pub mod Binding

@@ -11,7 +11,7 @@ use Rattle.typst_language.specs.declared.reading.Reading.{Reading}
 use Rattle.typst_language.specs.Ask.{Ask}
 use Rattle.typst_language.specs.Knot.{blocks_of}
 use Rattle.typst_language.specs.Log.{Log, no_log, logged}
-use Rattle.typst_language.specs.Meaning.{Outcome, Level, guessing, hand_of, start_point}
+use Rattle.typst_language.specs.Meaning.{Outcome, guessing, hand_of, start_point}
 use Rattle.typst_language.specs.Point.{pending, gap_of}
 use Rattle.typst_language.specs.View.{View, Fits}
 use Rattle.typst_grammar.specs.declared.part.RunKind.{RunKind}
@@ -21,15 +21,15 @@ use Rattle.typst_grammar.specs.declared.part.ReadPart.{ReadPart}
 use Rattle.typst_grammar.specs.declared.part.PieceReader.{PieceReader}
 use Rattle.typst_grammar.specs.Grammar.{rules, meaning}
 use Rattle.typst_grammar.specs.Pieces.{AllGo, asks_of, given, run_level, first_look, pieces_on, end_on}
-use Rattle.typst_grammar.specs.Told.{guesses}
+use Rattle.typst_grammar.specs.Guessing.{guesses}
 
--- A block that is read by itself, where so many levels are left and its first token is read in a
+-- A block that is read by itself, where a given number of levels are left and its first token is read in a
 -- mode.
 abbrev pub block_alone : CharClasses → ℕ → Block → SyntaxMode → Place → Outcome (Unit {0})
 block_alone k levels b mode z = blocks_of (rules k) k levels (meaning k levels) b z (start_point (record { mode = mode; at_newline = newline.Continue }))
 
--- A part has the nodes that were read from a place on, and ends after so many characters; what was
--- looked at and noted for it is what was asked, where so many levels are left.
+-- A part has the nodes that were read from a place on, and ends after a given number of characters; what was
+-- looked at and noted for it is what was asked, where a given number of levels are left.
 pub record IsPart (levels : ℕ) (z : Place) (nodes : List Tree) (taken : ℕ) (asks : List Ask) (p : ReadPart) : Type 0 where
   pub nodes_are : p.nodes.items ≡ nodes
   pub end : p.end ≡ position (moved taken z)
@@ -55,13 +55,7 @@ IsBlock k levels b mode z p = let o = block_alone k levels b mode z in IsPart le
 
 -- ---- pieces
 
--- The current token begins at this byte, and nothing changed except what is remembered.
-pub record IsTokenStart (l : Level) (v w : View) (start : ℕ) : Type 0 where
-  pub start_is : start ≡ position (moved v.hand.gap v.place)
-  pub same : w ≡ record v { memo = w.memo }
-  pub fits : Fits l w
-
--- So many pieces of a run were read from a place on, and after each of them the run goes on.
+-- A given number of pieces of a run were read from a place on, and after each of them the run goes on.
 pub record HasRead (k : CharClasses) (levels : ℕ) (which : RunKind) (x : Bool × ℕ) (z : Place) (m : ℕ) (p : PieceReader) : Type 0 where
   pub levels_are : p.levels ≡ levels
   pub some : 0 < levels
@@ -76,7 +70,7 @@ pub record HasRead (k : CharClasses) (levels : ℕ) (which : RunKind) (x : Bool 
   pub fits : Fits (guessing (guesses k) (run_level k levels which)) p.parser
   pub end : p.end ≡ position (moved (gap_of p.parser.state.known) p.parser.place)
 
--- The run ends after so many pieces.
+-- The run ends after a given number of pieces.
 abbrev pub IsOver : CharClasses → ℕ → RunKind → Bool × ℕ → Place → ℕ → Type 0
 IsOver k levels which x z m =
     let l = run_level k levels which in
@@ -88,7 +82,7 @@ abbrev pub HasReadOn : CharClasses → ℕ → RunKind → Bool × ℕ → Place
 HasReadOn k levels which x z m true p = HasRead k levels which x z (m + 1) p
 HasReadOn k levels which x z m false p = HasRead k levels which x z m p × IsOver k levels which x z m
 
--- A part is so many pieces of a run with the trivia after them.
+-- A part is a given number of pieces of a run with the trivia after them.
 abbrev pub ArePieces : CharClasses → ℕ → RunKind → Bool × ℕ → Place → ℕ → ReadPart → Type 0
 ArePieces k levels which x z m p =
     let l = run_level k levels which in

@@ -72,7 +72,7 @@ abbrev pub blocks_in : CharClasses → ℕ → RunKind → Block → Meaning (Un
 blocks_in k levels of.Text = blocks_of (rules k) k levels (meaning k levels)
 blocks_in k levels of.Block = λ b z s. plain tt s
 
--- where a run of this kind is read, with so many levels left for what is called in it
+-- where a run of this kind is read, with a given number of levels left for what is called in it
 abbrev pub run_level : CharClasses → ℕ → RunKind → Level
 run_level k levels which = record (blockless k levels (meaning k levels)) { has = has_in which; blocks = blocks_in k levels which }
 

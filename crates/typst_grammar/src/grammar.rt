@@ -6,7 +6,7 @@ ghost use Rattle.typst_language.specs.View.{Calls, MeansFirst};
 ghost use Rattle.typst_language.specs.Calls.Call.{MarkupExpr, CodeExpr, MathExpr, Pattern};
 ghost use Rattle.typst_grammar.specs.Grammar as spec;
 ghost use Rattle.typst_grammar.specs.Read.{IsParsed};
-ghost use Rattle.typst_grammar.specs.Told.{told_at};
+ghost use Rattle.typst_grammar.specs.Guessing.{guessing_at};
 
 use std::alloc::{AllocError, Global};
 use typst_code::{
@@ -20,7 +20,7 @@ use typst_lines::Classes;
 /// How deep calls may nest.
 pub const MAX_DEPTH: usize = 256;
 
-/// A grammar whose calls are made by the functions below, with these classes and so many levels.
+/// A grammar whose calls are made by the functions below, with these classes and a given number of levels.
 macro_rules! grammar {
     ($classes:expr, $levels:expr) => {
         Grammar {
@@ -36,7 +36,7 @@ macro_rules! grammar {
 
 pub(crate) use grammar;
 
-/// Reads an expression of markup where so many levels are left.
+/// Reads an expression of markup where a given number of levels are left.
 #[cycle(knot)]
 pub(crate) fn call_markup_expr<C: Classes>(
     classes: &C,
@@ -46,13 +46,13 @@ pub(crate) fn call_markup_expr<C: Classes>(
     nesting: usize,
 ) -> Result<usize, AllocError>
     requires { 0 < levels }
-    ensures { Calls (told_at (C.classes classes.now) levels) (MarkupExpr at_start nesting) p.old result p.new }
+    ensures { Calls (guessing_at (C.classes classes.now) levels) (MarkupExpr at_start nesting) p.old result p.new }
 {
     let below = grammar!(classes, levels - 1);
     Ok(markup_expr(&below, p, at_start, nesting)?)
 }
 
-/// Reads an expression of code where so many levels are left.
+/// Reads an expression of code where a given number of levels are left.
 #[cycle(knot)]
 pub(crate) fn call_code_expr<C: Classes>(
     classes: &C,
@@ -62,13 +62,13 @@ pub(crate) fn call_code_expr<C: Classes>(
     least: u8,
 ) -> Result<(), AllocError>
     requires { 0 < levels }
-    ensures { Calls (told_at (C.classes classes.now) levels) (CodeExpr atomic least) p.old result p.new }
+    ensures { Calls (guessing_at (C.classes classes.now) levels) (CodeExpr atomic least) p.old result p.new }
 {
     let below = grammar!(classes, levels - 1);
     Ok(code_expr(&below, p, atomic, least)?)
 }
 
-/// Reads an expression of a formula where so many levels are left.
+/// Reads an expression of a formula where a given number of levels are left.
 #[cycle(knot)]
 pub(crate) fn call_math_expr<C: Classes>(
     classes: &C,
@@ -78,13 +78,13 @@ pub(crate) fn call_math_expr<C: Classes>(
     signs: ChainSet,
 ) -> Result<(), AllocError>
     requires { 0 < levels }
-    ensures { Calls (told_at (C.classes classes.now) levels) (MathExpr least signs) p.old result p.new }
+    ensures { Calls (guessing_at (C.classes classes.now) levels) (MathExpr least signs) p.old result p.new }
 {
     let below = grammar!(classes, levels - 1);
     Ok(math_expr(&below, p, least, signs)?)
 }
 
-/// Reads a pattern where so many levels are left.
+/// Reads a pattern where a given number of levels are left.
 #[cycle(knot)]
 pub(crate) fn call_pattern<C: Classes>(
     classes: &C,
@@ -94,7 +94,7 @@ pub(crate) fn call_pattern<C: Classes>(
     names: Names,
 ) -> Result<Names, AllocError>
     requires { 0 < levels }
-    ensures { Calls (told_at (C.classes classes.now) levels) (Pattern role names) p.old result p.new }
+    ensures { Calls (guessing_at (C.classes classes.now) levels) (Pattern role names) p.old result p.new }
 {
     let below = grammar!(classes, levels - 1);
     Ok(pattern(&below, p, role, names)?)

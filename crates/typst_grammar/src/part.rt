@@ -4,13 +4,12 @@ ghost use Rattle.std.specs.Prelude.{◌≡◌, ◌<◌, ℕ, Bool, true, IfOk};
 ghost use Rattle.std.specs.Str.{IsCharBoundary};
 ghost use Rattle.typst_lines.specs.Classes.{CharClasses};
 ghost use Rattle.typst_lines.specs.Place.{Place, place_at};
-ghost use Rattle.typst_language.specs.Meaning.{Level};
 ghost use Rattle.typst_language.specs.Point.{state_of};
 ghost use Rattle.typst_language.specs.Bytes.{bytes_left};
 ghost use Rattle.typst_code.specs.Markup as spec;
-ghost use Rattle.typst_language.specs.View.{Fits, Means};
+ghost use Rattle.typst_language.specs.View.{Means};
 ghost use Rattle.typst_grammar.specs.declared.part.RunKind.{RunKind};
-ghost use Rattle.typst_grammar.specs.Part.{ArePieces, HasRead, HasReadOn, IsBlock, IsGiven, IsResumed, IsTokenStart};
+ghost use Rattle.typst_grammar.specs.Part.{ArePieces, HasRead, HasReadOn, IsBlock, IsGiven, IsResumed};
 ghost use Rattle.typst_grammar.specs.Pieces.{stops_of};
 
 use crate::grammar::{call_code_expr, call_markup_expr, call_math_expr, call_pattern, grammar};
@@ -37,10 +36,11 @@ pub struct ReadPart {
     pub hull: Hull,
 }
 
-/// Reads a block of a text by itself: its node, and what was looked at and noted for it, without the notes at its
-/// two ends. It begins at a byte between two characters, with a token that is read in this mode and isn't trivia;
-/// so many levels are left for what is called in it, as the note says where it opens. Of what is before it nothing
-/// else is known. It goes through the block and no further, and fails only for lack of memory.
+/// Reads a block of a text by itself: its node, and what was looked at and noted for it, without the notes at
+/// its two ends. It begins at a byte between two characters, with a token that is read in this mode and isn't
+/// trivia; a given number of levels are left for what is called in it, as the note says where it opens. Of
+/// what is before it nothing else is known. It goes through the block and no further, and fails only for lack
+/// of memory.
 pub fn parse_block<C: Classes>(
     alloc: Global,
     text: &str,
@@ -92,11 +92,11 @@ pub struct PieceReader<'s> {
     end: usize,
 }
 
-/// A reader of the pieces of a run from a byte between two characters on, where the token of a piece begins, with
-/// what is carried there, as the note after the piece before it says. The run ends at such tokens: that of a text
-/// at [`Stop::End`], that of a content block at [`Stop::Block`]; so many levels are left for what is called in it,
-/// as its notes say. Of what is before it nothing else is known. It looks at the token there and no further, and
-/// fails only for lack of memory.
+/// A reader of the pieces of a run from a byte between two characters on, where the token of a piece begins,
+/// with what is carried there, as the note after the piece before it says. The run ends at such tokens: that
+/// of a text at [`Stop::End`], that of a content block at [`Stop::Block`]; a given number of levels are left
+/// for what is called in it, as its notes say. Of what is before it nothing else is known. It looks at the
+/// token there and no further, and fails only for lack of memory.
 pub fn resume_pieces<'s, C: Classes>(
     alloc: Global,
     text: &'s str,
@@ -117,7 +117,7 @@ pub fn resume_pieces<'s, C: Classes>(
     let mut parser = resume(alloc, text, at, reading);
     let g = grammar!(classes, levels);
     parser.look(&g)?;
-    let end = token_start(&mut parser)?;
+    let end = parser.token_start();
     Ok(PieceReader {
         parser,
         carried,
@@ -140,7 +140,7 @@ impl<'s> PieceReader<'s> {
             return Ok(false);
         }
         self.carried = carried;
-        self.end = token_start(&mut self.parser)?;
+        self.end = self.parser.token_start();
         Ok(true)
     }
 
@@ -190,17 +190,6 @@ fn read_piece<L: Levels>(
         RunKind::Text => markup_turn(g, p, true, Stop::End, carried),
         RunKind::Block => markup_turn(g, p, true, Stop::Block, carried),
     }
-}
-
-/// Where the current token begins, in bytes from the text's start.
-fn token_start(p: &mut Parser<'_>) -> Result<usize, AllocError>
-    ensures { (l : Level) → Fits l p.old → IfOk result (λ start. IsTokenStart l p.old p.new start) }
-{
-    let here = p.checkpoint();
-    p.flush_trivia()?;
-    let start = p.cursor();
-    p.restore(here)?;
-    Ok(start)
 }
 
 /// A parser at a byte of a text, where nothing is known but how it is read there; it keeps notes.

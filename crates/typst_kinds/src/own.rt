@@ -1,7 +1,8 @@
-ghost use Rattle.std.specs.Prelude.{◌≡◌, ◌≤◌, ◌<◌, ◌^◌, ◌↔◌, IfOk, OnOk, OnErr, IsTrue, MatchOption, length, take, false};
-ghost use Rattle.typst_kinds.specs.Span.{number_of};
-ghost use Rattle.typst_kinds.specs.Head.{bare_head, located, spanned, leaf_head, inner_head, error_head, kept, leaf_own, with_head, diagnosed, helped};
+ghost use Rattle.std.specs.Prelude.{◌≡◌, ◌≤◌, ◌<◌, ◌+◌, ◌*◌, ◌^◌, ◌↔◌, IfOk, OnOk, OnErr, IsTrue, MatchOption, length, take, false};
+ghost use Rattle.typst_kinds.specs.Span.{SpanValue, number_of};
+ghost use Rattle.typst_kinds.specs.Head.{bare_head, located, spanned, leaf_head, error_head, kept, leaf_own, inner_own, with_head, with_counts, diagnosed_own, helped};
 ghost use Rattle.typst_kinds.specs.Diagnostic.{at_last, hinted};
+ghost use Rattle.typst_kinds.specs.Repr.{own_of, plain_inner, upper_end, IsOwn};
 
 use crate::diagnostic::{clone_diagnostics, same_diagnostics};
 use crate::text::ShortText;
@@ -27,13 +28,21 @@ struct Parts {
 }
 
 /// The usual nodes hold their parts in 16 bytes. An upper end takes 6 of them. A leaf whose text is elsewhere
-/// keeps its length here, so that rows of nodes are added up without reading their texts.
+/// keeps its length here, so that rows of nodes are added up without reading their texts. The parts of an inner
+/// node fill the 16 bytes, so that a variant of its own tells that a node below it has diagnostics.
 #[derive(Drop)]
 enum Repr {
     ShortLeaf(SyntaxKind, ShortText<12>),
     BoxedLeaf(SyntaxKind, u16, Box<ShortText<70>>),
     LongLeaf(SyntaxKind, u32, Box<Text>),
     Inner {
+        kind: SyntaxKind,
+        upper_high: u16,
+        upper_low: u32,
+        len: u32,
+        descendants: u32,
+    },
+    MarkedInner {
         kind: SyntaxKind,
         upper_high: u16,
         upper_low: u32,
@@ -48,6 +57,13 @@ fn kept(count: usize) -> usize
     ensures { result ≡ kept count }
 {
     count.min(Own::MOST)
+}
+
+/// An upper end, from its high and its low part.
+fn upper_end(high: u16, low: u32) -> u64
+    ensures { result ≡ upper_end high low }
+{
+    u64::from(high) * 0x1_0000_0000 + u64::from(low)
 }
 
 /// What a node keeps beside its children.
@@ -163,19 +179,14 @@ impl Own {
         })
     }
 
-    /// What a new inner node keeps, by the length of its text and the count of its nodes.
-    pub fn inner(kind: SyntaxKind, len: usize, descendants: usize) -> Own
-        ensures { result ≡ record { head = inner_head kind; len = kept len; descendants = kept descendants } }
+    /// What a new inner node keeps, by the length of its text, the count of its nodes, and whether a node below it
+    /// has diagnostics.
+    pub fn inner(kind: SyntaxKind, len: usize, descendants: usize, is_marked: bool) -> Own
+        ensures { result ≡ inner_own kind len descendants is_marked }
     {
         Own {
             span: Span::detached(),
-            repr: Repr::Inner {
-                kind,
-                upper_high: 0,
-                upper_low: 0,
-                len: kept(len) as u32,
-                descendants: kept(descendants) as u32,
-            },
+            repr: Repr::inner(kind, 0, 0, len, descendants, is_marked),
         }
     }
 
@@ -243,6 +254,22 @@ impl Own {
                     descendants: *descendants,
                 },
             }),
+            Repr::MarkedInner {
+                kind,
+                upper_high,
+                upper_low,
+                len,
+                descendants,
+            } => Ok(Own {
+                span,
+                repr: Repr::MarkedInner {
+                    kind: *kind,
+                    upper_high: *upper_high,
+                    upper_low: *upper_low,
+                    len: *len,
+                    descendants: *descendants,
+                },
+            }),
             Repr::Diagnosed(kind, parts) => {
                 let parts = parts.try_clone(alloc)?;
                 Ok(Own {
@@ -250,6 +277,41 @@ impl Own {
                     repr: Repr::Diagnosed(*kind, Box::new(alloc, parts)?),
                 })
             }
+        }
+    }
+}
+
+impl Repr {
+    /// The parts of an inner node without diagnostics of its own, by the two parts of its upper end.
+    #[inline(always)]
+    fn inner(
+        kind: SyntaxKind,
+        upper_high: u16,
+        upper_low: u32,
+        len: usize,
+        descendants: usize,
+        is_marked: bool,
+    ) -> Repr
+        ensures view { (span : SpanValue) → own_of span result ≡ plain_inner span kind (upper_end upper_high upper_low) (kept len) (kept descendants) is_marked }
+        ensures small { upper_end upper_high upper_low ≤ 2 ^ 47 → IsOwn result }
+    {
+        let len = kept(len) as u32;
+        let descendants = kept(descendants) as u32;
+        if is_marked {
+            return Repr::MarkedInner {
+                kind,
+                upper_high,
+                upper_low,
+                len,
+                descendants,
+            };
+        }
+        Repr::Inner {
+            kind,
+            upper_high,
+            upper_low,
+            len,
+            descendants,
         }
     }
 }
@@ -280,6 +342,7 @@ impl Own {
             Repr::BoxedLeaf(kind, _, _) => *kind,
             Repr::LongLeaf(kind, _, _) => *kind,
             Repr::Inner { kind, .. } => *kind,
+            Repr::MarkedInner { kind, .. } => *kind,
             Repr::Diagnosed(kind, _) => *kind,
         }
     }
@@ -293,6 +356,7 @@ impl Own {
             Repr::BoxedLeaf(_, _, _) => false,
             Repr::LongLeaf(_, _, _) => false,
             Repr::Inner { .. } => true,
+            Repr::MarkedInner { .. } => true,
             Repr::Diagnosed(_, parts) => parts.is_inner,
         }
     }
@@ -306,6 +370,7 @@ impl Own {
             Repr::BoxedLeaf(_, _, text) => text.as_str(),
             Repr::LongLeaf(_, _, text) => text.as_str(),
             Repr::Inner { .. } => "",
+            Repr::MarkedInner { .. } => "",
             Repr::Diagnosed(_, parts) => parts.text.as_str(),
         }
     }
@@ -334,7 +399,23 @@ impl Own {
             Repr::BoxedLeaf(_, _, _) => &[],
             Repr::LongLeaf(_, _, _) => &[],
             Repr::Inner { .. } => &[],
+            Repr::MarkedInner { .. } => &[],
             Repr::Diagnosed(_, parts) => parts.diagnostics.as_slice(),
+        }
+    }
+
+    /// Whether the node is marked: it or a node below it has an error or a warning. The variants tell it.
+    #[inline(always)]
+    pub fn is_marked(&self) -> bool
+        ensures { result ≡ self.now.is_marked }
+    {
+        match &self.repr {
+            Repr::ShortLeaf(_, _) => false,
+            Repr::BoxedLeaf(_, _, _) => false,
+            Repr::LongLeaf(_, _, _) => false,
+            Repr::Inner { .. } => false,
+            Repr::MarkedInner { .. } => true,
+            Repr::Diagnosed(_, _) => true,
         }
     }
 
@@ -363,6 +444,7 @@ impl Own {
             Repr::BoxedLeaf(_, len, _) => *len as usize,
             Repr::LongLeaf(_, len, _) => *len as usize,
             Repr::Inner { len, .. } => *len as usize,
+            Repr::MarkedInner { len, .. } => *len as usize,
             Repr::Diagnosed(_, parts) => parts.extent.len,
         }
     }
@@ -392,6 +474,7 @@ impl Own {
             Repr::BoxedLeaf(_, _, _) => 1,
             Repr::LongLeaf(_, _, _) => 1,
             Repr::Inner { descendants, .. } => *descendants as usize,
+            Repr::MarkedInner { descendants, .. } => *descendants as usize,
             Repr::Diagnosed(_, parts) => parts.extent.descendants,
         }
     }
@@ -409,7 +492,12 @@ impl Own {
                 upper_high,
                 upper_low,
                 ..
-            } => u64::from(*upper_high) * 0x1_0000_0000 + u64::from(*upper_low),
+            } => upper_end(*upper_high, *upper_low),
+            Repr::MarkedInner {
+                upper_high,
+                upper_low,
+                ..
+            } => upper_end(*upper_high, *upper_low),
             Repr::Diagnosed(_, parts) => parts.extent.upper,
         }
     }
@@ -442,6 +530,7 @@ impl Own {
             Repr::BoxedLeaf(old, _, _) => *old = kind,
             Repr::LongLeaf(old, _, _) => *old = kind,
             Repr::Inner { kind: old, .. } => *old = kind,
+            Repr::MarkedInner { kind: old, .. } => *old = kind,
             Repr::Diagnosed(old, _) => *old = kind,
         }
     }
@@ -464,6 +553,14 @@ impl Own {
                 *upper_high = (upper / 0x1_0000_0000) as u16;
                 *upper_low = (upper % 0x1_0000_0000) as u32;
             }
+            Repr::MarkedInner {
+                upper_high,
+                upper_low,
+                ..
+            } => {
+                *upper_high = (upper / 0x1_0000_0000) as u16;
+                *upper_low = (upper % 0x1_0000_0000) as u32;
+            }
             Repr::Diagnosed(_, parts) => parts.extent.upper = if parts.is_inner {
                 upper
             } else {
@@ -472,28 +569,59 @@ impl Own {
         }
     }
 
-    /// Gives an inner node the length of its text and the count of its nodes.
-    pub fn set_counts(&mut self, len: usize, descendants: usize)
+    /// Gives an inner node the length of its text and the count of its nodes. It is marked if a node below it has
+    /// diagnostics, and if it has some itself. Without diagnostics before and after, as in most nodes, both numbers
+    /// are written in place.
+    pub fn set_counts(&mut self, len: usize, descendants: usize, is_marked: bool)
         requires { self.old.head.is_inner ≡ false → 1 < self.old.descendants }
-        ensures { self.new ≡ record { head = self.old.head; len = kept len; descendants = kept descendants } }
+        ensures { self.new ≡ with_counts self.old len descendants is_marked }
     {
-        let new_len = kept(len);
-        let new_count = kept(descendants);
+        if is_marked {
+            self.set_counts_apart(len, descendants, is_marked);
+        } else if let Repr::Inner {
+            len: old_len,
+            descendants: old_descendants,
+            ..
+        } = &mut self.repr
+        {
+            *old_len = kept(len) as u32;
+            *old_descendants = kept(descendants) as u32;
+        } else {
+            self.set_counts_apart(len, descendants, is_marked);
+        }
+    }
+
+    /// The same for a node of any kind.
+    #[inline(never)]
+    fn set_counts_apart(&mut self, len: usize, descendants: usize, is_marked: bool)
+        requires { self.old.head.is_inner ≡ false → 1 < self.old.descendants }
+        ensures { self.new ≡ with_counts self.old len descendants is_marked }
+    {
         match &mut self.repr {
             Repr::ShortLeaf(_, _) => {}
             Repr::BoxedLeaf(_, _, _) => {}
             Repr::LongLeaf(_, _, _) => {}
             Repr::Inner {
-                len,
-                descendants,
+                kind,
+                upper_high,
+                upper_low,
                 ..
             } => {
-                *len = new_len as u32;
-                *descendants = new_count as u32;
+                let (kind, high, low) = (*kind, *upper_high, *upper_low);
+                self.repr = Repr::inner(kind, high, low, len, descendants, is_marked);
+            }
+            Repr::MarkedInner {
+                kind,
+                upper_high,
+                upper_low,
+                ..
+            } => {
+                let (kind, high, low) = (*kind, *upper_high, *upper_low);
+                self.repr = Repr::inner(kind, high, low, len, descendants, is_marked);
             }
             Repr::Diagnosed(_, parts) => {
-                parts.extent.len = new_len;
-                parts.extent.descendants = new_count;
+                parts.extent.len = kept(len);
+                parts.extent.descendants = kept(descendants);
             }
         }
     }
@@ -511,7 +639,7 @@ impl Own {
         alloc: Global,
         diagnostic: Diagnostic,
     ) -> Result<(), AllocError>
-        ensures ok { OnOk result (self.new ≡ with_head self.old (diagnosed diagnostic self.old.head)) }
+        ensures ok { OnOk result (self.new ≡ diagnosed_own diagnostic self.old) }
         ensures err { OnErr result (self.new ≡ self.old) }
     {
         if let Repr::Diagnosed(_, parts) = &mut self.repr {

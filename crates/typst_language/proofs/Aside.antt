@@ -1,4 +1,4 @@
--- What was looked at before a first reading is set aside, and counts again behind it.
+-- What was looked at before a first reading is set aside, and counts again after it.
 use Rattle.std.proofs.Common.{Option, Some, None, option_map, ◌≡◌, ℕ, zero, suc, ◌-◌, ◌^◌, ◌<◌, ◌≤◌, max, min, true, false, if◌then◌else◌, nat_lt, List, [], ◌∷◌, ◌++◌, length, length-append, append_assoc, get_or, refl, ap, sym, ◌∙◌, subst, arith}
 use Rattle.std.proofs.Math.ListN.{set}
 use Rattle.typst_lines.specs.Place.{Place, moved}
@@ -11,7 +11,7 @@ use Rattle.typst_language.specs.Log.{Log, logged, with_hull}
 use Rattle.typst_language.specs.Syntax.{Parser}
 use Rattle.typst_language.specs.Meaning.{Level}
 use Rattle.typst_language.specs.Checkpoint.{Saved, looked_since, saved}
-use Rattle.typst_language.specs.Noted.{hull_in, listed, looked_alone, looked_before, note_behind, notes_behind}
+use Rattle.typst_language.specs.Noted.{hull_in, listed, looked_alone, looked_before, note_after, notes_after}
 use Rattle.typst_language.specs.Remembered.{Knows, end_of}
 use Rattle.typst_language.specs.View.{View, Runs, Ran, Does, Fits, at, begun, looked_too}
 use Rattle.typst_language.proofs.Either.{Back}
@@ -22,10 +22,10 @@ use Rattle.typst_language.proofs.Logs.{Among, among-is, is-among, same-log}
 less-true : (m n : ℕ) → m < n → nat_lt m n ≡ true
 less-true m n h = grind arith
 
--- the note of a number is exchanged for itself behind a look
-notes-set : (n : ℕ) (u : Hull) (ns : List Note) (note : Note) → n < length ns → note ≡ get_or ns n note → notes_behind n u ns ≡ set ns n (note_behind u note)
+-- the note of a number is exchanged for itself after a look
+notes-set : (n : ℕ) (u : Hull) (ns : List Note) (note : Note) → n < length ns → note ≡ get_or ns n note → notes_after n u ns ≡ set ns n (note_after u note)
 notes-set n u [] note h e = absurd (omega arith)
-notes-set zero u (x ∷ ns) note h e = ap (λ y. note_behind u y ∷ ns) (sym e)
+notes-set zero u (x ∷ ns) note h e = ap (λ y. note_after u y ∷ ns) (sym e)
 notes-set (suc n) u (x ∷ ns) note h e = ap (λ xs. x ∷ xs) (notes-set n u ns note (omega arith) e)
 
 pub before-noted : (n : ℕ) (u : Hull) (r l m k : ℕ) (ns : List Note) (note : Note) → n < length ns → note ≡ get_or ns n note → m ≡ max note.reach u.reach → k ≡ min note.least u.least
@@ -36,7 +36,7 @@ before-noted n u r l m k ns note h e f g = rw (less-true n (length ns) h, f, g, 
 alone-again : (u : Hull) (h : Log) → with_hull u h ≡ h → with_hull (hull_in h) (looked_alone u h) ≡ h
 alone-again u h e = let a = among-is u h e in same-log _ _ _ _ h.notes (omega (arith, a.reach)) (omega (arith, a.least))
 
--- or behind the looks of a reading
+-- or after the looks of a reading
 hull-looks : (u : Hull) (n : ℕ) (z : Place) (h : Log) (asks : List Ask) → with_hull u (logged n z h (only_looks asks)) ≡ logged n z (with_hull u h) (only_looks asks)
 hull-looks u n z h [] = refl
 hull-looks u n z h (looked at look ∷ asks) =
@@ -44,9 +44,9 @@ hull-looks u n z h (looked at look ∷ asks) =
     hull-looks u n z (with_hull w h) asks ∙ ap (λ (x : Log). logged n z x (only_looks asks)) (same-log _ _ _ _ h.notes (omega arith) (omega arith))
 hull-looks u n z h (marked at gap fewer mark s ∷ asks) = hull-looks u n z h asks
 
-behind-first : (u : Hull) (ns : List Note) (note : Note) (ms : List Note) → notes_behind (length ns) u (ns ++ note ∷ ms) ≡ ns ++ note_behind u note ∷ ms
-behind-first u [] note ms = refl
-behind-first u (x ∷ ns) note ms = ap (λ xs. x ∷ xs) (behind-first u ns note ms)
+after-first : (u : Hull) (ns : List Note) (note : Note) (ms : List Note) → notes_after (length ns) u (ns ++ note ∷ ms) ≡ ns ++ note_after u note ∷ ms
+after-first u [] note ms = refl
+after-first u (x ∷ ns) note ms = ap (λ xs. x ∷ xs) (after-first u ns note ms)
 
 is-noted : (ns : List Note) (note : Note) (ms : List Note) → nat_lt (length ns) (length (ns ++ note ∷ ms)) ≡ true
 is-noted ns note ms = less-true _ _ (omega (arith, length-append ns (note ∷ ms)))
@@ -60,15 +60,15 @@ log-of r l ns = record { reach = r; least = l; notes = ns }
 module _ (n : ℕ) (z : Place) (u : Hull) where
   -- where a note was made since, it counts at that
   logged-noted : (ns : List Note) (note : Note) (ms : List Note) (r l : ℕ) (asks : List Ask)
-      → looked_before (length ns) u (logged n z (log-of r l (Some (ns ++ note ∷ ms))) asks) ≡ logged n z (log-of r l (Some (ns ++ note_behind u note ∷ ms))) asks
-  logged-noted ns note ms r l [] = rw (is-noted ns note ms, behind-first u ns note ms) refl
+      → looked_before (length ns) u (logged n z (log-of r l (Some (ns ++ note ∷ ms))) asks) ≡ logged n z (log-of r l (Some (ns ++ note_after u note ∷ ms))) asks
+  logged-noted ns note ms r l [] = rw (is-noted ns note ms, after-first u ns note ms) refl
   logged-noted ns note ms r l (looked at look ∷ asks) = let w = hull_of look (moved at z) in logged-noted ns note ms (max r w.reach) (min l w.least) asks
   logged-noted ns note ms r l (marked at gap fewer mark s ∷ asks) =
       let x : Note = record { mark = mark; before = position (moved at z); start = position (moved gap (moved at z)); levels = n - fewer; state = s; reach = r; least = l } in
       let most : ℕ = 2 ^ 64 - 1 in
       ap (λ (ks : List Note). looked_before (length ns) u (logged n z (log-of 0 most (Some ks)) asks)) (append_assoc ns (note ∷ ms) (x ∷ []))
       ∙ logged-noted ns note (ms ++ x ∷ []) 0 most asks
-      ∙ ap (λ (ks : List Note). logged n z (log-of 0 most (Some ks)) asks) (sym (append_assoc ns (note_behind u note ∷ ms) (x ∷ [])))
+      ∙ ap (λ (ks : List Note). logged n z (log-of 0 most (Some ks)) asks) (sym (append_assoc ns (note_after u note ∷ ms) (x ∷ [])))
 
   before-unkept : (r l : ℕ) (asks : List Ask) → looked_before 0 u (logged n z (log-of r l None) asks) ≡ logged n z (with_hull u (log-of r l None)) asks
   before-unkept r l [] = refl
@@ -88,13 +88,13 @@ module _ (n : ℕ) (z : Place) (u : Hull) where
   before-by r l None asks = before-unkept r l asks
   before-by r l (Some ns) asks = before-kept ns r l asks
 
--- what is looked at before a reading may be told behind it
+-- what is looked at before a reading may be noted after it
 logged-before : (n : ℕ) (z : Place) (u : Hull) (h : Log) (asks : List Ask) → looked_before (length (listed h.notes)) u (logged n z h asks) ≡ logged n z (with_hull u h) asks
 logged-before n z u h asks = before-by n z u h.reach h.least h.notes asks
 
 -- what was looked at stays so
 before-among : (u w : Hull) (c : ℕ) (h : Log) → Among u h → Among u (looked_before c w h)
-before-among u w c h a = elim (nat_lt c (length (listed h.notes))) as (λ b. Among u (if b then record h { notes = option_map (notes_behind c w) h.notes } else with_hull w h)) [
+before-among u w c h a = elim (nat_lt c (length (listed h.notes))) as (λ b. Among u (if b then record h { notes = option_map (notes_after c w) h.notes } else with_hull w h)) [
   | true ↦ record { reach = a.reach; least = a.least }
   | false ↦ record { reach = let r = a.reach in omega arith; least = let l = a.least in omega arith }
 ]

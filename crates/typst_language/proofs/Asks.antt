@@ -1,7 +1,7 @@
 -- What the code does by the token at hand.
 use Rattle.std.proofs.Common.{◌≡◌, Bool, true, false, ap, sym, ◌∙◌}
 use Rattle.typst_kinds.specs.declared.kind.SyntaxKind.{SyntaxKind}
-use Rattle.typst_language.specs.Hand.{AtHand, told}
+use Rattle.typst_language.specs.Hand.{AtHand, as_at_hand}
 use Rattle.typst_language.specs.Meaning.{Level}
 use Rattle.typst_language.specs.Syntax.{Parser}
 use Rattle.typst_language.specs.Syntax.Parser.{next, pick}
@@ -15,9 +15,9 @@ found f e d t = ap f (sym e) ∙ sym d ∙ t
 
 module _ {A : Type 0} {l : Level} {Q : View → Type 0} {p q : AtHand → Parser A} {a : A} {v w : View} {k : SyntaxKind} {b : Bool} where
   -- the test holds
-  pub asks-yes : (f : SyntaxKind → Bool) → k ≡ v.hand.kind → b ≡ f k → b ≡ true → Goes l (Fits l) Q (p (told v.hand)) a v w → Goes l (Fits l) Q (next peek (λ ahead. pick (f ahead.kind) (p ahead) (q ahead))) a v w
+  pub asks-yes : (f : SyntaxKind → Bool) → k ≡ v.hand.kind → b ≡ f k → b ≡ true → Goes l (Fits l) Q (p (as_at_hand v.hand)) a v w → Goes l (Fits l) Q (next peek (λ ahead. pick (f ahead.kind) (p ahead) (q ahead))) a v w
   asks-yes f e d t done = does-next (does-peek v) (does-pick (found f e d t) done)
 
   -- or it doesn't
-  pub asks-no : (f : SyntaxKind → Bool) → k ≡ v.hand.kind → b ≡ f k → b ≡ false → Goes l (Fits l) Q (q (told v.hand)) a v w → Goes l (Fits l) Q (next peek (λ ahead. pick (f ahead.kind) (p ahead) (q ahead))) a v w
+  pub asks-no : (f : SyntaxKind → Bool) → k ≡ v.hand.kind → b ≡ f k → b ≡ false → Goes l (Fits l) Q (q (as_at_hand v.hand)) a v w → Goes l (Fits l) Q (next peek (λ ahead. pick (f ahead.kind) (p ahead) (q ahead))) a v w
   asks-no f e d t done = does-next (does-peek v) (does-other (found f e d t) done)

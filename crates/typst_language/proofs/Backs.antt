@@ -10,8 +10,8 @@ use Rattle.typst_language.specs.Hand.{Hand, len_by, token_by}
 use Rattle.typst_language.specs.Ask.Ask.{looked}
 use Rattle.typst_tokens.specs.Reader.{look}
 use Rattle.typst_language.proofs.HintedNodes.{length-hinted}
-use Rattle.typst_language.specs.Shape.{Change, Shape, hinted, changed, on_first, first_changed, shaped, count_empty, after_node, after_shape}
-use Rattle.typst_language.specs.Shape.Change.{stays, turns_wrong, is_not, renamed, unparened}
+use Rattle.typst_language.specs.Shape.{NodeChange, Shape, hinted, changed, on_first, first_changed, shaped, count_empty, after_node, after_shape}
+use Rattle.typst_language.specs.Shape.NodeChange.{stays, turns_wrong, is_not, renamed, unparened}
 use Rattle.typst_language.specs.Shape.Shape.{keeps, holds, lacks, warns, fails}
 use Rattle.typst_language.specs.Syntax.{Op, Begin, Parser}
 use Rattle.typst_language.specs.Syntax.Op.{hand, so, further, column, erred, takes, takes_so, flushes, complains, advises, marks, is_deepest}
@@ -61,14 +61,14 @@ on_first-long : (f : Tree → Tree) (ts : List Tree) → length (on_first f ts) 
 on_first-long f [] = refl
 on_first-long f (t ∷ ts) = refl
 
-pub changed-long : (change : Change) (ts : List Tree) → length (first_changed change ts) ≡ length ts
+pub changed-long : (change : NodeChange) (ts : List Tree) → length (first_changed change ts) ≡ length ts
 changed-long stays ts = refl
 changed-long (turns_wrong message) ts = on_first-long _ ts
 changed-long (is_not thing) ts = on_first-long _ ts
 changed-long (renamed kind) ts = on_first-long _ ts
 changed-long unparened ts = on_first-long _ ts
 
--- behind what several nodes became there stand no more empty errors than before it, or than one where a node was given
+-- after what several nodes became there stand no more empty errors than before it, or than one where a node was given
 abbrev pub Counts : Shape → List Tree → Point → Type 0
 Counts shape ts s = ((after_shape shape ts s).empties + length ts ≤ s.empties + length (shaped shape ts)) ⊎ (((after_shape shape ts s).empties ≤ 1) × (0 < length (shaped shape ts)))
 
@@ -76,7 +76,7 @@ change-counts : (b c : Bool) (text : List ℕ) (s : Point) → ((if b then s els
 change-counts true c text s = inl (omega arith)
 change-counts false c text s = inr (after_node-le c text s, omega arith)
 
-one-long : (change : Change) (t : Tree) → length (first_changed change (t ∷ [])) ≡ 1
+one-long : (change : NodeChange) (t : Tree) → length (first_changed change (t ∷ [])) ≡ 1
 one-long change t = changed-long change (t ∷ [])
 
 pub shape-counts : (shape : Shape) (ts : List Tree) (s : Point) → Counts shape ts s

@@ -6,9 +6,9 @@ use Rattle.typst_lines.specs.Place.{moved}
 use Rattle.typst_tree.specs.Tree.{Tree}
 use Rattle.typst_language.specs.declared.reading.Reading.{Reading}
 use Rattle.typst_language.specs.Point.{Point, Trivia, pending}
-use Rattle.typst_language.specs.Hand.{AtHand, Hand, told}
-use Rattle.typst_language.specs.Shape.{Change, Making, Shape, first_changed, hinted, shaped}
-use Rattle.typst_language.specs.Shape.Change.{stays, turns_wrong, is_not, renamed, unparened}
+use Rattle.typst_language.specs.Hand.{AtHand, Hand, as_at_hand}
+use Rattle.typst_language.specs.Shape.{NodeChange, Making, Shape, first_changed, hinted, shaped}
+use Rattle.typst_language.specs.Shape.NodeChange.{stays, turns_wrong, is_not, renamed, unparened}
 use Rattle.typst_language.specs.Shape.Shape.{keeps, holds, lacks, warns, fails}
 use Rattle.typst_language.specs.Shape.Making.{itself}
 use Rattle.typst_language.specs.Sound.{Sound}
@@ -140,12 +140,12 @@ gives-asked ts o r e h n b =
     }
 
 -- the token at hand may be asked for before
-pub begins-peek : {A : Type 0} {l : Level} {f : AtHand → Parser A} {v : View} → Fits l v → Begins l (f (told v.hand)) v → Begins l (next (does hand) f) v
+pub begins-peek : {A : Type 0} {l : Level} {f : AtHand → Parser A} {v : View} → Fits l v → Begins l (f (as_at_hand v.hand)) v → Begins l (next (does hand) f) v
 unfolding run
 begins-peek {l = l} {f = f} {v = v} c b =
     let g = hand_of l v.place v.state in
-    let q = run l (f (told g)) v.place (asked g v.state) in
-    let e : q ≡ at l (f (told v.hand)) v = ap (λ (x : Hand). run l (f (told x)) v.place (asked x v.state)) (sym c.hand) ∙ ap (λ (s : Point). run l (f (told v.hand)) v.place s) (sym (asked-same l v c)) in
+    let q = run l (f (as_at_hand g)) v.place (asked g v.state) in
+    let e : q ≡ at l (f (as_at_hand v.hand)) v = ap (λ (x : Hand). run l (f (as_at_hand x)) v.place (asked x v.state)) (sym c.hand) ∙ ap (λ (s : Point). run l (f (as_at_hand v.hand)) v.place s) (sym (asked-same l v c)) in
     record { gives = gives-asked v.hand.trivia (at l (does hand) v) q refl refl refl (subst (λ (x : Outcome _). Gives v.hand.trivia x) (sym e) b.gives) }
 
 pub begins-scoped : {A : Type 0} {l : Level} {f : Reading → Reading} {p : Parser A} {v : View} → Begins l p (record v { state = entered (f v.state.reading) v.state }) → Begins l (scoped f p) v
@@ -153,7 +153,7 @@ unfolding run
 begins-scoped b = let g = b.gives in record { gives = record { back = g.back; hints = g.hints; rest = g.rest; nodes = g.nodes; more = g.more } }
 
 -- what several nodes become is something
-some-changed : (change : Change) (t : Tree) (ts : List Tree) → 0 < length (first_changed change (t ∷ ts))
+some-changed : (change : NodeChange) (t : Tree) (ts : List Tree) → 0 < length (first_changed change (t ∷ ts))
 some-changed stays t ts = omega arith
 some-changed (turns_wrong message) t ts = omega arith
 some-changed (is_not thing) t ts = omega arith

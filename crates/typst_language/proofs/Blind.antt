@@ -1,4 +1,4 @@
--- What is told of first readings changes nothing that is read.
+-- What is known of first readings changes nothing that is read.
 use Rattle.std.proofs.Math.Path.{fun_ext}
 use Rattle.std.proofs.Common.{◌≡◌, ℕ, suc, Bool, if◌then◌else◌, refl, ◌∙◌}
 use Rattle.typst_lines.specs.Place.{Place}
@@ -32,7 +32,7 @@ module _ (g : Guessing) (l : Level) where
   blind-done (marks mark) = refl
   blind-done is_deepest = refl
 
-  -- a parser reads the same wherever the level is the same but for what is told
+  -- a parser reads the same wherever the level is the same except for what is known of first readings
   pub run-blind : {A : Type 0} (p : Parser A) → ◌≡◌ {A = Meaning A} (run told p) (run l p)
   unfolding run
   run-blind (gives a) = refl

@@ -5,8 +5,8 @@ use Rattle.std.proofs.Math.ListN.{set}
 use Rattle.typst_kinds.specs.Kinds.{is_error}
 use Rattle.typst_tree.specs.Tree.{Tree, text_of}
 use Rattle.typst_language.specs.Point.{Point, Trivia, pending}
-use Rattle.typst_language.specs.Shape.{Change, changed, first_changed, count_empty, after_node, after_change, seen}
-use Rattle.typst_language.specs.Shape.Change.{stays, turns_wrong, is_not, renamed, unparened}
+use Rattle.typst_language.specs.Shape.{NodeChange, changed, first_changed, count_empty, after_node, after_change, seen}
+use Rattle.typst_language.specs.Shape.NodeChange.{stays, turns_wrong, is_not, renamed, unparened}
 use Rattle.typst_language.specs.Shape.Shape.{keeps}
 use Rattle.typst_language.proofs.Leaves.{text-changed}
 use Rattle.typst_language.specs.Meaning.{Level}
@@ -20,14 +20,14 @@ use Rattle.typst_language.proofs.Runs.{rewrapped-fits}
 use Rattle.typst_language.proofs.Steps.{does-next, does-peek, does-wraps}
 use Rattle.typst_language.proofs.Ready.{told-node}
 
-first-is : (change : Change) (t : Tree) (ts : List Tree) → first_changed change (t ∷ ts) ≡ changed change t ∷ ts
+first-is : (change : NodeChange) (t : Tree) (ts : List Tree) → first_changed change (t ∷ ts) ≡ changed change t ∷ ts
 first-is stays t ts = refl
 first-is (turns_wrong message) t ts = refl
 first-is (is_not thing) t ts = refl
 first-is (renamed kind) t ts = refl
 first-is unparened t ts = refl
 
-changed-at : (change : Change) (ts : List Tree) (from : ℕ) (t u : Tree) → from < length ts → t ≡ get_or ts from t → u ≡ changed change t → set ts from u ≡ take from ts ++ first_changed change (drop from ts)
+changed-at : (change : NodeChange) (ts : List Tree) (from : ℕ) (t u : Tree) → from < length ts → t ≡ get_or ts from t → u ≡ changed change t → set ts from u ≡ take from ts ++ first_changed change (drop from ts)
 changed-at change [] from t u h at is = absurd (omega arith)
 changed-at change (x ∷ ts) zero t u h at is = ap (λ y. y ∷ ts) (is ∙ ap (changed change) at) ∙ sym (first-is change x ts)
 changed-at change (x ∷ ts) (suc from) t u h at is = ap (λ l. x ∷ l) (changed-at change ts from t u (omega arith) at is)
@@ -38,21 +38,21 @@ alone-is (x ∷ []) zero t h at = ap (λ y. y ∷ []) (sym at)
 alone-is (x ∷ y ∷ ts) zero t h at = absurd (omega arith)
 alone-is (x ∷ ts) (suc from) t h at = alone-is ts from t (omega arith) at
 
--- among more nodes than one a change isn't told
-after-more : (change : Change) (ts : List Tree) (from : ℕ) (s : Point) → suc from < length ts → after_change change (drop from ts) s ≡ s
+-- among more nodes than one a change leaves the state
+after-more : (change : NodeChange) (ts : List Tree) (from : ℕ) (s : Point) → suc from < length ts → after_change change (drop from ts) s ≡ s
 after-more change [] from s h = absurd (omega arith)
 after-more change (x ∷ []) from s h = absurd (omega arith)
 after-more change (x ∷ y ∷ ts) zero s h = refl
 after-more change (x ∷ y ∷ ts) (suc from) s h = after-more change (y ∷ ts) from s (omega arith)
 
-after-error : (change : Change) (t : Tree) (s : Point) → is_error t.head.kind ≡ true → after_change change (t ∷ []) s ≡ s
+after-error : (change : NodeChange) (t : Tree) (s : Point) → is_error t.head.kind ≡ true → after_change change (t ∷ []) s ≡ s
 after-error change t s e = rw e refl
 
-after-fine : (change : Change) (t : Tree) (s : Point) → is_error t.head.kind ≡ false → after_change change (t ∷ []) s ≡ after_node (is_error (changed change t).head.kind) (text_of t) s
+after-fine : (change : NodeChange) (t : Tree) (s : Point) → is_error t.head.kind ≡ false → after_change change (t ∷ []) s ≡ after_node (is_error (changed change t).head.kind) (text_of t) s
 after-fine change t s e = rw e refl
 
 -- a node that stands alone and was no error
-pub changed-alone : (change : Change) (from : ℕ) (t u : Tree) (v w : View) → length v.nodes ≡ suc from → t ≡ get_or v.nodes from t → is_error t.head.kind ≡ false → u ≡ changed change t
+pub changed-alone : (change : NodeChange) (from : ℕ) (t u : Tree) (v w : View) → length v.nodes ≡ suc from → t ≡ get_or v.nodes from t → is_error t.head.kind ≡ false → u ≡ changed change t
     → w ≡ record v { nodes = set v.nodes from u; state = record v.state { empties = if is_error u.head.kind then count_empty (text_of u) else 0; is_after_error = is_error u.head.kind } } → Rewrapped from (keeps change) v w
 changed-alone change from t u v w long at fine is e = rw e (record {
   place = refl;
@@ -69,7 +69,7 @@ changed-alone change from t u v w long at fine is e = rw e (record {
 })
 
 -- one that was an error
-pub changed-error : (change : Change) (from : ℕ) (t u : Tree) (v w : View) → length v.nodes ≡ suc from → t ≡ get_or v.nodes from t → is_error t.head.kind ≡ true → u ≡ changed change t
+pub changed-error : (change : NodeChange) (from : ℕ) (t u : Tree) (v w : View) → length v.nodes ≡ suc from → t ≡ get_or v.nodes from t → is_error t.head.kind ≡ true → u ≡ changed change t
     → w ≡ record v { nodes = set v.nodes from u } → Rewrapped from (keeps change) v w
 changed-error change from t u v w long at wrong is e = rw e (record {
   place = refl;
@@ -83,7 +83,7 @@ changed-error change from t u v w long at wrong is e = rw e (record {
 })
 
 -- one before others
-pub changed-first : (change : Change) (from : ℕ) (t u : Tree) (v w : View) → suc from < length v.nodes → t ≡ get_or v.nodes from t → u ≡ changed change t → w ≡ record v { nodes = set v.nodes from u } → Rewrapped from (keeps change) v w
+pub changed-first : (change : NodeChange) (from : ℕ) (t u : Tree) (v w : View) → suc from < length v.nodes → t ≡ get_or v.nodes from t → u ≡ changed change t → w ≡ record v { nodes = set v.nodes from u } → Rewrapped from (keeps change) v w
 changed-first change from t u v w more at is e = rw e (record {
   place = refl;
   state = sym (after-more change v.nodes from v.state more);

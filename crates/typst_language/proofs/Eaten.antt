@@ -3,7 +3,7 @@ use Rattle.std.proofs.Common.{◌≡◌, ℕ, ◌<◌, Bool, ap, arith}
 use Rattle.typst_lines.specs.Place.{Place, moved}
 use Rattle.typst_language.specs.declared.reading.Reading.{Reading}
 use Rattle.typst_language.specs.Point.{Point}
-use Rattle.typst_language.specs.Hand.{Hand, AtHand, told}
+use Rattle.typst_language.specs.Hand.{Hand, AtHand, as_at_hand}
 use Rattle.typst_language.specs.Shape.{Making, Shape}
 use Rattle.typst_language.specs.Syntax.{Parser}
 use Rattle.typst_language.specs.Syntax.Op.{hand, column}
@@ -27,7 +27,7 @@ module _ (l : Level) where
 
   pub eats-peek : {A : Type 0} (f : AtHand → Parser A) → ((h : AtHand) → Eats l (f h)) → Eats l (next (does hand) f)
   unfolding run
-  eats-peek f e z s h = let t = asked (hand_of l z s) s in let rest : 0 < (run l (f (told (hand_of l z s))) (moved 0 z) t).taken = e (told (hand_of l z s)) z t (omega (arith, len-again z s)) in omega arith
+  eats-peek f e z s h = let t = asked (hand_of l z s) s in let rest : 0 < (run l (f (as_at_hand (hand_of l z s))) (moved 0 z) t).taken = e (as_at_hand (hand_of l z s)) z t (omega (arith, len-again z s)) in omega arith
 
   pub eats-column : {A : Type 0} (f : ℕ → Parser A) → ((c : ℕ) → Eats l (f c)) → Eats l (next (does column) f)
   unfolding run

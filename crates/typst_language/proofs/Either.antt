@@ -14,7 +14,7 @@ use Rattle.typst_language.specs.declared.reading.Reading.{Reading}
 use Rattle.typst_language.specs.Bytes.{column_hull, joined_hull, token_hull}
 use Rattle.typst_language.specs.Point.{Trivia}
 use Rattle.typst_language.specs.Hand.{asks_column, column_look, hand_asks, known_by}
-use Rattle.typst_language.specs.Log.{Log, least_behind, logged, reach_behind, with_hull, with_more, with_note}
+use Rattle.typst_language.specs.Log.{Log, least_after, logged, reach_after, with_hull, with_more, with_note}
 use Rattle.typst_language.specs.Syntax.{Parser}
 use Rattle.typst_language.specs.Syntax.Parser.{either}
 use Rattle.typst_language.specs.Meaning.{Level, given_up, hand_asks_of, run}
@@ -61,9 +61,9 @@ same-log-of r s l m ns us d e f = rw (d, e, f) refl
 unnoted-hull : (c : ℕ) (u : Hull) (h : Log) → unnoted c (with_hull u h) ≡ with_hull u (unnoted c h)
 unnoted-hull c u h = same-log _ _ _ _ _ (reach-max h.reach u.reach (drop c (listed h.notes))) (least-min h.least u.least (drop c (listed h.notes)))
 
--- a note behind the first ones goes
+-- a note after the first ones goes
 note-gone : (c r l : ℕ) (note : Note) (ns : Option (List Note)) → c ≤ length (listed ns) → l ≤ 2 ^ 64 - 1 → note.reach ≡ r → note.least ≡ l
-    → unnoted c (record { reach = reach_behind ns r; least = least_behind ns l; notes = with_more note ns }) ≡ unnoted c (record { reach = r; least = l; notes = ns })
+    → unnoted c (record { reach = reach_after ns r; least = least_after ns l; notes = with_more note ns }) ≡ unnoted c (record { reach = r; least = l; notes = ns })
 note-gone c r l note None h b d e = refl
 note-gone c r l note (Some xs) h b d e =
     let none : c - length xs ≡ 0 = omega arith in
@@ -81,9 +81,9 @@ more-notes : (c : ℕ) (note : Note) (ns : Option (List Note)) → c ≤ length 
 more-notes c note None h = h
 more-notes c note (Some xs) h = omega (arith, length-append xs (note ∷ []))
 
-behind-most : (ns : Option (List Note)) (l : ℕ) → l ≤ 2 ^ 64 - 1 → least_behind ns l ≤ 2 ^ 64 - 1
-behind-most None l h = h
-behind-most (Some xs) l h = omega arith
+after-most : (ns : Option (List Note)) (l : ℕ) → l ≤ 2 ^ 64 - 1 → least_after ns l ≤ 2 ^ 64 - 1
+after-most None l h = h
+after-most (Some xs) l h = omega arith
 
 -- without its notes a log is that of the looks alone
 unnoted-logged : (levels : ℕ) (z : Place) (c : ℕ) (h : Log) (asks : List Ask) → c ≤ length (listed h.notes) → h.least ≤ 2 ^ 64 - 1
@@ -94,7 +94,7 @@ unnoted-logged levels z c h (looked at look ∷ asks) a b =
     unnoted-logged levels z c (with_hull u h) asks a (omega arith) ∙ ap (λ x. logged levels z x (only_looks asks)) (unnoted-hull c u h)
 unnoted-logged levels z c h (marked at gap fewer mark s ∷ asks) a b =
     let x = with_note gap (levels - fewer) mark s (moved at z) h in
-    unnoted-logged levels z c x asks (more-notes c _ h.notes a) (behind-most h.notes h.least b)
+    unnoted-logged levels z c x asks (more-notes c _ h.notes a) (after-most h.notes h.least b)
     ∙ ap (λ y. logged levels z y (only_looks asks)) (note-gone c h.reach h.least _ h.notes a b refl refl)
 
 all-notes : (c r l : ℕ) (ns : Option (List Note)) → length (listed ns) ≤ c → unnoted c (record { reach = r; least = l; notes = ns }) ≡ record { reach = r; least = l; notes = ns }
@@ -116,7 +116,7 @@ looks-least levels z h [] = omega arith
 looks-least levels z h (looked at look ∷ asks) = let e = looks-least levels z (with_hull (hull_of look (moved at z)) h) asks in omega arith
 looks-least levels z h (marked at gap fewer mark s ∷ asks) = looks-least levels z h asks
 
--- ---- what stands behind going back
+-- ---- what stands after going back
 
 same-back : (v : View) (ns ts : List Tree) (e : ℕ) (k : Bool) (h : Log) (m : List Guessed) → ns ≡ v.nodes → ts ≡ v.hand.trivia → e ≡ v.state.empties → k ≡ true → known_by v.hand ≡ v.state.known
     → ◌≡◌ {A = View} (record {
@@ -153,13 +153,13 @@ ran-chosen {l = l} {p = p} {q = q} {is_wrong = is_wrong} {a = a} {old = old} {mi
     let o = at l p old in
     record { runs = subst (λ b. Runs l.levels (if b then given_up o (at l q old) else o) a old mid) (sym (ap is_wrong h.runs.value ∙ e)) h.runs }
 
--- what the log is behind going back: the looks of the first reading stay
+-- what the log is after going back: the looks of the first reading stay
 back-log : (levels : ℕ) (z : Place) (h : Log) (asks : List Ask) → h.least ≤ 2 ^ 64 - 1 → unnoted (length (listed h.notes)) (logged levels z h asks) ≡ logged levels z h (only_looks asks)
 back-log levels z h asks b =
     let c = length (listed h.notes) in
     unnoted-logged levels z c h asks (omega arith) b ∙ ap (λ x. logged levels z x (only_looks asks)) (unnoted-same c h (omega arith))
 
--- and behind the second: those of both
+-- and after the second: those of both
 both-log : (levels : ℕ) (z : Place) (h : Log) (xs ys : List Ask) → h.least ≤ 2 ^ 64 - 1
     → unnoted (length (listed h.notes)) (logged levels z (logged levels z h (only_looks xs)) ys) ≡ logged levels z h (only_looks (xs ++ ys))
 both-log levels z h xs ys b =
@@ -283,7 +283,7 @@ does-either {l = l} {p = p} {q = q} {is_wrong = is_wrong} {b = b} {c = c} {old =
       ready = λ f. subst (λ (v : View). Fits l v) (sym end) (unnoted-fits (length (listed old.log.notes)) (k.ready (back-fits f (goes f))));
     }
 
--- behind it something may be forgotten
+-- after it something may be forgotten
 pub does-dropped : {A : Type 0} {l : Level} {P : View → Type 0} {p : Parser A} {a : A} {old mid new : View} → Dropped mid new → Goes l P (Fits l) p a old mid → Goes l P (Fits l) p a old new
 does-dropped {l = l} {p = p} {a = a} {old = old} {mid = mid} {new = new} d g = record {
   ran = λ c. (let r = (g.ran c).runs in

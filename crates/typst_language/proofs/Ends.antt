@@ -241,11 +241,11 @@ end-continues : (any : Bool) (t : SyntaxKind) → is_end (if any && false then k
 end-continues true t h = h
 end-continues false t h = h
 
--- the token at hand behind its trivia, whether these are known or not
-abbrev Behind : CharClasses → SyntaxMode → Option Trivia → Place → Type 0
-Behind k m known z = Read k m z (ahead_of k m known z)
+-- the token at hand after its trivia, whether these are known or not
+abbrev After : CharClasses → SyntaxMode → Option Trivia → Place → Type 0
+After k m known z = Read k m z (ahead_of k m known z)
 
-ahead_of-read : (k : CharClasses) (m : SyntaxMode) (known : Option Trivia) (z : Place) → Behind k m known z
+ahead_of-read : (k : CharClasses) (m : SyntaxMode) (known : Option Trivia) (z : Place) → After k m known z
 unfolding ahead
 ahead_of-read k m None z = ahead-read k m (length z.ahead) z
 ahead_of-read k m (Some t) z = (refl, refl)
@@ -260,7 +260,7 @@ hand-takes k held known z h =
     let some = token-takes k held.mode (moved a.gap z) (ap (λ (t : Token). is_end t.kind) (sym r.0) ∙ g) in
     omega (arith, r.1)
 
--- where newlines don't matter, nothing is behind the end
+-- where newlines don't matter, nothing is after the end
 pub hand-ends : (k : CharClasses) (m : SyntaxMode) (known : Option Trivia) (z : Place)
     → is_end (hand_at k (record { mode = m; at_newline = Continue }) known z).kind ≡ true → (moved (hand_at k (record { mode = m; at_newline = Continue }) known z).gap z).ahead ≡ []
 unfolding hand_at

@@ -19,7 +19,7 @@ use Rattle.typst_language.specs.declared.reading.Reading.{Reading}
 use Rattle.typst_language.specs.Point.{Trivia, Point, gap_of, forgot}
 use Rattle.typst_language.specs.Ask.{Ask, SameIn, shift}
 use Rattle.typst_language.specs.Ask.Ask.{looked}
-use Rattle.typst_language.specs.Hand.{token_at, len_at, token_by, len_by, at_trivia, Hand, AtHand, told, goes_on, Ahead, direct, after_trivia, ahead_by, ahead, asks_by, ahead_asks, ahead_of, ahead_asks_of, column_at, column_look, is_markup, stops, asks_column, hand_by, hand_at, column_asks, hand_asks}
+use Rattle.typst_language.specs.Hand.{token_at, len_at, token_by, len_by, at_trivia, Hand, AtHand, as_at_hand, goes_on, Ahead, direct, after_trivia, ahead_by, ahead, asks_by, ahead_asks, ahead_of, ahead_asks_of, column_at, column_look, is_markup, stops, asks_column, hand_by, hand_at, column_asks, hand_asks}
 use Rattle.typst_language.specs.Shape.{Shape}
 use Rattle.typst_language.proofs.Places.{moved-sum}
 use Rattle.typst_language.specs.Syntax.{Op, Begin, Parser}
@@ -38,7 +38,7 @@ use Rattle.typst_language.proofs.Looks.{same_in-shift, same_in-first, same_in-se
 no-trivia : (k : CharClasses) (m : SyntaxMode) (z : Place) → length z.ahead ≡ 0 → at_trivia k m z ≡ true → ⊥
 no-trivia k m z e h = let some : 0 < len_at k m z = ltb-true 0 (len_at k m z) (and-second (is_trivia (token_at k m z).kind) (nat_lt 0 (len_at k m z)) h) in absurd (omega arith)
 
--- the text of the token behind the trivia
+-- the text of the token after the trivia
 abbrev Text_same : Ahead → Place → Place → Type 0
 Text_same a z w = take a.len (moved a.gap w).ahead ≡ take a.len (moved a.gap z).ahead
 
@@ -80,7 +80,7 @@ trivia-enough k m (suc i) (suc j) z a b =
       text = refl;
     }
 
--- one token, which may be trivia, and what is read behind it
+-- one token, which may be trivia, and what is read after it
 abbrev step : CharClasses → Token → ℕ → List ℕ → Ahead → Ahead
 step k t n text rest = if is_trivia t.kind && nat_lt 0 n then after_trivia t n (token_node k t text) rest else direct t n
 
@@ -91,7 +91,7 @@ held : (b : Bool) (asks : List Ask) (z w : Place) → SameIn (if b then asks els
 held true asks z w h e = h
 held false asks z w h e = cc
 
--- the text of the token behind one trivia token more
+-- the text of the token after one trivia token more
 text-step : (b : Bool) (t : Token) (l : ℕ) (node : _) (rest : Ahead) (z w : Place) → take l w.ahead ≡ take l z.ahead → (b ≡ true → Text_same rest (moved l z) (moved l w))
     → Text_same (if b then after_trivia t l node rest else direct t l) z w
 text-step true t l node rest z w e h =
@@ -143,8 +143,8 @@ ahead-frame k m z w h =
       text = subst (λ (a : Ahead). Text_same a z w) here.nodes same.text;
     }
 
-abbrev behind_known : Trivia → Token → ℕ → Ahead
-behind_known t tok n = record { trivia = t.nodes; gap = t.gap; newlines = t.newlines; token = tok; len = n }
+abbrev after_known : Trivia → Token → ℕ → Ahead
+after_known t tok n = record { trivia = t.nodes; gap = t.gap; newlines = t.newlines; token = tok; len = n }
 
 -- the same where the trivia may be known
 ahead_of-frame : (k : CharClasses) (m : SyntaxMode) (known : Option Trivia) (z w : Place) → SameIn (ahead_asks_of k m known z) z w
@@ -153,7 +153,7 @@ ahead_of-frame k m None z w h = ahead-frame k m z w h
 ahead_of-frame k m (Some t) z w h =
     let e = token-same (token k m) (moved t.gap z) (moved t.gap w) h.0 in
     record {
-      nodes = ap (λ x. behind_known t x (len_at k m (moved t.gap w))) e.read ∙ ap (behind_known t (token_at k m (moved t.gap z))) e.len;
+      nodes = ap (λ x. after_known t x (len_at k m (moved t.gap w))) e.read ∙ ap (after_known t (token_at k m (moved t.gap z))) e.len;
       asks = ap (λ l. looked t.gap l ∷ []) e.seen;
       text = e.text;
     }
@@ -345,7 +345,7 @@ abbrev kinded : Point → List Ask → Hand → ℕ → Token → Look → Outco
 kinded s asks h at t l = record (plain t.kind (asked h s)) { asks = asks ++ looked at l ∷ [] }
 
 abbrev shown : Point → List Ask → Hand → Outcome AtHand
-shown s asks h = record (plain (told h) (asked h s)) { asks = asks }
+shown s asks h = record (plain (as_at_hand h) (asked h s)) { asks = asks }
 
 module _ (l : Level) where
   at_hand : (z w : Place) (s : Point) → SameIn (hand_asks_of l z s) z w → Same_hand (hand_of l z s) (hand_of l w s) (hand_asks_of l z s) (hand_asks_of l w s) z w

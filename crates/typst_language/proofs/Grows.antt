@@ -51,7 +51,7 @@ begins {l = l} {p = p} {x = x} {old = old} {v = v} sound c did =
       fits = did.ready c;
     }
 
--- ---- a turn behind what was given so far
+-- ---- a turn after what was given so far
 
 module _ {A : Type 0} (l : Level) (f : A → Parser (Option Shape × A)) (n : ℕ) (old : View) (x : A) (v : View) (o : Outcome A) (h : Runs l.levels o x old v) where
   abbrev one : Outcome (Option Shape × A)
@@ -80,7 +80,7 @@ module _ {A : Type 0} (l : Level) (f : A → Parser (Option Shape × A)) (n : �
       subst (λ (q : Option Shape × A). Runs l.levels (grown n q.0 (answered q.1 (joined o one))) y old w) (sym (one-runs (Some shape) y mid did).value)
       (runs-reshaped l.levels n (answered y (joined o one)) y old mid few (both-runs (Some shape) y mid did) shape w r)
 
-  -- the loop goes on behind it, or ends with it
+  -- the loop goes on after it, or ends with it
   goes-on : (k : ℕ) → (is_more one.value.0 && nat_lt 0 one.taken) ≡ true → growths (λ y. run l (f y)) n (suc k) o old.place ≡ growths (λ y. run l (f y)) n k (grew n o one) old.place
   goes-on k e = rw e refl
 
@@ -94,7 +94,7 @@ is-suc m t h = omega arith
 pub from-token : {l : Level} {from : ℕ} {old : View} → Fits l old → from ≡ length old.nodes + length old.hand.trivia → from ≡ length old.nodes + before at_token old.state
 from-token {old = old} c e = e ∙ ap (λ (x : Option Trivia). length old.nodes + length (pending x)) (sym c.known)
 
--- no fewer characters and no more trivia are left behind a shape
+-- no fewer characters and no more trivia are left after a shape
 bound-wrapped : {from : ℕ} {shape : Shape} {mid w : View} → Rewrapped from shape mid w → bound w.place w.state ≡ bound mid.place mid.state
 bound-wrapped {from = from} {shape = shape} {mid = mid} {w = w} r =
     ap (λ (t : Option Trivia). max (gap_of t) (length w.place.ahead)) (ap (λ (s : Point). s.known) r.state ∙ shape-known shape (drop from mid.nodes) mid.state)
@@ -125,7 +125,7 @@ module _ {A : Type 0} (l : Level) (p : Parser A) (f : A → Parser (Option Shape
         let more : (is_more q.value.0 && nat_lt 0 q.taken) ≡ true = ap (λ (u : Option Shape × A). is_more u.0 && nat_lt 0 q.taken) turned.value ∙ lt-ltb 0 q.taken some in
         let most = within-run l sound.within sound.within_block (f o.value) (moved o.taken old.place) o.state in
         let here = bound-after l.levels o x old v s.runs in
-        let behind = bound-after l.levels q (Some shape, y) v mid turned ∙ ap (λ (z : Place). bound (moved q.taken z) q.state) s.runs.place in
+        let after = bound-after l.levels q (Some shape, y) v mid turned ∙ ap (λ (z : Place). bound (moved q.taken z) q.state) s.runs.place in
         let wrapped = bound-wrapped r in
         let enough = s.enough in
         record {
@@ -134,7 +134,7 @@ module _ {A : Type 0} (l : Level) (p : Parser A) (f : A → Parser (Option Shape
           runs = some-runs l f n old x v o s.runs shape y mid w back ran r;
           tidy = tidy-grew old.state n o q s.tidy (backs-run l sound.backs sound.backs_block (f o.value) (moved o.taken old.place) o.state);
           rest = s.rest ∙ ap (λ t. growths (λ u. run l (f u)) n t o old.place) unfolds ∙ goes-on l f n old x v o s.runs (s.turns - 1) more;
-          enough = omega (arith, some, most, here, behind, wrapped, enough);
+          enough = omega (arith, some, most, here, after, wrapped, enough);
           fits = rewrapped-fits l r (did.ready s.fits);
         }
 

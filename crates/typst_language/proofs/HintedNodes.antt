@@ -1,4 +1,4 @@
--- Hints for an error that was given, and the nodes that stand behind one outcome and the next.
+-- Hints for an error that was given, and the nodes that stand after one outcome and the next.
 use Rattle.std.proofs.Common.{◌≡◌, ℕ, zero, suc, ◌+◌, ◌-◌, ◌<◌, ◌≤◌, Bool, true, false, if◌then◌else◌, nat_lt, List, [], ◌∷◌, ◌++◌, length, take, append_assoc, append-nil, inl, inr, refl, ap, sym, ◌∙◌, arith}
 use Rattle.std.proofs.lemmas.Bool.{cases_lt}
 use borrow.Author.Tests.{lt-ltb, le-ltb}
@@ -104,7 +104,7 @@ three-second b n x y z h = let l : n ≤ b = omega arith in rw (le-ltb b n l, lt
 three-third : {A : Type 0} (b n : ℕ) (x y z : A) → b ≡ n → three b n x y z ≡ z
 three-third b n x y z h = let l : n ≤ b = omega arith in let m : b ≤ n = omega arith in rw (le-ltb b n l, le-ltb n b m) refl
 
--- the nodes behind both outcomes are those behind the second, where those behind the first stood
+-- the nodes after both outcomes are those after the second, where those after the first stood
 pub standing-joined : {A B : Type 0} (o : Outcome B) (p : Outcome A) (ts : List Tree) → standing (joined o p) ts ≡ standing p (standing o ts)
 standing-joined o p ts =
     let n = length o.nodes in

@@ -15,7 +15,7 @@ use Rattle.typst_language.proofs.Leaves.{Keeps, blank-nil, kept-run}
 use Rattle.typst_language.proofs.Rests.{Restful, rests-run}
 use Rattle.typst_language.proofs.Within.{within-run}
 
--- what holds where so many levels are left
+-- what holds where a given number of levels are left
 pub record Sane {A : Type 0} (m : Meaning A) : Type 0 where
   pub framed : Framed m
   pub kept : Keeps m

@@ -5,7 +5,7 @@ use Rattle.typst_lines.specs.Place.{Place, moved, moved_from, moved_back}
 use Rattle.typst_lines.specs.Scanner.{place}
 use Rattle.typst_tokens.specs.Sight.{hull_of}
 use Rattle.typst_tokens.specs.declared.hull.Hull.{Hull}
-use Rattle.typst_language.specs.declared.calls.Behind.{Behind}
+use Rattle.typst_language.specs.declared.calls.AfterName.{AfterName}
 use Rattle.typst_language.specs.declared.calls.Note.{Note}
 use Rattle.typst_language.specs.Ask.{Ask, only_looks}
 use Rattle.typst_language.specs.Ask.Ask.{looked, marked}
@@ -18,7 +18,7 @@ use Rattle.typst_language.specs.Noted.{hull_in}
 use Rattle.typst_language.specs.Meaning.{Guess, Guessing, Level}
 use Rattle.typst_language.specs.declared.memo.Guessed.{Guessed}
 use Rattle.typst_language.specs.Remembered.{AllSo, Comes, IsSo, Knows, LooksIn, end_of}
-use Rattle.typst_language.specs.View.{View, Fits, Found, Remembers, behind_paren, guess_at}
+use Rattle.typst_language.specs.View.{View, Fits, Found, Remembers, place_after_paren, guess_at}
 use Rattle.typst_language.proofs.Bytes.{none-bytes}
 use Rattle.typst_language.proofs.Logs.{Among, with-again}
 use Rattle.typst_language.proofs.Places.{ahead-left, moved-min, moved-sum}
@@ -54,13 +54,13 @@ no-more z w e f h =
     let none = none-bytes n z (omega arith) (omega arith) in
     ap (λ m. moved m z) (sym none) ∙ same
 
--- a place of a text is the only one with so many bytes left
+-- a place of a text is the only one with a given number of bytes left
 pub only-place : (z w : Place) → end_of z ≡ end_of w → bytes_left z ≡ bytes_left w → z ≡ w
 only-place z w e f = elim (order (length w.ahead) (length z.ahead)) [ inl h ↦ no-more z w e f h | inr h ↦ sym (no-more w z (sym e) (sym f) h) ]
 
 -- where the token at hand ends
-pub place-behind : (a : ReadAhead) → Stands a → place a.after ≡ moved (distance a.before a.start + distance a.start a.after) (place a.before)
-place-behind a s = s.after ∙ ap (moved (distance a.start a.after)) s.start ∙ sym (moved-sum (distance a.before a.start) (distance a.start a.after) (place a.before))
+pub place-after : (a : ReadAhead) → Stands a → place a.after ≡ moved (distance a.before a.start + distance a.start a.after) (place a.before)
+place-after a s = s.after ∙ ap (moved (distance a.start a.after)) s.start ∙ sym (moved-sum (distance a.before a.start) (distance a.start a.after) (place a.before))
 
 -- ---- what is remembered
 
@@ -106,7 +106,7 @@ looks-among u levels z h (looked at look ∷ asks) a =
     looks-among u levels z (with_hull w h) asks (record { reach = let r = a.reach in omega arith; least = let l = a.least in omega arith })
 looks-among u levels z h (marked at gap fewer mark s ∷ asks) a = looks-among u levels z h asks a
 
--- the looks of a reading lie in what was looked at behind it
+-- the looks of a reading lie in what was looked at after it
 pub looks-in : (n : ℕ) (z : Place) (h : Log) (asks : List Ask) → LooksIn (hull_in (logged n z h (only_looks asks))) z asks
 looks-in n z h [] = tt
 looks-in n z h (looked at look ∷ asks) =
@@ -124,7 +124,7 @@ looks-within n z h (looked at look ∷ asks) u i k =
     (record { reach = let a = i.reach in let b = k.0.reach in omega arith; least = let c = i.least in let d = k.0.least in omega arith }) k.1
 looks-within n z h (marked at gap fewer mark s ∷ asks) u i k = looks-within n z h asks u i k
 
--- what was looked at before a reading lies in what was looked at behind it
+-- what was looked at before a reading lies in what was looked at after it
 pub before-in : (n : ℕ) (z : Place) (h : Log) (asks : List Ask) → LiesIn (hull_in h) (hull_in (logged n z h (only_looks asks)))
 before-in n z h asks =
     let a = looks-among (hull_in h) n z h asks (record { reach = omega arith; least = omega arith }) in
@@ -152,7 +152,7 @@ same-looks n h z w xs ys to from =
     (looks-within n w h ys (hull_in x) (before-in n z h xs) (to (hull_in x) (before-in n z h xs) (looks-in n z h xs)))
 
 -- the stretch of a first reading is what it looks at, where its paren was looked at
-pub comes-looks : {g : Guess} {paren hull : Hull} {z : Place} {b : Behind} (n : ℕ) (h : Log) → Comes g paren hull z b → LiesIn paren (hull_in h) → with_hull hull h ≡ logged n z h (only_looks g.asks)
+pub comes-looks : {g : Guess} {paren hull : Hull} {z : Place} {b : AfterName} (n : ℕ) (h : Log) → Comes g paren hull z b → LiesIn paren (hull_in h) → with_hull hull h ≡ logged n z h (only_looks g.asks)
 comes-looks {g = g} {paren = paren} {hull = hull} {z = z} n h c lies =
     let x = with_hull hull h in
     let y = logged n z h (only_looks g.asks) in
@@ -162,28 +162,28 @@ comes-looks {g = g} {paren = paren} {hull = hull} {z = z} n h c lies =
     same-looks-log x y (sym (looks-notes n z h g.asks))
     (record { reach = let a = before.reach in let b = whole.reach in omega arith; least = let d = before.least in let e = whole.least in omega arith }) inside
 
--- what is remembered of the parens at hand comes behind them
-pub found-is : {l : Level} {v : View} (e : Guessed) (k levels left : ℕ) → Fits l v → slice_get v.memo k ≡ Some e → e.left ≡ left → left ≡ bytes_left (behind_paren v)
-    → is_leaf v.hand.token ≡ true → l.levels ≡ levels → e.levels ≡ levels → e.outer ≡ v.state.reading → LiesIn e.paren (hull_in v.log) → Found l v e.behind e.hull
+-- what is remembered of the parens at hand comes after them
+pub found-is : {l : Level} {v : View} (e : Guessed) (k levels left : ℕ) → Fits l v → slice_get v.memo k ≡ Some e → e.left ≡ left → left ≡ bytes_left (place_after_paren v)
+    → is_leaf v.hand.token ≡ true → l.levels ≡ levels → e.levels ≡ levels → e.outer ≡ v.state.reading → LiesIn e.paren (hull_in v.log) → Found l v e.after e.hull
 found-is {l = l} {v = v} e k levels left f at is here leaf m n o lies =
-    let z = behind_paren v in
-    let comes : Comes (l.guess e.levels z e.outer) e.paren e.hull z e.behind = so-get l.guess (end_of v.place) v.memo k e f.knows.all at z (end-moved (v.hand.gap + v.hand.len) v.place) (sym (is ∙ here)) in
+    let z = place_after_paren v in
+    let comes : Comes (l.guess e.levels z e.outer) e.paren e.hull z e.after = so-get l.guess (end_of v.place) v.memo k e f.knows.all at z (end-moved (v.hand.gap + v.hand.len) v.place) (sym (is ∙ here)) in
     let same : l.guess e.levels z e.outer ≡ guess_at l v = rw (o, n, m) refl in
-    let found : Comes (guess_at l v) e.paren e.hull z e.behind = subst (λ (x : Guess). Comes x e.paren e.hull z e.behind) same comes in
-    record { leaf = leaf; behind = found.behind; looks = comes-looks l.levels v.log found lies }
+    let found : Comes (guess_at l v) e.paren e.hull z e.after = subst (λ (x : Guess). Comes x e.paren e.hull z e.after) same comes in
+    record { leaf = leaf; after = found.after; looks = comes-looks l.levels v.log found lies }
 
 -- one more is remembered
-pub remembers-more : {v w : View} (levels : ℕ) (b : Behind) (e : Guessed) (k : ℕ) → w ≡ record v { memo = insert v.memo k e } → is_leaf v.hand.token ≡ true
-    → e.left ≡ bytes_left (behind_paren v) → e.levels ≡ levels → e.outer ≡ v.state.reading → e.behind ≡ b → e.paren ≡ v.here → e.hull ≡ hull_in v.log → Remembers levels b v w
+pub remembers-more : {v w : View} (levels : ℕ) (b : AfterName) (e : Guessed) (k : ℕ) → w ≡ record v { memo = insert v.memo k e } → is_leaf v.hand.token ≡ true
+    → e.left ≡ bytes_left (place_after_paren v) → e.levels ≡ levels → e.outer ≡ v.state.reading → e.after ≡ b → e.paren ≡ v.here → e.hull ≡ hull_in v.log → Remembers levels b v w
 remembers-more {v = v} {w = w} levels b e k is leaf left n o c p h = record {
   same = is ∙ ap (λ (es : List Guessed). record v { memo = es }) (sym (ap (λ (x : View). x.memo) is));
   knows = λ l m found all.
-      let z = behind_paren v in
+      let z = place_after_paren v in
       let so : IsSo l.guess (end_of v.place) e = λ y end bytes.
       let here = only-place y z (end ∙ sym (end-moved (v.hand.gap + v.hand.len) v.place)) (bytes ∙ left) in
       rw (here, n, sym m, o, c, p, h) (found leaf) in
       knows-at (ap (λ (x : View). x.memo) is) refl (record { all = so-insert l.guess (end_of v.place) v.memo k e all.all so });
 }
 
-pub remembers-same : {v w : View} (levels : ℕ) (b : Behind) → w ≡ v → Remembers levels b v w
+pub remembers-same : {v w : View} (levels : ℕ) (b : AfterName) → w ≡ v → Remembers levels b v w
 remembers-same {v = v} levels b e = rw e (record { same = refl; knows = λ l m found all. all })

@@ -9,6 +9,7 @@ use Rattle.typst_lines.specs.Place.{Place, moved}
 use Rattle.typst_lexer.specs.Tree.{Tree, Forest, forest, trees, joined as text_joined, text_of, with_kind, made_error, advised, all_advised, error_of, topped, inner_of}
 use Rattle.typst_lexer.proofs.Texts.{text_all_advised}
 use Rattle.typst_lexer.specs.Tree.Forest.{none, more}
+use Rattle.typst_tree.proofs.SpansAside.{forest_trees}
 use Rattle.typst_kinds.specs.declared.kind.SyntaxKind.TheVariants as kind
 use Rattle.typst_lexer.specs.Messages.{made_unexpected, made_expected, expected_error, expected_message, unexpected_message, is_lost_name, keyword_hint}
 use Rattle.typst_lexer.specs.Diagnostic.{hint_with}
@@ -17,15 +18,15 @@ use Rattle.std.specs.Prelude.{codes, None}
 use Rattle.typst_lines.proofs.Bools.{on}
 use Rattle.typst_language.specs.declared.calls.Block.{Block}
 use Rattle.typst_language.specs.Point.{Trivia, Point, forgot}
-use Rattle.typst_language.specs.Shape.{Making, made, hinted_error, hinted_last, hinted, Change, changed, on_first, first_changed, is_delimited, in_parens, renamed_last, parens_renamed, without_parens, Shape, shaped, count_empty, after_node, after_change, after_shape}
-use Rattle.typst_language.specs.Shape.Change.{stays, turns_wrong, is_not, renamed, unparened}
+use Rattle.typst_language.specs.Shape.{Making, made, hinted_error, hinted_last, hinted, NodeChange, changed, on_first, first_changed, is_delimited, in_parens, renamed_last, parens_renamed, without_parens, Shape, shaped, count_empty, after_node, after_change, after_shape}
+use Rattle.typst_language.specs.Shape.NodeChange.{stays, turns_wrong, is_not, renamed, unparened}
 use Rattle.typst_language.specs.Shape.Making.{itself, of_kind, surprise, wanted}
 use Rattle.typst_language.specs.Shape.Shape.{keeps, holds, lacks, warns, fails}
 use Rattle.typst_language.specs.declared.reading.Reading.{Reading}
 use Rattle.typst_lines.specs.Classes.{CharClasses}
 use Rattle.typst_lexer.specs.Nodes.{token_node}
 use Rattle.typst_lexer.specs.Tokens.{token}
-use Rattle.typst_language.specs.Hand.{Hand, utf8_ahead, token_at, len_at, token_by, len_by, at_trivia, Ahead, after_trivia, direct, ahead_by, ahead, hand_at, told, column_at}
+use Rattle.typst_language.specs.Hand.{Hand, utf8_ahead, token_at, len_at, token_by, len_by, at_trivia, Ahead, after_trivia, direct, ahead_by, ahead, hand_at, as_at_hand, column_at}
 use Rattle.typst_language.specs.Syntax.{Op, Begin, Parser}
 use Rattle.typst_language.specs.Syntax.Op.{hand, so, further, column, erred, takes, takes_so, flushes, complains, advises, marks, is_deepest}
 use Rattle.typst_language.specs.Syntax.Parser.{gives, does, next, pick, repeat, wraps, grows, nests, scoped, either, calls, block}
@@ -138,10 +139,6 @@ same-hinted [] ts = same-all ts
 same-hinted (hint ∷ hints) ts = same-last (hint ∷ hints) ts
 
 -- without the parens of math
-trees-forest : (f : Forest) → forest (trees f) ≡ f
-trees-forest none = refl
-trees-forest (more h ks r) = ap (more h ks) (trees-forest r)
-
 same-renamed : (k : SyntaxKind) (ts : List Tree) → Same (renamed_last k ts) ts
 same-renamed k [] = tt
 same-renamed k (t ∷ []) = (text-kind k t, tt)
@@ -155,35 +152,35 @@ text-parens : (t : Tree) → text_of (without_parens t) ≡ text_of t
 text-parens t =
     on (λ (u : Tree). text_of u ≡ text_of t) (is_delimited t.head.kind && in_parens (trees t.kids))
     (record { head = record t.head { kind = kind.Math }; kids = forest (parens_renamed (trees t.kids)) }) t
-    (ap (λ x. t.head.text ++ x) (texts-same (parens_renamed (trees t.kids)) (trees t.kids) (same-parens (trees t.kids)) ∙ ap text_joined (trees-forest t.kids))) refl
+    (ap (λ x. t.head.text ++ x) (texts-same (parens_renamed (trees t.kids)) (trees t.kids) (same-parens (trees t.kids)) ∙ ap text_joined (forest_trees t.kids))) refl
 
 -- the first of them changed
-pub text-changed : (change : Change) (t : Tree) → text_of (changed change t) ≡ text_of t
+pub text-changed : (change : NodeChange) (t : Tree) → text_of (changed change t) ≡ text_of t
 text-changed stays t = refl
 text-changed (turns_wrong message) t = text-error message t
 text-changed (is_not thing) t = text-wanted thing t
 text-changed (renamed k) t = text-kind k t
 text-changed unparened t = text-parens t
 
-first-is : (change : Change) (t : Tree) (ts : List Tree) → first_changed change (t ∷ ts) ≡ changed change t ∷ ts
+first-is : (change : NodeChange) (t : Tree) (ts : List Tree) → first_changed change (t ∷ ts) ≡ changed change t ∷ ts
 first-is stays t ts = refl
 first-is (turns_wrong message) t ts = refl
 first-is (is_not thing) t ts = refl
 first-is (renamed k) t ts = refl
 first-is unparened t ts = refl
 
-first-none : (change : Change) → first_changed change [] ≡ []
+first-none : (change : NodeChange) → first_changed change [] ≡ []
 first-none stays = refl
 first-none (turns_wrong message) = refl
 first-none (is_not thing) = refl
 first-none (renamed k) = refl
 first-none unparened = refl
 
-same-changed : (change : Change) (ts : List Tree) → Same (first_changed change ts) ts
+same-changed : (change : NodeChange) (ts : List Tree) → Same (first_changed change ts) ts
 same-changed change [] = subst (λ us. Same us []) (sym (first-none change)) tt
 same-changed change (t ∷ ts) = subst (λ us. Same us (t ∷ ts)) (sym (first-is change t ts)) (text-changed change t, same-all ts)
 
-texts-changed : (change : Change) (ts : List Tree) → texts (first_changed change ts) ≡ texts ts
+texts-changed : (change : NodeChange) (ts : List Tree) → texts (first_changed change ts) ≡ texts ts
 texts-changed change ts = texts-same (first_changed change ts) ts (same-changed change ts)
 
 -- with an empty error between them
@@ -330,7 +327,7 @@ kept-known w outer s h = on (λ (t : Point). Stands w t.known) (same_mode s.read
 blank-same : (n : ℕ) (ts us : List Tree) → Same ts us → Blank n us → Blank n ts
 blank-same n ts us h b = λ k le. less-same k ts us h ∙ b k le ∙ sym (texts-same ts us h)
 
-blank-one : (b c : Bool) (change : Change) (front : List Tree) (t : Tree) (s : Point) → Blank s.empties (front ++ t ∷ [])
+blank-one : (b c : Bool) (change : NodeChange) (front : List Tree) (t : Tree) (s : Point) → Blank s.empties (front ++ t ∷ [])
     → Blank (if b then s else after_node c (text_of t) s).empties (front ++ changed change t ∷ [])
 blank-one true c change front t s h =
     blank-same s.empties (front ++ changed change t ∷ []) (front ++ t ∷ []) (same-append front front (changed change t ∷ []) (t ∷ []) (same-all front) (text-changed change t, tt)) h
@@ -338,7 +335,7 @@ blank-one false c change front t s h =
     let e = empties-node c (text_of t) s in
     blank-last (after_node c (text_of t) s).empties front (changed change t) e.few (λ l. text-changed change t ∙ e.no_text l)
 
-blank-changed : (change : Change) (front ts : List Tree) (s : Point) → Blank s.empties (front ++ ts) → Blank (after_change change ts s).empties (front ++ first_changed change ts)
+blank-changed : (change : NodeChange) (front ts : List Tree) (s : Point) → Blank s.empties (front ++ ts) → Blank (after_change change ts s).empties (front ++ first_changed change ts)
 blank-changed change front [] s h = subst (λ us. Blank s.empties (front ++ us)) (sym (first-none change)) h
 blank-changed change front (t ∷ []) s h =
     subst (λ us. Blank (after_change change (t ∷ []) s).empties (front ++ us)) (sym (first-is change t []))
@@ -425,7 +422,7 @@ module _ (l : Level) where
   kept-asked a asks z s h = record { text = refl; known = hand-texts l z s h; blank = blank-nil s.empties }
 
   kept-done : {A : Type 0} (o : Op A) → Keeps (done l o)
-  kept-done hand z s h = kept-asked (told (hand_of l z s)) _ z s h
+  kept-done hand z s h = kept-asked (as_at_hand (hand_of l z s)) _ z s h
   kept-done (so way) z s h = kept-asked (token_by (reader_so l way) (moved (hand_of l z s).gap z)).kind _ z s h
   kept-done further z s h = kept-asked (token_by (token l.classes s.reading.mode) (moved ((hand_of l z s).gap + (hand_of l z s).len) z)).kind _ z s h
   kept-done column z s h = kept-asked (column_at (moved (hand_of l z s).gap z)) _ z s h

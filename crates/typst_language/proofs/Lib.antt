@@ -2,9 +2,9 @@
 --   words_of_the_language        computed (laws/words_of_the_language)
 --   the frame law                Frame: framed-run; Looks: what shows the same; Ends, Eaten: tokens
 --   the depth law                Alike: alike-run; Knot: alike-at
---   nothing depends on what is told of first readings: Blind: run-blind
+--   nothing depends on what is known of first readings: Blind: run-blind
 --   the leaves law               Leaves: kept-run
---   no more than there is        Within: within-run; Backs: backs-run; Rests: what the reading is behind a parser
+--   no more than there is        Within: within-run; Backs: backs-run; Rests: what the reading is after a parser
 --   all of them at once          Knot: lawful-parser, sound-level
 pub mod Places
 pub mod HintedNodes

@@ -60,7 +60,7 @@ run-at p true x y xs ys below e =
     ap (λ n. 1 + n) (below tails)
 run-at p false x y xs ys below e = refl
 
--- a run is told by its characters and what ends it
+-- a run is determined by its characters and what ends it
 pub run-same : (p : ℕ → Bool) (xs ys : List ℕ) → take (suc (prefix_len p xs)) (marked xs) ≡ take (suc (prefix_len p xs)) (marked ys) → prefix_len p ys ≡ prefix_len p xs
 run-same p [] [] e = refl
 run-same p [] (y ∷ ys) e = absurd (cc)

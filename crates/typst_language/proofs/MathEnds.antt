@@ -9,7 +9,7 @@ use Rattle.typst_kinds.specs.declared.kind.SyntaxKind.TheVariants as kind
 use Rattle.typst_lines.specs.Place.{Place, scout, passes, moved, run, past}
 use Rattle.typst_lexer.specs.Atoms.{cluster, number, text}
 use Rattle.typst_lexer.specs.Math.{primes, atom, by_class, single, math_from, math}
-use Rattle.typst_lexer.specs.MathNames.{continues, is_field, behind_name, named, name}
+use Rattle.typst_lexer.specs.MathNames.{continues, is_field, after_name, named, name}
 use Rattle.typst_lexer.specs.Shorthands.{any_word, hyphen, tilde, colon, equals, greater, less_short, less_middle, less, bar, bracket, bang, dot, several}
 use Rattle.typst_tokens.specs.Reader.{Reader}
 use Rattle.typst_tokens.specs.Reader.Reader.{answer, skip}
@@ -55,7 +55,7 @@ module _ (k : CharClasses) (c : ℕ) (p : Place) where
       goes-if (k.numeric c) _ _ p (goes-if (passes (λ c. c == 46) (scout 0 q)) _ _ q (goes-if (passes k.numeric (scout 1 q)) _ _ q refl refl) refl) cluster-goes
 
   named-goes : (own : List ℕ) (q : Place) → Goes (named k own) q
-  unfolding named behind_name
+  unfolding named after_name
   named-goes own q = goes-if (k.cluster own == length own) _ _ q refl (goes-if (is_field k (scout 0 q) (scout 1 q)) _ _ q refl refl)
 
   name-goes : Goes (name k c) p

@@ -1,4 +1,4 @@
--- What nests: a loop of which each turn becomes one node with all that comes behind it.
+-- What nests: a loop of which each turn becomes one node with all that comes after it.
 use Rattle.std.proofs.Common.{◌≡◌, ℕ, suc, ◌+◌, ◌<◌, ◌≤◌, Bool, true, false, ◌&&◌, nat_lt, List, [], ◌∷◌, ◌++◌, length, refl, ap, sym, ◌∙◌, subst, arith}
 use borrow.Author.Tests.{lt-ltb}
 use Rattle.typst_lines.specs.Place.{moved}
@@ -37,7 +37,7 @@ module _ {A : Type 0} (l : Level) (shape : A → Shape) (begin : Begin) (p : A �
   abbrev k : ℕ
   k = length v.nodes + before begin v.state
 
-  -- a turn, and all that comes behind it
+  -- a turn, and all that comes after it
   ran-nested : (a : A) (new : View) → Ran l (p x) (true, y) v w → bytes_left w.place < bytes_left v.place → Ran l (nests shape begin p y) a w new → Ran l (nests shape begin p x) a v (rewrapped k (shape a) new)
   unfolding run nesting
   ran-nested a new did less_bytes rest =

@@ -22,7 +22,7 @@ min-from n b [] = let e : min n 0 ≡ 0 = omega arith in rw e (sym (at-end n b))
 min-from zero b (c ∷ a) = let e : min 0 (suc (length a)) ≡ 0 = omega arith in rw e refl
 min-from (suc n) b (c ∷ a) = let e : min (suc n) (suc (length a)) ≡ suc (min n (length a)) = omega arith in rw e (min-from n (c ∷ b) a)
 
--- behind the end is the end
+-- after the end is the end
 pub moved-min : (n : ℕ) (z : Place) → moved (min n (length z.ahead)) z ≡ moved n z
 moved-min n z = min-from n z.before z.ahead
 

@@ -29,7 +29,7 @@ use Rattle.typst_language.proofs.Logs.{logged-none, logged-some}
 use Rattle.typst_language.proofs.Runs.{column_seen, fits-looked, asked-log}
 use Rattle.typst_language.proofs.Steps.{does-note, does-column, does-takes}
 
--- what is told of a node that was added
+-- what the state says of a node that was added
 pub told-node : (i : Bool) (text : List ℕ) (s : Point) → record s { empties = if i then count_empty text else 0; is_after_error = i } ≡ after_node i text s
 told-node true text s = refl
 told-node false text s = refl
@@ -78,12 +78,12 @@ pub nil-is : (ts : List Tree) → is_nil ts ≡ true → ts ≡ []
 nil-is [] e = refl
 nil-is (t ∷ ts) e = absurd (cc)
 
--- behind another mode the token was read again
+-- after another mode the token was read again
 pub left-again : (l : Level) (outer : Reading) (v w : View) → same_mode v.state.reading.mode outer.mode ≡ false
     → Looked l (unasked (record v { state = record v.state { reading = outer; held = outer } })) w → Left l outer v w
 left-again l outer v w m h = λ c. (rw m h)
 
--- behind the same rule all stays
+-- after the same rule all stays
 pub left-kept : (l : Level) (outer : Reading) (v w : View) → same_mode v.state.reading.mode outer.mode ≡ true → same_rule v.state.reading.at_newline outer.at_newline ≡ true
     → w ≡ record v { state = record v.state { reading = outer } } → Left l outer v w
 left-kept l outer v w m r e = λ c.
@@ -95,7 +95,7 @@ rejudged : (k : CharClasses) (held : Reading) (rule : AtNewline) (t : Trivia) (z
 unfolding hand_at
 rejudged k held rule t z h e = ap (λ (x : Hand). record x { kind = judged (record held { at_newline = rule }) x.newlines x.token.kind (column_at (moved x.gap z)) }) e
 
--- behind another rule it was judged again
+-- after another rule it was judged again
 pub left-judged : (l : Level) (outer : Reading) (v w : View) → same_mode v.state.reading.mode outer.mode ≡ true → same_rule v.state.reading.at_newline outer.at_newline ≡ false
     → w.nodes ≡ v.nodes → w.place ≡ v.place → w.state ≡ record v.state { reading = outer; held = record v.state.held { at_newline = outer.at_newline }; known = known_by w.hand }
     → w.hand ≡ record v.hand { kind = judged (record v.state.held { at_newline = outer.at_newline }) v.hand.newlines v.hand.token.kind (column_at (moved v.hand.gap v.place)) }
@@ -154,7 +154,7 @@ noted-here mark levels here v w b f = rw (f, b) refl
 pub column-is : (l : Level) (v w : View) (a : ℕ) → a ≡ column_at (moved v.hand.gap v.place) → w ≡ column_seen v → Does l (does column) a v w
 column-is l v w a e f = rw (e, f) (does-column v)
 
--- behind a node that is no error
+-- after a node that is no error
 pub after-fine : (i : Bool) (text : List ℕ) (s : Point) → i ≡ false → after_node i text (record s { empties = 0 }) ≡ after_node false [] s
 after-fine i text s e = rw e refl
 
@@ -180,7 +180,7 @@ count-most : (text : List ℕ) → count_empty text ≤ 1
 count-most [] = omega arith
 count-most (c ∷ cs) = omega arith
 
--- behind a node that was given no more empty errors stand than nodes
+-- after a node that was given no more empty errors stand than nodes
 pub few-given : (is : Bool) (text : List ℕ) (empties : ℕ) (old new : List Tree) (node : Tree) → empties ≡ (if is then count_empty text else 0) → new ≡ old ++ node ∷ [] → empties ≤ length new
 few-given true text empties old new node e f = omega (arith, e, count-most text, ap length f, length-append old (node ∷ []))
 few-given false text empties old new node e f = omega (arith, e)

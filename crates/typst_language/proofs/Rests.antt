@@ -1,4 +1,4 @@
--- Behind a parser the reading is the one before it, and the token at hand is read in it or as before.
+-- After a parser the reading is the one before it, and the token at hand is read in it or as before.
 use Rattle.std.proofs.Common.{◌≡◌, ◌⊎◌, inl, inr, ℕ, zero, suc, Bool, true, false, ◌&&◌, if◌then◌else◌, nat_lt, List, [], ◌∷◌, ◌++◌, Option, Some, None, refl, ap, sym, ◌∙◌}
 use Rattle.std.proofs.lemmas.Bool.Decides.{nat_tests}
 use Rattle.std.proofs.Common.{arith}
@@ -97,7 +97,7 @@ on_if : {A : Type 0} (P : A → Type 0) (b : Bool) (x y : A) → (b ≡ true →
 on_if P true x y p q = p refl
 on_if P false x y p q = q refl
 
--- behind a part that was read so
+-- after a part that was read so
 rests-left : (f r h : Reading) (s : Point) → Rests f h s → Rests r h (left r s)
 rests-left f r h s a =
     on_if (Rests r h) (same_mode s.reading.mode r.mode)
@@ -122,7 +122,7 @@ rests-turns m h (suc n) x z s =
     (rests-then s.reading s.held o.state (turns m n o.value.1 (moved o.taken z) o.state).state (h x z s) (rests-turns m h n o.value.1 (moved o.taken z) o.state))
     (h x z s)
 
--- behind what grew
+-- after what grew
 rests-grown : {A : Type 0} (r h : Reading) (n : ℕ) (shape : Option Shape) (o : Outcome A) → Rests r h o.state → Rests r h (grown n shape o).state
 rests-grown r h n None o a = a
 rests-grown r h n (Some shape) o a = rests-like r h o.state (after_shape shape (inside n o) o.state) a (like-shape shape (inside n o) o.state)

@@ -13,9 +13,9 @@ use Rattle.typst_language.specs.declared.reading.Reading.{Reading}
 use Rattle.typst_language.specs.Calls.{Call, Answer}
 use Rattle.typst_language.specs.Point.{Point, Trivia, gap_of, state_of}
 use Rattle.typst_language.specs.Ask.{Ask, shift}
-use Rattle.typst_language.specs.Hand.{Hand, AtHand, told, known_by, hand_at, hand_asks, column_at, column_look}
+use Rattle.typst_language.specs.Hand.{Hand, AtHand, as_at_hand, known_by, hand_at, hand_asks, column_at, column_look}
 use Rattle.typst_language.specs.Log.{Log, logged, with_hull, with_note}
-use Rattle.typst_language.specs.Shape.{Making, Shape, Change, shaped, after_node, after_change, after_shape, changed, hinted, seen}
+use Rattle.typst_language.specs.Shape.{Making, Shape, NodeChange, shaped, after_node, after_change, after_shape, changed, hinted, seen}
 use Rattle.typst_language.specs.Shape.Shape.{keeps, holds, lacks, warns, fails}
 use Rattle.typst_language.specs.Sound.{Sound}
 use Rattle.typst_language.specs.Syntax.{Parser, Begin}
@@ -79,12 +79,12 @@ ran-other {a = a} {old = old} {new = new} e d = record { runs = rw e d.runs }
 
 -- ---- what only asks
 
-pub ran-look : {l : Level} {v w : View} → Looked l v w → Ran l (does hand) (told w.hand) v w
+pub ran-look : {l : Level} {v w : View} → Looked l v w → Ran l (does hand) (as_at_hand w.hand) v w
 unfolding run
 ran-look {l = l} {v = v} {w = w} h =
     record {
       runs = record {
-        value = ap told (sym h.hand);
+        value = ap as_at_hand (sym h.hand);
         place = h.place;
         state = h.state ∙ ap (λ (x : Hand). asked x v.state) h.hand;
         nodes = h.nodes ∙ no-end v.nodes;
@@ -151,7 +151,7 @@ asked-same l v c = ap (λ (x : Option Trivia). record v.state { known = x }) c.k
 pub fits-looked : {l : Level} {v : View} → Fits l v → Looked l v v
 fits-looked {l = l} {v = v} c = record { nodes = refl; place = refl; state = asked-same l v c; hand = c.hand; own = c.own; here = c.here; log = sym (asked-again l v c); memo = refl }
 
-pub ran-hand : {l : Level} (v : View) → Fits l v → Ran l (does hand) (told v.hand) v v
+pub ran-hand : {l : Level} (v : View) → Fits l v → Ran l (does hand) (as_at_hand v.hand) v v
 ran-hand v c = ran-look (fits-looked c)
 
 -- the column of the token at hand was looked at
@@ -325,15 +325,15 @@ ran-wraps {l = d} {f = f} {begin = begin} {p = p} {a = a} {old = old} {mid = mid
     record { runs = record { value = value; place = r.place; state = r.state; nodes = r.nodes; log = r.log } }
 
 -- what asks for the token at hand, where it was asked for already
-pub after-peek : {A : Type 0} {l : Level} {f : AtHand → Parser A} {a : A} {w new : View} → Fits l w → Ran l (next (does hand) f) a w new → Ran l (f (told w.hand)) a w new
+pub after-peek : {A : Type 0} {l : Level} {f : AtHand → Parser A} {a : A} {w new : View} → Fits l w → Ran l (next (does hand) f) a w new → Ran l (f (as_at_hand w.hand)) a w new
 unfolding run
 after-peek {l = l} {f = f} {a = a} {w = w} {new = new} c d =
     let h = d.runs in
     let g = hand_of l w.place w.state in
-    let q = run l (f (told g)) w.place (asked g w.state) in
-    let r = run l (f (told w.hand)) w.place w.state in
-    let o : Outcome AtHand = record { value = told g; taken = 0; state = asked g w.state; back = 0; hints = []; nodes = []; asks = hand_asks_of l w.place w.state; met = false } in
-    let e : q ≡ r = ap (λ (x : Hand). run l (f (told x)) w.place (asked x w.state)) (sym c.hand) ∙ ap (λ (s : Point). run l (f (told w.hand)) w.place s) (sym (asked-same l w c)) in
+    let q = run l (f (as_at_hand g)) w.place (asked g w.state) in
+    let r = run l (f (as_at_hand w.hand)) w.place w.state in
+    let o : Outcome AtHand = record { value = as_at_hand g; taken = 0; state = asked g w.state; back = 0; hints = []; nodes = []; asks = hand_asks_of l w.place w.state; met = false } in
+    let e : q ≡ r = ap (λ (x : Hand). run l (f (as_at_hand x)) w.place (asked x w.state)) (sym c.hand) ∙ ap (λ (s : Point). run l (f (as_at_hand w.hand)) w.place s) (sym (asked-same l w c)) in
     let none : 0 + q.taken ≡ q.taken = omega arith in
     let runs : Runs l.levels q a w new = record {
       value = h.value;
@@ -391,7 +391,7 @@ ran-last {l = d} {p = p} {b = b} {x = x} {y = y} {v = v} {w = w} sound few did s
 
 -- ---- what a shape leaves of the token at hand
 
-change-held : (change : Change) (ts : List Tree) (s : Point) → (after_change change ts s).held ≡ s.held
+change-held : (change : NodeChange) (ts : List Tree) (s : Point) → (after_change change ts s).held ≡ s.held
 change-held change [] s = refl
 change-held change (t ∷ []) s = on-error (is_error t.head.kind) (is_error (changed change t).head.kind) (text_of t) s
   where
@@ -401,7 +401,7 @@ change-held change (t ∷ []) s = on-error (is_error t.head.kind) (is_error (cha
     on-error false false text s = refl
 change-held change (t ∷ u ∷ ts) s = refl
 
-change-known : (change : Change) (ts : List Tree) (s : Point) → (after_change change ts s).known ≡ s.known
+change-known : (change : NodeChange) (ts : List Tree) (s : Point) → (after_change change ts s).known ≡ s.known
 change-known change [] s = refl
 change-known change (t ∷ []) s = on-error (is_error t.head.kind) (is_error (changed change t).head.kind) (text_of t) s
   where

@@ -8,7 +8,7 @@ use Rattle.typst_language.specs.declared.reading.Reading.{Reading}
 use Rattle.typst_language.specs.Calls.{Call, Answer}
 use Rattle.typst_language.specs.Point.{Point, Trivia, gap_of, pending, is_nil, state_of}
 use Rattle.typst_language.specs.Log.{with_note}
-use Rattle.typst_language.specs.Hand.{told, column_at}
+use Rattle.typst_language.specs.Hand.{as_at_hand, column_at}
 use Rattle.typst_language.specs.Shape.{Making, Shape, becomes, seen}
 use Rattle.typst_language.specs.Sound.{Sound}
 use Rattle.typst_language.specs.Syntax.{Parser, Begin}
@@ -42,14 +42,14 @@ pub nil-seen : (ts : List Tree) → is_nil (map seen ts) ≡ is_nil ts
 nil-seen [] = refl
 nil-seen (t ∷ ts) = refl
 
-pub does-peek : {l : Level} (v : View) → Does l peek (told v.hand) v v
+pub does-peek : {l : Level} (v : View) → Does l peek (as_at_hand v.hand) v v
 does-peek v = record { ran = λ c. ran-hand v c; ready = λ c. c }
 
 -- the first question
 bare-same : {l : Level} (v : View) → Bare l v → unasked v ≡ v
 bare-same v b = ap (λ (x : Option Trivia). record v { state = record v.state { known = x } }) (sym b.known)
 
-pub does-look : {l : Level} {v w : View} → Looked l (unasked v) w → Goes l (Bare l) (Fits l) peek (told w.hand) v w
+pub does-look : {l : Level} {v w : View} → Looked l (unasked v) w → Goes l (Bare l) (Fits l) peek (as_at_hand w.hand) v w
 does-look {l = l} {v = v} {w = w} h = record { ran = λ b. ran-look (subst (λ (x : View). Looked l x w) (bare-same v b) h); ready = λ b. looked-fits (omega arith) b.knows h }
 
 -- what may end anywhere
@@ -127,7 +127,7 @@ does-within f {old = old} {mid = mid} h e = record {
   ready = λ c. (let m = h.ready (fits-entered f c) in looked-fits (left-few old.state.reading mid.state (length mid.place.ahead) (known-few m)) m.knows (e m));
 }
 
--- the same, where no token is asked for behind it
+-- the same, where no token is asked for after it
 pub does-scoped : {A : Type 0} {l : Level} {Q : View → Type 0} (f : Reading → Reading) {p : Parser A} {a : A} {outer : Reading} {old inner mid new : View}
     → (Q mid → Knows l.guess (end_of mid.place) mid.memo) → inner ≡ record old { state = entered (f old.state.reading) old.state } → outer ≡ old.state.reading
     → Goes l (Fits l) Q p a inner mid → new ≡ record mid { state = left outer mid.state } → Goes l (Fits l) (Loose l) (scoped f p) a old new
@@ -136,7 +136,7 @@ does-scoped {l = l} f {p = p} {a = a} {outer = outer} {old = old} {inner = inner
   ready = λ c. (let j = subst (λ (v : View). Fits l v) (sym i) (fits-entered f c) in record { knows = knows-at (ap (λ (v : View). v.memo) e) (ap (λ (v : View). end_of v.place) e) (knows (h.ready j)) });
 }
 
--- behind another mode nothing is known of a token that wasn't asked for
+-- after another mode nothing is known of a token that wasn't asked for
 left-bare : (outer : Reading) (s : Point) → s.known ≡ None → (left outer s).known ≡ None
 left-bare outer s h = by-mode (same_mode s.reading.mode outer.mode) refl
   where
@@ -144,7 +144,7 @@ left-bare outer s h = by-mode (same_mode s.reading.mode outer.mode) refl
     by-mode true e = rw e h
     by-mode false e = rw e refl
 
--- the last token was taken in the inner way, and the one behind it is asked for in the outer way
+-- the last token was taken in the inner way, and the one after it is asked for in the outer way
 pub does-closed : {A : Type 0} {l : Level} (f : Reading → Reading) {p : Parser A} {a : A} {outer : Reading} {old inner mid last new : View}
     → inner ≡ record old { state = entered (f old.state.reading) old.state } → outer ≡ old.state.reading
     → Goes l (Fits l) (Bare l) p a inner mid → last ≡ record mid { state = left outer mid.state } → Looked l (unasked last) new → Does l (within f p) a old new

@@ -12,7 +12,7 @@ use Rattle.typst_language.specs.declared.reading.Reading.{Reading}
 use Rattle.typst_language.specs.Ask.{Ask, shift}
 use Rattle.typst_language.specs.Ask.Ask.{looked, marked}
 use Rattle.typst_language.specs.Bytes.{LiesIn}
-use Rattle.typst_language.specs.Hand.{told}
+use Rattle.typst_language.specs.Hand.{as_at_hand}
 use Rattle.typst_language.specs.Meaning.{Level, Outcome, asked, before, entered, hand_asks_of, hand_of, inside, left, run}
 use Rattle.typst_lexer.specs.Nodes.{has_fields, is_leaf, is_raw, token_node}
 use Rattle.typst_language.specs.Point.{Point}
@@ -96,7 +96,7 @@ pub is-gives : {A : Type 0} {l : Level} {a : A} (z : Place) (s : Point) → Is l
 unfolding run
 is-gives z s = record { value = refl; place = refl; state = refl; looks = refl }
 
-pub is-peek : {l : Level} (z : Place) (s : Point) → Is l (does hand) z s (told (hand_of l z s)) z (asked (hand_of l z s) s) (hulls z (hand_asks_of l z s))
+pub is-peek : {l : Level} (z : Place) (s : Point) → Is l (does hand) z s (as_at_hand (hand_of l z s)) z (asked (hand_of l z s) s) (hulls z (hand_asks_of l z s))
 unfolding run
 is-peek z s = record { value = refl; place = refl; state = refl; looks = refl }
 

@@ -83,7 +83,7 @@ module _ (k : CharClasses) (m : SyntaxMode) where
   unfolding ahead
   ahead-stop z h = enough (length z.ahead) (suc (length z.ahead)) z (omega arith) (omega arith) ∙ (rw h refl)
 
-  -- from one place so many nodes were read, up to another
+  -- from one place a given number of nodes were read, up to another
   pub record Along (now : Newlines) (ts : List Tree) (from z : Place) : Type 0 where
     pub gap : ℕ
     pub fits : gap ≤ length from.ahead
@@ -121,7 +121,7 @@ pub same-hand : (i j : SyntaxKind) (ts us : List Tree) (g h l n : ℕ) (a b : Ne
     → ◌≡◌ {A = Hand} (record { kind = i; trivia = ts; gap = g; len = l; newlines = a; token = t }) (record { kind = j; trivia = us; gap = h; len = n; newlines = b; token = u })
 same-hand i j ts us g h l n a b t u p q r s v w = rw (p, q, r, s, v, w) refl
 
--- behind all trivia the hand is whole
+-- after all trivia the hand is whole
 pub along-end : (k : CharClasses) (held : Reading) (now : Newlines) (ts : List Tree) (from z : Place) (a : Along k held.mode now ts from z) → at_trivia k held.mode z ≡ false
     → record { kind = judged held now (token_at k held.mode z).kind (column_at z); trivia = ts; gap = a.gap; len = len_at k held.mode z; newlines = now; token = token_at k held.mode z } ≡ hand_at k held None from
 unfolding hand_at
@@ -144,7 +144,7 @@ again-direct : (k : CharClasses) (m : SyntaxMode) (p : ℕ) (z : Place) → at_t
 again-direct k m zero z h = refl
 again-direct k m (suc p) z h = rw h refl
 
--- behind the trivia at a place no trivia comes
+-- after the trivia at a place no trivia comes
 again-stop : (k : CharClasses) (m : SyntaxMode) (n : ℕ) (z : Place) → length z.ahead ≤ n → at_trivia k m (moved (ahead_by k m n z).gap z) ≡ false
 again-stop k m zero z s = none-left k m z (omega arith)
 again-stop k m (suc n) z s = on_if (λ (a : Ahead). at_trivia k m (moved a.gap z) ≡ false) (at_trivia k m z) _ _
@@ -173,10 +173,10 @@ again k m (suc n) z s = on_if (Again k m z) (at_trivia k m z) _ _
     ap (ahead_by k m p) sum ∙ again k m n w (omega arith) p fits)
     (λ t p h. again-direct k m p z t)
 
--- behind the trivia at a place stands the token after them
-token-behind : (k : CharClasses) (m : SyntaxMode) (z : Place) → direct (token_at k m (moved (ahead k m z).gap z)) (len_at k m (moved (ahead k m z).gap z)) ≡ direct (ahead k m z).token (ahead k m z).len
+-- after the trivia at a place stands the token after them
+token-after : (k : CharClasses) (m : SyntaxMode) (z : Place) → direct (token_at k m (moved (ahead k m z).gap z)) (len_at k m (moved (ahead k m z).gap z)) ≡ direct (ahead k m z).token (ahead k m z).len
 unfolding ahead
-token-behind k m z =
+token-after k m z =
     let n = length z.ahead in
     let w = moved (ahead_by k m n z).gap z in
     sym (again-direct k m (length w.ahead) w (again-stop k m n z (omega arith))) ∙ again k m n z (omega arith) (length w.ahead) (omega arith)
@@ -186,7 +186,7 @@ pub hand-known : (k : CharClasses) (held : Reading) (known : Option Trivia) (z :
 unfolding hand_at
 hand-known k held None z =
     let a = ahead k held.mode z in
-    let e = token-behind k held.mode z in
+    let e = token-after k held.mode z in
     let t = ap (λ (x : Ahead). x.token) e in
     same-hand _ _ _ _ _ _ _ _ _ _ _ _ (ap (λ (u : Token). judged held a.newlines u.kind (column_at (moved a.gap z))) t) refl refl (ap (λ (x : Ahead). x.len) e) refl t
 hand-known k held (Some t) z = refl

@@ -45,11 +45,11 @@ ahead-short k m (suc n) z =
 
 -- ---- no more is taken than there is
 
--- so many characters were taken, behind which so much is known
+-- a given number of characters were taken, after which so much is known
 abbrev pub Room : Place → ℕ → ℕ → ℕ → Type 0
 Room z known taken gap = taken + max gap (length (moved taken z).ahead) ≤ max known (length z.ahead)
 
--- the token at hand, or another one at its place, is there
+-- the token at hand, or another one that begins there, ends within the text
 record Fits (z : Place) (known gap : ℕ) (len : ℕ) : Type 0 where
   taken : Room z known (gap + len) 0
   flushed : Room z known gap 0
@@ -85,7 +85,7 @@ so-fits k held known z r =
     let g = (hand_at k held known z).gap in
     omega (arith, trivia-short k held known z, ahead-left g z, ahead-left (g + len_by r (moved g z)) z)
 
--- what is known behind a part of a parser
+-- what is known after a part of a parser
 abbrev pub Enough : {A : Type 0} → Place → ℕ → Outcome A → Type 0
 Enough z known o = Room z known o.taken (gap_of o.state.known)
 
@@ -164,7 +164,7 @@ pub grown-taken : {A : Type 0} (n : ℕ) (shape : Option Shape) (o : Outcome A) 
 grown-taken n None o = refl
 grown-taken n (Some shape) o = refl
 
--- so many turns are never made
+-- a given number of turns are never made
 pub growths-enough : {A : Type 0} (m : A → Meaning (Option Shape × A)) → ((x : A) → Within (m x)) → (n i j : ℕ) (z : Place) (known : ℕ) (o : Outcome A) → Enough z known o
     → max known (length z.ahead) < i + o.taken → max known (length z.ahead) < j + o.taken → growths m n i o z ≡ growths m n j o z
 growths-enough m w n zero j z known o h a b = absurd (omega (arith, h))

@@ -13,7 +13,7 @@ use Rattle.typst_language.specs.View.{View, Ran, Does, Fits}
 use Rattle.typst_language.proofs.Places.{less-none, no-end}
 use Rattle.typst_language.proofs.Runs.{asked-same, asked-then, fits-more}
 
--- the token directly behind the token at hand was looked at
+-- the token directly after the token at hand was looked at
 abbrev pub further_seen : Level → View → View
 further_seen l v = record v { log = with_hull (token_hull l.classes v.state.reading.mode (moved (v.hand.gap + v.hand.len) v.place)) v.log }
 

@@ -7,9 +7,9 @@ use Rattle.typst_language.specs.declared.calls.Mark.{Mark}
 
 -- Places are counted in characters from where the parser began, and levels by how many fewer are left than there.
 pub data Ask : Type 0 where
-  -- a stretch around the place so many characters on was looked at
+  -- a stretch around the place a given number of characters further on was looked at
   looked : ℕ → Look → Ask
-  -- a unit begins or ends so many characters on, after so many characters of trivia, where so many
+  -- a unit begins or ends a given number of characters further on, after a given number of characters of trivia, where so many
   -- levels fewer are left, in a state
   marked : ℕ → ℕ → ℕ → Mark → State → Ask
 

@@ -1,13 +1,13 @@
 -- What the code's changes mean.
 use Rattle.std.specs.Prelude.{◌≡◌, false}
 use Rattle.typst_kinds.specs.Kinds.{is_error}
-use Rattle.typst_language.specs.Shape.{Change}
-use Rattle.typst_language.specs.Shape.Change.{stays, turns_wrong, is_not, renamed, unparened}
-use Rattle.typst_language.specs.declared.change.Change.{Change as Changed}
-use Rattle.typst_language.specs.declared.change.Change.TheVariants.{Stays, TurnsWrong, IsNot, Renamed, Unparened}
+use Rattle.typst_language.specs.Shape.{NodeChange}
+use Rattle.typst_language.specs.Shape.NodeChange.{stays, turns_wrong, is_not, renamed, unparened}
+use Rattle.typst_language.specs.declared.change.NodeChange.{NodeChange as Changed}
+use Rattle.typst_language.specs.declared.change.NodeChange.TheVariants.{Stays, TurnsWrong, IsNot, Renamed, Unparened}
 
 -- the change of the language that the code's is
-abbrev pub meant : Changed → Change
+abbrev pub meant : Changed → NodeChange
 meant Stays = stays
 meant (TurnsWrong message) = turns_wrong message.now
 meant (IsNot thing) = is_not thing.now

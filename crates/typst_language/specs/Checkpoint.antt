@@ -46,7 +46,7 @@ saved v = record {
 
 -- ---- what is after going back
 
--- the first so many of the nodes given since a checkpoint; if fewer were given, the nodes that were
+-- the first of the nodes given since a checkpoint, up to a given number; if fewer were given, the nodes that were
 -- held
 abbrev pub first_of : ℕ → List Tree → List Tree → List Tree
 first_of count given held = let first = take count given in if length first == count then first else held

@@ -4,7 +4,7 @@ use Rattle.typst_kinds.specs.declared.kind.SyntaxKind.{SyntaxKind}
 use Rattle.typst_kinds.specs.declared.kind.SyntaxKind.TheVariants as kind
 use Rattle.typst_kinds.specs.Kinds.{is_keyword, same}
 use Rattle.typst_language.specs.Shape.{Seen}
-use Rattle.typst_language.specs.Shape.Change.{stays}
+use Rattle.typst_language.specs.Shape.NodeChange.{stays}
 use Rattle.typst_language.specs.Shape.Making.{wanted}
 use Rattle.typst_language.specs.Shape.Shape.{keeps}
 use Rattle.typst_language.specs.Syntax.{Parser, ◌>>=◌, ◌>>◌}

@@ -71,7 +71,7 @@ both_newlines a b = record { any = a.any || b.any; parbreak = a.parbreak || b.pa
 abbrev pub newlines_of : Token → Newlines
 newlines_of t = record { any = t.newline; parbreak = is_parbreak t.kind }
 
--- one trivia token more before the others, of so many characters
+-- one trivia token more before the others, of a given number of characters
 abbrev pub after_trivia : Token → ℕ → Tree → Ahead → Ahead
 after_trivia t n node a = record a {
   trivia = node ∷ a.trivia;
@@ -158,8 +158,8 @@ pub record AtHand : Type 0 where
   pub newlines : Newlines
 
 -- what a production gets to know of a current token
-abbrev pub told : Hand → AtHand
-told h = record { kind = h.kind; has_trivia = not (is_nil h.trivia); newlines = h.newlines }
+abbrev pub as_at_hand : Hand → AtHand
+as_at_hand h = record { kind = h.kind; has_trivia = not (is_nil h.trivia); newlines = h.newlines }
 
 -- what is known of the pending trivia once they were asked for
 abbrev pub known_by : Hand → Option Trivia

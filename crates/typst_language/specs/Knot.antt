@@ -23,12 +23,12 @@ blocks_of r k levels deeper b = run (blockless k levels deeper) (peek >> r.block
 abbrev pub level_by : Rules → CharClasses → ℕ → ((call : Call) → Meaning (Answer call)) → Level
 level_by r k levels deeper = record { classes = k; levels = levels; deeper = deeper; has = r.has; blocks = blocks_of r k levels deeper; guess = no_guess }
 
--- what a call gives where so many levels are left; at the limit nothing is read, and the limit is
+-- what a call gives where a given number of levels are left; at the limit nothing is read, and the limit is
 -- met
 unfoldable pub meaning_of : Rules → CharClasses → ℕ → (call : Call) → Meaning (Answer call)
 meaning_of r k zero call = λ z s. record (plain (no_answer call) s) { met = true }
 meaning_of r k (suc levels) call = run (level_by r k levels (meaning_of r k levels)) (r.production call)
 
--- where a parser runs by these rules, with so many levels left
+-- where a parser runs by these rules, with a given number of levels left
 abbrev pub level_of : Rules → CharClasses → ℕ → Level
 level_of r k levels = level_by r k levels (meaning_of r k levels)

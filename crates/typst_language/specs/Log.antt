@@ -40,35 +40,35 @@ added keeps note notes = if keeps then notes ++ note ∷ [] else notes
 
 -- where the looks since the last note end, right after a note: at 0; if no notes are kept, as
 -- before
-abbrev pub reach_behind : Option (List Note) → ℕ → ℕ
-reach_behind None reach = reach
-reach_behind (Some notes) reach = 0
+abbrev pub reach_after : Option (List Note) → ℕ → ℕ
+reach_after None reach = reach
+reach_after (Some notes) reach = 0
 
 -- where the looks since the last note begin, right after a note: at the largest number; if no notes
 -- are kept, as before
-abbrev pub least_behind : Option (List Note) → ℕ → ℕ
-least_behind None least = least
-least_behind (Some notes) least = 2 ^ 64 - 1
+abbrev pub least_after : Option (List Note) → ℕ → ℕ
+least_after None least = least
+least_after (Some notes) least = 2 ^ 64 - 1
 
 -- the log, where these bytes were looked at too
 abbrev pub with_hull : Hull → Log → Log
 with_hull u h = record h { reach = max h.reach u.reach; least = min h.least u.least }
 
--- the log, where this was noted too, after so many characters of trivia and with so many levels
+-- the log, where this was noted too, after a given number of characters of trivia and with a given number of levels
 -- left
 abbrev pub with_note : ℕ → ℕ → Mark → State → Place → Log → Log
 with_note gap levels mark s z h = record {
-  reach = reach_behind h.notes h.reach;
-  least = least_behind h.notes h.least;
+  reach = reach_after h.notes h.reach;
+  least = least_after h.notes h.least;
   notes = with_more (record { mark = mark; before = position z; start = position (moved gap z); levels = levels; state = s; reach = h.reach; least = h.least }) h.notes;
 }
 
--- the log after one thing that a parser asked at a place, with so many levels left
+-- the log after one thing that a parser asked at a place, with a given number of levels left
 abbrev pub logged_one : ℕ → Place → Log → Ask → Log
 logged_one levels z h (looked at look) = with_hull (hull_of look (moved at z)) h
 logged_one levels z h (marked at gap fewer mark s) = with_note gap (levels - fewer) mark s (moved at z) h
 
--- the log after what a parser asked at a place, with so many levels left
+-- the log after what a parser asked at a place, with a given number of levels left
 abbrev pub logged : ℕ → Place → Log → List Ask → Log
 logged levels z h [] = h
 logged levels z h (ask ∷ asks) = logged levels z (logged_one levels z h ask) asks

@@ -13,8 +13,8 @@ use Rattle.typst_tokens.specs.declared.token.Token.{Token}
 use Rattle.typst_tokens.specs.Memory.{Memory}
 use Rattle.typst_language.specs.declared.reading.AtNewline.{AtNewline}
 use Rattle.typst_language.specs.declared.reading.AtNewline.TheVariants.{Continue, Stop, ContextualContinue, StopParBreak, RequireColumn}
-use Rattle.typst_language.specs.declared.calls.Behind.{Behind}
-use Rattle.typst_language.specs.declared.calls.Behind.TheVariants.{Nothing}
+use Rattle.typst_language.specs.declared.calls.AfterName.{AfterName}
+use Rattle.typst_language.specs.declared.calls.AfterName.TheVariants.{Nothing}
 use Rattle.typst_language.specs.declared.calls.Block.{Block}
 use Rattle.typst_language.specs.declared.calls.Mark.TheVariants as mark
 use Rattle.typst_language.specs.declared.calls.Way.{Way}
@@ -23,7 +23,7 @@ use Rattle.typst_language.specs.Ask.{Ask, shift, sunk, only_looks}
 use Rattle.typst_language.specs.Ask.Ask.{looked, marked}
 use Rattle.typst_language.specs.Calls.{Call, Answer, token_so}
 use Rattle.typst_language.specs.Point.{Point, state_of, forgot, pending, gap_of}
-use Rattle.typst_language.specs.Hand.{Hand, told, known_by, hand_at, hand_asks, text_ahead, token_by, len_by, column_at, column_look}
+use Rattle.typst_language.specs.Hand.{Hand, as_at_hand, known_by, hand_at, hand_asks, text_ahead, token_by, len_by, column_at, column_look}
 use Rattle.typst_language.specs.Shape.{Making, made, hinted, Shape, shaped, after_node, after_shape, Seen, seen}
 use Rattle.typst_language.specs.Syntax.{Op, Begin, Parser}
 use Rattle.typst_language.specs.Syntax.Begin.{at_token, at_trivia}
@@ -230,7 +230,7 @@ left_to outer o = record o { state = left outer o.state }
 
 -- what a first reading of parens finds after them, and what it asks for that
 pub record Guess : Type 0 where
-  pub behind : Behind
+  pub after : AfterName
   pub asks : List Ask
 
 -- a first reading by how many levels are left, where it goes on after its paren, and how it is read outside
@@ -239,7 +239,7 @@ Guessing = ℕ → Place → Reading → Guess
 
 -- nothing is known of first readings
 abbrev pub no_guess : Guessing
-no_guess levels z outer = record { behind = Nothing; asks = [] }
+no_guess levels z outer = record { after = Nothing; asks = [] }
 
 -- where a parser runs
 pub record Level : Type 0 where
@@ -258,7 +258,7 @@ pub record Level : Type 0 where
 abbrev pub guessing : Guessing → Level → Level
 guessing g l = record l { guess = g }
 
--- where so many levels are left, and no block may be read except within what is read deeper
+-- where a given number of levels are left, and no block may be read except within what is read deeper
 abbrev pub blockless : CharClasses → ℕ → ((c : Call) → Meaning (Answer c)) → Level
 blockless k levels deeper = record { classes = k; levels = levels; deeper = deeper; has = λ b. false; blocks = λ b z s. plain tt s; guess = no_guess }
 
@@ -278,7 +278,7 @@ hand_asks_of l z s = hand_asks l.classes s.held s.known z
 abbrev pub asked : Hand → Point → Point
 asked h s = record s { known = known_by h }
 
--- what a token becomes that takes so many characters at a place
+-- what a token becomes that takes a given number of characters at a place
 abbrev pub node_by : CharClasses → Making → Token → ℕ → Place → Tree
 node_by k making t len z = made making (token_node k t (text_ahead len z))
 
@@ -296,7 +296,7 @@ abbrev pub flushed_state : Hand → Point → Point
 flushed_state h s =
     record (elim h.trivia as (λ _. Point) [ [] ↦ s | t ∷ ts ↦ after_node false [] s ]) { known = Some (record { nodes = []; gap = 0; newlines = h.newlines }) }
 
--- the pending trivia are passed, and a token of so many characters that became this node
+-- the pending trivia are passed, and a token of a given number of characters that became this node
 abbrev pub gave : Hand → Bool → ℕ → Tree → List Ask → Point → Outcome (Unit {0})
 gave h trims len node asks s = record (plain tt (renewed (after_node (is_error node.head.kind) (text_of node) s))) {
   taken = h.gap + len;
@@ -311,7 +311,7 @@ module _ (l : Level) where
   reader_so way = token_so l.classes way
 
   abbrev pub done : {A : Type 0} → Op A → Meaning A
-  done hand z s = let h = hand_of l z s in record (plain (told h) (asked h s)) { asks = hand_asks_of l z s }
+  done hand z s = let h = hand_of l z s in record (plain (as_at_hand h) (asked h s)) { asks = hand_asks_of l z s }
   done (so way) z s =
       let h = hand_of l z s in
       let w = moved h.gap z in

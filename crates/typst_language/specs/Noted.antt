@@ -4,13 +4,13 @@ use Rattle.typst_tokens.specs.declared.hull.Hull.{Hull}
 use Rattle.typst_language.specs.declared.calls.Mark.{Mark}
 use Rattle.typst_language.specs.declared.calls.Note.{Note}
 use Rattle.typst_language.specs.declared.reading.State.{State}
-use Rattle.typst_language.specs.Log.{Log, least_behind, reach_behind, with_hull, with_more}
+use Rattle.typst_language.specs.Log.{Log, least_after, reach_after, with_hull, with_more}
 
 -- the log, where something was noted too: at `before` its trivia begin, and at `start` its token
 abbrev pub with_noted : Mark → ℕ → ℕ → ℕ → State → Log → Log
 with_noted mark before start levels s h = record {
-  reach = reach_behind h.notes h.reach;
-  least = least_behind h.notes h.least;
+  reach = reach_after h.notes h.reach;
+  least = least_after h.notes h.least;
   notes = with_more (record { mark = mark; before = before; start = start; levels = levels; state = s; reach = h.reach; least = h.least }) h.notes;
 }
 
@@ -33,7 +33,7 @@ abbrev pub least_of : ℕ → List Note → ℕ
 least_of least [] = least
 least_of least (note ∷ notes) = least_of (min least note.least) notes
 
--- the first so many notes alone: the looks before the others count since the last of these
+-- only the first n notes: the looks before the others count since the last of these
 abbrev pub unnoted : ℕ → Log → Log
 unnoted count h = record {
   reach = reach_of h.reach (drop count (listed h.notes));
@@ -46,16 +46,16 @@ abbrev pub looked_alone : Hull → Log → Log
 looked_alone u h = record h { reach = u.reach; least = u.least }
 
 -- a note, with a look that was made before it
-abbrev pub note_behind : Hull → Note → Note
-note_behind u note = record note { reach = max note.reach u.reach; least = min note.least u.least }
+abbrev pub note_after : Hull → Note → Note
+note_after u note = record note { reach = max note.reach u.reach; least = min note.least u.least }
 
 -- notes, where the one of a number has a look that was made before it
-abbrev pub notes_behind : ℕ → Hull → List Note → List Note
-notes_behind n u [] = []
-notes_behind zero u (note ∷ notes) = note_behind u note ∷ notes
-notes_behind (suc n) u (note ∷ notes) = note ∷ notes_behind n u notes
+abbrev pub notes_after : ℕ → Hull → List Note → List Note
+notes_after n u [] = []
+notes_after zero u (note ∷ notes) = note_after u note ∷ notes
+notes_after (suc n) u (note ∷ notes) = note ∷ notes_after n u notes
 
 -- looks that were made before the note of a number count at it, or if there is no such note, as
 -- looks since the last one
 abbrev pub looked_before : ℕ → Hull → Log → Log
-looked_before n u h = if nat_lt n (length (listed h.notes)) then record h { notes = option_map (notes_behind n u) h.notes } else with_hull u h
+looked_before n u h = if nat_lt n (length (listed h.notes)) then record h { notes = option_map (notes_after n u) h.notes } else with_hull u h

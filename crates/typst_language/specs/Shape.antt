@@ -18,7 +18,7 @@ pub data Making : Type 0 where
   of_kind : SyntaxKind → Making
   -- an error that it was not expected, with hints
   surprise : List (List ℕ) → Making
-  -- an error that something else, this, was expected in its place
+  -- an error that this was expected there
   wanted : List ℕ → Making
 
 -- what a token's node is made into
@@ -48,25 +48,25 @@ hinted (hint ∷ hints) ts = hinted_last (hint ∷ hints) ts
 -- ---- what several nodes become
 
 -- what is done to the first of several nodes
-pub data Change : Type 0 where
+pub data NodeChange : Type 0 where
   -- nothing
-  stays : Change
+  stays : NodeChange
   -- it becomes an error leaf of its text
-  turns_wrong : List ℕ → Change
-  -- it becomes an error leaf of its text that says that this was expected in its place
-  is_not : List ℕ → Change
+  turns_wrong : List ℕ → NodeChange
+  -- it becomes an error leaf of its text that says that this was expected there
+  is_not : List ℕ → NodeChange
   -- it becomes a node of another kind
-  renamed : SyntaxKind → Change
+  renamed : SyntaxKind → NodeChange
   -- if it is delimited by parens in math, these become parens, and it becomes math
-  unparened : Change
+  unparened : NodeChange
 
 -- what several nodes become
 pub data Shape : Type 0 where
   -- the same nodes, the first of them changed
-  keeps : Change → Shape
+  keeps : NodeChange → Shape
   -- an inner node over the nodes, the first of them changed
-  holds : Change → SyntaxKind → Shape
-  -- an inner node over the nodes, with an empty error after its first so many children
+  holds : NodeChange → SyntaxKind → Shape
+  -- an inner node over the nodes, with an empty error after a given number of its children
   lacks : ℕ → List ℕ → SyntaxKind → Shape
   -- an inner node over the nodes, with a warning and its hint
   warns : SyntaxKind → List ℕ → List ℕ → Shape
@@ -124,7 +124,7 @@ without_parens t =
     else t
 
 -- a node after what is done to it
-abbrev pub changed : Change → Tree → Tree
+abbrev pub changed : NodeChange → Tree → Tree
 changed stays t = t
 changed (turns_wrong message) t = made_error message t
 changed (is_not thing) t = made_expected thing t
@@ -137,7 +137,7 @@ on_first f [] = []
 on_first f (t ∷ ts) = f t ∷ ts
 
 -- several nodes, the first of them changed
-abbrev pub first_changed : Change → List Tree → List Tree
+abbrev pub first_changed : NodeChange → List Tree → List Tree
 first_changed stays ts = ts
 first_changed (turns_wrong message) ts = on_first (made_error message) ts
 first_changed (is_not thing) ts = on_first (made_expected thing) ts
@@ -163,7 +163,7 @@ after_node false text s = record s { empties = 0; is_after_error = false }
 
 -- the point after nodes of which the first was changed: that matters only if it is alone and was
 -- not an error
-abbrev pub after_change : Change → List Tree → Point → Point
+abbrev pub after_change : NodeChange → List Tree → Point → Point
 after_change change [] s = s
 after_change change (t ∷ []) s = if is_error t.head.kind then s else after_node (is_error (changed change t).head.kind) (text_of t) s
 after_change change (t ∷ u ∷ ts) s = s

@@ -7,7 +7,7 @@ use Rattle.typst_kinds.specs.declared.kind.SyntaxKind.{SyntaxKind}
 use Rattle.typst_lines.specs.Classes.{CharClasses}
 use Rattle.typst_tree.specs.Tree.{Tree}
 use Rattle.typst_tokens.specs.declared.hull.Hull.{Hull}
-use Rattle.typst_language.specs.declared.calls.Behind.{Behind}
+use Rattle.typst_language.specs.declared.calls.AfterName.{AfterName}
 use Rattle.typst_language.specs.declared.calls.Block.{Block}
 use Rattle.typst_language.specs.declared.calls.ChainSet.{ChainSet}
 use Rattle.typst_language.specs.Calls.Call.{MarkupExpr, CodeExpr, MathExpr, Pattern}
@@ -48,7 +48,7 @@ pub record View : Type 0 where
   -- which first readings turned out wrong
   pub memo : List Guessed
 
--- the code went from one view to another as an outcome says, where so many levels are left
+-- the code went from one view to another as an outcome says, where a given number of levels are left
 pub record Runs {A : Type 0} (levels : ℕ) (o : Outcome A) (a : A) (old new : View) : Type 0 where
   pub value : o.value ≡ a
   pub place : new.place ≡ moved o.taken old.place
@@ -185,19 +185,19 @@ pub record ReadsBlock (l : Level) (b : Block) (p : Parser (Unit {0})) : Type 0 w
 -- ---- first readings
 
 -- where a first reading goes on after its paren, which is the current token
-abbrev pub behind_paren : View → Place
-behind_paren v = moved (v.hand.gap + v.hand.len) v.place
+abbrev pub place_after_paren : View → Place
+place_after_paren v = moved (v.hand.gap + v.hand.len) v.place
 
 -- what a first reading of the parens finds that begin with the current token
 abbrev pub guess_at : Level → View → Guess
-guess_at l v = l.guess l.levels (behind_paren v) v.state.reading
+guess_at l v = l.guess l.levels (place_after_paren v) v.state.reading
 
 -- this is what a first reading finds after the parens that begin with the current token, and with
 -- `hull` all was looked at that it would look at
-pub record Found (l : Level) (v : View) (b : Behind) (hull : Hull) : Type 0 where
+pub record Found (l : Level) (v : View) (b : AfterName) (hull : Hull) : Type 0 where
   pub leaf : is_leaf v.hand.token ≡ true
-  pub behind : b ≡ (guess_at l v).behind
-  pub looks : with_hull hull v.log ≡ logged l.levels (behind_paren v) v.log (only_looks (guess_at l v).asks)
+  pub after : b ≡ (guess_at l v).after
+  pub looks : with_hull hull v.log ≡ logged l.levels (place_after_paren v) v.log (only_looks (guess_at l v).asks)
 
 -- what is remembered is of as many levels and of this reading, and all that was looked at for its
 -- paren was looked at
@@ -209,9 +209,9 @@ pub record IsThis (n : ℕ) (v : View) (e : Guessed) : Type 0 where
 -- nothing changed except what is remembered; and all of that stays so, if `b` comes after the
 -- parens that begin with the current token, and only what was looked at for them counts as looked
 -- at
-pub record Remembers (levels : ℕ) (b : Behind) (v w : View) : Type 0 where
+pub record Remembers (levels : ℕ) (b : AfterName) (v w : View) : Type 0 where
   pub same : w ≡ record v { memo = w.memo }
-  pub knows : (l : Level) → l.levels ≡ levels → (is_leaf v.hand.token ≡ true → Comes (guess_at l v) v.here (hull_in v.log) (behind_paren v) b) → Knows l.guess (end_of v.place) v.memo → Knows l.guess (end_of v.place) w.memo
+  pub knows : (l : Level) → l.levels ≡ levels → (is_leaf v.hand.token ≡ true → Comes (guess_at l v) v.here (hull_in v.log) (place_after_paren v) b) → Knows l.guess (end_of v.place) v.memo → Knows l.guess (end_of v.place) w.memo
 
 -- the view where a first reading begins: all looks are set aside, except those for the current
 -- token

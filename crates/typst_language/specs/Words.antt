@@ -10,7 +10,7 @@ use Rattle.typst_language.specs.declared.reading.AtNewline.TheVariants as newlin
 use Rattle.typst_language.specs.declared.reading.Reading.{Reading}
 use Rattle.typst_language.specs.Calls.{no_answer}
 use Rattle.typst_language.specs.Shape.{Shape, becomes}
-use Rattle.typst_language.specs.Shape.Change.{turns_wrong, is_not, renamed}
+use Rattle.typst_language.specs.Shape.NodeChange.{turns_wrong, is_not, renamed}
 use Rattle.typst_language.specs.Shape.Shape.{keeps, holds, lacks}
 use Rattle.typst_language.specs.Syntax.{Parser, ◌>>=◌, ◌>>◌}
 use Rattle.typst_language.specs.Syntax.Begin.{at_token}
@@ -75,7 +75,7 @@ pub record Words (beyond : CharClasses) : Type 0 where
   -- what grows takes all from its beginning on into each node
   pub grows_left : (of_text beyond (codes "a*_") (grow eat operators)).nodes ≡ branch kind.Emph (branch kind.Strong (text (codes "a") ∷ star ∷ []) ∷ leaf_of kind.Underscore (codes "_") ∷ []) ∷ []
   -- what grows leaves trivia before its beginning before the node
-  pub grows_behind_trivia : (of_text beyond (codes " a*") (grow eat operators)).nodes ≡ leaf_of kind.Space (codes " ") ∷ branch kind.Strong (text (codes "a") ∷ star ∷ []) ∷ []
+  pub grows_after_trivia : (of_text beyond (codes " a*") (grow eat operators)).nodes ≡ leaf_of kind.Space (codes " ") ∷ branch kind.Strong (text (codes "a") ∷ star ∷ []) ∷ []
   -- what nests takes all after it into each node
   pub nests_right : (of_text beyond (codes "**a") (nest (λ _. becomes kind.Strong) openers tt)).nodes ≡ branch kind.Strong (star ∷ branch kind.Strong (star ∷ branch kind.Strong (text (codes "a") ∷ []) ∷ []) ∷ []) ∷ []
   -- a hint reaches an error that was given before

@@ -14,9 +14,9 @@ pub enum Role {
     Parameter,
 }
 
-/// What comes after a name, an underscore or parens.
+/// What comes after a name, after an underscore or after parens, which a closure or an assignment may begin with.
 #[derive(Debug, Clone, Copy, PartialEq, Eq)]
-pub enum Behind {
+pub enum AfterName {
     /// `=>`, which makes a closure of it.
     Arrow,
     /// `=`, which makes an assignment of it.
@@ -58,7 +58,7 @@ pub enum Way {
     SpreadArgument,
 }
 
-/// What begins or ends at a place.
+/// What begins or ends at a [`Note`].
 #[derive(Debug, Clone, Copy, PartialEq, Eq)]
 pub enum Mark {
     /// A piece of a run begins: an expression of markup, whether at the start of a line, and in how
@@ -71,9 +71,10 @@ pub enum Mark {
     Closes,
 }
 
-/// What was noted where a unit begins or ends. Places are bytes from the text's start, except
-/// `least`. Before the text's first and after its last character is a mark, each as long as a
-/// byte, at which a look may begin or end.
+/// What a parser notes where a unit, a piece of a run or a block, begins or ends. Places are bytes from the
+/// text's start, except `least`; records of a text keep notes as entries, which have distances instead.
+/// Before the text's first and after its last character is a mark, each as long as a byte, at which a look
+/// may begin or end.
 #[derive(Debug, Clone, Copy, PartialEq, Eq)]
 pub struct Note {
     /// What begins or ends.

@@ -12,12 +12,12 @@ use typst_lexer::SyntaxNode;
 
 /// What is done to the first of several nodes. An error stays as it is.
 #[derive(Debug, Clone, Copy)]
-pub enum Change<'a> {
+pub enum NodeChange<'a> {
     /// Nothing.
     Stays,
     /// It becomes an error of its text, with this message.
     TurnsWrong(&'a str),
-    /// It becomes the error that this was expected in its place.
+    /// It becomes the error that this was expected there.
     IsNot(&'a str),
     /// It becomes a node of another kind, which isn't an error.
     Renamed(SyntaxKind),
@@ -27,23 +27,23 @@ pub enum Change<'a> {
 
 /// Changes a node. In place, so that nothing is called if it stays, as most nodes do.
 #[inline(always)]
-pub fn change_node(node: &mut SyntaxNode, change: Change<'_>) -> Result<(), AllocError>
+pub fn change_node(node: &mut SyntaxNode, change: NodeChange<'_>) -> Result<(), AllocError>
     requires { IsFine change }
     ensures { OnOk result (node.new ≡ changed (meant change.entry) node.old) }
 {
     match change {
-        Change::Stays => {}
-        Change::TurnsWrong(message) => node.convert_to_error(message)?,
-        Change::IsNot(thing) => node.expected(thing)?,
-        Change::Renamed(kind) => node.convert_to_kind(kind),
-        Change::Unparened => unparen(node),
+        NodeChange::Stays => {}
+        NodeChange::TurnsWrong(message) => node.convert_to_error(message)?,
+        NodeChange::IsNot(thing) => node.expected(thing)?,
+        NodeChange::Renamed(kind) => node.convert_to_kind(kind),
+        NodeChange::Unparened => unparen(node),
     }
     Ok(())
 }
 
 /// Changes the first of several nodes, if there is one. In place, as `change_node`.
 #[inline(always)]
-pub fn change_first(nodes: &mut Vec<SyntaxNode>, change: Change<'_>) -> Result<(), AllocError>
+pub fn change_first(nodes: &mut Vec<SyntaxNode>, change: NodeChange<'_>) -> Result<(), AllocError>
     requires { IsFine change }
     ensures changed { OnOk result (nodes.new.items ≡ first_changed (meant change.entry) nodes.old.items) }
     ensures as_many { length nodes.new.items ≡ length nodes.old.items }

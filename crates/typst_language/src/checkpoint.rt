@@ -74,7 +74,7 @@ impl<'s> Parser<'s> {
     }
 }
 
-/// Makes the first so many nodes pending again, if so many were given.
+/// Makes the first `count` given nodes pending again, if that many were given.
 fn put_back(held: &mut Vec<SyntaxNode>, mut given: Vec<SyntaxNode>, count: usize)
     ensures { held.new.items ≡ first_of count given.items held.old.items }
 {

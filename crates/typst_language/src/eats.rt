@@ -247,7 +247,7 @@ impl<'s> Parser<'s> {
         Ok(())
     }
 
-    /// Takes the current token as an error that something else was expected in its place; `trims` says whether it
+    /// Takes the current token as an error that something else was expected there; `trims` says whether it
     /// takes the empty errors before it back.
     #[cold]
     pub fn eat_wanted<L: Levels>(
@@ -273,7 +273,7 @@ impl<'s> Parser<'s> {
     }
 
     /// Takes an identifier, or says that it was expected; answers whether it took it. A keyword is
-    /// taken as the error that an identifier was expected in its place.
+    /// taken as the error that an identifier was expected there.
     pub fn expect_identifier<L: Levels>(&mut self, g: &L) -> Result<bool, AllocError>
         ensures { Means (L.frame g.now) expected.expect_identifier self.old result self.new }
     {

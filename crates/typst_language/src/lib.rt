@@ -19,8 +19,8 @@ mod ways;
 mod wraps;
 
 pub use ahead::{ReadAhead, judged, left, no_newlines};
-pub use calls::{Behind, Block, Carried, ChainSet, Mark, Note, Role, Way};
-pub use change::{Change, change_first, change_node, unparen};
+pub use calls::{AfterName, Block, Carried, ChainSet, Mark, Note, Role, Way};
+pub use change::{NodeChange, change_first, change_node, unparen};
 pub use checkpoint::Checkpoint;
 pub use depth::{
     Anywhere, Grammar, Levels, Stops, deeper_code_expr, deeper_markup_expr, deeper_math_expr,

@@ -141,7 +141,7 @@ impl Log {
         }
     }
 
-    /// Keeps the first so many notes alone. What was looked at before the others counts as looked at
+    /// Keeps only the first `count` notes. What was looked at before the others counts as looked at
     /// since the last of these.
     pub fn drop_notes(&mut self, count: usize)
         ensures { self.new ≡ unnoted count self.old }

@@ -8,7 +8,7 @@ ghost use Rattle.typst_language.specs.View.{begun, looked_too, Dropped, Fits, Fo
 
 use crate::depth::Levels;
 use crate::parser::{Parser, same_mode, same_rule};
-use crate::{Behind, Reading, left};
+use crate::{AfterName, Reading, left};
 use std::alloc::AllocError;
 use typst_lexer::is_leaf;
 use typst_tokens::Hull;
@@ -22,7 +22,7 @@ pub struct Guessed {
     pub left: usize,
     pub levels: usize,
     pub outer: Reading,
-    pub behind: Behind,
+    pub after: AfterName,
     pub paren: Hull,
     pub hull: Hull,
 }
@@ -60,7 +60,7 @@ impl<'s> Parser<'s> {
 
     /// What comes after the parens that begin with the current token, and what a first reading of them would look
     /// at beyond what was looked at, if that is remembered.
-    pub fn guessed<L: Levels>(&self, g: &L) -> Option<(Behind, Hull)>
+    pub fn guessed<L: Levels>(&self, g: &L) -> Option<(AfterName, Hull)>
         ensures { (l : Level) → l.levels ≡ (L.frame g.now).levels → Fits l self.now → IfSome result (λ found. Found l self.now found.0 found.1) }
     {
         if !is_leaf(self.ahead.token) {
@@ -76,7 +76,7 @@ impl<'s> Parser<'s> {
                 return None;
             }
             if self.is_this(entry, g.levels()) {
-                return Some((entry.behind, entry.hull));
+                return Some((entry.after, entry.hull));
             }
             at = at.saturating_add(1);
         }
@@ -95,8 +95,8 @@ impl<'s> Parser<'s> {
 
     /// Remembers what came after the parens that begin with the current token, if another first reading could ask
     /// for it; what was looked at before them is set aside still.
-    pub fn remember<L: Levels>(&mut self, behind: Behind, g: &L) -> Result<(), AllocError>
-        ensures { OnOk result (Remembers (L.frame g.now).levels behind self.old self.new) }
+    pub fn remember<L: Levels>(&mut self, after: AfterName, g: &L) -> Result<(), AllocError>
+        ensures { OnOk result (Remembers (L.frame g.now).levels after self.old self.new) }
     {
         if self.guesses < 2 || !is_leaf(self.ahead.token) {
             return Ok(());
@@ -105,7 +105,7 @@ impl<'s> Parser<'s> {
             left: left(&self.ahead.after),
             levels: g.levels(),
             outer: self.state.reading,
-            behind,
+            after,
             paren: self.ahead.here,
             hull: self.log.hull(),
         };

@@ -1,6 +1,7 @@
 //! A parser that has read one token ahead.
 
 ghost use Rattle.std.specs.Prelude.{◌≡◌, ◌+◌, ◌≤◌, ◌<◌, [], length, OnOk, IfOk, false, not, true};
+ghost use Rattle.typst_lines.specs.Place.{moved};
 ghost use Rattle.typst_lines.specs.Scanner.{place};
 ghost use Rattle.typst_tokens.specs.Sight.{position};
 ghost use Rattle.typst_language.specs.Meaning.{Level, entered, left as outside, same_mode, same_rule};
@@ -127,6 +128,13 @@ impl<'s> Parser<'s> {
         ensures { result ≡ position self.now.place }
     {
         self.ahead.before.cursor()
+    }
+
+    /// Where the pending trivia end and the current token begins, in bytes from the text's start.
+    pub fn token_start(&self) -> usize
+        ensures { result ≡ position (moved self.now.hand.gap self.now.place) }
+    {
+        self.ahead.start.cursor()
     }
 
     /// How the parser goes on, except the place.

@@ -47,7 +47,7 @@ impl<'s> Parser<'s> {
         Ok(())
     }
 
-    /// Takes the token that is found in another way, as an error that something else was expected in its place.
+    /// Takes the token that is found in another way, as an error that something else was expected there.
     #[cold]
     pub fn eat_wanted_so<L: Levels>(
         &mut self,

@@ -5,14 +5,14 @@ ghost use Rattle.typst_kinds.specs.Kinds.{is_error};
 ghost use Rattle.typst_tree.specs.Tree.{text_of};
 ghost use Rattle.typst_language.specs.Shape.{after_node, becomes, encloses, unclosed};
 ghost use Rattle.typst_language.specs.Point.{is_nil};
-ghost use Rattle.typst_language.specs.Shape.Change.{stays};
+ghost use Rattle.typst_language.specs.Shape.NodeChange.{stays};
 ghost use Rattle.typst_language.specs.Shape.Shape.{fails, holds, keeps, lacks, warns};
 ghost use Rattle.typst_language.specs.Changes.{IsFine, meant};
 ghost use Rattle.typst_language.specs.View.{Rewrapped, rewrapped_each};
 
 use crate::nodes::{empty_errors, give};
 use crate::parser::Parser;
-use crate::{Change, change_first, change_node};
+use crate::{NodeChange, change_first, change_node};
 use std::alloc::AllocError;
 use std::mem;
 use typst_kinds::SyntaxKind;
@@ -35,7 +35,7 @@ impl<'s> Parser<'s> {
     pub fn wrap_changed(
         &mut self,
         from: usize,
-        change: Change<'_>,
+        change: NodeChange<'_>,
         kind: SyntaxKind,
     ) -> Result<(), AllocError>
         requires change { IsFine change }
@@ -113,7 +113,7 @@ impl<'s> Parser<'s> {
         requires { is_error kind ≡ false }
         ensures { OnOk result (Rewrapped from (unclosed kind) self.old self.new) }
     {
-        self.wrap_changed(from, Change::TurnsWrong("unclosed delimiter"), kind)?;
+        self.wrap_changed(from, NodeChange::TurnsWrong("unclosed delimiter"), kind)?;
         Ok(())
     }
 
@@ -144,7 +144,7 @@ impl<'s> Parser<'s> {
 
     /// Changes the first of the nodes from a number on, if there is one. In place, since mostly it stays.
     #[inline(always)]
-    pub fn change(&mut self, from: usize, change: Change<'_>) -> Result<(), AllocError>
+    pub fn change(&mut self, from: usize, change: NodeChange<'_>) -> Result<(), AllocError>
         requires { IsFine change }
         ensures { OnOk result (Rewrapped from (keeps (meant change.entry)) self.old self.new) }
     {

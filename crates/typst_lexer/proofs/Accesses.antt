@@ -17,9 +17,9 @@ abbrev pub rest_of : List (List ℕ) → List (List ℕ)
 rest_of [] = []
 rest_of (name ∷ names) = names
 
--- the names behind a place at a dot or at the end
-abbrev pub names_behind : Place → List (List ℕ)
-names_behind p = rest_of (names_of p.ahead)
+-- the names after a place at a dot or at the end
+abbrev pub names_after : Place → List (List ℕ)
+names_after p = rest_of (names_of p.ahead)
 
 one-more : (n : ℕ) → 1 + n ≡ suc n
 one-more n = omega arith
@@ -34,26 +34,26 @@ names-run before (c ∷ cs) = by (names-run (c ∷ before) cs) (c == 46) refl
     by more false e = rw (e, one-more (prefix_len no_dot cs)) (ap (longer c) more)
 
 -- the names from a place on
-pub names-past : (p : Place) → names_of p.ahead ≡ run no_dot p ∷ names_behind (past no_dot p)
+pub names-past : (p : Place) → names_of p.ahead ≡ run no_dot p ∷ names_after (past no_dot p)
 names-past p = names-run p.before p.ahead
 
--- what a name becomes with those behind it
-pub first-names : (p q : Place) (name : List ℕ) (node : Tree) → q ≡ past no_dot p → name ≡ run no_dot p → node ≡ name_node name → named_node (names_of p.ahead) ≡ fields_node node (names_behind q)
+-- what a name becomes with those after it
+pub first-names : (p q : Place) (name : List ℕ) (node : Tree) → q ≡ past no_dot p → name ≡ run no_dot p → node ≡ name_node name → named_node (names_of p.ahead) ≡ fields_node node (names_after q)
 first-names p q name node e n h = ap named_node (names-past p) ∙ rw (h, n, e) refl
 
--- behind a dot the next name takes what stands before it
+-- after a dot the next name takes what stands before it
 pub next-name : (p q w : Place) (name : List ℕ) (old new : Tree) → passes (λ c. c == 46) (scout 0 p) ≡ true → q ≡ moved 1 p → w ≡ past no_dot q → name ≡ run no_dot q → new ≡ field_node old name
-    → fields_node old (names_behind p) ≡ fields_node new (names_behind w)
+    → fields_node old (names_after p) ≡ fields_node new (names_after w)
 next-name p q w name old new t e f n h = by p.before p.ahead t e
   where
-    by : (b a : List ℕ) → passes (λ c. c == 46) (scout 0 (record { before = b; ahead = a })) ≡ true → q ≡ moved_from 1 b a → fields_node old (rest_of (names_of a)) ≡ fields_node new (names_behind w)
+    by : (b a : List ℕ) → passes (λ c. c == 46) (scout 0 (record { before = b; ahead = a })) ≡ true → q ≡ moved_from 1 b a → fields_node old (rest_of (names_of a)) ≡ fields_node new (names_after w)
     by b [] t e = absurd (cc)
     by b (c ∷ cs) t e =
         let there : names_of q.ahead ≡ names_of cs = ap (λ (x : Place). names_of x.ahead) e in
         rw t (ap (fields_node old) (sym there ∙ names-past q) ∙ rw (h, n, f) refl)
 
 -- at the end no name is left
-pub no-names : (p : Place) (node : Tree) → passes (λ c. c == 46) (scout 0 p) ≡ false → passes no_dot (scout 0 p) ≡ false → fields_node node (names_behind p) ≡ node
+pub no-names : (p : Place) (node : Tree) → passes (λ c. c == 46) (scout 0 p) ≡ false → passes no_dot (scout 0 p) ≡ false → fields_node node (names_after p) ≡ node
 no-names p node t s = by p.ahead t s
   where
     by : (a : List ℕ) → passes (λ c. c == 46) (scout 0 (record { before = []; ahead = a })) ≡ false → passes no_dot (scout 0 (record { before = []; ahead = a })) ≡ false → fields_node node (rest_of (names_of a)) ≡ node
@@ -67,7 +67,7 @@ field-is left dot name kids text node d n k h u = h ∙ rw (k, d, n, u) refl
 
 -- what the first name of a text becomes
 pub access-names : (text first : List ℕ) (p q : Place) (node : Tree) → p ≡ place_at text 0 → q ≡ past no_dot p → chars first ≡ run no_dot p → node ≡ leaf_of kind.MathIdent first → encode_utf8_all (chars first) ≡ first
-    → access_node (chars text) ≡ fields_node node (names_behind q)
+    → access_node (chars text) ≡ fields_node node (names_after q)
 unfolding access_node place_at
 access-names text first p q node e f n h u =
     let there : p.ahead ≡ chars text = ap (λ (x : Place). x.ahead) e in
@@ -80,7 +80,7 @@ stops-at p q e = ap (λ (x : Place). passes no_dot (scout 0 x)) e ∙ past-stops
 pub dot-taken : (r : Bool) (p q : Place) → r ≡ passes (λ c. c == 46) (scout 0 p) → r ≡ true → q ≡ (if r then moved 1 p else p) → (passes (λ c. c == 46) (scout 0 p) ≡ true) × (q ≡ moved 1 p)
 dot-taken r p q t h e = (sym t ∙ h, e ∙ ap (λ (b : Bool). if b then moved 1 p else p) h)
 
--- fewer characters are ahead behind a dot and a name
+-- fewer characters are ahead after a dot and a name
 pub dot-shortens : (p q w : Place) → passes (λ c. c == 46) (scout 0 p) ≡ true → q ≡ moved 1 p → w ≡ past no_dot q → length w.ahead < length p.ahead
 dot-shortens p q w t e f = by p.before p.ahead t e
   where

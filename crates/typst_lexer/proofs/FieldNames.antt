@@ -4,7 +4,7 @@ use Rattle.std.specs.List.{prefix_len}
 use Rattle.typst_lines.specs.Classes.{CharClasses}
 use Rattle.typst_kinds.specs.declared.kind.SyntaxKind.TheVariants as kind
 use Rattle.typst_lines.specs.Place.{moved, moved_from, passes, scout}
-use Rattle.typst_lexer.specs.MathNames.{continues, is_field, in_fields, behind_name}
+use Rattle.typst_lexer.specs.MathNames.{continues, is_field, in_fields, after_name}
 use Rattle.typst_tokens.proofs.PairRuns.{sight-pairs, past-stops, moved-less}
 use Rattle.typst_tokens.proofs.Sights.{covers-saw, covers-went, far-end, far-next, far-on, same-sight, saw-ahead}
 use Rattle.typst_tokens.proofs.Spans.{sight-turn, sight-end}
@@ -60,7 +60,7 @@ rest-run k v h =
     sight-pairs (in_fields k) (quoted false) (λ c _. continues k c) ended (run-goes k) (run-looks k) v.place.before v.place.ahead v.reach v.least h
     ∙ ap (λ n. sight (rest k) (went n (saw (suc n) v))) (len-same (continues k) v.place.ahead)
 
--- ---- turns behind a name
+-- ---- turns after a name
 
 stop-asks : (k : CharClasses) (c : ℕ) (b a : List ℕ) → continues k c ≡ false
     → ask (in_fields k (quoted false)) (place b (c ∷ a)) ≡ (if is_field k (Some c) (slice_get a 0) then go (quoted true) else leave)
@@ -115,8 +115,8 @@ rest-field k v h e f = on v.place.before v.place.ahead v.reach v.least h e f
 
 -- ---- the whole
 
-name-by : (k : CharClasses) (v : Sight) (b : Bool) → is_field k (scout 0 v.place) (scout 1 v.place) ≡ b → sight (behind_name k) v ≡ (if b then sight (rest k) (went 2 (saw 2 v)) else (plain kind.MathIdent, saw 2 v))
-unfolding behind_name
+name-by : (k : CharClasses) (v : Sight) (b : Bool) → is_field k (scout 0 v.place) (scout 1 v.place) ≡ b → sight (after_name k) v ≡ (if b then sight (rest k) (went 2 (saw 2 v)) else (plain kind.MathIdent, saw 2 v))
+unfolding after_name
 name-by k v b e =
     ap (λ t. sight (if t then skip 2 (rest k) else answer (plain kind.MathIdent)) (saw 2 (saw 1 v))) e
     ∙ ap (λ x. sight (if b then skip 2 (rest k) else answer (plain kind.MathIdent)) x) (saw-further v)
@@ -126,16 +126,16 @@ name-by k v b e =
     by true = refl
     by false = refl
 
-pub name-alone : (k : CharClasses) (v : Sight) → is_field k (scout 0 v.place) (scout 1 v.place) ≡ false → sight (behind_name k) v ≡ (plain kind.MathIdent, saw 2 v)
+pub name-alone : (k : CharClasses) (v : Sight) → is_field k (scout 0 v.place) (scout 1 v.place) ≡ false → sight (after_name k) v ≡ (plain kind.MathIdent, saw 2 v)
 name-alone k v e = name-by k v false e
 
-pub name-field : (k : CharClasses) (v : Sight) → is_field k (scout 0 v.place) (scout 1 v.place) ≡ true → sight (behind_name k) v ≡ sight (rest k) (went 2 (saw 2 v))
+pub name-field : (k : CharClasses) (v : Sight) → is_field k (scout 0 v.place) (scout 1 v.place) ≡ true → sight (after_name k) v ≡ sight (rest k) (went 2 (saw 2 v))
 name-field k v e = name-by k v true e
 
 pub stops : (k : CharClasses) (v w : Sight) → w ≡ went_past (continues k) v → passes (continues k) (scout 0 w.place) ≡ false
 stops k v w e = ap (λ (x : Sight). passes (continues k) (scout 0 x.place)) e ∙ past-stops (continues k) v.place
 
--- fewer characters are ahead behind a field
+-- fewer characters are ahead after a field
 pub field-shortens : (k : CharClasses) (v w : Sight) → is_field k (scout 0 v.place) (scout 1 v.place) ≡ true → w ≡ went_past (continues k) (went 2 (saw 2 v)) → length w.place.ahead < length v.place.ahead
 field-shortens k v w e f =
     let u = moved 2 v.place in

@@ -8,7 +8,7 @@ use Rattle.std.specs.List.{prefix_len}
 use Rattle.typst_kinds.specs.declared.kind.SyntaxKind.TheVariants as kind
 use Rattle.typst_tree.specs.Tree.{Tree, forest, joined, text_of, error_of}
 use Rattle.typst_lexer.specs.RawLaws.{RawLeaves}
-use Rattle.typst_lexer.specs.RawLines.{Row, leaf, trimmed, is_tick, first_line, later_rows, is_blank, dedent, closing, front, line_leaves, first_leaves, block_leaves, inline_leaves}
+use Rattle.typst_lexer.specs.RawLines.{RawLine, leaf, trimmed, is_tick, first_line, later_lines, is_blank, dedent, closing, front, line_leaves, first_leaves, block_leaves, inline_leaves}
 use Rattle.typst_lexer.specs.RawTag.{in_tag, tag, is_whole, only_tag, warned}
 use Rattle.typst_lexer.specs.Raw.{ticks, past_ticks, before_ticks, tag_leaves, delimited, inline_node, block_node, closed_node, two_delimiters, delimited_node, raw_node}
 use Rattle.typst_lexer.proofs.Rows.{row_chars, lines-joined, front-closing}
@@ -38,7 +38,7 @@ cut held ending line rest d =
     ∙ ap (λ t. held ++ t) (append_assoc ending (take d line) (drop d line ++ rest))
     ∙ ap (λ t. held ++ (ending ++ t)) (sym (append_assoc (take d line) (drop d line) rest) ∙ ap (λ l. l ++ rest) (take-append-drop d line))
 
-texts-lines : (d : ℕ) (held : List ℕ) (rs : List Row) (end : List ℕ) → texts (line_leaves d held rs end) ≡ encode_utf8_all (held ++ (row_chars rs ++ end))
+texts-lines : (d : ℕ) (held : List ℕ) (rs : List RawLine) (end : List ℕ) → texts (line_leaves d held rs end) ≡ encode_utf8_all (held ++ (row_chars rs ++ end))
 texts-lines d held [] end = texts-trimmed (held ++ end)
 texts-lines d held (r ∷ rs) end =
     let first = held ++ (r.ending ++ take d r.line) in
@@ -56,7 +56,7 @@ texts-first (c ∷ cs) = cases (c == 32)
     cases true = ap (λ t. encode_utf8_all (c ∷ []) ++ t) (append-nil (encode_utf8_all cs)) ∙ both (c ∷ []) cs
     cases false = append-nil (encode_utf8_all (c ∷ cs))
 
-texts-of : (b : Bool) (d : ℕ) (first : List ℕ) (rs : List Row) (end : List ℕ)
+texts-of : (b : Bool) (d : ℕ) (first : List ℕ) (rs : List RawLine) (end : List ℕ)
     → texts (if b then line_leaves d first rs end else first_leaves first ++ line_leaves d [] rs end) ≡ encode_utf8_all (first ++ (row_chars rs ++ end))
 texts-of true d first rs end = texts-lines d first rs end
 texts-of false d first rs end =
@@ -66,14 +66,14 @@ texts-of false d first rs end =
 texts-block : (cs : List ℕ) → texts (block_leaves cs) ≡ encode_utf8_all cs
 unfolding block_leaves
 texts-block cs =
-    texts-of (is_blank (first_line (front cs))) (dedent cs) (first_line (front cs)) (later_rows (front cs)) (closing cs)
-    ∙ ap encode_utf8_all (sym (append_assoc (first_line (front cs)) (row_chars (later_rows (front cs))) (closing cs)) ∙ ap (λ t. t ++ closing cs) (lines-joined (front cs)) ∙ front-closing cs)
+    texts-of (is_blank (first_line (front cs))) (dedent cs) (first_line (front cs)) (later_lines (front cs)) (closing cs)
+    ∙ ap encode_utf8_all (sym (append_assoc (first_line (front cs)) (row_chars (later_lines (front cs))) (closing cs)) ∙ ap (λ t. t ++ closing cs) (lines-joined (front cs)) ∙ front-closing cs)
 
 texts-inline : (cs : List ℕ) → texts (inline_leaves cs) ≡ encode_utf8_all cs
 unfolding inline_leaves
 texts-inline cs =
-    ap (λ t. encode_utf8_all (first_line cs) ++ t) (texts-lines 0 [] (later_rows cs) [] ∙ ap encode_utf8_all (append-nil (row_chars (later_rows cs))))
-    ∙ both (first_line cs) (row_chars (later_rows cs)) ∙ ap encode_utf8_all (lines-joined cs)
+    ap (λ t. encode_utf8_all (first_line cs) ++ t) (texts-lines 0 [] (later_lines cs) [] ∙ ap encode_utf8_all (append-nil (row_chars (later_lines cs))))
+    ∙ both (first_line cs) (row_chars (later_lines cs)) ∙ ap encode_utf8_all (lines-joined cs)
 
 -- ---- delimiters
 

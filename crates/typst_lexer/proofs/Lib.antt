@@ -1,7 +1,7 @@
 -- Which lemma gives which clause:
 --   Reads cluster, is_cluster             Clusters
 --   Reads name                            OwnNames
---   Reads behind_name                     FieldNames
+--   Reads after_name                      FieldNames
 --   math_laws.MathFrame                        typst_tokens Frame.frame
 --   math_laws.MathGoesOn                       Eats.math-eats
 --   math_laws.MathLooks                        the checker computes them

@@ -13,7 +13,7 @@ use Rattle.typst_lines.specs.Newline.{is_newline, line_end_len}
 use Rattle.typst_lines.specs.Place.{Place, moved, scout, passes, past, run, IsAfter, moved_back, back_from}
 use Rattle.typst_lines.specs.Scanner.{place}
 use Rattle.typst_tree.specs.Tree.{Tree}
-use Rattle.typst_lexer.specs.RawLines.{Row, leaf, trimmed, is_tick, first_line, later_rows, last_of, last_row, is_blank, has_spare_space, indent, least_indent, dedent, closing, front, between, line_leaves, first_leaves, block_of, block_leaves, inline_leaves}
+use Rattle.typst_lexer.specs.RawLines.{RawLine, leaf, trimmed, is_tick, first_line, later_lines, last_of, last_raw_line, is_blank, has_spare_space, indent, least_indent, dedent, closing, front, between, line_leaves, first_leaves, block_of, block_leaves, inline_leaves}
 use Rattle.typst_lexer.specs.LastLine.{IsLastLine}
 use Rattle.typst_lexer.specs.declared.raw_lines.LastLine.{LastLine}
 use Rattle.typst_lexer.proofs.Rows.{row, chars_of, later-none, front-is, front-closing, ends-closing}
@@ -23,7 +23,7 @@ use Rattle.typst_lexer.proofs.Moves.{at, moved-ahead, moved-more, moved-whole, p
 
 -- the leaves so far, and those of the lines from a place on with what stands before them
 abbrev pub all_leaves : ℕ → List Tree → Place → Place → List Tree
-all_leaves d leaves from s = leaves ++ line_leaves d (between from s) (later_rows s.ahead) []
+all_leaves d leaves from s = leaves ++ line_leaves d (between from s) (later_lines s.ahead) []
 
 pub record IsOnWay (d : ℕ) (leaves : List Tree) (from s : Place) (first : List Tree) (start begin : Place) : Type 0 where
   pub after : IsAfter from s
@@ -52,8 +52,8 @@ way-step d leaves once twice first from s q r t start begin gap line w n eq er i
     cut : (take k q.ahead ≡ take d (first_line q.ahead)) × (first_line (drop k q.ahead) ≡ drop d (first_line q.ahead)) × (drop (prefix_len in_line (drop k q.ahead)) (drop k q.ahead) ≡ drop (prefix_len in_line q.ahead) q.ahead)
     cut = run-cut in_line d q.ahead
 
-    behind : r ≡ moved (w.after.0 + e_len + k) from
-    behind = er ∙ ap (moved k) (eq ∙ ap (moved e_len) w.after.1 ∙ moved-more w.after.0 e_len from) ∙ moved-more (w.after.0 + e_len) k from
+    after : r ≡ moved (w.after.0 + e_len + k) from
+    after = er ∙ ap (moved k) (eq ∙ ap (moved e_len) w.after.1 ∙ moved-more w.after.0 e_len from) ∙ moved-more (w.after.0 + e_len) k from
 
     s_ahead : s.ahead ≡ drop w.after.0 from.ahead
     s_ahead = ap (λ p. p.ahead) w.after.1 ∙ moved-ahead w.after.0 from
@@ -67,7 +67,7 @@ way-step d leaves once twice first from s q r t start begin gap line w n eq er i
     gap_is : gap ≡ between from s ++ (take e_len s.ahead ++ take d (first_line q.ahead))
     gap_is =
         let sum : w.after.0 + e_len + k ≡ w.after.0 + (e_len + k) = omega arith in
-        is (w.after.0 + e_len + k) behind ∙ ap (λ n. take n from.ahead) sum ∙ take-add w.after.0 (e_len + k) from.ahead
+        is (w.after.0 + e_len + k) after ∙ ap (λ n. take n from.ahead) sum ∙ take-add w.after.0 (e_len + k) from.ahead
         ∙ ap (λ x. x ++ take (e_len + k) (drop w.after.0 from.ahead)) (sym (between-is w.after.0 from s w.after.1))
         ∙ ap (λ x. between from s ++ take (e_len + k) x) (sym s_ahead)
         ∙ ap (λ x. between from s ++ x) (take-add e_len k s.ahead ∙ ap (λ x. take e_len s.ahead ++ take k x) (sym q_ahead) ∙ ap (λ x. take e_len s.ahead ++ x) cut.0)
@@ -79,31 +79,31 @@ way-step d leaves once twice first from s q r t start begin gap line w n eq er i
     t_ahead = ap (λ p. p.ahead) et ∙ moved-ahead (prefix_len in_line r.ahead) r ∙ ap (λ x. drop (prefix_len in_line x) x) r_ahead ∙ cut.2
 
     rest : List Tree
-    rest = line_leaves d [] (later_rows q.ahead) []
+    rest = line_leaves d [] (later_lines q.ahead) []
 
     joined : all_leaves d twice t t ≡ all_leaves d leaves from s
     joined =
-        ap (λ x. twice ++ line_leaves d x (later_rows t.ahead) []) (between-none t)
-        ∙ ap (λ x. twice ++ line_leaves d [] x []) (ap later_rows t_ahead ∙ later-past q.ahead)
+        ap (λ x. twice ++ line_leaves d x (later_lines t.ahead) []) (between-none t)
+        ∙ ap (λ x. twice ++ line_leaves d [] x []) (ap later_lines t_ahead ∙ later-past q.ahead)
         ∙ ap (λ x. x ++ rest) (f ∙ ap (λ x. x ++ leaf kind.Text line ∷ []) e ∙ append_assoc leaves (leaf kind.RawTrimmed gap ∷ []) (leaf kind.Text line ∷ []))
         ∙ append_assoc leaves (leaf kind.RawTrimmed gap ∷ (leaf kind.Text line ∷ [])) rest
         ∙ ap (λ x. leaves ++ (leaf kind.RawTrimmed x ∷ (leaf kind.Text line ∷ rest))) gap_is
         ∙ ap (λ x. leaves ++ (leaf kind.RawTrimmed (between from s ++ (take e_len s.ahead ++ take d (first_line q.ahead))) ∷ (leaf kind.Text x ∷ rest))) line_is
-        ∙ ap (λ x. leaves ++ line_leaves d (between from s) x []) (ap (λ p. row (take e_len s.ahead) (first_line p.ahead) ∷ later_rows p.ahead) eq ∙ sym (later-step s n))
+        ∙ ap (λ x. leaves ++ line_leaves d (between from s) x []) (ap (λ p. row (take e_len s.ahead) (first_line p.ahead) ∷ later_lines p.ahead) eq ∙ sym (later-step s n))
 
 pub way-end : (d : ℕ) (leaves first : List Tree) (from s start begin : Place) → IsOnWay d leaves from s first start begin → passes is_newline (scout 0 s) ≡ false → leaves ≡ all_leaves d first start begin
 way-end d leaves first from s start begin w n =
     let none = nothing-left s.ahead w.at_end n in
-    sym (append-nil leaves) ∙ sym (ap (λ x. leaves ++ line_leaves d x (later_rows s.ahead) []) (w.held none) ∙ ap (λ x. leaves ++ line_leaves d [] x []) (ap later_rows none ∙ later-none)) ∙ w.same
+    sym (append-nil leaves) ∙ sym (ap (λ x. leaves ++ line_leaves d x (later_lines s.ahead) []) (w.held none) ∙ ap (λ x. leaves ++ line_leaves d [] x []) (ap later_lines none ∙ later-none)) ∙ w.same
 
 -- ---- the least indent
 
 pub least-step : (n m : ℕ) (blank : Bool) (line : List ℕ) (s q t : Place) → passes is_newline (scout 0 s) ≡ true → q ≡ moved (line_end_len s) s → t ≡ past in_line q → line ≡ run in_line q
-    → blank ≡ is_blank line → m ≡ (if blank then n else min n (indent line)) → least_indent m (later_rows t.ahead) ≡ least_indent n (later_rows s.ahead)
+    → blank ≡ is_blank line → m ≡ (if blank then n else min n (indent line)) → least_indent m (later_lines t.ahead) ≡ least_indent n (later_lines s.ahead)
 least-step n m blank line s q t nl eq et il b e =
-    ap (λ x. least_indent m x) (ap (λ p. later_rows p.ahead) et ∙ ap later_rows (moved-ahead (prefix_len in_line q.ahead) q) ∙ later-past q.ahead)
-    ∙ ap (λ x. least_indent x (later_rows q.ahead)) (e ∙ ap (λ x. if x then n else min n (indent line)) b ∙ ap (λ x. if is_blank x then n else min n (indent x)) il)
-    ∙ ap (λ p. least_indent n (row (take (line_end_len s) s.ahead) (first_line p.ahead) ∷ later_rows p.ahead)) eq
+    ap (λ x. least_indent m x) (ap (λ p. later_lines p.ahead) et ∙ ap later_lines (moved-ahead (prefix_len in_line q.ahead) q) ∙ later-past q.ahead)
+    ∙ ap (λ x. least_indent x (later_lines q.ahead)) (e ∙ ap (λ x. if x then n else min n (indent line)) b ∙ ap (λ x. if is_blank x then n else min n (indent x)) il)
+    ∙ ap (λ p. least_indent n (row (take (line_end_len s) s.ahead) (first_line p.ahead) ∷ later_lines p.ahead)) eq
     ∙ ap (least_indent n) (sym (later-step s nl))
 
 -- ---- the last line
@@ -113,9 +113,9 @@ pub record IsAtRow (cs : List ℕ) (start : Place) (line : List ℕ) (s : Place)
   pub ending : List ℕ
   pub from_start : start.ahead ≡ (ending ++ line) ++ s.ahead
   pub whole : reverse start.before ++ start.ahead ≡ cs
-  pub behind : reverse s.before ++ s.ahead ≡ cs
+  pub after : reverse s.before ++ s.ahead ≡ cs
   pub at_end : prefix_len in_line s.ahead ≡ 0
-  pub last : last_of (row ending line) (later_rows s.ahead) ≡ last_row cs
+  pub last : last_of (row ending line) (later_lines s.ahead) ≡ last_raw_line cs
 
 pub row-step : (cs line next : List ℕ) (start s q t : Place) → IsAtRow cs start line s → is_none (scout 0 s) ≡ false → passes is_newline (scout 0 s) ≡ true → q ≡ moved (line_end_len s) s → t ≡ past in_line q → next ≡ run in_line q
     → IsAtRow cs s next t
@@ -124,13 +124,13 @@ row-step cs line next start s q t h some nl eq et il = record {
   from_start =
       sym (take-append-drop (line_end_len s) s.ahead) ∙ ap (λ x. take (line_end_len s) s.ahead ++ x) (sym (moved-ahead (line_end_len s) s) ∙ sym (ap (λ p. p.ahead) eq) ∙ sym (take-append-drop (prefix_len in_line q.ahead) q.ahead)
       ∙ ap (λ x. x ++ drop (prefix_len in_line q.ahead) q.ahead) (sym il) ∙ ap (λ x. next ++ x) (sym t_ahead)) ∙ sym (append_assoc (take (line_end_len s) s.ahead) next t.ahead);
-  whole = h.behind;
-  behind = ap (λ p. reverse p.before ++ p.ahead) (et ∙ ap (λ p. past in_line p) eq) ∙ moved-whole (prefix_len in_line (moved (line_end_len s) s).ahead) (moved (line_end_len s) s) ∙ moved-whole (line_end_len s) s ∙ h.behind;
+  whole = h.after;
+  after = ap (λ p. reverse p.before ++ p.ahead) (et ∙ ap (λ p. past in_line p) eq) ∙ moved-whole (prefix_len in_line (moved (line_end_len s) s).ahead) (moved (line_end_len s) s) ∙ moved-whole (line_end_len s) s ∙ h.after;
   at_end = ap (prefix_len in_line) t_ahead ∙ past-run in_line q.ahead;
   last =
-      ap (last_of (row (take (line_end_len s) s.ahead) next)) (ap later_rows t_ahead ∙ later-past q.ahead)
-      ∙ ap (λ x. last_of (row (take (line_end_len s) s.ahead) x) (later_rows q.ahead)) il
-      ∙ ap (λ p. last_of (row h.ending line) (row (take (line_end_len s) s.ahead) (first_line p.ahead) ∷ later_rows p.ahead)) eq
+      ap (last_of (row (take (line_end_len s) s.ahead) next)) (ap later_lines t_ahead ∙ later-past q.ahead)
+      ∙ ap (λ x. last_of (row (take (line_end_len s) s.ahead) x) (later_lines q.ahead)) il
+      ∙ ap (λ p. last_of (row h.ending line) (row (take (line_end_len s) s.ahead) (first_line p.ahead) ∷ later_lines p.ahead)) eq
       ∙ ap (last_of (row h.ending line)) (sym (later-step s nl)) ∙ h.last;
 }
   where
@@ -138,14 +138,14 @@ row-step cs line next start s q t h some nl eq et il = record {
     t_ahead = ap (λ p. p.ahead) et ∙ moved-ahead (prefix_len in_line q.ahead) q
 
 pub row-first : (cs line : List ℕ) (start s : Place) → start.before ≡ [] → start.ahead ≡ cs → s ≡ past in_line start → line ≡ run in_line start → IsAtRow cs start line s
-unfolding last_row
+unfolding last_raw_line
 row-first cs line start s b a es il = record {
   ending = [];
   from_start = sym (take-append-drop (prefix_len in_line start.ahead) start.ahead) ∙ ap (λ x. x ++ drop (prefix_len in_line start.ahead) start.ahead) (sym il) ∙ ap (λ x. line ++ x) (sym s_ahead);
   whole = whole;
-  behind = ap (λ p. reverse p.before ++ p.ahead) es ∙ moved-whole (prefix_len in_line start.ahead) start ∙ whole;
+  after = ap (λ p. reverse p.before ++ p.ahead) es ∙ moved-whole (prefix_len in_line start.ahead) start ∙ whole;
   at_end = ap (prefix_len in_line) s_ahead ∙ past-run in_line start.ahead;
-  last = ap (last_of (row [] line)) (ap later_rows s_ahead ∙ later-past start.ahead ∙ ap later_rows a) ∙ ap (λ x. last_of (row [] x) (later_rows cs)) (il ∙ ap first_line a);
+  last = ap (last_of (row [] line)) (ap later_lines s_ahead ∙ later-past start.ahead ∙ ap later_lines a) ∙ ap (λ x. last_of (row [] x) (later_lines cs)) (il ∙ ap first_line a);
 }
   where
     s_ahead : s.ahead ≡ drop (prefix_len in_line start.ahead) start.ahead
@@ -172,7 +172,7 @@ spare-found line p c h f e w =
 
 module _ (cs : List ℕ) (l : LastLine) (h : IsLastLine cs l) where
   row_end : (blank spare : Bool) → is_blank (chars l.line.now) ≡ blank → has_spare_space (chars l.line.now) ≡ spare
-      → closing cs ≡ (if blank then (last_row cs).ending ++ (last_row cs).line else (if spare then 32 ∷ [] else []))
+      → closing cs ≡ (if blank then (last_raw_line cs).ending ++ (last_raw_line cs).line else (if spare then 32 ∷ [] else []))
   unfolding closing
   row_end blank spare b e = rw (sym (ap is_blank h.line) ∙ b, sym (ap has_spare_space h.line) ∙ e) refl
 
@@ -196,14 +196,14 @@ module _ (cs : List ℕ) (l : LastLine) (h : IsLastLine cs l) where
       (ap (λ p. reverse p.before) is ∙ reverse-reverse ends.before ∙ sym (front-is cs ends.before ends.is), ap (λ p. p.ahead) is ∙ sym one)
 
 pub last-line : (cs line : List ℕ) (start s : Place) → IsAtRow cs start line s → is_none (scout 0 s) ≡ true
-    → (line ≡ (last_row cs).line) × (start.ahead ≡ (last_row cs).ending ++ (last_row cs).line) × (reverse start.before ++ start.ahead ≡ cs) × (s.before ≡ reverse cs) × (s.ahead ≡ [])
+    → (line ≡ (last_raw_line cs).line) × (start.ahead ≡ (last_raw_line cs).ending ++ (last_raw_line cs).line) × (reverse start.before ++ start.ahead ≡ cs) × (s.before ≡ reverse cs) × (s.ahead ≡ [])
 last-line cs line start s h n =
     let none : s.ahead ≡ [] = nothing s.ahead n in
-    let last : row h.ending line ≡ last_row cs = sym (ap (last_of (row h.ending line)) (ap later_rows none ∙ later-none)) ∙ h.last in (
+    let last : row h.ending line ≡ last_raw_line cs = sym (ap (last_of (row h.ending line)) (ap later_lines none ∙ later-none)) ∙ h.last in (
       ap (λ r. r.line) last,
       h.from_start ∙ ap (λ x. (h.ending ++ line) ++ x) none ∙ append-nil (h.ending ++ line) ∙ ap chars_of last,
       h.whole,
-      sym (reverse-reverse s.before) ∙ ap reverse (sym (append-nil (reverse s.before)) ∙ ap (λ x. reverse s.before ++ x) (sym none) ∙ h.behind),
+      sym (reverse-reverse s.before) ∙ ap reverse (sym (append-nil (reverse s.before)) ∙ ap (λ x. reverse s.before ++ x) (sym none) ∙ h.after),
       none,
     )
   where
@@ -239,12 +239,12 @@ trimmed-some text u e = cases (chars text) refl
 
 -- ---- the leaves of a block
 
--- the closing stands behind the leaves of the lines
-lines-closing : (d : ℕ) (rs : List Row) (end : List ℕ) → line_leaves d [] rs end ≡ line_leaves d [] rs [] ++ trimmed end
+-- the closing stands after the leaves of the lines
+lines-closing : (d : ℕ) (rs : List RawLine) (end : List ℕ) → line_leaves d [] rs end ≡ line_leaves d [] rs [] ++ trimmed end
 lines-closing d [] end = refl
 lines-closing d (r ∷ rs) end = ap (λ t. leaf kind.RawTrimmed (r.ending ++ take d r.line) ∷ (leaf kind.Text (drop d r.line) ∷ t)) (lines-closing d rs end)
 
-held-closing : (d : ℕ) (held : List ℕ) (r : Row) (rs all : List Row) (end : List ℕ) → all ≡ r ∷ rs → line_leaves d held all end ≡ line_leaves d held all [] ++ trimmed end
+held-closing : (d : ℕ) (held : List ℕ) (r : RawLine) (rs all : List RawLine) (end : List ℕ) → all ≡ r ∷ rs → line_leaves d held all end ≡ line_leaves d held all [] ++ trimmed end
 held-closing d held r rs all end e =
     ap (λ x. line_leaves d held x end) e ∙ ap (λ t. leaf kind.RawTrimmed (held ++ (r.ending ++ take d r.line)) ∷ (leaf kind.Text (drop d r.line) ∷ t)) (lines-closing d rs end)
     ∙ ap (λ x. line_leaves d held x [] ++ trimmed end) (sym e)
@@ -253,31 +253,31 @@ module _ (cs : List ℕ) (d : ℕ) (start s : Place) (first end : List ℕ) (beg
   first_is : first ≡ first_line (front cs)
   first_is = line ∙ ap first_line begin
 
-  rows_are : later_rows s.ahead ≡ later_rows (front cs)
-  rows_are = ap (λ p. later_rows p.ahead) moves ∙ ap later_rows (moved-ahead (prefix_len in_line start.ahead) start) ∙ later-past start.ahead ∙ ap later_rows begin
+  rows_are : later_lines s.ahead ≡ later_lines (front cs)
+  rows_are = ap (λ p. later_lines p.ahead) moves ∙ ap later_lines (moved-ahead (prefix_len in_line start.ahead) start) ∙ later-past start.ahead ∙ ap later_lines begin
 
   -- what the definition says, by what the code has
-  block_is : (b : Bool) → b ≡ is_blank first → block_leaves cs ≡ (if b then line_leaves d first (later_rows s.ahead) end else first_leaves first ++ line_leaves d [] (later_rows s.ahead) end)
+  block_is : (b : Bool) → b ≡ is_blank first → block_leaves cs ≡ (if b then line_leaves d first (later_lines s.ahead) end else first_leaves first ++ line_leaves d [] (later_lines s.ahead) end)
   unfolding block_leaves
   block_is b e =
-      ap (λ x. block_of x (first_line (front cs)) (later_rows (front cs)) (closing cs)) (sym least) ∙ ap (λ x. block_of d x (later_rows (front cs)) (closing cs)) (sym first_is)
-      ∙ ap (λ x. block_of d first x (closing cs)) (sym rows_are) ∙ ap (block_of d first (later_rows s.ahead)) (sym closes)
-      ∙ ap (λ x. if x then line_leaves d first (later_rows s.ahead) end else first_leaves first ++ line_leaves d [] (later_rows s.ahead) end) (sym e)
+      ap (λ x. block_of x (first_line (front cs)) (later_lines (front cs)) (closing cs)) (sym least) ∙ ap (λ x. block_of d x (later_lines (front cs)) (closing cs)) (sym first_is)
+      ∙ ap (λ x. block_of d first x (closing cs)) (sym rows_are) ∙ ap (block_of d first (later_lines s.ahead)) (sym closes)
+      ∙ ap (λ x. if x then line_leaves d first (later_lines s.ahead) end else first_leaves first ++ line_leaves d [] (later_lines s.ahead) end) (sym e)
 
-  pub block-first : (old one two three : List Tree) → false ≡ is_blank first → one ≡ old ++ first_leaves first → two ≡ one ++ line_leaves d (between s s) (later_rows s.ahead) [] → three ≡ two ++ trimmed end → three ≡ old ++ block_leaves cs
+  pub block-first : (old one two three : List Tree) → false ≡ is_blank first → one ≡ old ++ first_leaves first → two ≡ one ++ line_leaves d (between s s) (later_lines s.ahead) [] → three ≡ two ++ trimmed end → three ≡ old ++ block_leaves cs
   block-first old one two three b e f g =
-      let rest = line_leaves d [] (later_rows s.ahead) [] in
-      g ∙ ap (λ x. x ++ trimmed end) (f ∙ ap (λ x. one ++ line_leaves d x (later_rows s.ahead) []) (between-none s) ∙ ap (λ x. x ++ rest) e ∙ append_assoc old (first_leaves first) rest)
+      let rest = line_leaves d [] (later_lines s.ahead) [] in
+      g ∙ ap (λ x. x ++ trimmed end) (f ∙ ap (λ x. one ++ line_leaves d x (later_lines s.ahead) []) (between-none s) ∙ ap (λ x. x ++ rest) e ∙ append_assoc old (first_leaves first) rest)
       ∙ append_assoc old (first_leaves first ++ rest) (trimmed end)
-      ∙ ap (λ x. old ++ x) (append_assoc (first_leaves first) rest (trimmed end) ∙ ap (λ x. first_leaves first ++ x) (sym (lines-closing d (later_rows s.ahead) end)) ∙ sym (block_is false b))
+      ∙ ap (λ x. old ++ x) (append_assoc (first_leaves first) rest (trimmed end) ∙ ap (λ x. first_leaves first ++ x) (sym (lines-closing d (later_lines s.ahead) end)) ∙ sym (block_is false b))
 
-  pub block-held : (old two three : List Tree) → true ≡ is_blank first → is_none (scout 0 s) ≡ false → two ≡ old ++ line_leaves d (between start s) (later_rows s.ahead) [] → three ≡ two ++ trimmed end → three ≡ old ++ block_leaves cs
+  pub block-held : (old two three : List Tree) → true ≡ is_blank first → is_none (scout 0 s) ≡ false → two ≡ old ++ line_leaves d (between start s) (later_lines s.ahead) [] → three ≡ two ++ trimmed end → three ≡ old ++ block_leaves cs
   block-held old two three b some f g =
       let held = between-is (prefix_len in_line start.ahead) start s moves ∙ sym line in
       let next = end-next s.ahead (past-end start s moves) some in
-      let rows = later_rows s.ahead in
+      let rows = later_lines s.ahead in
       g ∙ ap (λ x. x ++ trimmed end) (f ∙ ap (λ x. old ++ line_leaves d x rows []) held) ∙ append_assoc old (line_leaves d first rows []) (trimmed end)
-      ∙ ap (λ x. old ++ x) (sym (held-closing d first (row (take (line_end_len s) s.ahead) (first_line (moved (line_end_len s) s).ahead)) (later_rows (moved (line_end_len s) s).ahead) rows end (later-step s next)) ∙ sym (block_is true b))
+      ∙ ap (λ x. old ++ x) (sym (held-closing d first (row (take (line_end_len s) s.ahead) (first_line (moved (line_end_len s) s).ahead)) (later_lines (moved (line_end_len s) s).ahead) rows end (later-step s next)) ∙ sym (block_is true b))
 
   pub block-blank : (old one : List Tree) → true ≡ is_blank first → is_none (scout 0 s) ≡ true → one ≡ old ++ trimmed cs → one ≡ old ++ block_leaves cs
   block-blank old one b none f =
@@ -285,20 +285,20 @@ module _ (cs : List ℕ) (d : ℕ) (start s : Place) (first end : List ℕ) (beg
       let whole : first ≡ front cs =
       line ∙ sym (append-nil (run in_line start)) ∙ ap (λ x. run in_line start ++ x) (sym (sym (ap (λ p. p.ahead) moves ∙ moved-ahead (prefix_len in_line start.ahead) start) ∙ left)) ∙ take-append-drop (prefix_len in_line start.ahead) start.ahead ∙ begin in
       f ∙ ap (λ x. old ++ trimmed x) (sym (front-closing cs) ∙ ap (λ x. x ++ closing cs) (sym whole) ∙ ap (λ x. first ++ x) (sym closes))
-      ∙ ap (λ x. old ++ x) (sym (ap (λ x. line_leaves d first x end) (ap later_rows left ∙ later-none)) ∙ sym (block_is true b))
+      ∙ ap (λ x. old ++ x) (sym (ap (λ x. line_leaves d first x end) (ap later_lines left ∙ later-none)) ∙ sym (block_is true b))
     where
       nothing : (xs : List ℕ) → is_none (slice_get xs 0) ≡ true → xs ≡ []
       nothing [] e = refl
       nothing (x ∷ xs) e = absurd (cc)
 
-pub dedent-is : (cs line : List ℕ) (n : ℕ) → line ≡ (last_row cs).line → n ≡ least_indent (indent line) (later_rows cs) → n ≡ dedent cs
+pub dedent-is : (cs line : List ℕ) (n : ℕ) → line ≡ (last_raw_line cs).line → n ≡ least_indent (indent line) (later_lines cs) → n ≡ dedent cs
 unfolding dedent
-dedent-is cs line n e f = f ∙ ap (λ x. least_indent (indent x) (later_rows cs)) e
+dedent-is cs line n e f = f ∙ ap (λ x. least_indent (indent x) (later_lines cs)) e
 
 pub inline-is : (cs : List ℕ) (start s : Place) (first : List ℕ) (old one two : List Tree) → start.ahead ≡ cs → s ≡ past in_line start → first ≡ run in_line start
-    → one ≡ old ++ leaf kind.Text first ∷ [] → two ≡ one ++ line_leaves 0 (between s s) (later_rows s.ahead) [] → two ≡ old ++ inline_leaves cs
+    → one ≡ old ++ leaf kind.Text first ∷ [] → two ≡ one ++ line_leaves 0 (between s s) (later_lines s.ahead) [] → two ≡ old ++ inline_leaves cs
 unfolding inline_leaves
 inline-is cs start s first old one two begin moves line e f =
-    let rows : later_rows s.ahead ≡ later_rows cs = ap (λ p. later_rows p.ahead) moves ∙ ap later_rows (moved-ahead (prefix_len in_line start.ahead) start) ∙ later-past start.ahead ∙ ap later_rows begin in
-    f ∙ ap (λ x. one ++ line_leaves 0 x (later_rows s.ahead) []) (between-none s) ∙ ap (λ x. one ++ line_leaves 0 [] x []) rows ∙ ap (λ x. x ++ line_leaves 0 [] (later_rows cs) []) e
-    ∙ append_assoc old (leaf kind.Text first ∷ []) (line_leaves 0 [] (later_rows cs) []) ∙ ap (λ x. old ++ (leaf kind.Text x ∷ line_leaves 0 [] (later_rows cs) [])) (line ∙ ap first_line begin)
+    let rows : later_lines s.ahead ≡ later_lines cs = ap (λ p. later_lines p.ahead) moves ∙ ap later_lines (moved-ahead (prefix_len in_line start.ahead) start) ∙ later-past start.ahead ∙ ap later_lines begin in
+    f ∙ ap (λ x. one ++ line_leaves 0 x (later_lines s.ahead) []) (between-none s) ∙ ap (λ x. one ++ line_leaves 0 [] x []) rows ∙ ap (λ x. x ++ line_leaves 0 [] (later_lines cs) []) e
+    ∙ append_assoc old (leaf kind.Text first ∷ []) (line_leaves 0 [] (later_lines cs) []) ∙ ap (λ x. old ++ (leaf kind.Text x ∷ line_leaves 0 [] (later_lines cs) [])) (line ∙ ap first_line begin)

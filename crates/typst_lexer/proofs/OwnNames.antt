@@ -12,7 +12,7 @@ use Rattle.typst_kinds.specs.declared.kind.SyntaxKind.TheVariants as kind
 use Rattle.typst_lines.specs.Newline.{is_newline}
 use Rattle.typst_lines.specs.Place.{Place, moved, moved_from, passes, past, run, scout}
 use Rattle.typst_lexer.specs.Atoms.{text}
-use Rattle.typst_lexer.specs.MathNames.{continues, named, name, behind_name}
+use Rattle.typst_lexer.specs.MathNames.{continues, named, name, after_name}
 use Rattle.typst_tokens.proofs.Moves.{moved-more}
 use Rattle.typst_tokens.proofs.Sights.{text-on}
 use Rattle.typst_tokens.specs.Reader.Reader.{answer, eat, eat_run}
@@ -24,9 +24,9 @@ use Rattle.typst_tokens.specs.declared.token.Token.{Token}
 abbrev pub size : CharClasses → Place → ℕ
 size k p = 1 + prefix_len (continues k) (moved 1 p).ahead
 
--- the place behind it
-pub behind-is : (k : CharClasses) (v u w : Sight) → u ≡ went 1 (saw 2 v) → w ≡ went_past (continues k) u → w.place ≡ moved (size k v.place) v.place
-behind-is k v u w e f =
+-- the place after it
+pub after-is : (k : CharClasses) (v u w : Sight) → u ≡ went 1 (saw 2 v) → w ≡ went_past (continues k) u → w.place ≡ moved (size k v.place) v.place
+after-is k v u w e f =
     ap (λ (x : Sight). x.place) f ∙ ap (λ (x : Sight). past (continues k) x.place) e
     ∙ moved-more 1 (prefix_len (continues k) (moved 1 v.place).ahead) v.place.before v.place.ahead
 
@@ -97,12 +97,12 @@ pub name-cluster : (k : CharClasses) (c : ℕ) (v u w : Sight) (cs : List ℕ) (
 unfolding named
 name-cluster k c v u w cs r t e f g h i j l =
     let is : (k.cluster cs == length cs) ≡ true = sym i ∙ j in
-    name-by k c v u w cs e f g h ∙ ap (λ b. sight (if b then answer (plain kind.MathText) else behind_name k) w) is ∙ ap (λ x. (x, w)) (sym l)
+    name-by k c v u w cs e f g h ∙ ap (λ b. sight (if b then answer (plain kind.MathText) else after_name k) w) is ∙ ap (λ x. (x, w)) (sym l)
 
 -- it is not
 pub name-ident : (k : CharClasses) (c : ℕ) (v u w x : Sight) (cs : List ℕ) (r : Bool) (t : Token) → passes (continues k) (scout 1 v.place) ≡ true → u ≡ went 1 (saw 2 v) → w ≡ went_past (continues k) u
-    → cs ≡ c ∷ run (continues k) (moved 1 v.place) → r ≡ (k.cluster cs == length cs) → r ≡ false → sight (behind_name k) w ≡ (t, x) → sight (name k c) v ≡ (t, x)
+    → cs ≡ c ∷ run (continues k) (moved 1 v.place) → r ≡ (k.cluster cs == length cs) → r ≡ false → sight (after_name k) w ≡ (t, x) → sight (name k c) v ≡ (t, x)
 unfolding named
 name-ident k c v u w x cs r t e f g h i j l =
     let is : (k.cluster cs == length cs) ≡ false = sym i ∙ j in
-    name-by k c v u w cs e f g h ∙ ap (λ b. sight (if b then answer (plain kind.MathText) else behind_name k) w) is ∙ l
+    name-by k c v u w cs e f g h ∙ ap (λ b. sight (if b then answer (plain kind.MathText) else after_name k) w) is ∙ l

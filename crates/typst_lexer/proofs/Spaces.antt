@@ -28,7 +28,7 @@ printable-is-none Markup c low high = grind (arith, nat_tests)
 printable-is-none Math c low high = grind (arith, nat_tests)
 printable-is-none Code c low high = grind (arith, nat_tests)
 
--- so the run of whitespace ends behind the space
+-- so the run of whitespace ends after the space
 run-is-one : (mode : SyntaxMode) (c : ℕ) (a : List ℕ) → 33 ≤ c → c ≤ 126 → prefix_len (is_space mode) (32 ∷ c ∷ a) ≡ 1
 run-is-one mode c a low high = rw (space-is mode, printable-is-none mode c low high) refl
 
@@ -36,7 +36,7 @@ module _ (k : CharClasses) (b a : List ℕ) (c r l : ℕ) (low : 33 ≤ c) (high
   abbrev at_space : Sight
   at_space = record { place = place b (32 ∷ c ∷ a); reach = r; least = l }
 
-  -- whitespace of so many characters, and what was looked at for it
+  -- whitespace of a given number of characters, and what was looked at for it
   abbrev of_length : SyntaxMode → ℕ → Token × Sight
   of_length mode n = (space mode (line_ends false (take n (32 ∷ c ∷ a))), went n (saw (suc n) (saw 1 at_space)))
 
@@ -46,7 +46,7 @@ module _ (k : CharClasses) (b a : List ℕ) (c r l : ℕ) (low : 33 ≤ c) (high
   read-space Math = ap (of_length Math) (run-is-one Math c a low high)
   read-space Code = ap (of_length Code) (run-is-one Code c a low high)
 
-  -- to look at the character behind the space from there is the same
+  -- to look at the character after the space from there is the same
   looked : went 1 (saw 2 (saw 1 at_space)) ≡ saw 1 (went 1 at_space)
   looked = same-sight _ _ _ _ _ _ refl (omega (arith, far-on 1 32 b (c ∷ a))) refl
 

@@ -34,21 +34,21 @@ abbrev pub is_exponent : ℕ → Bool
 is_exponent c = c == 101 || c == 69
 
 -- The place after a sign, if one comes next.
-abbrev pub behind_sign : Place → Place
-behind_sign z = if passes is_sign (scout 0 z) then moved 1 z else z
+abbrev pub after_sign : Place → Place
+after_sign z = if passes is_sign (scout 0 z) then moved 1 z else z
 
 -- The place after an exponent, with its sign and its digits, if one comes next; `em` begins a
 -- suffix.
-abbrev pub behind_exponent : Place → Place
-behind_exponent z =
+abbrev pub after_exponent : Place → Place
+after_exponent z =
     if word_at 0 (codes "em") z then z
-    else (if passes is_exponent (scout 0 z) then past is_ascii_digit (behind_sign (moved 1 z)) else z)
+    else (if passes is_exponent (scout 0 z) then past is_ascii_digit (after_sign (moved 1 z)) else z)
 
 -- Where the suffix of a number begins: after the digits of its base, which come after two
 -- characters, or after its exponent.
 abbrev pub at_suffix : NumberFault → Place → Place
-at_suffix UnknownSuffix z = behind_exponent (past is_decimal z)
-at_suffix Exponent z = behind_exponent (past is_decimal z)
+at_suffix UnknownSuffix z = after_exponent (past is_decimal z)
+at_suffix Exponent z = after_exponent (past is_decimal z)
 at_suffix (NoDigits b) z = past (is_digit_of b) (moved 2 z)
 at_suffix (WrongDigits b) z = past (is_digit_of b) (moved 2 z)
 at_suffix (Suffix b) z = past (is_digit_of b) (moved 2 z)

@@ -24,14 +24,14 @@ is_field k c d = passes (λ c. c == 46) c && passes k.xid_start d
 -- Names after a name: at a character that doesn't continue a name a dot may come, which takes the
 -- character that starts the next one with it.
 abbrev pub fields_turn : CharClasses → Bool → Option ℕ → Step (Turn Memory)
-fields_turn k behind_dot c =
-    if behind_dot then turn (go (quoted false))
+fields_turn k after_dot c =
+    if after_dot then turn (go (quoted false))
     else (if passes (continues k) c then turn (go (quoted false))
     else see 1 (λ d. turn (if is_field k c d then go (quoted true) else leave)))
 
 -- A step through the fields of a name.
 abbrev pub fields_step : CharClasses → Memory → Option ℕ → Step (Turn Memory)
-fields_step k (quoted behind_dot) c = fields_turn k behind_dot c
+fields_step k (quoted after_dot) c = fields_turn k after_dot c
 fields_step k _ c = turn leave
 
 -- The machine that takes the fields of a name.
@@ -41,15 +41,15 @@ in_fields k memory = see 0 (fields_step k memory)
 -- What comes after a name: a dot and the character that starts the next name begin fields, and all
 -- that belongs to fields is taken. The second character ahead is looked at whatever the first one
 -- is.
-unfoldable pub behind_name : CharClasses → Reader Memory Token
-behind_name k = peek 0 (λ c. peek 1 (λ d.
+unfoldable pub after_name : CharClasses → Reader Memory Token
+after_name k = peek 0 (λ c. peek 1 (λ d.
     if is_field k c d then skip 2 (eat_span (in_fields k) (quoted false) (λ _. answer (plain kind.MathFieldAccess)))
     else answer (plain kind.MathIdent)))
 
 -- A name of these characters: if it is one cluster, it stands for one character, and else it may
 -- have fields.
 unfoldable pub named : CharClasses → List ℕ → Reader Memory Token
-named k name = if k.cluster name == length name then answer (plain kind.MathText) else behind_name k
+named k name = if k.cluster name == length name then answer (plain kind.MathText) else after_name k
 
 -- The character that comes next starts identifiers: if the one after it continues them, it begins a
 -- name.

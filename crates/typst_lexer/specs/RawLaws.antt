@@ -52,7 +52,7 @@ pub record BlockRaws : Type 0 where
   -- two blank lines are trimmed as one
   pub blank : raw_node (codes "``` \n```") ≡ raw (delim (codes "```") ∷ (trim (codes " \n") ∷ (delim (codes "```") ∷ [])))
 
--- Tags of texts between three backticks, and the warning of a text that is nothing but a tag.
+-- Tags of texts between three backticks, and the warning of a text that is only a tag.
 pub record TaggedRaws : Type 0 where
   -- a tag goes up to whitespace
   pub signs : raw_node (codes "```c++ x```") ≡ raw (delim (codes "```") ∷ (lang (codes "c++") ∷ (trim (codes " ") ∷ (text (codes "x") ∷ (delim (codes "```") ∷ [])))))

@@ -1,4 +1,4 @@
--- The language tag of a raw text, and the warning of a text that is nothing but a tag.
+-- The language tag of a raw text, and the warning of a text that is only a tag.
 use Rattle.std.specs.Prelude.{ℕ, ◌+◌, Bool, not, ◌==◌, ◌&&◌, ◌||◌, if◌then◌else◌, List, ◌++◌, length, take, Some, None, codes, encode_utf8_all}
 use Rattle.std.specs.Char.{is_whitespace}
 use Rattle.std.specs.List.{prefix_len}

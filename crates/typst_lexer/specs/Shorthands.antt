@@ -28,7 +28,7 @@ hyphen = shorthand (codes "->>" ∷ codes "-->" ∷ codes "->" ∷ []) (sign kin
 unfoldable pub tilde : Reader Memory Token
 tilde = shorthand (codes "~~>" ∷ codes "~>" ∷ []) (sign kind.MathShorthand)
 
--- A colon comes next: a shorthand, or a cluster.
+-- A colon comes next: a shorthand (`before_colon` of ArgumentTokens.antt names both, too), or a cluster.
 unfoldable pub colon : CharClasses → Reader Memory Token
 colon k = shorthand (codes "::=" ∷ codes ":=" ∷ []) (cluster k)
 

@@ -32,9 +32,9 @@ use typst_tokens::raw::raw;
 use typst_tokens::sets::is_space;
 use typst_tokens::{Cursor, Hull, LineEnd, Token};
 
-/// A place in a text, and the end of a line of it that is known.
+/// Where a lexer is in a text, with the end of a line that is known already.
 #[derive(Clone, Copy)]
-struct Spot<'a> {
+struct LexerPosition<'a> {
     s: Scanner<'a>,
     line: LineEnd<'a>,
     ghost same_text: { line.text.now ≡ s.text.now },
@@ -43,7 +43,7 @@ struct Spot<'a> {
 /// Reads a text token by token, in one mode or another.
 #[derive_where(Clone, Copy)]
 pub struct Lexer<'a, C: Classes> {
-    at: Spot<'a>,
+    at: LexerPosition<'a>,
     mode: SyntaxMode,
     newline: bool,
     classes: &'a C,
@@ -60,7 +60,7 @@ impl<'a, C: Classes> Lexer<'a, C> {
         ensures newline { newline_of result ≡ false }
         ensures classes { result.classes.now ≡ classes.now }
     {
-        let at = Spot {
+        let at = LexerPosition {
             s: Scanner::new(text),
             line: LineEnd::of_text(text),
         };
@@ -112,7 +112,7 @@ impl<'a, C: Classes> Lexer<'a, C> {
         let mut s = self.at.s;
         s.jump(index);
         let line = self.at.line;
-        self.at = Spot { s, line };
+        self.at = LexerPosition { s, line };
     }
 
     /// The class value by which it reads.
@@ -155,7 +155,7 @@ impl<'a, C: Classes> Lexer<'a, C> {
         let mut line = self.at.line;
         let read = token(alloc, self.at.s, &mut line, self.mode, self.classes)?;
         let text = read.after.since(&self.at.s);
-        self.at = Spot {
+        self.at = LexerPosition {
             s: read.after,
             line,
         };

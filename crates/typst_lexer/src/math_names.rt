@@ -53,7 +53,7 @@ pub(crate) fn name<C: Classes>(s: &mut Cursor<'_>, c: char, classes: &C) -> Toke
     if is_cluster(own, classes) {
         return Token::plain(SyntaxKind::MathText);
     }
-    behind_name(s, classes)
+    after_name(s, classes)
 }
 
 fn continues_name<C: Classes>(c: Option<char>, classes: &C) -> bool
@@ -76,8 +76,8 @@ fn is_cluster<C: Classes>(text: &str, classes: &C) -> bool
 
 /// An identifier after its name, with the fields that follow.
 #[inline(always)]
-fn behind_name<C: Classes>(s: &mut Cursor<'_>, classes: &C) -> Token
-    ensures { Reads (spec.behind_name (C.classes classes.now)) s.old result s.new }
+fn after_name<C: Classes>(s: &mut Cursor<'_>, classes: &C) -> Token
+    ensures { Reads (spec.after_name (C.classes classes.now)) s.old result s.new }
 {
     if !field_follows(s, classes) {
         return Token::plain(SyntaxKind::MathIdent);

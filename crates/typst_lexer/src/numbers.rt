@@ -58,7 +58,7 @@ fn pass_based(s: &mut Scanner<'_>, base: Base)
 
 /// Goes past a decimal number and its exponent.
 fn pass_decimal(s: &mut Scanner<'_>)
-    ensures { place s.new ≡ spec.behind_exponent (past spec.is_decimal (place s.old)) }
+    ensures { place s.new ≡ spec.after_exponent (past spec.is_decimal (place s.old)) }
 {
     s.eat_while(&Decimal);
     if s.at_word(b"em") {

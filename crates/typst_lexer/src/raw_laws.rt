@@ -16,7 +16,7 @@ pub fn block_raws()
     ensures { law.BlockRaws }
 {}
 
-/// What the tags of some texts are, and the warning of a text that is nothing but a tag.
+/// What the tags of some texts are, and the warning of a text that is only a tag.
 pub fn tagged_raws()
     ensures { law.TaggedRaws }
 {}

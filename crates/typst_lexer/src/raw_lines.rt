@@ -101,7 +101,7 @@ fn push_lines<'a>(
     requires after { IsAfter (place from.now) (place s.now) }
     requires at_end { prefix_len in_line (place s.now).ahead ≡ 0 }
     requires held { (place s.now).ahead ≡ [] → spec.between (place from.now) (place s.now) ≡ [] }
-    ensures { OnOk result (leaves.new.items ≡ leaves.old.items ++ spec.line_leaves dedent (spec.between (place from.now) (place s.now)) (spec.later_rows (place s.now).ahead) []) }
+    ensures { OnOk result (leaves.new.items ≡ leaves.old.items ++ spec.line_leaves dedent (spec.between (place from.now) (place s.now)) (spec.later_lines (place s.now).ahead) []) }
 {
     let mut s = *s;
     let mut from = *from;
@@ -114,7 +114,7 @@ fn push_lines<'a>(
     Ok(())
 }
 
-/// Goes on by so many characters, or to the line's end.
+/// Goes on by a given number of characters, or to the line's end.
 fn skip_in_line(s: &mut Scanner<'_>, count: usize)
     ensures moved { place s.new ≡ moved (min count (prefix_len in_line (place s.old).ahead)) (place s.old) }
     ensures same_text { s.new.text.now ≡ s.old.text.now }
@@ -128,7 +128,7 @@ fn skip_in_line(s: &mut Scanner<'_>, count: usize)
 
 /// The least indent of the last line and of the lines after the first that aren't blank.
 fn dedent(text: &str, last: &str) -> usize
-    ensures { result ≡ spec.least_indent (spec.indent (chars last.now)) (spec.later_rows (chars text.now)) }
+    ensures { result ≡ spec.least_indent (spec.indent (chars last.now)) (spec.later_lines (chars text.now)) }
 {
     let mut s = Scanner::new(text);
     s.eat_while(&InLine);
@@ -154,7 +154,7 @@ fn indent(line: &str) -> usize
     count
 }
 
-/// Whether the line has nothing but whitespace.
+/// Whether the line is only whitespace.
 fn is_blank(line: &str) -> bool
     ensures { result ≡ spec.is_blank (chars line.now) }
 {

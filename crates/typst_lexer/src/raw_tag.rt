@@ -1,4 +1,4 @@
-//! The language tag of a raw text, and the warning of a text that is nothing but a tag.
+//! The language tag of a raw text, and the warning of a text that is only a tag.
 ghost use Rattle.std.specs.Prelude.{◌≡◌, ◌+◌, ◌<◌, ◌^◌, length, drop, reverse, OnOk};
 ghost use Rattle.std.specs.Str.{chars};
 ghost use Rattle.typst_lines.specs.Scanner.{place};

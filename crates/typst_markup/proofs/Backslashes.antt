@@ -24,7 +24,7 @@ from-one zero xs [] = refl
 from-one (suc n) xs [] = refl
 from-one n xs (c ∷ ys) = refl
 
--- behind digits a brace may come
+-- after digits a brace may come
 ending : (q w : Place) (b : Bool) → b ≡ passes (λ c. c == 125) (scout 0 (past is_ascii_hexdigit q)) → w ≡ (if b then moved 1 (past is_ascii_hexdigit q) else past is_ascii_hexdigit q) → w ≡ moved (in_braces q.ahead).len q
 ending q w b e f = of-brace b (e ∙ ap (passes (λ c. c == 125)) (from-next n q.before q.ahead)) f
   where

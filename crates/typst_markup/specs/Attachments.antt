@@ -5,7 +5,7 @@ use Rattle.typst_kinds.specs.declared.kind.SyntaxKind.{SyntaxKind}
 use Rattle.typst_kinds.specs.declared.kind.SyntaxKind.TheVariants as kind
 use Rattle.typst_language.specs.Calls.Call.{MathExpr}
 use Rattle.typst_language.specs.declared.calls.ChainSet.{ChainSet}
-use Rattle.typst_language.specs.Shape.Change.{unparened}
+use Rattle.typst_language.specs.Shape.NodeChange.{unparened}
 use Rattle.typst_language.specs.Shape.Shape.{keeps}
 use Rattle.typst_language.specs.Syntax.{Parser, ◌>>=◌}
 use Rattle.typst_language.specs.Syntax.Parser.{gives, pick, repeat}

@@ -4,7 +4,7 @@ use Rattle.std.specs.Str.{bytes_eq}
 use Rattle.typst_kinds.specs.declared.kind.SyntaxKind.{SyntaxKind}
 use Rattle.typst_kinds.specs.declared.kind.SyntaxKind.TheVariants as kind
 use Rattle.typst_language.specs.Shape.{Shape, Seen, becomes}
-use Rattle.typst_language.specs.Shape.Change.{stays, renamed}
+use Rattle.typst_language.specs.Shape.NodeChange.{stays, renamed}
 use Rattle.typst_language.specs.Shape.Seen.{leaf_seen}
 use Rattle.typst_language.specs.Shape.Shape.{keeps}
 use Rattle.typst_language.specs.Syntax.{Parser, ◌>>=◌}

@@ -4,8 +4,8 @@ use Rattle.typst_kinds.specs.Kinds.{same}
 use Rattle.typst_kinds.specs.declared.kind.SyntaxKind.{SyntaxKind}
 use Rattle.typst_kinds.specs.declared.kind.SyntaxKind.TheVariants as kind
 use Rattle.typst_language.specs.declared.calls.Way.TheVariants as way
-use Rattle.typst_language.specs.Shape.{Change, Making, Shape, becomes, encloses}
-use Rattle.typst_language.specs.Shape.Change.{stays}
+use Rattle.typst_language.specs.Shape.{NodeChange, Making, Shape, becomes, encloses}
+use Rattle.typst_language.specs.Shape.NodeChange.{stays}
 use Rattle.typst_language.specs.Shape.Making.{itself, wanted}
 use Rattle.typst_language.specs.Shape.Shape.{keeps, holds}
 use Rattle.typst_language.specs.Syntax.{Parser, ◌>>=◌, ◌>>◌}
@@ -55,7 +55,7 @@ argument_name k = do
   gives (key_of name.1)
 
 -- a name that was seen becomes an error
-abbrev pub name_change : List (List ℕ) → Key → Change
+abbrev pub name_change : List (List ℕ) → Key → NodeChange
 name_change names (key.Name name) = when_named names name
 name_change names _ = stays
 
@@ -71,7 +71,7 @@ named_argument k names = node (λ key. holds (name_change names key) kind.Named)
 unfoldable pub spread_argument : Parser (Unit {0})
 spread_argument = node (λ _. becomes kind.Spread) (eat_so way.SpreadArgument itself >> argument_value false)
 
--- the name of an argument, or an underscore in its place
+-- the name of an argument, or an underscore instead
 abbrev pub names_argument : SyntaxKind → Bool
 names_argument k = same kind.Ident k || same kind.Underscore k
 

@@ -9,7 +9,7 @@ use Rattle.typst_kinds.specs.declared.kind.SyntaxKind.{SyntaxKind}
 use Rattle.typst_kinds.specs.declared.kind.SyntaxKind.TheVariants as kind
 use Rattle.typst_language.specs.declared.calls.ChainSet.{ChainSet}
 use Rattle.typst_language.specs.Shape.{Shape, Seen, becomes}
-use Rattle.typst_language.specs.Shape.Change.{unparened}
+use Rattle.typst_language.specs.Shape.NodeChange.{unparened}
 use Rattle.typst_language.specs.Shape.Seen.{leaf_seen}
 use Rattle.typst_language.specs.Shape.Shape.{holds}
 use Rattle.typst_language.specs.Syntax.{Parser, ◌>>=◌, ◌>>◌}

@@ -11,6 +11,6 @@ use Rattle.typst_markup.specs.Markup.{content_block}
 pub record Outside (l : Level) : Type 0 where
   pub content : ReadsBlock l block.Content content_block
 
--- `Means`, where no block is being read
+-- `Means`, at a level where blocks may be read
 abbrev pub MeansOutside : {A : Type 0} → Frame → Parser A → View → Result A AllocError → View → Type 0
 MeansOutside f q old r new = (l : Level) → Fills l f → Outside l → Reads l q old r new

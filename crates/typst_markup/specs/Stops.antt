@@ -1,4 +1,4 @@
--- Where the sequences of the code stop.
+-- Where sequences of markup and of formulas stop.
 use Rattle.std.specs.Prelude.{Bool}
 use Rattle.typst_kinds.specs.declared.kind.SyntaxKind.{SyntaxKind}
 use Rattle.typst_language.specs.Depth.{is_end}

@@ -7,7 +7,7 @@ ghost use Rattle.typst_markup.specs.Attachments as spec;
 
 use std::alloc::AllocError;
 use typst_kinds::SyntaxKind;
-use typst_language::{ChainSet, Change, Levels, Parser, deeper_math_expr};
+use typst_language::{ChainSet, Levels, NodeChange, Parser, deeper_math_expr};
 
 /// Whether a token is one of the signs.
 pub(crate) fn is_in(signs: ChainSet, kind: SyntaxKind) -> bool
@@ -39,7 +39,7 @@ pub(crate) fn operand<L: Levels>(
 {
     let from = p.marker();
     deeper_math_expr(g, p, least, signs)?;
-    p.change(from, Change::Unparened)?;
+    p.change(from, NodeChange::Unparened)?;
     Ok(())
 }
 

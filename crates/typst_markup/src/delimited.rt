@@ -9,7 +9,7 @@ ghost use Rattle.typst_markup.specs.Delimited as spec;
 use crate::{MathStop, is_closer, math_exprs};
 use std::alloc::AllocError;
 use typst_kinds::SyntaxKind;
-use typst_language::{Change, Levels, Parser, SyntaxNode};
+use typst_language::{Levels, NodeChange, Parser, SyntaxNode};
 
 /// Which kind a delimiter of this text has.
 fn sign_kind(text: &str) -> SyntaxKind
@@ -40,7 +40,7 @@ fn delimiter_sign<L: Levels>(g: &L, p: &mut Parser<'_>) -> Result<SyntaxKind, Al
 {
     let from = p.marker();
     p.eat(g)?;
-    p.change(from, Change::Stays)?;
+    p.change(from, NodeChange::Stays)?;
     Ok(delimiter_kind(p.given_since(from)))
 }
 
@@ -50,7 +50,7 @@ pub(crate) fn delimiter<L: Levels>(g: &L, p: &mut Parser<'_>) -> Result<(), Allo
 {
     let from = p.marker();
     let kind = delimiter_sign(g, p)?;
-    p.change(from, Change::Renamed(kind))?;
+    p.change(from, NodeChange::Renamed(kind))?;
     Ok(())
 }
 
@@ -74,7 +74,7 @@ fn wrap_body(p: &mut Parser<'_>, from: usize, closed: bool) -> Result<(), AllocE
         p.wrap(from, SyntaxKind::Math)?;
         return Ok(());
     }
-    p.change(from, Change::Stays)?;
+    p.change(from, NodeChange::Stays)?;
     Ok(())
 }
 

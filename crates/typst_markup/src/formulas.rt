@@ -13,7 +13,7 @@ use crate::math_heads::{Callee, Grown, MathHead, MathTail, math_head, math_tail}
 use crate::{embedded, no_signs};
 use std::alloc::AllocError;
 use typst_kinds::SyntaxKind;
-use typst_language::{ChainSet, Change, Levels, Parser, SyntaxNode};
+use typst_language::{ChainSet, Levels, NodeChange, Parser, SyntaxNode};
 use typst_lines::{Classes, MathClass, Scanner};
 
 /// Whether a class in math is that of letters.
@@ -57,7 +57,7 @@ fn math_text<L: Levels>(g: &L, p: &mut Parser<'_>) -> Result<Callee, AllocError>
 {
     let from = p.marker();
     p.eat(g)?;
-    p.change(from, Change::Stays)?;
+    p.change(from, NodeChange::Stays)?;
     Ok(text_callee(g, p.given_since(from)))
 }
 
@@ -160,7 +160,7 @@ fn wrap_grown(p: &mut Parser<'_>, from: usize, grown: Grown) -> Result<(), Alloc
         Grown::Math => {
             p.wrap(from, SyntaxKind::Math)?;
         }
-        Grown::Fraction => p.wrap_changed(from, Change::Unparened, SyntaxKind::MathFrac)?,
+        Grown::Fraction => p.wrap_changed(from, NodeChange::Unparened, SyntaxKind::MathFrac)?,
         Grown::Attach => {
             p.wrap(from, SyntaxKind::MathAttach)?;
         }

@@ -10,7 +10,7 @@ ghost use Rattle.typst_markup.specs.MathArguments as spec;
 use crate::{Key, MathStop, ends_list, key_of, math_exprs, separates, with_argument, wrap_named};
 use std::alloc::AllocError;
 use typst_kinds::{Names, SyntaxKind};
-use typst_language::{Change, Levels, Parser, Way};
+use typst_language::{Levels, NodeChange, Parser, Way};
 
 /// Reads the expressions of an argument, of which a named one has to have some; answers how many there are.
 fn argument_exprs<L: Levels>(g: &L, p: &mut Parser<'_>, is_named: bool) -> Result<usize, AllocError>
@@ -46,7 +46,7 @@ fn wrap_value(p: &mut Parser<'_>, from: usize, count: usize) -> Result<(), Alloc
     ensures { OnOk result (Rewrapped from (spec.value_shape count) p.old p.new) }
 {
     if count == 1 {
-        p.change(from, Change::Stays)?;
+        p.change(from, NodeChange::Stays)?;
         return Ok(());
     }
     p.wrap(from, SyntaxKind::Math)?;
@@ -59,7 +59,7 @@ fn argument_name<L: Levels>(g: &L, p: &mut Parser<'_>, kind: SyntaxKind) -> Resu
 {
     let from = p.marker();
     eat_name(g, p, kind)?;
-    p.change(from, Change::Stays)?;
+    p.change(from, NodeChange::Stays)?;
     Ok(key_of(p.alloc(), p.given_since(from))?)
 }
 
@@ -103,7 +103,7 @@ fn wrap_argument(
 {
     match key {
         Key::Name(name) => wrap_named(p, from, names, name.as_str())?,
-        _ => p.wrap_changed(from, Change::Stays, SyntaxKind::Named)?,
+        _ => p.wrap_changed(from, NodeChange::Stays, SyntaxKind::Named)?,
     }
     Ok(())
 }
@@ -120,7 +120,7 @@ fn spread_argument<L: Levels>(g: &L, p: &mut Parser<'_>) -> Result<(), AllocErro
     Ok(())
 }
 
-/// Whether this is the name of an argument, or an underscore in its place.
+/// Whether this is the name of an argument, or an underscore instead.
 fn names_argument(kind: SyntaxKind) -> bool
     ensures { result ≡ spec.names_argument kind }
 {

@@ -9,7 +9,7 @@ ghost use Rattle.typst_markup.specs.Named as spec;
 use crate::Key;
 use std::alloc::AllocError;
 use typst_kinds::{Names, SyntaxKind};
-use typst_language::{Change, Parser};
+use typst_language::{NodeChange, Parser};
 
 /// Makes one node of a named argument, whose name becomes an error if it was seen.
 pub fn wrap_named(
@@ -21,13 +21,13 @@ pub fn wrap_named(
     ensures { OnOk result (Rewrapped from (holds (spec.when_named names.now name.now) kind.Named) p.old p.new) }
 {
     if !names.has(name) {
-        p.wrap_changed(from, Change::Stays, SyntaxKind::Named)?;
+        p.wrap_changed(from, NodeChange::Stays, SyntaxKind::Named)?;
         return Ok(());
     }
     let message = format!(in p.alloc(); "duplicate argument: {name}")?;
     p.wrap_changed(
         from,
-        Change::TurnsWrong(message.as_str()),
+        NodeChange::TurnsWrong(message.as_str()),
         SyntaxKind::Named,
     )?;
     Ok(())

@@ -2,7 +2,7 @@
 
 ghost use Rattle.std.specs.Prelude.{◌≡◌, ◌<◌};
 ghost use Rattle.typst_language.specs.Steps.{read_block};
-ghost use Rattle.typst_language.specs.Hand.{told};
+ghost use Rattle.typst_language.specs.Hand.{as_at_hand};
 ghost use Rattle.typst_language.specs.View.{MeansLast};
 ghost use Rattle.typst_markup.specs.Markup as spec;
 ghost use Rattle.typst_markup.specs.Outside.{MeansOutside};
@@ -67,7 +67,7 @@ pub fn reference<L: Levels>(g: &L, p: &mut Parser<'_>) -> Result<(), AllocError>
 
 /// Whether a content block begins at the current token, without trivia before it.
 pub fn opens_directly(p: &Parser<'_>) -> bool
-    ensures { result ≡ spec.opens_directly (told p.now.hand) }
+    ensures { result ≡ spec.opens_directly (as_at_hand p.now.hand) }
 {
     p.current() == SyntaxKind::LeftBracket && !p.had_trivia()
 }

@@ -17,7 +17,7 @@ use Rattle.typst_candidates.specs.declared.entry.Entry.{Entry}
 use Rattle.typst_candidates.specs.Candidates as candidate
 use Rattle.typst_candidates.specs.Candidates.{Candidate}
 use Rattle.typst_candidates.specs.Entries.{Units, end_of, front_of, rear_of, spliced, units_of}
-use Rattle.typst_candidates.specs.Rows.{spelled}
+use Rattle.typst_candidates.specs.Edges.{spelled}
 use Rattle.typst_edits.specs.Grammar.{log, tree}
 use Rattle.typst_edits.proofs.Whole.{leaves}
 use Rattle.typst_edits.specs.Answer.{IsAnswer, Refused}
@@ -35,10 +35,10 @@ use Rattle.typst_edits.proofs.Edit.{among}
 use Rattle.typst_edits.proofs.OpensApart.{opens-apart-law}
 use Rattle.typst_edits.proofs.Unique.{unique-law}
 use Rattle.typst_parser.specs.Attempt.{Fails, IsPart, Speaks, at_path}
-use Rattle.typst_parser.specs.Change.{Change, Holds, Makes, candidates, text_after, text_before}
+use Rattle.typst_parser.specs.TextReplacement.{TextReplacement, Holds, Makes, candidates, text_after, text_before}
 use Rattle.typst_parser.specs.Reparse.{HasTaken, NonePassesOf, Takes, TakesFirst}
 use Rattle.typst_parser.specs.declared.attempt.Asked.{Asked}
-use Rattle.typst_parser.specs.declared.attempt.Part.{Part}
+use Rattle.typst_parser.specs.declared.attempt.ReparsedPart.{ReparsedPart}
 use Rattle.typst_parser.specs.declared.replacement.Replacement.{Replacement}
 use Rattle.typst_parser.proofs.Numbers.{entries-end, entries-written}
 use Rattle.typst_parser.proofs.Places.{bytes-width}
@@ -79,7 +79,7 @@ reaches-from (i ∷ path) from other to t h = by-kid (slice_get (kids_of t) i) (
 text-bare : (t : Tree) → text_of (bare t) ≡ text_of t
 text-bare t = ap (λ xs. t.head.text ++ xs) (joined_bare t.kids)
 
-module _ (k : CharClasses) (c : Change) (root : Tree) (units : Units) (h : Holds k c root units) where
+module _ (k : CharClasses) (c : TextReplacement) (root : Tree) (units : Units) (h : Holds k c root units) where
   -- the old tree's leaves are the old text
   pub root-length : length (text_of root) ≡ width (text_before c)
   root-length =
@@ -115,8 +115,8 @@ module _ (k : CharClasses) (c : Change) (root : Tree) (units : Units) (h : Holds
   candidate-order d chosen = (reaches-from d.path d.from d.from d.to root (candidate-stands d chosen).reaches).1
 
   -- a part is put at children that are there
-  pub part-reaches : (d : Candidate) → Among d (candidates k c root) → (p : Part) → IsPart k c root d p → Reaches d.path p.first d.to root
-  part-reaches d chosen p is = (reaches-from d.path d.from p.first d.to root (candidate-stands d chosen).reaches).0 is.first
+  pub part-reaches : (d : Candidate) → Among d (candidates k c root) → (p : ReparsedPart) → IsPart k c root d p → Reaches d.path p.first_child d.to root
+  part-reaches d chosen p is = (reaches-from d.path d.from p.first_child d.to root (candidate-stands d chosen).reaches).0 is.first
 
   -- the candidates of the replaced bytes are those of the edit
   pub candidates-are : (new : List ℕ) (e : Replacement) → Makes c new e → candidate.candidates (listed (log k (text_before c)).notes) e.start e.old_end root ≡ candidates k c root
@@ -130,17 +130,17 @@ module _ (k : CharClasses) (c : Change) (root : Tree) (units : Units) (h : Holds
     pub fails-refused : Fails k c d → Refused k c.front c.old c.new c.rest root d
     fails-refused never = λ ts g. absurd (never ts g)
 
-    pub full-refused : (p : Part) → IsPart k c root d p → replaced_at d.path p.first d.to p.nodes.items root ≡ None → Refused k c.front c.old c.new c.rest root d
+    pub full-refused : (p : ReparsedPart) → IsPart k c root d p → replaced_at d.path p.first_child d.to p.nodes.items root ≡ None → Refused k c.front c.old c.new c.rest root d
     full-refused p is none = λ ts g.
         ap (λ us. replaced_at d.path d.from d.to us root) (unique-law opens-apart-law k c.front c.old c.new c.rest root d ts is.nodes h.tree_is chosen g is.gives) ∙ is.puts ∙ none
 
-    pub part-taken : (p : Part) (now : Tree) (units_now : Units) → IsPart k c root d p → replaced_at d.path p.first d.to p.nodes.items root ≡ Some now → units_now ≡ spliced p.from p.to p.entries.units.entries units → HasTaken k c d root now units_now p.end
+    pub part-taken : (p : ReparsedPart) (now : Tree) (units_now : Units) → IsPart k c root d p → replaced_at d.path p.first_child d.to p.nodes.items root ≡ Some now → units_now ≡ spliced p.from_entry p.to_entry p.entries.units.entries units → HasTaken k c d root now units_now p.end
     part-taken p now units_now is put spliced_is = record {
       nodes = is.nodes;
       gives = is.gives;
       put = is.puts ∙ put;
       shifted = is.end;
-      units_are = spliced_is ∙ ap (λ u. spliced p.from p.to p.entries.units.entries u) h.units_are ∙ sym is.units;
+      units_are = spliced_is ∙ ap (λ u. spliced p.from_entry p.to_entry p.entries.units.entries u) h.units_are ∙ sym is.units;
     }
 
   -- ---- the answer
@@ -156,7 +156,7 @@ module _ (k : CharClasses) (c : Change) (root : Tree) (units : Units) (h : Holds
 
 -- ---- candidates of a tree that stayed
 
-module _ (k : CharClasses) (c : Change) (root : Tree) (units : Units) (r : Tree) (r_is : r ≡ root) (u : Units) (u_is : u ≡ units) where
+module _ (k : CharClasses) (c : TextReplacement) (root : Tree) (units : Units) (r : Tree) (r_is : r ≡ root) (u : Units) (u_is : u ≡ units) where
   pub holds-still : Holds k c root units → Holds k c r u
   holds-still h = subst (λ x. Holds k c x u) (sym r_is) (subst (λ v. Holds k c root v) (sym u_is) h)
 

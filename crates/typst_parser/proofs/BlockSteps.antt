@@ -1,4 +1,4 @@
--- The steps of reading a block anew.
+-- The steps of reading a block again.
 use Rattle.std.proofs.Common.{◌≡◌, ℕ, suc, ◌+◌, ◌-◌, ◌≤◌, ◌<◌, ◌^◌, true, List, length, take, drop, Option, Some, None, refl, ap, sym, subst, ◌∙◌, arith}
 use Rattle.std.proofs.lemmas.Option.{same_Some}
 use Rattle.std.specs.Str.{IsCharBoundary, chars}
@@ -18,16 +18,16 @@ use Rattle.typst_edits.specs.Part.{IsBlock, block_alone}
 use Rattle.typst_edits.specs.BlockTest.{FoundBlock, SaysBlock}
 use Rattle.typst_edits.specs.Edit.{Among, text_with}
 use Rattle.typst_parser.specs.Attempt.{Fails, IsPart, Speaks}
-use Rattle.typst_parser.specs.Change.{Change, candidates, text_after}
+use Rattle.typst_parser.specs.TextReplacement.{TextReplacement, candidates, text_after}
 use Rattle.typst_parser.specs.Steps.{IsReadBlock, entries_of}
 use Rattle.typst_parser.specs.declared.attempt.Asked.{Asked}
-use Rattle.typst_parser.specs.declared.attempt.Part.{Part}
+use Rattle.typst_parser.specs.declared.attempt.ReparsedPart.{ReparsedPart}
 use Rattle.typst_parser.proofs.Blocks.{block-closes, block-end-fails, block-found, block-looks-fail, block-part, block-says, block-starts}
 use Rattle.typst_parser.proofs.Answering.{candidate-order, entries-are}
 use Rattle.typst_parser.proofs.Places.{part-fits, place-boundary, place-is, position-within, sides-of}
 
 -- a place of the new text, by its byte
-module _ {C : Type 0} (k : CharClasses) (ch : Change) (q : Asked C) (root : Tree) (units : Units) (ready : Speaks k ch q root units) (n b : ℕ) (e : position (moved n (text_with ch.front ch.new ch.rest)) ≡ b) where
+module _ {C : Type 0} (k : CharClasses) (ch : TextReplacement) (q : Asked C) (root : Tree) (units : Units) (ready : Speaks k ch q root units) (n b : ℕ) (e : position (moved n (text_with ch.front ch.new ch.rest)) ≡ b) where
   at-byte : position (moved n (start_of (chars q.new.now))) ≡ b
   at-byte = ap (λ cs. position (moved n (start_of cs))) ready.makes.is ∙ e
 
@@ -40,7 +40,7 @@ module _ {C : Type 0} (k : CharClasses) (ch : Change) (q : Asked C) (root : Tree
   pub now-few : width (moved n (text_with ch.front ch.new ch.rest)).before + width (moved n (text_with ch.front ch.new ch.rest)).ahead < 2 ^ 64 - 1
   now-few = let s = sides-of (text_after ch) n in let f = ready.makes.fits_now in omega (arith, s, f)
 
-module _ {C : Type 0} (k : CharClasses) (ch : Change) (q : Asked C) (root : Tree) (units : Units) (ready : Speaks k ch q root units) (d : Candidate) (chosen : Among d (candidates k ch root)) (block : d.is_block ≡ true)
+module _ {C : Type 0} (k : CharClasses) (ch : TextReplacement) (q : Asked C) (root : Tree) (units : Units) (ready : Speaks k ch q root units) (d : Candidate) (chosen : Among d (candidates k ch root)) (block : d.is_block ≡ true)
     (from : ℕ) (opens : Some from ≡ opening_of d.start 0 0 units.entries) where
   f : FoundBlock k ch.front ch.old ch.new ch.rest d from
   f = block-found k ch root units d ready.holds q.new.now q.edit ready.makes chosen block from (sym opens)
@@ -102,8 +102,8 @@ module _ {C : Type 0} (k : CharClasses) (ch : Change) (q : Asked C) (root : Tree
           pub end-no : (p.end + q.edit.old_end ≡ d.end + q.edit.new_end → ⊥) → Fails k ch d
           end-no = block-end-fails k ch d from f q.front q.rear ready.front ready.rear to to-is q.new.now q.edit ready.makes (place_at q.new.now d.start) place p there
 
-          pub part-of : from < q.front → q.rear ≤ to → p.end + q.edit.old_end ≡ d.end + q.edit.new_end → (part : Part) → part.nodes ≡ p.nodes → part.end ≡ p.end → part.from ≡ from → part.to ≡ to
-              → part.entries.units.entries ≡ entries_of d.start p → part.first ≡ d.from → IsPart k ch root d part
-          part-of before behind shifted part nodes end from_is at entries first =
-              block-part k ch d from f q.front q.rear ready.front ready.rear to to-is q.new.now q.edit ready.makes (place_at q.new.now d.start) place p there before behind shifted part nodes end from_is at entries root first
+          pub part-of : from < q.front → q.rear ≤ to → p.end + q.edit.old_end ≡ d.end + q.edit.new_end → (part : ReparsedPart) → part.nodes ≡ p.nodes → part.end ≡ p.end → part.from_entry ≡ from → part.to_entry ≡ to
+              → part.entries.units.entries ≡ entries_of d.start p → part.first_child ≡ d.from → IsPart k ch root d part
+          part-of before after shifted part nodes end from_is at entries first =
+              block-part k ch d from f q.front q.rear ready.front ready.rear to to-is q.new.now q.edit ready.makes (place_at q.new.now d.start) place p there before after shifted part nodes end from_is at entries root first
               (candidate-order k ch root units ready.holds d chosen)

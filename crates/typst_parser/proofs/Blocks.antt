@@ -24,12 +24,12 @@ use Rattle.typst_edits.specs.Frame.{Gives}
 use Rattle.typst_edits.specs.PieceNotes.{listed}
 use Rattle.typst_edits.proofs.BlockTest.{block-test-law}
 use Rattle.typst_parser.specs.Attempt.{Fails, IsPart}
-use Rattle.typst_parser.specs.Change.{Change, Holds, Makes, candidates, text_after, text_before}
+use Rattle.typst_parser.specs.TextReplacement.{TextReplacement, Holds, Makes, candidates, text_after, text_before}
 use Rattle.typst_parser.specs.Steps.{entries_of}
-use Rattle.typst_parser.specs.declared.attempt.Part.{Part}
+use Rattle.typst_parser.specs.declared.attempt.ReparsedPart.{ReparsedPart}
 use Rattle.typst_parser.specs.declared.replacement.Replacement.{Replacement}
 use Rattle.typst_edits.proofs.InOrder.{in-order-law}
-use Rattle.typst_parser.proofs.Numbers.{Behind, closing-behind}
+use Rattle.typst_parser.proofs.Numbers.{After, closing-after}
 use Rattle.typst_parser.proofs.Runs.{shift-in, shift-out, width-take}
 
 -- a block that was read by itself has these entries
@@ -43,13 +43,13 @@ says-in : (es fs : List Entry) (from to levels : ℕ) (b : Block) (mode : Syntax
 says-in es fs from to levels b mode e s = subst (λ xs. SaysBlock xs from to levels b mode) (sym e) s
 
 -- where a block ends
-pub says-behind : (es : List Entry) (from to levels : ℕ) (b : Block) (mode : SyntaxMode) → SaysBlock es from to levels b mode → Behind (suc from) es to
-says-behind es from to levels b read_as s = closing-behind (suc from) es to s.closes
+pub says-after : (es : List Entry) (from to levels : ℕ) (b : Block) (mode : SyntaxMode) → SaysBlock es from to levels b mode → After (suc from) es to
+says-after es from to levels b read_as s = closing-after (suc from) es to s.closes
 
 pub says-within : (es : List Entry) (from to levels : ℕ) (b : Block) (mode : SyntaxMode) → SaysBlock es from to levels b mode → from < length es
 says-within es from to levels b read_as s = slice_get_within es from s.entry s.is
 
--- the number behind the one where a block begins
+-- the number after the one where a block begins
 pub says-closes : (es : List Entry) (first to levels : ℕ) (b : Block) (mode : SyntaxMode) → 0 < first → SaysBlock es (first - 1) to levels b mode → closing_of 0 first (drop first es) ≡ Some to
 says-closes es first to levels b read_as some s =
     let e : suc (first - 1) ≡ first = omega (arith, some) in
@@ -57,7 +57,7 @@ says-closes es first to levels b read_as some s =
 
 -- ---- a candidate
 
-module _ (k : CharClasses) (c : Change) (d : Candidate) (from : ℕ) (f : FoundBlock k c.front c.old c.new c.rest d from) where
+module _ (k : CharClasses) (c : TextReplacement) (d : Candidate) (from : ℕ) (f : FoundBlock k c.front c.old c.new c.rest d from) where
   abbrev pub block_place : Place
   block_place = moved f.at (text_with c.front c.new c.rest)
 
@@ -83,17 +83,17 @@ module _ (k : CharClasses) (c : Change) (d : Candidate) (from : ℕ) (f : FoundB
       block-end-fails never = λ ts g. (let s = ((f.gives ts).0 g).0.shifted in let t = read-here.end in
           never (shift-out c new e p.end d.end makes (ap (λ n. n + width c.old) t ∙ s)))
 
-      pub block-part : from < front → rear ≤ to → p.end + e.old_end ≡ d.end + e.new_end → (part : Part) → part.nodes ≡ p.nodes → part.end ≡ p.end → part.from ≡ from → part.to ≡ to
-          → part.entries.units.entries ≡ entries_of d.start p → (root : Tree) → part.first ≡ d.from → d.from ≤ d.to → IsPart k c root d part
-      block-part before behind shifted part nodes end from_is at entries root first some =
+      pub block-part : from < front → rear ≤ to → p.end + e.old_end ≡ d.end + e.new_end → (part : ReparsedPart) → part.nodes ≡ p.nodes → part.end ≡ p.end → part.from_entry ≡ from → part.to_entry ≡ to
+          → part.entries.units.entries ≡ entries_of d.start p → (root : Tree) → part.first_child ≡ d.from → d.from ≤ d.to → IsPart k c root d part
+      block-part before after shifted part nodes end from_is at entries root first some =
           let t = read-here.end in
           let s = shift-in c new e p.end d.end makes shifted in
           let passes : PassesAlone k c.front c.old c.new c.rest d from f.to f.levels f.block f.mode f.at =
-          record { before = omega (arith, before, front_is); behind = omega (arith, behind, rear_is, to_is); shifted = ap (λ n. n + width c.old) (sym t) ∙ s } in
+          record { before = omega (arith, before, front_is); behind = omega (arith, after, rear_is, to_is); shifted = ap (λ n. n + width c.old) (sym t) ∙ s } in
           let one = f.alone passes in
           let gives = (f.gives p.nodes.items).1 (passes, read-here.nodes_are ∙ one) in
           let same = alone-entries k f.levels f.block f.mode block_place p d.start read-here f.start_now in
-          let b = says-behind (entries_in k (text_before c)) from f.to f.levels f.block f.mode f.says in
+          let b = says-after (entries_in k (text_before c)) from f.to f.levels f.block f.mode f.says in
           record {
             nodes = part.nodes.items;
             gives = subst (λ v. Gives k c.front c.old c.new c.rest d v.items) (sym nodes) gives;
@@ -104,12 +104,12 @@ module _ (k : CharClasses) (c : Change) (d : Candidate) (from : ℕ) (f : FoundB
             within = let m = b.most in omega (arith, m, at, to_is);
             units = f.units passes ∙ ap (λ xs. spliced from f.to xs (units_of (log k (text_before c)))) (same ∙ sym entries)
                 ∙ ap (λ n. spliced n f.to part.entries.units.entries (units_of (log k (text_before c)))) (sym from_is)
-                ∙ ap (λ n. spliced part.from n part.entries.units.entries (units_of (log k (text_before c)))) (sym (at ∙ to_is));
+                ∙ ap (λ n. spliced part.from_entry n part.entries.units.entries (units_of (log k (text_before c)))) (sym (at ∙ to_is));
           }
 
 -- ---- the law
 
-module _ (k : CharClasses) (c : Change) (root : Tree) (units : Units) (d : Candidate) (h : Holds k c root units) (new : List ℕ) (e : Replacement) (m : Makes c new e) (chosen : Among d (candidates k c root)) (block : d.is_block ≡ true) where
+module _ (k : CharClasses) (c : TextReplacement) (root : Tree) (units : Units) (d : Candidate) (h : Holds k c root units) (new : List ℕ) (e : Replacement) (m : Makes c new e) (chosen : Among d (candidates k c root)) (block : d.is_block ≡ true) where
   same-entries : units.entries ≡ entries_in k (text_before c)
   same-entries = ap (λ (u : Units). u.entries) h.units_are
 

@@ -8,7 +8,7 @@ use Rattle.typst_lines.specs.Lines.{bytes}
 use Rattle.typst_lines.proofs.LineTable.{bytes-text, chars-split, chars-range}
 use Rattle.typst_tokens.specs.Sight.{width}
 use Rattle.typst_edits.proofs.Widths.{width-append}
-use Rattle.typst_parser.specs.Change.{Change, text_before, text_after, Makes}
+use Rattle.typst_parser.specs.TextReplacement.{TextReplacement, text_before, text_after, Makes}
 use Rattle.typst_parser.specs.declared.replacement.Replacement.{Replacement}
 use Rattle.typst_parser.specs.Records.{IsEdited}
 use Rattle.typst_parser.specs.Tried.{change_by}
@@ -25,7 +25,7 @@ width-chars s u = bytes-width (chars s) ∙ bytes-text s u
 -- a text in the place of a range of bytes is an edit
 abbrev pub edited-by : (held was text now with : List ℕ) (r : Range ℕ) (behind long new_end : ℕ) → held ≡ was → text ≡ was → IsUtf8 text → IsUtf8 with → IsCharBoundary was r.start → IsCharBoundary was r.end → r.start ≤ r.end
     → now ≡ take r.start held ++ with ++ drop r.end held → behind ≡ length text - r.end → long ≡ length now → new_end ≡ long - behind → IsEdited was now (record { start = r.start; old_end = r.end; new_end = new_end })
-edited-by held was text now with r behind long new_end at of utf8_old utf8 start end ordered made is_behind is_long is_end =
+edited-by held was text now with r behind long new_end at of utf8_old utf8 start end ordered made is_after is_long is_end =
     let is : now ≡ take r.start was ++ (with ++ drop r.end was) = made ∙ ap (λ t. take r.start t ++ with ++ drop r.end t) at ∙ append_assoc (take r.start was) with (drop r.end was) in
     record {
       with = with;
@@ -35,11 +35,11 @@ edited-by held was text now with r behind long new_end at of utf8_old utf8 start
       end = end;
       ordered = ordered;
       is = is;
-      new_end = omega (arith, end.0, start.0, ordered, is_end, is_behind, is_long, ap length of, ap length is, length-append (take r.start was) (with ++ drop r.end was), length-append with (drop r.end was), length-take-le r.start was start.0, length-drop r.end was);
+      new_end = omega (arith, end.0, start.0, ordered, is_end, is_after, is_long, ap length of, ap length is, length-append (take r.start was) (with ++ drop r.end was), length-append with (drop r.end was), length-take-le r.start was start.0, length-drop r.end was);
     }
 
 module _ (was now : List ℕ) (e : Replacement) (h : IsEdited was now e) where
-  abbrev c : Change
+  abbrev c : TextReplacement
   c = change_by h
 
   -- the characters up to the stretch's end

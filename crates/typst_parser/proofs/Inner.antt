@@ -21,15 +21,15 @@ use Rattle.typst_edits.specs.Edit.{text_with}
 use Rattle.typst_edits.specs.Frame.{Gives}
 use Rattle.typst_edits.specs.RunTest.{FoundInner, FoundRun}
 use Rattle.typst_parser.specs.Attempt.{IsPart}
-use Rattle.typst_parser.specs.Change.{Change, text_after, text_before}
+use Rattle.typst_parser.specs.TextReplacement.{TextReplacement, text_after, text_before}
 use Rattle.typst_parser.specs.Steps.{IsRunOf, IsWithBlock, entries_of}
-use Rattle.typst_parser.specs.declared.attempt.Part.{Part}
+use Rattle.typst_parser.specs.declared.attempt.ReparsedPart.{ReparsedPart}
 use Rattle.typst_parser.specs.declared.attempt.Run.{Run}
-use Rattle.typst_parser.proofs.Blocks.{alone-entries, says-behind, says-within}
+use Rattle.typst_parser.proofs.Blocks.{alone-entries, says-after, says-within}
 
-module _ (k : CharClasses) (c : Change) (root : Tree) (d : Candidate) (f : FoundInner k c.front c.old c.new c.rest root d) (run : Run) (is : IsRunOf k c root d f run) where
+module _ (k : CharClasses) (c : TextReplacement) (root : Tree) (d : Candidate) (f : FoundInner k c.front c.old c.new c.rest root d) (run : Run) (is : IsRunOf k c root d f run) where
   -- what is found of its run
-  pub run-found : FoundRun k c.front c.old c.new c.rest d run.kind run.levels run.first
+  pub run-found : FoundRun k c.front c.old c.new c.rest d run.kind run.levels run.first_entry
   run-found =
       subst (λ n. FoundRun k c.front c.old c.new c.rest d run.kind run.levels n) (sym is.first)
       (subst (λ n. FoundRun k c.front c.old c.new c.rest d run.kind n (suc f.opens)) (sym is.levels)
@@ -45,13 +45,13 @@ module _ (k : CharClasses) (c : Change) (root : Tree) (d : Candidate) (f : Found
   pub inner-here : position inner_place ≡ run.at
   inner-here = f.start_now ∙ sym is.at
 
-  opens-is : run.first - 1 ≡ f.opens
+  opens-is : run.first_entry - 1 ≡ f.opens
   opens-is = let e = is.first in omega (arith, e)
 
-  pub inner-says : (es : List Entry) → es ≡ entries_in k (text_before c) → SaysBlock es (run.first - 1) f.to f.levels block.Content f.mode
-  inner-says es e = subst (λ xs. SaysBlock xs (run.first - 1) f.to f.levels block.Content f.mode) (sym e) (subst (λ n. SaysBlock (entries_in k (text_before c)) n f.to f.levels block.Content f.mode) (sym opens-is) f.says)
+  pub inner-says : (es : List Entry) → es ≡ entries_in k (text_before c) → SaysBlock es (run.first_entry - 1) f.to f.levels block.Content f.mode
+  inner-says es e = subst (λ xs. SaysBlock xs (run.first_entry - 1) f.to f.levels block.Content f.mode) (sym e) (subst (λ n. SaysBlock (entries_in k (text_before c)) n f.to f.levels block.Content f.mode) (sym opens-is) f.says)
 
-  pub inner-first : (es : List Entry) → es ≡ entries_in k (text_before c) → (0 < run.first) × (run.first ≤ length es)
+  pub inner-first : (es : List Entry) → es ≡ entries_in k (text_before c) → (0 < run.first_entry) × (run.first_entry ≤ length es)
   inner-first es e =
       let w = says-within (entries_in k (text_before c)) f.opens f.to f.levels block.Content f.mode f.says in
       let l = ap (λ (xs : List Entry). length xs) e in
@@ -59,13 +59,13 @@ module _ (k : CharClasses) (c : Change) (root : Tree) (d : Candidate) (f : Found
       (omega (arith, n), omega (arith, n, w, l))
 
   -- its nodes with the whole block's entries take its place
-  pub with-block-part : (p : ReadPart) (part : Part) (first : ℕ) (ts : List Tree) → Gives k c.front c.old c.new c.rest d ts → replaced_at d.path d.from d.to ts root ≡ replaced_at d.path first d.to p.nodes.items root → first ≤ d.to
+  pub with-block-part : (p : ReadPart) (part : ReparsedPart) (first : ℕ) (ts : List Tree) → Gives k c.front c.old c.new c.rest d ts → replaced_at d.path d.from d.to ts root ≡ replaced_at d.path first d.to p.nodes.items root → first ≤ d.to
       → p.end + width c.old ≡ d.end + width c.new → (z : Place) → z ≡ inner_place
-      → IsWithBlock k z run.at f.levels f.mode (run.first - 1) f.to first p part → IsPart k c root d part
+      → IsWithBlock k z run.at f.levels f.mode (run.first_entry - 1) f.to first p part → IsPart k c root d part
   with-block-part p part first ts gives puts order end z place w =
       let read : IsBlock k f.levels block.Content f.mode inner_place w.read = subst (λ y. IsBlock k f.levels block.Content f.mode y w.read) place w.is_read in
       let same = alone-entries k f.levels block.Content f.mode inner_place w.read run.at read inner-here in
-      let b = says-behind (entries_in k (text_before c)) f.opens f.to f.levels block.Content f.mode f.says in
+      let b = says-after (entries_in k (text_before c)) f.opens f.to f.levels block.Content f.mode f.says in
       let n = w.from_is ∙ opens-is in
       record {
         nodes = ts;
@@ -77,5 +77,5 @@ module _ (k : CharClasses) (c : Change) (root : Tree) (d : Candidate) (f : Found
         within = let m = b.most in let t = w.to_is in omega (arith, m, t);
         units = f.units ts gives ∙ ap (λ xs. spliced f.opens f.to xs (units_of (log k (text_before c)))) (same ∙ sym w.entries)
             ∙ ap (λ j. spliced j f.to part.entries.units.entries (units_of (log k (text_before c)))) (sym n)
-            ∙ ap (λ j. spliced part.from j part.entries.units.entries (units_of (log k (text_before c)))) (sym w.to_is);
+            ∙ ap (λ j. spliced part.from_entry j part.entries.units.entries (units_of (log k (text_before c)))) (sym w.to_is);
       }

@@ -6,9 +6,9 @@ use Rattle.typst_tokens.specs.Sight.{width}
 use Rattle.typst_edits.specs.Note.{Note}
 use Rattle.typst_edits.specs.Log.{Log}
 use Rattle.typst_candidates.specs.declared.entry.Entry.{Entry}
-use Rattle.typst_candidates.specs.declared.entry.Tag.{Tag}
-use Rattle.typst_candidates.specs.Cursors.{closing_of, inside_behind, leads, piece_of, token_at}
-use Rattle.typst_candidates.specs.Entries.{end_of, entries_by, is_behind, last_start, rear_of, units_of}
+use Rattle.typst_candidates.specs.declared.entry.EntryKind.{EntryKind}
+use Rattle.typst_candidates.specs.Cursors.{closing_of, inside_after, leads, piece_of, token_at}
+use Rattle.typst_candidates.specs.Entries.{end_of, entries_by, is_after, last_start, rear_of, units_of}
 use Rattle.typst_candidates.specs.Nested.{Written}
 use Rattle.typst_candidates.specs.Records.{AllFit, IsRising, is_opening, opening_of}
 use Rattle.typst_candidates.proofs.Nested.{token-of}
@@ -60,7 +60,7 @@ notes-fit k text l = rising-fit 0 (width text) (listed (log k text).notes) l (ri
 
 -- ---- which are found
 
--- a number is among so many behind another
+-- a number is among so many after another
 pub record Within (number : ℕ) (es : List Entry) (n : ℕ) : Type 0 where
   pub least : number ≤ n
   pub most : n < number + length es
@@ -76,7 +76,7 @@ none-some n h = cc
 
 pub closing-within : (inside number : ℕ) (es : List Entry) (n : ℕ) → closing_of inside number es ≡ Some n → Within number es n
 closing-within inside number [] n h = absurd (none-some n h)
-closing-within inside number (e ∷ es) n h = by-inside (inside_behind e.tag inside) (λ further g. closing-within further (suc number) es n g) h
+closing-within inside number (e ∷ es) n h = by-inside (inside_after e.kind inside) (λ further g. closing-within further (suc number) es n g) h
   where
     by-inside : (o : Option ℕ) → ((further : ℕ) → closing_of further (suc number) es ≡ Some n → Within (suc number) es n) → elim o as (λ _. Option ℕ) [ None ↦ Some number | Some further ↦ closing_of further (suc number) es ] ≡ Some n → Within number (e ∷ es) n
     by-inside None f h = here-within number n e es h
@@ -84,46 +84,46 @@ closing-within inside number (e ∷ es) n h = by-inside (inside_behind e.tag ins
 
 pub piece-within : (at inside start number : ℕ) (es : List Entry) (n : ℕ) → piece_of at inside start number es ≡ Some n → Within number es n
 piece-within at inside start number [] n h = absurd (none-some n h)
-piece-within at inside start number (e ∷ es) n h = by-test (leads e.tag inside && token_at start e == at) (λ further g. piece-within at further (token_at start e) (suc number) es n g) h
+piece-within at inside start number (e ∷ es) n h = by-test (leads e.kind inside && token_at start e == at) (λ further g. piece-within at further (token_at start e) (suc number) es n g) h
   where
     by-inside : (o : Option ℕ) → ((further : ℕ) → piece_of at further (token_at start e) (suc number) es ≡ Some n → Within (suc number) es n) → elim o as (λ _. Option ℕ) [ None ↦ None | Some further ↦ piece_of at further (token_at start e) (suc number) es ] ≡ Some n → Within number (e ∷ es) n
     by-inside None f h = absurd (none-some n h)
     by-inside (Some further) f h = further-within number n e es (f further h)
 
-    by-test : (b : Bool) → ((further : ℕ) → piece_of at further (token_at start e) (suc number) es ≡ Some n → Within (suc number) es n) → (if b then Some number else elim (inside_behind e.tag inside) as (λ _. Option ℕ) [ None ↦ None | Some further ↦ piece_of at further (token_at start e) (suc number) es ]) ≡ Some n → Within number (e ∷ es) n
+    by-test : (b : Bool) → ((further : ℕ) → piece_of at further (token_at start e) (suc number) es ≡ Some n → Within (suc number) es n) → (if b then Some number else elim (inside_after e.kind inside) as (λ _. Option ℕ) [ None ↦ None | Some further ↦ piece_of at further (token_at start e) (suc number) es ]) ≡ Some n → Within number (e ∷ es) n
     by-test true f h = here-within number n e es h
-    by-test false f h = by-inside (inside_behind e.tag inside) f h
+    by-test false f h = by-inside (inside_after e.kind inside) f h
 
 pub opening-within : (at start number : ℕ) (es : List Entry) (n : ℕ) → opening_of at start number es ≡ Some n → Within number es n
 opening-within at start number [] n h = absurd (none-some n h)
-opening-within at start number (e ∷ es) n h = by-test (is_opening e.tag && ((start + e.step) + e.gap) == at) (λ g. opening-within at ((start + e.step) + e.gap) (suc number) es n g) h
+opening-within at start number (e ∷ es) n h = by-test (is_opening e.kind && ((start + e.step) + e.gap) == at) (λ g. opening-within at ((start + e.step) + e.gap) (suc number) es n g) h
   where
     by-test : (b : Bool) → (opening_of at ((start + e.step) + e.gap) (suc number) es ≡ Some n → Within (suc number) es n) → (if b then Some number else opening_of at ((start + e.step) + e.gap) (suc number) es) ≡ Some n → Within number (e ∷ es) n
     by-test true f h = here-within number n e es h
     by-test false f h = further-within number n e es (f h)
 
--- of those behind so many
-pub record Behind (first : ℕ) (es : List Entry) (n : ℕ) : Type 0 where
+-- of those after so many
+pub record After (first : ℕ) (es : List Entry) (n : ℕ) : Type 0 where
   pub least : first ≤ n
   pub most : n < length es
 
-dropped : (first : ℕ) (es : List Entry) (n : ℕ) → Within first (drop first es) n → Behind first es n
+dropped : (first : ℕ) (es : List Entry) (n : ℕ) → Within first (drop first es) n → After first es n
 dropped first es n w = let l = length-drop first es in record { least = w.least; most = omega (arith, w.least, w.most, l) }
 
-pub closing-behind : (first : ℕ) (es : List Entry) (n : ℕ) → closing_of 0 first (drop first es) ≡ Some n → Behind first es n
-closing-behind first es n h = dropped first es n (closing-within 0 first (drop first es) n h)
+pub closing-after : (first : ℕ) (es : List Entry) (n : ℕ) → closing_of 0 first (drop first es) ≡ Some n → After first es n
+closing-after first es n h = dropped first es n (closing-within 0 first (drop first es) n h)
 
-pub begins-behind : (first at : ℕ) (es : List Entry) (n : ℕ) → BeginsAt es first at n → Behind first es n
-begins-behind first at es n h = dropped first es n (piece-within at 0 (end_of 0 (take first es)) first (drop first es) n h)
+pub begins-after : (first at : ℕ) (es : List Entry) (n : ℕ) → BeginsAt es first at n → After first es n
+begins-after first at es n h = dropped first es n (piece-within at 0 (end_of 0 (take first es)) first (drop first es) n h)
 
--- looks behind begin behind the stretch from the end at the latest
+-- looks after begin after the stretch from the end at the latest
 rear-by : (at start count : ℕ) (es : List Entry) (back : ℕ) → rear_of at start count es back ≤ count + length es
-rear-by at start count [] back = by-test (is_behind at start back)
+rear-by at start count [] back = by-test (is_after at start back)
   where
     by-test : (b : Bool) → (if b then 0 else count) ≤ count + 0
     by-test true = omega arith
     by-test false = omega arith
-rear-by at start count (e ∷ es) back = by-test (is_behind at start e.back) (rear_of at ((start + e.step) + e.gap) (suc count) es back) (rear-by at ((start + e.step) + e.gap) (suc count) es back)
+rear-by at start count (e ∷ es) back = by-test (is_after at start e.back) (rear_of at ((start + e.step) + e.gap) (suc count) es back) (rear-by at ((start + e.step) + e.gap) (suc count) es back)
   where
     by-test : (b : Bool) (r : ℕ) → r ≤ suc count + length es → max (if b then 0 else count) r ≤ count + length (e ∷ es)
     by-test true r h = omega (arith, h)

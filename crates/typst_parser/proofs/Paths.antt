@@ -6,17 +6,10 @@ use Rattle.std.specs.List.{slice_get}
 use Rattle.typst_tree.specs.Tree.{Tree, Forest, none, more, forest, trees, joined, saturated, text_of}
 use Rattle.typst_tree.specs.Replace.{At, kids_of}
 use Rattle.typst_tree.specs.Laws.{AtPath, or_none, start_at, start_in}
-
-trees-forest : (ts : List Tree) → trees (forest ts) ≡ ts
-trees-forest [] = refl
-trees-forest (t ∷ ts) = ap (λ us. t ∷ us) (trees-forest ts)
-
-forest-trees : (f : Forest) → forest (trees f) ≡ f
-forest-trees none = refl
-forest-trees (more h ks r) = ap (λ g. more h ks g) (forest-trees r)
+use Rattle.typst_tree.proofs.SpansAside.{trees_forest, forest_trees}
 
 pub children-are : (t : Tree) (xs : List Tree) → forest xs ≡ t.kids → xs ≡ kids_of t
-children-are t xs e = sym (trees-forest xs) ∙ ap trees e
+children-are t xs e = sym (trees_forest xs) ∙ ap trees e
 
 pub taken-length : (t : Tree) (xs : List Tree) (n : ℕ) → forest xs ≡ t.kids → n ≤ length (kids_of t) → n ≡ length (take n xs)
 taken-length t xs n e l =
@@ -52,7 +45,7 @@ pub child-ends : (t : Tree) (i : ℕ) (d : Tree) → i < length (kids_of t) → 
 child-ends t i d l =
     let e = joined-next (kids_of t) i d l in
     let a = joined-taken (kids_of t) (suc i) in
-    let f = ap (λ (g : Forest). length (joined g)) (forest-trees t.kids) in
+    let f = ap (λ (g : Forest). length (joined g)) (forest_trees t.kids) in
     let b = length-append t.head.text (joined t.kids) in
     omega (arith, e, a, f, b)
 

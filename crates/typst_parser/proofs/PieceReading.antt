@@ -10,14 +10,14 @@ use Rattle.typst_edits.specs.PieceReader.{PieceReader}
 use Rattle.typst_edits.specs.ReadPart.{ReadPart}
 use Rattle.typst_edits.specs.Part.{ArePieces, HasRead, IsOver}
 use Rattle.typst_edits.specs.Pieces.{AllGo, end_on, run_level, stops_of}
-use Rattle.typst_edits.specs.RunTest.{Reading, byte_behind, carried_by, read_by}
+use Rattle.typst_edits.specs.RunTest.{Reading, byte_after, carried_by, read_by}
 use Rattle.typst_edits.specs.Served.{MeetsOn}
 use Rattle.typst_parser.specs.Steps.{Fit, Grows, HasReadSome, HasReadTo}
 use Rattle.typst_parser.proofs.Places.{moved-on}
 
 module _ (k : CharClasses) (r : Reading) where
-  -- a reader stands where the token behind its pieces begins
-  pub reader-end : (m : ℕ) (p : PieceReader) → HasRead k r.levels r.which r.carried r.place m p → p.end ≡ byte_behind k r m
+  -- a reader stands where the token after its pieces begins
+  pub reader-end : (m : ℕ) (p : PieceReader) → HasRead k r.levels r.which r.carried r.place m p → p.end ≡ byte_after k r m
   reader-end m p h =
       let e = end_on (run_level k r.levels r.which) (stops_of r.which) r.carried m r.place in
       h.end ∙ ap (λ (s : Point). position (moved (gap_of s.known) p.parser.place)) h.state ∙ ap (λ (z : Place). position (moved (gap_of e.state.known) z)) h.place
@@ -31,29 +31,29 @@ module _ (k : CharClasses) (r : Reading) where
     before = λ j l. by-last j (here j) l;
   }
     where
-      here : (j : ℕ) → j ≡ h.count → byte_behind k r j < end
-      here j e = subst (λ n. n < end) (reader-end h.count p h.read ∙ ap (byte_behind k r) (sym e)) less
+      here : (j : ℕ) → j ≡ h.count → byte_after k r j < end
+      here j e = subst (λ n. n < end) (reader-end h.count p h.read ∙ ap (byte_after k r) (sym e)) less
 
-      by-last : (j : ℕ) → (j ≡ h.count → byte_behind k r j < end) → j < h.count + 1 → byte_behind k r j < end
+      by-last : (j : ℕ) → (j ≡ h.count → byte_after k r j < end) → j < h.count + 1 → byte_after k r j < end
       by-last j f l = elim (cases_lt j h.count) [ inl less ↦ h.before j less | inr past ↦ f (omega (arith, past, l)) ]
 
   module _ (grows : Grows k r) (target : ℕ) (any : Bool) (p : PieceReader) (h : HasReadTo k r target any p) where
-    fewer : (m : ℕ) → byte_behind k r m ≡ target → m < h.has.count → ⊥
+    fewer : (m : ℕ) → byte_after k r m ≡ target → m < h.has.count → ⊥
     fewer m e l = let b = h.has.before m l in omega (arith, b, e)
 
-    more : (m : ℕ) → AllGo (read_by k r m) → byte_behind k r m ≡ target → h.has.count < m → ⊥
+    more : (m : ℕ) → AllGo (read_by k r m) → byte_after k r m ≡ target → h.has.count < m → ⊥
     more m go e l = by-stop h.stopped
       where
-        by-stop : (target ≤ byte_behind k r h.has.count) ⊎ IsOver k r.levels r.which r.carried r.place h.has.count → ⊥
+        by-stop : (target ≤ byte_after k r h.has.count) ⊎ IsOver k r.levels r.which r.carried r.place h.has.count → ⊥
         by-stop (inl past) = let up = grows.rises h.has.count m l go in omega (arith, up, past, e)
         by-stop (inr over) = let most = grows.over h.has.count m over go in omega (arith, most, l)
 
     -- only so many may end at the byte
-    only : (m : ℕ) → AllGo (read_by k r m) → byte_behind k r m ≡ target → m ≡ h.has.count
+    only : (m : ℕ) → AllGo (read_by k r m) → byte_after k r m ≡ target → m ≡ h.has.count
     only m go e = let a = fewer m e in let b = more m go e in omega (arith, a, b)
 
     module _ (es : List Entry) (old new end to : ℕ) (led : Type 0) (y : Bool × ℕ) (shift : target + old ≡ end + new) where
-      fit-at : (m : ℕ) → Fit k es r old new end to led y m → byte_behind k r m ≡ target
+      fit-at : (m : ℕ) → Fit k es r old new end to led y m → byte_after k r m ≡ target
       fit-at m f = let s = f.shifted in omega (arith, s, shift)
 
       fit-only : (m : ℕ) → Fit k es r old new end to led y m → m ≡ h.has.count
@@ -63,7 +63,7 @@ module _ (k : CharClasses) (r : Reading) where
       pub unfit : ((p.end ≡ target) × MeetsOn es r.which to led h.has.count y p.carried → ⊥) → (m : ℕ) → Fit k es r old new end to led y m → ⊥
       unfit never m f =
           never (
-            reader-end h.has.count p h.has.read ∙ ap (byte_behind k r) (sym (fit-only m f)) ∙ fit-at m f,
+            reader-end h.has.count p h.has.read ∙ ap (byte_after k r) (sym (fit-only m f)) ∙ fit-at m f,
             subst (λ x. MeetsOn es r.which to led h.has.count y x) (sym h.has.read.carried)
                 (subst (λ n. MeetsOn es r.which to led n y (carried_by k r n)) (fit-only m f) f.meets),
           )

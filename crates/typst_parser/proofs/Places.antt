@@ -70,7 +70,7 @@ module _ (s : List ℕ) (u : IsUtf8 s) (n b : ℕ) (e : position (moved n (start
   unfolding position
   size = sym e ∙ width-moved n (chars s) ∙ bytes-width (take n (chars s))
 
-  -- so many characters on, at a byte, is a place between two characters
+  -- a given number of characters further on, at a byte, is a place between two characters
   pub place-boundary : IsCharBoundary s b
   place-boundary = front-boundary s u n b size
 

@@ -17,7 +17,7 @@ use Rattle.typst_edits.specs.RunTest.{FoundInner}
 use Rattle.typst_edits.specs.Served.{RunOf}
 use Rattle.typst_edits.specs.Served.RunOf.{inner, own}
 use Rattle.typst_parser.specs.Attempt.{IsReady, at_path}
-use Rattle.typst_parser.specs.Change.{Change, candidates, text_before}
+use Rattle.typst_parser.specs.TextReplacement.{TextReplacement, candidates, text_before}
 use Rattle.typst_parser.specs.Steps.{IsRunOf, Reads, ReadsInner, ServesFor}
 use Rattle.typst_parser.specs.declared.attempt.Attempt.{Attempt}
 use Rattle.typst_parser.specs.declared.attempt.Run.{Run}
@@ -27,9 +27,9 @@ use Rattle.typst_parser.proofs.Inner.{run-found, run-some}
 use Rattle.typst_parser.proofs.Laws.{inner-run-test-law, run-test-law}
 
 abbrev pub top_run : Run
-top_run = record { kind = of.Text; at = 0; levels = 256; first = 0 }
+top_run = record { kind = of.Text; at = 0; levels = 256; first_entry = 0 }
 
-module _ {C : Type 0} (k : CharClasses) (a : Attempt C) (ch : Change) where
+module _ {C : Type 0} (k : CharClasses) (a : Attempt C) (ch : TextReplacement) where
   -- of the text's own
   pub top-reads : (d : code.Candidate) (o : Option Serving) → IsReady k ch a → Among (at_path [] d) (candidates k ch a.root.now) → d.is_block ≡ false → ServesFor k ch a.root.now [] d o → Reads k ch a [] d top_run o
   top-reads d o ready among pieces serves = record {
@@ -68,7 +68,7 @@ leads-front (i ∷ path) (suc m) from to t h = by-kid (slice_get (kids_of t) i) 
     by-kid None on h = absurd h
     by-kid (Some k) on h = on k h
 
-module _ {C : Type 0} (k : CharClasses) (a : Attempt C) (ch : Change) (path : List ℕ) (d : code.Candidate) (ready : IsReady k ch a) (among : Among (at_path path d) (candidates k ch a.root.now))
+module _ {C : Type 0} (k : CharClasses) (a : Attempt C) (ch : TextReplacement) (path : List ℕ) (d : code.Candidate) (ready : IsReady k ch a) (among : Among (at_path path d) (candidates k ch a.root.now))
     (above : List ℕ) (is_above : above ≡ take (length path - 1) path) (some : 0 < length path) where
   pub above-leads : AtPath (λ _. Unit {0}) above a.root.now
   above-leads =
@@ -82,14 +82,14 @@ module _ {C : Type 0} (k : CharClasses) (a : Attempt C) (ch : Change) (path : Li
   below e = let l = ap (λ (p : List ℕ). length p) e in omega (arith, l, some)
 
   module _ (pieces : d.is_block ≡ false) (r : Option Run) (finds : (opens : ℕ) (e : Entry) → opening_of (start_at above 0 a.root.now) 0 0 a.records.now.units.entries ≡ Some opens → slice_get a.records.now.units.entries opens ≡ Some e
-      → r ≡ Some (record { kind = of.Block; at = start_at above 0 a.root.now; levels = e.count; first = suc opens })) where
+      → r ≡ Some (record { kind = of.Block; at = start_at above 0 a.root.now; levels = e.count; first_entry = suc opens })) where
     f : FoundInner k ch.front ch.old ch.new ch.rest a.root.now (at_path path d)
     f = inner-run-test-law k ch.front ch.old ch.new ch.rest a.root.now (at_path path d) ready.holds.tree_is among pieces below ready.makes.fits ready.makes.fits_now
 
     is : a.records.now.units.entries ≡ entries_in k (text_before ch)
     is = entries-are k ch a.root.now a.records.now.units ready.holds
 
-    found-there : r ≡ Some (record { kind = of.Block; at = start_at above 0 a.root.now; levels = f.says.entry.count; first = suc f.opens })
+    found-there : r ≡ Some (record { kind = of.Block; at = start_at above 0 a.root.now; levels = f.says.entry.count; first_entry = suc f.opens })
     found-there =
         finds f.opens f.says.entry (ap (λ es. opening_of (start_at above 0 a.root.now) 0 0 es) is ∙ ap (λ p. opening_of (start_at p 0 a.root.now) 0 0 (entries_in k (text_before ch))) is_above ∙ f.is_opens)
         (ap (λ es. slice_get es f.opens) is ∙ f.says.is)
@@ -100,7 +100,7 @@ module _ {C : Type 0} (k : CharClasses) (a : Attempt C) (ch : Change) (path : Li
 
     pub above-reads : (run : Run) → r ≡ Some run → (o : Option Serving) → ServesFor k ch a.root.now path d o → ReadsInner k ch a path d run o
     above-reads run e o serves =
-        let same : run ≡ record { kind = of.Block; at = start_at above 0 a.root.now; levels = f.says.entry.count; first = suc f.opens } = same_Some run (record { kind = of.Block; at = start_at above 0 a.root.now; levels = f.says.entry.count; first = suc f.opens }) (sym e ∙ found-there) in
+        let same : run ≡ record { kind = of.Block; at = start_at above 0 a.root.now; levels = f.says.entry.count; first_entry = suc f.opens } = same_Some run (record { kind = of.Block; at = start_at above 0 a.root.now; levels = f.says.entry.count; first_entry = suc f.opens }) (sym e ∙ found-there) in
         record {
           ready = ready;
           among = among;
@@ -111,7 +111,7 @@ module _ {C : Type 0} (k : CharClasses) (a : Attempt C) (ch : Change) (path : Li
             kind = ap (λ (x : Run). x.kind) same;
             at = ap (λ (x : Run). x.at) same ∙ ap (λ p. start_at p 0 a.root.now) is_above;
             levels = ap (λ (x : Run). x.levels) same ∙ f.says.count;
-            first = ap (λ (x : Run). x.first) same;
+            first = ap (λ (x : Run). x.first_entry) same;
           };
           serves = serves;
         }

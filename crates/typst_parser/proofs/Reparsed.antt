@@ -25,7 +25,7 @@ use Rattle.typst_edits.proofs.CandidatePlaces.{candidate-places-law}
 use Rattle.typst_edits.proofs.CandidateWorth.{tree-inner}
 use Rattle.typst_edits.proofs.Whole.{leaves}
 use Rattle.typst_edits.proofs.Widths.{width-append}
-use Rattle.typst_parser.specs.Change.{Change, text_before, text_after, Makes, Holds, candidates}
+use Rattle.typst_parser.specs.TextReplacement.{TextReplacement, text_before, text_after, Makes, Holds, candidates}
 use Rattle.typst_candidates.specs.Entries.{Units, units_of}
 use Rattle.typst_parser.specs.Reparse.{NonePasses, Takes}
 use Rattle.typst_parser.specs.declared.replacement.Replacement.{Replacement}
@@ -155,7 +155,7 @@ module _ (k : CharClasses) (front old new rest : List ℕ) (was now : Tree) (ran
 -- ---- a source whose text was edited
 
 module _ {C : Type 0} (k : CharClasses) (old now : Held C) (e : Replacement) (h : IsEdited old.text now.text e) (units : Units) (had : Records k old units) where
-  abbrev c : Change
+  abbrev c : TextReplacement
   c = change_by h
 
   tree-was : bare old.root ≡ bare (tree k (text_before c))
@@ -173,7 +173,7 @@ module _ {C : Type 0} (k : CharClasses) (old now : Held C) (e : Replacement) (h 
 
     -- where a part was read
     module _ (units_now : Units) (range : Range ℕ) (read : Option (Range ℕ)) (some : read ≡ Some range)
-        (part : (x : Change) → Makes x text e → Holds k x old.root units → IfSome read (λ r. Takes k x old.root now.root units_now r)) (ordered : IfSome read (λ r. KeepsNumbers old.root now.root)) where
+        (part : (x : TextReplacement) → Makes x text e → Holds k x old.root units → IfSome read (λ r. Takes k x old.root now.root units_now r)) (ordered : IfSome read (λ r. KeepsNumbers old.root now.root)) where
       takes : Takes k c old.root now.root units_now range
       takes = subst (λ o. IfSome o (λ r. Takes k c old.root now.root units_now r)) some (part c makes-text holds)
 

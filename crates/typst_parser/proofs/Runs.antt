@@ -16,33 +16,33 @@ use Rattle.typst_edits.specs.Pieces.{end_on, run_level, stops_of}
 use Rattle.typst_edits.specs.Point.{gap_of}
 use Rattle.typst_edits.specs.BlockTest.{entries_in, front_in, rear_in}
 use Rattle.typst_edits.specs.Edit.{text_with}
-use Rattle.typst_edits.specs.RunTest.{BeginsAt, Ends, FoundRun, IsLast, LooksFrom, SaysPiece, byte_behind, reading_on}
+use Rattle.typst_edits.specs.RunTest.{BeginsAt, Ends, FoundRun, IsLast, LooksFrom, SaysPiece, byte_after, reading_on}
 use Rattle.typst_edits.specs.Served.{MeetsOn}
 use Rattle.typst_edits.specs.RunTest.Ends.{none, some}
 use Rattle.typst_edits.specs.RunTest.LooksFrom.{closing, nothing, pieces}
 use Rattle.typst_edits.proofs.Widths.{width-append}
 use Rattle.typst_parser.specs.Attempt.{Fails}
-use Rattle.typst_parser.specs.Change.{Change, Makes, text_after, text_before}
+use Rattle.typst_parser.specs.TextReplacement.{TextReplacement, Makes, text_after, text_before}
 use Rattle.typst_parser.specs.Steps.{AreBounds, Grows, place_before}
 use Rattle.typst_parser.specs.declared.attempt.Bounds.{Bounds}
 use Rattle.typst_parser.specs.declared.replacement.Replacement.{Replacement}
 use Rattle.typst_edits.proofs.RunOver.{over-law}
-use Rattle.typst_parser.proofs.Numbers.{Behind, begins-behind, rear-within}
+use Rattle.typst_parser.proofs.Numbers.{After, begins-after, rear-within}
 use Rattle.typst_parser.proofs.Places.{position-within, sides-of}
 
 -- ---- the entries
 
-ends-from : (es : List Entry) (first : ℕ) (d : Candidate) (from to : ℕ) → Ends es first d from to → Behind first es from
-ends-from es first d from to (some a b begins more ends less) = begins-behind first d.start es a begins
-ends-from es first d from to (none a begins last) = begins-behind first d.start es a begins
+ends-from : (es : List Entry) (first : ℕ) (d : Candidate) (from to : ℕ) → Ends es first d from to → After first es from
+ends-from es first d from to (some a b begins more ends less) = begins-after first d.start es a begins
+ends-from es first d from to (none a begins last) = begins-after first d.start es a begins
 
 ends-order : (es : List Entry) (first : ℕ) (d : Candidate) (from to : ℕ) → Ends es first d from to → from ≤ to
 ends-order es first d from to (some a b begins more ends less) = omega (arith, less)
 ends-order es first d from to (none a begins last) = omega arith
 
 ends-to : (es : List Entry) (first : ℕ) (d : Candidate) (from to : ℕ) → Ends es first d from to → to < length es
-ends-to es first d from to (some a b begins more ends less) = (begins-behind a d.end es b ends).most
-ends-to es first d from to (none a begins last) = (begins-behind first d.start es a begins).most
+ends-to es first d from to (some a b begins more ends less) = (begins-after a d.end es b ends).most
+ends-to es first d from to (none a begins last) = (begins-after first d.start es a begins).most
 
 -- ---- what the records find
 
@@ -73,34 +73,34 @@ looks-never es which from to looks (nothing number end kind long) last text bloc
     never e = cc
 
 -- a place before a piece of a run, which begins at a byte and is the first one from an entry on
-abbrev pub IsFound : List Entry → ℕ → ℕ → cursors.Place → Type 0
+abbrev pub IsFound : List Entry → ℕ → ℕ → cursors.EntryPlace → Type 0
 IsFound es first at p = BeginsAt es first at p.number × (p ≡ place_before es p.number)
 
--- what is found behind a place
-abbrev Found : ℕ → cursors.Place → Option cursors.Place
+-- what is found after a place
+abbrev Found : ℕ → cursors.EntryPlace → Option cursors.EntryPlace
 Found at p = cursors.placed p (piece_of at 0 (cursors.start_at p) p.number (drop p.number p.entries))
 
-placed-at : (p q : cursors.Place) (o : Option ℕ) → ◌≡◌ {A = Option cursors.Place} (Some q) (cursors.placed p o) → (o ≡ Some q.number) × (q ≡ place_before p.entries q.number)
+placed-at : (p q : cursors.EntryPlace) (o : Option ℕ) → ◌≡◌ {A = Option cursors.EntryPlace} (Some q) (cursors.placed p o) → (o ≡ Some q.number) × (q ≡ place_before p.entries q.number)
 placed-at p q None h = absurd (never h)
   where
-    never : ◌≡◌ {A = Option cursors.Place} (Some q) None → ⊥
+    never : ◌≡◌ {A = Option cursors.EntryPlace} (Some q) None → ⊥
     never e = cc
 placed-at p q (Some n) h =
     let same : q ≡ place_before p.entries n = same_Some q (place_before p.entries n) h in
-    let number : q.number ≡ n = ap (λ (x : cursors.Place). x.number) same in
+    let number : q.number ≡ n = ap (λ (x : cursors.EntryPlace). x.number) same in
     (ap (λ m. Some m) (sym number), same ∙ ap (place_before p.entries) (sym number))
 
-pub is-found : (es : List Entry) (first at : ℕ) (p q : cursors.Place) → p ≡ place_before es first → ◌≡◌ {A = Option cursors.Place} (Some q) (Found at p) → IsFound es first at q
+pub is-found : (es : List Entry) (first at : ℕ) (p q : cursors.EntryPlace) → p ≡ place_before es first → ◌≡◌ {A = Option cursors.EntryPlace} (Some q) (Found at p) → IsFound es first at q
 is-found es first at p q e h = placed-at (place_before es first) q (piece_of at 0 (end_of 0 (take first es)) first (drop first es)) (h ∙ ap (Found at) e)
 
-pub none-found : (es : List Entry) (first at n : ℕ) (p : cursors.Place) → p ≡ place_before es first → ◌≡◌ {A = Option cursors.Place} None (Found at p) → BeginsAt es first at n → ⊥
+pub none-found : (es : List Entry) (first at n : ℕ) (p : cursors.EntryPlace) → p ≡ place_before es first → ◌≡◌ {A = Option cursors.EntryPlace} None (Found at p) → BeginsAt es first at n → ⊥
 none-found es first at n p e h begins = never (h ∙ ap (Found at) e ∙ ap (cursors.placed (place_before es first)) begins)
   where
-    never : ◌≡◌ {A = Option cursors.Place} None (Some (place_before es n)) → ⊥
+    never : ◌≡◌ {A = Option cursors.EntryPlace} None (Some (place_before es n)) → ⊥
     never q = cc
 
 -- the same is found from another place of the same entries from which the same piece comes first
-found-same : (es : List Entry) (first at : ℕ) (p : cursors.Place) → p.entries ≡ es → piece_of at 0 (cursors.start_at p) p.number (drop p.number es) ≡ piece_of at 0 (end_of 0 (take first es)) first (drop first es) → Found at p ≡ Found at (place_before es first)
+found-same : (es : List Entry) (first at : ℕ) (p : cursors.EntryPlace) → p.entries ≡ es → piece_of at 0 (cursors.start_at p) p.number (drop p.number es) ≡ piece_of at 0 (end_of 0 (take first es)) first (drop first es) → Found at p ≡ Found at (place_before es first)
 found-same es first at p e f =
     ap (λ us. cursors.placed p (piece_of at 0 (cursors.start_at p) p.number (drop p.number us))) e ∙ ap (cursors.placed p) f ∙ same (piece_of at 0 (end_of 0 (take first es)) first (drop first es))
   where
@@ -108,16 +108,16 @@ found-same es first at p e f =
     same None = refl
     same (Some n) = ap (λ (us : List Entry). Some (place_before us n)) e
 
-pub found-by : (es : List Entry) (first at : ℕ) (p q : cursors.Place) → p.entries ≡ es → piece_of at 0 (cursors.start_at p) p.number (drop p.number es) ≡ piece_of at 0 (end_of 0 (take first es)) first (drop first es) → ◌≡◌ {A = Option cursors.Place} (Some q) (Found at p)
+pub found-by : (es : List Entry) (first at : ℕ) (p q : cursors.EntryPlace) → p.entries ≡ es → piece_of at 0 (cursors.start_at p) p.number (drop p.number es) ≡ piece_of at 0 (end_of 0 (take first es)) first (drop first es) → ◌≡◌ {A = Option cursors.EntryPlace} (Some q) (Found at p)
     → IsFound es first at q
 found-by es first at p q e f h = is-found es first at (place_before es first) q refl (h ∙ found-same es first at p e f)
 
-pub none-by : (es : List Entry) (first at n : ℕ) (p : cursors.Place) → p.entries ≡ es → piece_of at 0 (cursors.start_at p) p.number (drop p.number es) ≡ piece_of at 0 (end_of 0 (take first es)) first (drop first es) → ◌≡◌ {A = Option cursors.Place} None (Found at p)
+pub none-by : (es : List Entry) (first at n : ℕ) (p : cursors.EntryPlace) → p.entries ≡ es → piece_of at 0 (cursors.start_at p) p.number (drop p.number es) ≡ piece_of at 0 (end_of 0 (take first es)) first (drop first es) → ◌≡◌ {A = Option cursors.EntryPlace} None (Found at p)
     → BeginsAt es first at n → ⊥
 none-by es first at n p e f h begins = none-found es first at n (place_before es first) refl (h ∙ found-same es first at p e f) begins
 
-pub found-behind : (es : List Entry) (first at : ℕ) (p : cursors.Place) → IsFound es first at p → p.number < length p.entries
-found-behind es first at p found = subst (λ (q : cursors.Place). q.number < length q.entries) (sym found.1) (begins-behind first at es p.number found.0).most
+pub found-after : (es : List Entry) (first at : ℕ) (p : cursors.EntryPlace) → IsFound es first at p → p.number < length p.entries
+found-after es first at p found = subst (λ (q : cursors.EntryPlace). q.number < length q.entries) (sym found.1) (begins-after first at es p.number found.0).most
 
 pub ends-begin : (es : List Entry) (first : ℕ) (d : Candidate) (from to : ℕ) → Ends es first d from to → BeginsAt es first d.start from
 ends-begin es first d from to (some a b begins more ends less) = begins
@@ -131,21 +131,21 @@ ends-other : (es : List Entry) (first : ℕ) (d : Candidate) (from to : ℕ) →
 ends-other es first d from to (some a b begins more ends less) other = ends
 ends-other es first d from to (none a begins end) other = absurd (other end)
 
-module _ (es : List Entry) (first : ℕ) (d : Candidate) (from to : ℕ) (ends : Ends es first d from to) (p : cursors.Place) (found : IsFound es first d.start p) where
+module _ (es : List Entry) (first : ℕ) (d : Candidate) (from to : ℕ) (ends : Ends es first d from to) (p : cursors.EntryPlace) (found : IsFound es first d.start p) where
   found-from : p.number ≡ from
   found-from = begins-once es first d.start p.number from found.0 (ends-begin es first d from to ends)
 
   found-last : IsLast p.entries p.number → IsLast es from
-  found-last last = subst (IsLast es) found-from (subst (λ (q : cursors.Place). IsLast q.entries q.number) found.1 last)
+  found-last last = subst (IsLast es) found-from (subst (λ (q : cursors.EntryPlace). IsLast q.entries q.number) found.1 last)
 
   found-other : (IsLast p.entries p.number → ⊥) → IsLast es from → ⊥
-  found-other other last = other (subst (λ (q : cursors.Place). IsLast q.entries q.number) (sym found.1) (subst (IsLast es) (sym found-from) last))
+  found-other other last = other (subst (λ (q : cursors.EntryPlace). IsLast q.entries q.number) (sym found.1) (subst (IsLast es) (sym found-from) last))
 
   found-there : p ≡ place_before es from
   found-there = found.1 ∙ ap (place_before es) found-from
 
   -- the only entry of a run
-  pub bounds-last : (which : RunKind) (looks : ℕ) → LooksFrom es which from to looks → IsLast p.entries p.number → (q : cursors.Place) → q ≡ p → (number : ℕ) → number ≡ p.number → (n : ℕ)
+  pub bounds-last : (which : RunKind) (looks : ℕ) → LooksFrom es which from to looks → IsLast p.entries p.number → (q : cursors.EntryPlace) → q ≡ p → (number : ℕ) → number ≡ p.number → (n : ℕ)
       → (which ≡ of.Text → ◌≡◌ {A = Option ℕ} (Some n) (Some (length es))) → (which ≡ of.Block → Some n ≡ closing_of 0 (suc number) (drop (suc number) es))
       → AreBounds es from to looks (Some (record { from = p; to = q; looks = n }))
   bounds-last which looks l last q same number number_is n text block =
@@ -159,15 +159,15 @@ module _ (es : List Entry) (first : ℕ) (d : Candidate) (from to : ℕ) (ends :
       → (which ≡ of.Block → None ≡ closing_of 0 (suc number) (drop (suc number) es)) → ⊥
   looks-found which looks l last number number_is text block = looks-never es which from to looks l (found-last last) text (λ kind. block kind ∙ ap (λ m. closing_of 0 (suc m) (drop (suc m) es)) (number_is ∙ found-from))
 
-  -- where another one stands behind it, pieces end at one
+  -- where another one stands after it, pieces end at one
   pub ends-more : (IsLast p.entries p.number → ⊥) → BeginsAt es p.number d.end to
   ends-more other = subst (λ n. BeginsAt es n d.end to) (sym found-from) (ends-other es first d from to ends (found-other other))
 
-  pub bounds-more : (which : RunKind) (looks : ℕ) → LooksFrom es which from to looks → (IsLast p.entries p.number → ⊥) → (q : cursors.Place) → IsFound es p.number d.end q → (n : ℕ) → n ≡ q.number
+  pub bounds-more : (which : RunKind) (looks : ℕ) → LooksFrom es which from to looks → (IsLast p.entries p.number → ⊥) → (q : cursors.EntryPlace) → IsFound es p.number d.end q → (n : ℕ) → n ≡ q.number
       → AreBounds es from to looks (Some (record { from = p; to = q; looks = n }))
-  bounds-more which looks l other q behind n is =
-      let to_is = begins-once es p.number d.end q.number to behind.0 (ends-more other) in
-      (found-there, behind.1 ∙ ap (place_before es) to_is, inl (is ∙ to_is ∙ looks-more es which from to looks l (found-other other)))
+  bounds-more which looks l other q after n is =
+      let to_is = begins-once es p.number d.end q.number to after.0 (ends-more other) in
+      (found-there, after.1 ∙ ap (place_before es) to_is, inl (is ∙ to_is ∙ looks-more es which from to looks l (found-other other)))
 
 -- at a run's end, or before another piece
 pub meets-last : (es : List Entry) (which : RunKind) (to m : ℕ) (was y x : Bool × ℕ) (alike : Bool) → ◌≡◌ {A = Option (Bool × ℕ)} (Some was) (Some y) → IsLast es to → (alike ≡ true ↔ (which ≡ of.Block → x.1 ≡ was.1)) → (led : Type 0) → (alike ≡ true ↔ MeetsOn es which to led m y x)
@@ -188,7 +188,7 @@ width-take n cs =
     omega (arith, all, sum)
 
 -- a place by the changed stretch, and by what stands before it with it
-pub shift-out : (c : Change) (new : List ℕ) (e : Replacement) (x y : ℕ) → Makes c new e → x + width c.old ≡ y + width c.new → x + e.old_end ≡ y + e.new_end
+pub shift-out : (c : TextReplacement) (new : List ℕ) (e : Replacement) (x y : ℕ) → Makes c new e → x + width c.old ≡ y + width c.new → x + e.old_end ≡ y + e.new_end
 shift-out c new e x y m h =
     let a = width-append c.front c.old in
     let b = width-append c.front c.new in
@@ -196,7 +196,7 @@ shift-out c new e x y m h =
     let n = m.new_end in
     omega (arith, a, b, o, n, h)
 
-pub shift-in : (c : Change) (new : List ℕ) (e : Replacement) (x y : ℕ) → Makes c new e → x + e.old_end ≡ y + e.new_end → x + width c.old ≡ y + width c.new
+pub shift-in : (c : TextReplacement) (new : List ℕ) (e : Replacement) (x y : ℕ) → Makes c new e → x + e.old_end ≡ y + e.new_end → x + width c.old ≡ y + width c.new
 shift-in c new e x y m h =
     let a = width-append c.front c.old in
     let b = width-append c.front c.new in
@@ -206,7 +206,7 @@ shift-in c new e x y m h =
 
 -- ---- the test
 
-module _ (k : CharClasses) (c : Change) (d : Candidate) (which : RunKind) (levels first : ℕ) (f : FoundRun k c.front c.old c.new c.rest d which levels first) where
+module _ (k : CharClasses) (c : TextReplacement) (d : Candidate) (which : RunKind) (levels first : ℕ) (f : FoundRun k c.front c.old c.new c.rest d which levels first) where
   -- where it is read on
   abbrev pub place_now : Place
   place_now = moved f.at (text_with c.front c.new c.rest)
@@ -221,17 +221,17 @@ module _ (k : CharClasses) (c : Change) (d : Candidate) (which : RunKind) (level
   found-starts = let s = f.start in let w = width-take f.at (text_before c) in omega (arith, s, w)
 
   -- of the places before the entries where it begins and ends
-  pub says-here : (p : cursors.Place) → p ≡ place_before (entries_in k (text_before c)) f.from → SaysPiece p.entries p.number f.carried
-  says-here p same = subst (λ (q : cursors.Place). SaysPiece q.entries q.number f.carried) (sym same) f.says
+  pub says-here : (p : cursors.EntryPlace) → p ≡ place_before (entries_in k (text_before c)) f.from → SaysPiece p.entries p.number f.carried
+  says-here p same = subst (λ (q : cursors.EntryPlace). SaysPiece q.entries q.number f.carried) (sym same) f.says
 
-  pub says-there : (p : cursors.Place) → p ≡ place_before (entries_in k (text_before c)) f.to → SaysPiece p.entries p.number f.carried_end
-  says-there p same = subst (λ (q : cursors.Place). SaysPiece q.entries q.number f.carried_end) (sym same) f.says_end
+  pub says-there : (p : cursors.EntryPlace) → p ≡ place_before (entries_in k (text_before c)) f.to → SaysPiece p.entries p.number f.carried_end
+  says-there p same = subst (λ (q : cursors.EntryPlace). SaysPiece q.entries q.number f.carried_end) (sym same) f.says_end
 
-  pub from-within : (p : cursors.Place) → p ≡ place_before (entries_in k (text_before c)) f.from → p.number < length p.entries
-  from-within p same = subst (λ (q : cursors.Place). q.number < length q.entries) (sym same) (ends-from (entries_in k (text_before c)) first d f.from f.to f.ends).most
+  pub from-within : (p : cursors.EntryPlace) → p ≡ place_before (entries_in k (text_before c)) f.from → p.number < length p.entries
+  from-within p same = subst (λ (q : cursors.EntryPlace). q.number < length q.entries) (sym same) (ends-from (entries_in k (text_before c)) first d f.from f.to f.ends).most
 
-  pub to-within : (p : cursors.Place) → p ≡ place_before (entries_in k (text_before c)) f.to → p.number < length p.entries
-  to-within p same = subst (λ (q : cursors.Place). q.number < length q.entries) (sym same) found-within
+  pub to-within : (p : cursors.EntryPlace) → p ≡ place_before (entries_in k (text_before c)) f.to → p.number < length p.entries
+  to-within p same = subst (λ (q : cursors.EntryPlace). q.number < length q.entries) (sym same) found-within
 
   -- the reading on grows
   pub grows-there : f.from < front_in k c.front c.old c.rest → width (text_after c) < 2 ^ 64 - 1 → Grows k (reading_on which levels f.carried place_now)
@@ -243,7 +243,7 @@ module _ (k : CharClasses) (c : Change) (d : Candidate) (which : RunKind) (level
 
   -- where no byte of the machine is its end, the candidate fails
   pub end-fails : width (text_after c) < 2 ^ 64 - 1 → (new : List ℕ) (e : Replacement) → Makes c new e → ((end : ℕ) → end < 2 ^ 64 → end + e.old_end ≡ d.end + e.new_end → ⊥) → Fails k c d
-  end-fails few new e makes never = λ ts g. (let p = (f.gives ts).0 g in never (byte_behind k (reading_on which levels f.carried place_now) p.0) ((grows-there p.1.before few).fits p.0) (shift-out c new e (byte_behind k (reading_on which levels f.carried place_now) p.0) d.end makes p.1.shifted))
+  end-fails few new e makes never = λ ts g. (let p = (f.gives ts).0 g in never (byte_after k (reading_on which levels f.carried place_now) p.0) ((grows-there p.1.before few).fits p.0) (shift-out c new e (byte_after k (reading_on which levels f.carried place_now) p.0) d.end makes p.1.shifted))
 
   module _ (es : List Entry) (is : es ≡ entries_in k (text_before c)) where
     pub ends-here : Ends es first d f.from f.to
@@ -264,17 +264,17 @@ module _ (k : CharClasses) (c : Change) (d : Candidate) (which : RunKind) (level
 
       -- the test of looks by the records is that of the candidate
       pub looks-taken : b.from.number < front → rear ≤ b.looks → (f.from < front_in k c.front c.old c.rest) × (rear_in k c.front c.old c.rest ≤ f.looks)
-      looks-taken before behind = (let s = ap (λ (p : cursors.Place). p.number) bounds.0 in omega (arith, s, front_is, before), by-looks bounds.2)
+      looks-taken before after = (let s = ap (λ (p : cursors.EntryPlace). p.number) bounds.0 in omega (arith, s, front_is, before), by-looks bounds.2)
         where
           by-looks : (b.looks ≡ f.looks) ⊎ ((b.looks ≡ length es) × (length es ≤ f.looks)) → rear_in k c.front c.old c.rest ≤ f.looks
-          by-looks (inl e) = omega (arith, e, rear_is, behind)
+          by-looks (inl e) = omega (arith, e, rear_is, after)
           by-looks (inr e) = let x = e.1 in let m = rear-most in omega (arith, x, m, rear_is)
 
       pub looks-needed : f.from < front_in k c.front c.old c.rest → rear_in k c.front c.old c.rest ≤ f.looks → (b.from.number < front) × (rear ≤ b.looks)
-      looks-needed before behind = (let s = ap (λ (p : cursors.Place). p.number) bounds.0 in omega (arith, s, front_is, before), by-looks bounds.2)
+      looks-needed before after = (let s = ap (λ (p : cursors.EntryPlace). p.number) bounds.0 in omega (arith, s, front_is, before), by-looks bounds.2)
         where
           by-looks : (b.looks ≡ f.looks) ⊎ ((b.looks ≡ length es) × (length es ≤ f.looks)) → rear ≤ b.looks
-          by-looks (inl e) = omega (arith, e, rear_is, behind)
+          by-looks (inl e) = omega (arith, e, rear_is, after)
           by-looks (inr e) = let x = e.0 in let m = rear-most in omega (arith, x, m)
 
       -- where it fails, the candidate does

@@ -15,14 +15,14 @@ use Rattle.typst_candidates.specs.Candidates as candidate
 use Rattle.typst_candidates.specs.Candidates.{Candidate}
 use Rattle.typst_candidates.specs.Entries.{Units, front_of, rear_of}
 use Rattle.typst_candidates.specs.Nested.{Written}
-use Rattle.typst_candidates.specs.Rows.{spelled}
+use Rattle.typst_candidates.specs.Edges.{spelled}
 use Rattle.typst_edits.specs.Grammar.{log}
 use Rattle.typst_edits.specs.BlockTest.{entries_in}
 use Rattle.typst_edits.specs.Edit.{Among}
 use Rattle.typst_edits.specs.Edit.Among.{this, that}
 use Rattle.typst_edits.specs.PieceNotes.{listed}
 use Rattle.typst_parser.specs.Attempt.{Speaks, at_path}
-use Rattle.typst_parser.specs.Change.{Change, Holds, Makes, candidates, text_before}
+use Rattle.typst_parser.specs.TextReplacement.{TextReplacement, Holds, Makes, candidates, text_before}
 use Rattle.typst_parser.specs.Reparse.{CanTake, TakesPlace}
 use Rattle.typst_parser.specs.Steps.{GoesOn, ServesFor, ServesOr}
 use Rattle.typst_parser.specs.declared.attempt.Asked.{Asked}
@@ -36,7 +36,7 @@ among-at [] i x h = absurd (cc)
 among-at (y ∷ ys) zero x h = subst (λ z. Among x (z ∷ ys)) (sym (same_Some y x h)) (this ys)
 among-at (y ∷ ys) (suc i) x h = that y ys (among-at ys i x h)
 
-module _ {C : Type 0} (k : CharClasses) (c : Change) (root : Tree) (units : Units) (holds : Holds k c root units) (q : Asked C) (makes : Makes c q.new.now q.edit) where
+module _ {C : Type 0} (k : CharClasses) (c : TextReplacement) (root : Tree) (units : Units) (holds : Holds k c root units) (q : Asked C) (makes : Makes c q.new.now q.edit) where
   -- what is asked speaks of the change
   pub asked-speaks : IsUtf8 q.new.now → q.front ≡ front_of q.edit.start 0 units.entries → q.rear ≡ rear_of q.edit.old_end 0 0 units.entries units.back → Speaks k c q root units
   asked-speaks text front rear = record {
@@ -75,7 +75,7 @@ module _ (path : List ℕ) (items : List code.Candidate) (most : ℕ) (cs : List
 
 -- ---- one of them
 
-module _ {C : Type 0} (k : CharClasses) (c : Change) (root : Tree) (units : Units) (q : Asked C) (speaks : Speaks k c q root units) where
+module _ {C : Type 0} (k : CharClasses) (c : TextReplacement) (root : Tree) (units : Units) (q : Asked C) (speaks : Speaks k c q root units) where
   module _ (path : List ℕ) (items : List code.Candidate) (first : map (spelled path) items ≡ take (length items) (candidates k c root)) where
     pub found-at : (i : ℕ) (d : code.Candidate) → slice_get items i ≡ Some d → slice_get (candidates k c root) i ≡ Some (spelled path d)
     found-at i d h = within-first (length items) (candidates k c root) i (spelled path d) (ap (λ xs. slice_get xs i) (sym first) ∙ slice_get-map (spelled path) items i ∙ ap (option_map (spelled path)) h)
@@ -106,7 +106,7 @@ module _ {C : Type 0} (k : CharClasses) (c : Change) (root : Tree) (units : Unit
 
       -- what comes of it
       pub took : (now : Tree) (units_now : Units) (end : Option ℕ) (t : Option Serving)
-          → ((c : Change) → Speaks k c q r u → Among (at_path way d) (candidates k c r) → ServesFor k c r way d s → TakesPlace k c (at_path way d) r now units_now end × ServesOr k c r way d.depth t)
+          → ((c : TextReplacement) → Speaks k c q r u → Among (at_path way d) (candidates k c r) → ServesFor k c r way d s → TakesPlace k c (at_path way d) r now units_now end × ServesOr k c r way d.depth t)
           → TakesPlace k c (at_path way d) root now units_now end × ServesOr k c root way d.depth t
       took now units_now end t taken = subst (λ x. TakesPlace k c (at_path way d) x now units_now end × ServesOr k c x way d.depth t) r_is (taken c here-speaks there-among there-serves)
 

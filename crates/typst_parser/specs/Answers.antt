@@ -5,13 +5,13 @@ use Rattle.std.specs.declared.ops.Range.{Range}
 use Rattle.typst_lines.specs.Classes.{CharClasses}
 use Rattle.typst_lines.specs.Lines.{common_ends}
 use Rattle.typst_edits.specs.Answer.{IsAnswer}
-use Rattle.typst_parser.specs.Change.{Change, candidates}
+use Rattle.typst_parser.specs.TextReplacement.{TextReplacement, candidates}
 use Rattle.typst_edits.specs.Grammar.{tree}
 use Rattle.typst_parser.specs.Headline.{file_of, numbered_in}
 use Rattle.typst_parser.specs.Held.{Held}
 
 -- the edit of a text that puts another one in the place of a range of bytes
-abbrev pub change_of : List ℕ → Range ℕ → List ℕ → Change
+abbrev pub change_of : List ℕ → Range ℕ → List ℕ → TextReplacement
 change_of text range new = record { front = chars (take range.start text); old = chars (drop range.start (take range.end text)); new = chars new; rest = chars (drop range.end text) }
 
 -- With records an edit answers the first candidate that passes and finds numbers, as its range in

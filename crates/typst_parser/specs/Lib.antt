@@ -7,7 +7,7 @@ pub mod Tried
 pub mod Find
 pub mod Found
 -- What an edit reads again.
-pub mod Change
+pub mod TextReplacement
 pub mod Attempt
 pub mod Steps
 pub mod Reparse

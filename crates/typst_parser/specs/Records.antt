@@ -56,7 +56,7 @@ pub record Edits {C : Type 0} (k : CharClasses) (old new : Held C) (text : List 
   pub ordered : range.start ≤ range.end
   pub within : range.end ≤ length new.text
 
--- the whole of a text was read, and its tree numbered in the file of the one before
+-- a whole text was read, and its tree numbered in the file of the one before
 pub record ReadsWhole {C : Type 0} (k : CharClasses) (old new : Held C) (text : List ℕ) (range : Range ℕ) : Type 0 where
   pub range_is : range ≡ record { start = 0; end = length text }
   pub root : numbered_in (file_of old.root) (tree k (chars text)) ≡ Some new.root

@@ -9,49 +9,49 @@ use Rattle.typst_candidates.specs.declared.candidate.Candidate as code
 use Rattle.typst_candidates.specs.declared.candidate.Candidates.{Candidates}
 use Rattle.typst_candidates.specs.Candidates.{Candidate}
 use Rattle.typst_candidates.specs.Entries.{Units, spliced, units_of}
-use Rattle.typst_candidates.specs.Rows.{spelled}
+use Rattle.typst_candidates.specs.Edges.{spelled}
 use Rattle.typst_edits.specs.Answer.{IsAnswer, Refused}
 use Rattle.typst_edits.specs.Edit.{Among}
 use Rattle.typst_edits.specs.Every.{Every}
 use Rattle.typst_edits.specs.Frame.{Gives}
 use Rattle.typst_edits.specs.Grammar.{tree, log}
 use Rattle.typst_parser.specs.Attempt.{Speaks, at_path}
-use Rattle.typst_parser.specs.Change.{Change, text_after, candidates}
+use Rattle.typst_parser.specs.TextReplacement.{TextReplacement, text_after, candidates}
 use Rattle.typst_parser.specs.Steps.{ServesFor}
 use Rattle.typst_parser.specs.declared.attempt.Asked.{Asked}
-use Rattle.typst_parser.specs.declared.attempt.Part.{Part}
+use Rattle.typst_parser.specs.declared.attempt.ReparsedPart.{ReparsedPart}
 use Rattle.typst_parser.specs.declared.attempt.Serving.{Serving}
 
 -- The first candidate that passes and whose nodes find numbers was put in its place, in the tree
 -- and in the units; the tree is that of the new text, spans aside.
-pub record Takes (k : CharClasses) (c : Change) (was now : Tree) (units : Units) (range : Range ℕ) : Type 0 where
+pub record Takes (k : CharClasses) (c : TextReplacement) (was now : Tree) (units : Units) (range : Range ℕ) : Type 0 where
   pub answer : IsAnswer k c.front c.old c.new c.rest (candidates k c was) was now range
   pub tree_is : bare now ≡ bare (tree k (text_after c))
   pub units_are : units ≡ units_of (log k (text_after c))
 
 -- No candidate passes whose nodes find numbers.
-abbrev pub NonePasses : CharClasses → Change → Tree → Type 0
+abbrev pub NonePasses : CharClasses → TextReplacement → Tree → Type 0
 NonePasses k c was = Every (Refused k c.front c.old c.new c.rest was) (candidates k c was)
 
 -- ---- some candidates (for private clauses)
 
 -- These candidates of the code are the first of an edit's.
-abbrev pub AreFirst : CharClasses → Change → Tree → Candidates → Type 0
+abbrev pub AreFirst : CharClasses → TextReplacement → Tree → Candidates → Type 0
 AreFirst k c root found = map (spelled found.path.items) found.items.items ≡ take (length found.items.items) (candidates k c root)
 
 -- These candidates are the first of the edit that is asked of them.
 pub record CanTakeFirst {C : Type 0} (k : CharClasses) (q : Asked C) (root : Tree) (units : Units) (found : Candidates) : Type 0 where
-  pub change : Change
+  pub change : TextReplacement
   pub speaks : Speaks k change q root units
   pub first : AreFirst k change root found
 
--- Of the first so many candidates none passes whose nodes find numbers.
-abbrev pub NonePassesOf : CharClasses → Change → Tree → ℕ → Type 0
+-- Among the first n candidates none passes whose nodes find numbers.
+abbrev pub NonePassesOf : CharClasses → TextReplacement → Tree → ℕ → Type 0
 NonePassesOf k c was n = Every (Refused k c.front c.old c.new c.rest was) (take n (candidates k c was))
 
--- A candidate was put in its place before which there is none such, or there is none such among the
--- first so many.
-abbrev pub TakesFirst : CharClasses → Change → Tree → Tree → Units → ℕ → Option (Range ℕ) → Type 0
+-- The first candidate that passes and whose nodes find numbers was put in its place, or there is none among the
+-- first n.
+abbrev pub TakesFirst : CharClasses → TextReplacement → Tree → Tree → Units → ℕ → Option (Range ℕ) → Type 0
 TakesFirst k c was now units n None = NonePassesOf k c was n
 TakesFirst k c was now units n (Some range) = Takes k c was now units range
 
@@ -59,13 +59,13 @@ TakesFirst k c was now units n (Some range) = Takes k c was now units range
 
 -- The candidate is one of the edit that is asked of it, and a reading serves it.
 pub record CanTake {C : Type 0} (k : CharClasses) (q : Asked C) (root : Tree) (units : Units) (path : List ℕ) (d : code.Candidate) (s : Option Serving) : Type 0 where
-  pub change : Change
+  pub change : TextReplacement
   pub speaks : Speaks k change q root units
   pub among : Among (at_path path d) (candidates k change root)
   pub serves : ServesFor k change root path d s
 
 -- A candidate passed, and what it gives was put in its place, up to a byte of the new text.
-pub record HasTaken (k : CharClasses) (c : Change) (d : Candidate) (was now : Tree) (units : Units) (end : ℕ) : Type 0 where
+pub record HasTaken (k : CharClasses) (c : TextReplacement) (d : Candidate) (was now : Tree) (units : Units) (end : ℕ) : Type 0 where
   pub nodes : List Tree
   pub gives : Gives k c.front c.old c.new c.rest d nodes
   pub put : replaced_at d.path d.from d.to nodes was ≡ Some now
@@ -73,11 +73,11 @@ pub record HasTaken (k : CharClasses) (c : Change) (d : Candidate) (was now : Tr
   pub units_are : units ≡ units_of (log k (text_after c))
 
 -- A candidate was put in its place, or is refused.
-abbrev pub TakesPlace : CharClasses → Change → Candidate → Tree → Tree → Units → Option ℕ → Type 0
+abbrev pub TakesPlace : CharClasses → TextReplacement → Candidate → Tree → Tree → Units → Option ℕ → Type 0
 TakesPlace k c d was now units None = Refused k c.front c.old c.new c.rest was d
 TakesPlace k c d was now units (Some end) = HasTaken k c d was now units end
 
 -- A part was put in place of children, or its nodes find no numbers and nothing changed.
-abbrev pub Puts : List ℕ → ℕ → ℕ → Part → Tree → Tree → Units → Units → Bool → Type 0
-Puts path from to p was now units units_now true = (replaced_at path from to p.nodes.items was ≡ Some now) × (units_now ≡ spliced p.from p.to p.entries.units.entries units)
+abbrev pub Puts : List ℕ → ℕ → ℕ → ReparsedPart → Tree → Tree → Units → Units → Bool → Type 0
+Puts path from to p was now units units_now true = (replaced_at path from to p.nodes.items was ≡ Some now) × (units_now ≡ spliced p.from_entry p.to_entry p.entries.units.entries units)
 Puts path from to p was now units units_now false = (replaced_at path from to p.nodes.items was ≡ None) × (now ≡ was) × (units_now ≡ units)

@@ -21,13 +21,13 @@ use Rattle.typst_edits.specs.Part.{ArePieces, HasRead, IsBlock, IsOver}
 use Rattle.typst_edits.specs.Pieces.{AllGo}
 use Rattle.typst_edits.specs.BlockTest.{entries_in, front_in}
 use Rattle.typst_edits.specs.Edit.{Among, text_with}
-use Rattle.typst_edits.specs.RunTest.{FoundInner, FoundRun, Reading, byte_behind, carried_by, read_by}
+use Rattle.typst_edits.specs.RunTest.{FoundInner, FoundRun, Reading, byte_after, carried_by, read_by}
 use Rattle.typst_edits.specs.Served.{MeetsOn, PassesOn, RunOf, Served, reading_of}
 use Rattle.typst_parser.specs.Attempt.{Fails, IsReady, at_path}
-use Rattle.typst_parser.specs.Change.{Change, candidates, text_before}
+use Rattle.typst_parser.specs.TextReplacement.{TextReplacement, candidates, text_before}
 use Rattle.typst_parser.specs.declared.attempt.Attempt.{Attempt}
 use Rattle.typst_parser.specs.declared.attempt.Bounds.{Bounds}
-use Rattle.typst_parser.specs.declared.attempt.Part.{Part}
+use Rattle.typst_parser.specs.declared.attempt.ReparsedPart.{ReparsedPart}
 use Rattle.typst_parser.specs.declared.attempt.Passing.{Passing}
 use Rattle.typst_parser.specs.declared.attempt.Run.{Run}
 use Rattle.typst_parser.specs.declared.attempt.Serving.{Serving}
@@ -46,7 +46,7 @@ entries_of start p = entries_by start p.notes.items ++ block_end (last_start sta
 -- ---- pieces
 
 -- the place before the entry of a number
-abbrev pub place_before : List Entry → ℕ → cursors.Place
+abbrev pub place_before : List Entry → ℕ → cursors.EntryPlace
 place_before es number = record { entries = es; number = number }
 
 -- Pieces begin and end at these entries, and looks have to begin after the stretch from this entry
@@ -55,51 +55,51 @@ abbrev pub AreBounds : List Entry → ℕ → ℕ → ℕ → Option Bounds → 
 AreBounds es from to looks None = ⊥
 AreBounds es from to looks (Some b) = (b.from ≡ place_before es from) × (b.to ≡ place_before es to) × ((b.looks ≡ looks) ⊎ ((b.looks ≡ length es) × (length es ≤ looks)))
 
--- So many pieces were read, and fewer of them end before a byte.
+-- A given number of pieces were read, and fewer of them end before a byte.
 pub record HasReadSome (k : CharClasses) (r : Reading) (end : ℕ) (any : Bool) (p : PieceReader) : Type 0 where
   pub count : ℕ
   pub read : HasRead k r.levels r.which r.carried r.place count p
   pub some : any ≡ true ↔ 0 < count
-  pub before : (j : ℕ) → j < count → byte_behind k r j < end
+  pub before : (j : ℕ) → j < count → byte_after k r j < end
 
 -- Pieces were read that end at a byte or after it, or up to the end of their run.
 pub record HasReadTo (k : CharClasses) (r : Reading) (end : ℕ) (any : Bool) (p : PieceReader) : Type 0 where
   pub has : HasReadSome k r end any p
-  pub stopped : (end ≤ byte_behind k r has.count) ⊎ IsOver k r.levels r.which r.carried r.place has.count
+  pub stopped : (end ≤ byte_after k r has.count) ⊎ IsOver k r.levels r.which r.carried r.place has.count
 
 -- More pieces end at a later byte, no pieces come after the run's end, and each ends at a byte of
 -- the machine.
 pub record Grows (k : CharClasses) (r : Reading) : Type 0 where
-  pub rises : (m j : ℕ) → m < j → AllGo (read_by k r j) → byte_behind k r m < byte_behind k r j
+  pub rises : (m j : ℕ) → m < j → AllGo (read_by k r j) → byte_after k r m < byte_after k r j
   pub over : (m j : ℕ) → IsOver k r.levels r.which r.carried r.place m → AllGo (read_by k r j) → j ≤ m
-  pub fits : (m : ℕ) → byte_behind k r m < 2 ^ 64
+  pub fits : (m : ℕ) → byte_after k r m < 2 ^ 64
 
--- So many pieces, after old ones or not, end where those do that ended at the byte `end` before the
+-- A given number of pieces, after old ones or not, end where those do that ended at the byte `end` before the
 -- bytes `old` became the bytes `new`, and meet what is there.
 pub record Fit (k : CharClasses) (es : List Entry) (r : Reading) (old new end to : ℕ) (led : Type 0) (y : Bool × ℕ) (m : ℕ) : Type 0 where
   pub go : AllGo (read_by k r m)
-  pub shifted : byte_behind k r m + old ≡ end + new
+  pub shifted : byte_after k r m + old ≡ end + new
   pub meets : MeetsOn es r.which to led m y (carried_by k r m)
 
 -- ---- a reading that serves a run
 
 -- A reading serves a run: it began with a candidate of the edit at the run's path, before which all
--- looks end before the stretch, and has read so many pieces.
-pub record Serves (k : CharClasses) (c : Change) (root : Tree) (path : List ℕ) (depth : ℕ) (which : RunKind) (levels entry : ℕ) (s : Serving) : Type 0 where
-  pub depth_is : s.first.depth ≡ depth
-  pub pieces : s.first.is_block ≡ false
-  pub among : Among (at_path path s.first) (candidates k c root)
-  pub found : FoundRun k c.front c.old c.new c.rest (at_path path s.first) which levels entry
-  pub from : s.from ≡ found.from
+-- looks end before the stretch, and has read a given number of pieces.
+pub record Serves (k : CharClasses) (c : TextReplacement) (root : Tree) (path : List ℕ) (depth : ℕ) (which : RunKind) (levels entry : ℕ) (s : Serving) : Type 0 where
+  pub depth_is : s.first_candidate.depth ≡ depth
+  pub pieces : s.first_candidate.is_block ≡ false
+  pub among : Among (at_path path s.first_candidate) (candidates k c root)
+  pub found : FoundRun k c.front c.old c.new c.rest (at_path path s.first_candidate) which levels entry
+  pub from : s.first_entry ≡ found.from
   pub before : found.from < front_in k c.front c.old c.rest
   pub count : ℕ
   pub read : HasRead k levels which found.carried (moved found.at (text_with c.front c.new c.rest)) count s.reader
   pub some : s.any ≡ true ↔ 0 < count
   -- fewer pieces end before the end of the last candidate that it went on for
-  pub less : (j : ℕ) → j < count → byte_behind k (reading_of found) j + width c.old < s.last + width c.new
+  pub less : (j : ℕ) → j < count → byte_after k (reading_of found) j + width c.old < s.last + width c.new
 
 -- A reading serves the run of the candidates at a path.
-pub record ServesRun (k : CharClasses) (c : Change) (root : Tree) (path : List ℕ) (depth : ℕ) (s : Serving) : Type 0 where
+pub record ServesRun (k : CharClasses) (c : TextReplacement) (root : Tree) (path : List ℕ) (depth : ℕ) (s : Serving) : Type 0 where
   pub which : RunKind
   pub levels : ℕ
   pub entry : ℕ
@@ -107,25 +107,25 @@ pub record ServesRun (k : CharClasses) (c : Change) (root : Tree) (path : List �
   pub serves : Serves k c root path depth which levels entry s
 
 -- A reading serves the run of the candidates at a path, or there is no reading.
-abbrev pub ServesOr : CharClasses → Change → Tree → List ℕ → ℕ → Option Serving → Type 0
+abbrev pub ServesOr : CharClasses → TextReplacement → Tree → List ℕ → ℕ → Option Serving → Type 0
 ServesOr k c root path depth None = Unit {0}
 ServesOr k c root path depth (Some s) = ServesRun k c root path depth s
 
 -- A reading can go on for a candidate: one as deep, which begins where it began or earlier, and
 -- ends where the last one did or later.
 pub record GoesOn (d : code.Candidate) (s : Serving) : Type 0 where
-  pub depth : s.first.depth ≡ d.depth
-  pub start : d.start ≤ s.first.start
+  pub depth : s.first_candidate.depth ≡ d.depth
+  pub start : d.start ≤ s.first_candidate.start
   pub end : s.last ≤ d.end
 
 -- A reading serves the run of a candidate and can go on for it, or there is no reading.
-abbrev pub ServesFor : CharClasses → Change → Tree → List ℕ → code.Candidate → Option Serving → Type 0
+abbrev pub ServesFor : CharClasses → TextReplacement → Tree → List ℕ → code.Candidate → Option Serving → Type 0
 ServesFor k c root path d None = Unit {0}
 ServesFor k c root path d (Some s) = ServesRun k c root path d.depth s × GoesOn d s
 
 -- The candidate is one of an edit that is ready, and a reading serves it.
 pub record CanServe {C : Type 0} (k : CharClasses) (a : Attempt C) (path : List ℕ) (d : code.Candidate) (s : Option Serving) : Type 0 where
-  pub change : Change
+  pub change : TextReplacement
   pub ready : IsReady k change a
   pub among : Among (at_path path d) (candidates k change a.root.now)
   pub serves : ServesFor k change a.root.now path d s
@@ -133,61 +133,61 @@ pub record CanServe {C : Type 0} (k : CharClasses) (a : Attempt C) (path : List 
 -- ---- a run
 
 -- A candidate is pieces of a run: what is found of it is known, and a reading serves it.
-pub record Reads {C : Type 0} (k : CharClasses) (c : Change) (a : Attempt C) (path : List ℕ) (d : code.Candidate) (r : Run) (s : Option Serving) : Type 0 where
+pub record Reads {C : Type 0} (k : CharClasses) (c : TextReplacement) (a : Attempt C) (path : List ℕ) (d : code.Candidate) (r : Run) (s : Option Serving) : Type 0 where
   pub ready : IsReady k c a
   pub among : Among (at_path path d) (candidates k c a.root.now)
   pub pieces : d.is_block ≡ false
-  pub run : RunOf (entries_in k (text_before c)) a.root.now path r.kind r.levels r.first
+  pub run : RunOf (entries_in k (text_before c)) a.root.now path r.kind r.levels r.first_entry
   pub some : 0 < r.levels
-  pub found : FoundRun k c.front c.old c.new c.rest (at_path path d) r.kind r.levels r.first
+  pub found : FoundRun k c.front c.old c.new c.rest (at_path path d) r.kind r.levels r.first_entry
   pub serves : ServesFor k c a.root.now path d s
 
 -- A candidate begins at this place, before which all looks end before the stretch.
-pub record BeginsThere (k : CharClasses) (c : Change) (path : List ℕ) (d : code.Candidate) (r : Run) (f : FoundRun k c.front c.old c.new c.rest (at_path path d) r.kind r.levels r.first) (at : cursors.Place) : Type 0 where
+pub record BeginsThere (k : CharClasses) (c : TextReplacement) (path : List ℕ) (d : code.Candidate) (r : Run) (f : FoundRun k c.front c.old c.new c.rest (at_path path d) r.kind r.levels r.first_entry) (at : cursors.EntryPlace) : Type 0 where
   pub is : at ≡ place_before (entries_in k (text_before c)) f.from
   pub before : f.from < front_in k c.front c.old c.rest
 
 -- A reading begins with a candidate, at an entry.
 abbrev pub Begins : CharClasses → Reading → code.Candidate → ℕ → Option Serving → Type 0
 Begins k r d from None = ⊥
-Begins k r d from (Some s) = HasRead k r.levels r.which r.carried r.place 0 s.reader × (s.any ≡ false) × (s.first ≡ d) × (s.from ≡ from) × (s.last ≡ d.end)
+Begins k r d from (Some s) = HasRead k r.levels r.which r.carried r.place 0 s.reader × (s.any ≡ false) × (s.first_candidate ≡ d) × (s.first_entry ≡ from) × (s.last ≡ d.end)
 
 -- A reading serves a candidate's run, and can go on for it.
-abbrev pub ServesNow : CharClasses → Change → Tree → List ℕ → code.Candidate → Run → Option Serving → Type 0
+abbrev pub ServesNow : CharClasses → TextReplacement → Tree → List ℕ → code.Candidate → Run → Option Serving → Type 0
 ServesNow k c root path d r None = ⊥
-ServesNow k c root path d r (Some s) = Serves k c root path d.depth r.kind r.levels r.first s × GoesOn d s
+ServesNow k c root path d r (Some s) = Serves k c root path d.depth r.kind r.levels r.first_entry s × GoesOn d s
 
 -- Pieces were read that pass for a candidate.
-pub record IsPassing (k : CharClasses) (c : Change) (root : Tree) (path : List ℕ) (d : code.Candidate) (run : Run) (f : FoundRun k c.front c.old c.new c.rest (at_path path d) run.kind run.levels run.first) (p : Passing) : Type 0 where
+pub record IsPassing (k : CharClasses) (c : TextReplacement) (root : Tree) (path : List ℕ) (d : code.Candidate) (run : Run) (f : FoundRun k c.front c.old c.new c.rest (at_path path d) run.kind run.levels run.first_entry) (p : Passing) : Type 0 where
   pub from : p.bounds.from ≡ place_before (entries_in k (text_before c)) f.from
   pub to : p.bounds.to ≡ place_before (entries_in k (text_before c)) f.to
   -- their reading began with this candidate
-  pub begun : FoundRun k c.front c.old c.new c.rest (at_path path p.first) run.kind run.levels run.first
-  pub entry : p.from ≡ begun.from
+  pub begun : FoundRun k c.front c.old c.new c.rest (at_path path p.first_candidate) run.kind run.levels run.first_entry
+  pub entry : p.first_entry ≡ begun.from
   pub before : begun.from < front_in k c.front c.old c.rest
-  pub served : Served k c.front c.old c.new c.rest root run.kind run.levels run.first (at_path path p.first) (at_path path d) begun f
+  pub served : Served k c.front c.old c.new c.rest root run.kind run.levels run.first_entry (at_path path p.first_candidate) (at_path path d) begun f
   pub count : ℕ
-  pub passes : PassesOn k c.front c.old c.new c.rest (at_path path p.first) (at_path path d) (reading_of begun) f.to f.looks f.carried_end count
-  pub some : p.any ≡ true ↔ ((d.start < p.first.start) ⊎ (0 < count))
+  pub passes : PassesOn k c.front c.old c.new c.rest (at_path path p.first_candidate) (at_path path d) (reading_of begun) f.to f.looks f.carried_end count
+  pub some : p.any ≡ true ↔ ((d.start < p.first_candidate.start) ⊎ (0 < count))
   pub read : ArePieces k run.levels run.kind begun.carried (moved begun.at (text_with c.front c.new c.rest)) count p.pieces
 
 -- It was decided of a candidate: pieces were read that pass, or it doesn't pass.
-abbrev pub Settles : (k : CharClasses) (c : Change) (root : Tree) (path : List ℕ) (d : code.Candidate) (run : Run) → FoundRun k c.front c.old c.new c.rest (at_path path d) run.kind run.levels run.first → Option Passing → Type 0
+abbrev pub Settles : (k : CharClasses) (c : TextReplacement) (root : Tree) (path : List ℕ) (d : code.Candidate) (run : Run) → FoundRun k c.front c.old c.new c.rest (at_path path d) run.kind run.levels run.first_entry → Option Passing → Type 0
 Settles k c root path d run f None = Fails k c (at_path path d)
 Settles k c root path d run f (Some p) = IsPassing k c root path d run f p
 
 -- ---- a block's run
 
 -- A run is that of the content block above a candidate.
-pub record IsRunOf (k : CharClasses) (c : Change) (root : Tree) (d : Candidate) (f : FoundInner k c.front c.old c.new c.rest root d) (run : Run) : Type 0 where
+pub record IsRunOf (k : CharClasses) (c : TextReplacement) (root : Tree) (d : Candidate) (f : FoundInner k c.front c.old c.new c.rest root d) (run : Run) : Type 0 where
   pub kind : run.kind ≡ of.Block
   pub at : run.at ≡ start_at (take (length d.path - 1) d.path) 0 root
   pub levels : run.levels ≡ f.levels
-  pub first : run.first ≡ suc f.opens
+  pub first : run.first_entry ≡ suc f.opens
 
 -- A candidate is pieces of a content block's run: what is found of it is known, and a reading
 -- serves it.
-pub record ReadsInner {C : Type 0} (k : CharClasses) (c : Change) (a : Attempt C) (path : List ℕ) (d : code.Candidate) (run : Run) (s : Option Serving) : Type 0 where
+pub record ReadsInner {C : Type 0} (k : CharClasses) (c : TextReplacement) (a : Attempt C) (path : List ℕ) (d : code.Candidate) (run : Run) (s : Option Serving) : Type 0 where
   pub ready : IsReady k c a
   pub among : Among (at_path path d) (candidates k c a.root.now)
   pub pieces : d.is_block ≡ false
@@ -198,17 +198,17 @@ pub record ReadsInner {C : Type 0} (k : CharClasses) (c : Change) (a : Attempt C
 
 -- A part has the nodes of pieces, which are put from a child on, and the entries of a block that
 -- was read by itself from a byte on, which take the place of those after one up to another.
-pub record IsWithBlock (k : CharClasses) (z : Place) (at levels : ℕ) (mode : SyntaxMode) (from to first : ℕ) (p : ReadPart) (part : Part) : Type 0 where
+pub record IsWithBlock (k : CharClasses) (z : Place) (at levels : ℕ) (mode : SyntaxMode) (from to first : ℕ) (p : ReadPart) (part : ReparsedPart) : Type 0 where
   pub nodes : part.nodes ≡ p.nodes
-  pub first_is : part.first ≡ first
+  pub first_is : part.first_child ≡ first
   pub end : part.end ≡ p.end
-  pub from_is : part.from ≡ from
-  pub to_is : part.to ≡ to
+  pub from_is : part.from_entry ≡ from
+  pub to_is : part.to_entry ≡ to
   pub read : ReadPart
   pub is_read : IsBlock k levels block.Content mode z read
   pub entries : part.entries.units.entries ≡ entries_of at read
 
 -- The part of pieces with the entries of their block was made.
-abbrev pub HasBlock : CharClasses → Place → ℕ → ℕ → SyntaxMode → ℕ → ℕ → ℕ → ReadPart → Option Part → Type 0
+abbrev pub HasBlock : CharClasses → Place → ℕ → ℕ → SyntaxMode → ℕ → ℕ → ℕ → ReadPart → Option ReparsedPart → Type 0
 HasBlock k z at levels read_as from to first p None = ⊥
 HasBlock k z at levels read_as from to first p (Some part) = IsWithBlock k z at levels read_as from to first p part

@@ -19,31 +19,31 @@ ghost use Rattle.typst_edits.specs.BlockTest.{SaysBlock};
 ghost use Rattle.typst_edits.specs.Edit.{Among};
 ghost use Rattle.typst_edits.specs.RunTest.{Ends, IsLast, LooksFrom, Reading, SaysPiece, reading_on};
 ghost use Rattle.typst_edits.specs.Served.{MeetsOn};
-ghost use Rattle.typst_parser.specs.Change.{Change, candidates};
+ghost use Rattle.typst_parser.specs.TextReplacement.{TextReplacement, candidates};
 ghost use Rattle.typst_parser.specs.Attempt.{CanTry, Decides, IsReady, at_path};
 ghost use Rattle.typst_parser.specs.Steps.{AreBounds, Begins, BeginsThere, CanServe, GoesOn, HasBlock, HasReadSome, HasReadTo, IsReadBlock, Reads, ReadsInner, ServesFor, ServesNow, ServesOr, Settles, entries_of};
 
 use crate::replacement::Replacement;
 use std::alloc::{AllocError, Global};
-use typst_candidates::{Candidate, Cursor, Records, Tag};
+use typst_candidates::{Candidate, EntryCursor, EntryKind, Records};
 use typst_edits::{Carried, MAX_DEPTH, PieceReader, ReadPart, RunKind, parse_block, resume_pieces};
 use typst_lines::Classes;
 use typst_tree::SyntaxNode;
 
-/// What takes a candidate's place.
+/// What replaces a candidate: nodes in the tree, and entries in its records.
 #[derive(Drop)]
-pub(crate) struct Part {
-    /// The nodes that are put in place.
+pub(crate) struct ReparsedPart {
+    /// The nodes, with detached spans.
     pub nodes: Vec<SyntaxNode>,
-    /// The first of the children in whose place they are put.
-    pub first: usize,
+    /// The index of the first of the children that they replace.
+    pub first_child: usize,
     /// Where the nodes end in the new text, in bytes.
     pub end: usize,
-    /// The entries that take the place of those after the one numbered `from` up to the one
-    /// numbered `to`.
+    /// The entries that replace those after the one numbered `from_entry`, up to the one
+    /// numbered `to_entry`.
     pub entries: Records,
-    pub from: usize,
-    pub to: usize,
+    pub from_entry: usize,
+    pub to_entry: usize,
 }
 
 /// A run whose pieces a candidate is.
@@ -55,17 +55,17 @@ struct Run {
     /// How many levels are left for what is called in it.
     levels: usize,
     /// The number of the run's first entry.
-    first: usize,
+    first_entry: usize,
 }
 
 /// Where among the entries pieces of a run begin and end.
 #[derive(Drop)]
 struct Bounds<'a> {
     /// The place before the entry at which the pieces begin.
-    from: Cursor<'a>,
+    from: EntryCursor<'a>,
     /// The place before the entry at which they end.
-    to: Cursor<'a>,
-    /// From which entry on all looks have to begin after the stretch.
+    to: EntryCursor<'a>,
+    /// The number of the entry from which on all looks have to begin after the stretch.
     looks: usize,
 }
 
@@ -77,9 +77,9 @@ pub(crate) struct Serving<'s> {
     /// Whether it has read a piece.
     any: bool,
     /// The candidate with which it began.
-    first: Candidate,
+    first_candidate: Candidate,
     /// The number of the entry at which it began.
-    from: usize,
+    first_entry: usize,
     /// Where the last candidate that it went on for ends in the old text, in bytes.
     last: usize,
 }
@@ -92,9 +92,9 @@ struct Passing<'a> {
     /// Whether there are any, read or left in place before them.
     any: bool,
     /// The candidate with which their reading began.
-    first: Candidate,
+    first_candidate: Candidate,
     /// The number of the entry at which their reading began.
-    from: usize,
+    first_entry: usize,
 }
 
 /// What is asked of each candidate of an edit.
@@ -104,9 +104,9 @@ pub(crate) struct Asked<'a, C> {
     pub new: &'a str,
     /// What was replaced.
     pub edit: Replacement,
-    /// How many of the first entries are before the stretch, with all looks up to them.
+    /// The number of the first entries that are before the stretch, with all looks up to them.
     pub front: usize,
-    /// From which entry on all looks after it begin after the stretch.
+    /// The number of the entry from which on all looks begin after the stretch.
     pub rear: usize,
     pub classes: &'a C,
 }
@@ -123,16 +123,16 @@ pub(crate) struct Attempt<'a, 's, C> {
 }
 
 impl<'a, 's, C: Classes> Attempt<'a, 's, C> {
-    /// What takes the candidate's place, or `None` if it doesn't pass.
+    /// What replaces the candidate, or `None` if it doesn't pass.
     pub(crate) fn read(
         &self,
         alloc: Global,
         candidate: Candidate,
         path: &[usize],
         serving: &mut Option<Serving<'s>>,
-    ) -> Result<Option<Part>, AllocError>
+    ) -> Result<Option<ReparsedPart>, AllocError>
         requires { CanServe (C.classes self.now.asked.now.classes.now) self.now path.now candidate serving.old }
-        ensures { (c : Change) → IsReady (C.classes self.now.asked.now.classes.now) c self.now → Among (at_path path.now candidate) (candidates (C.classes self.now.asked.now.classes.now) c self.now.root.now) → ServesFor (C.classes self.now.asked.now.classes.now) c self.now.root.now path.now candidate serving.old → IfOk result (λ part. Decides (C.classes self.now.asked.now.classes.now) c self.now.root.now (at_path path.now candidate) part × ServesOr (C.classes self.now.asked.now.classes.now) c self.now.root.now path.now candidate.depth serving.new) }
+        ensures { (c : TextReplacement) → IsReady (C.classes self.now.asked.now.classes.now) c self.now → Among (at_path path.now candidate) (candidates (C.classes self.now.asked.now.classes.now) c self.now.root.now) → ServesFor (C.classes self.now.asked.now.classes.now) c self.now.root.now path.now candidate serving.old → IfOk result (λ part. Decides (C.classes self.now.asked.now.classes.now) c self.now.root.now (at_path path.now candidate) part × ServesOr (C.classes self.now.asked.now.classes.now) c self.now.root.now path.now candidate.depth serving.new) }
     {
         if candidate.is_block {
             return self.read_block(alloc, candidate);
@@ -165,14 +165,14 @@ impl<'a, 's, C: Classes> Attempt<'a, 's, C> {
 
     /// Whether all looks before one entry end before the stretch, and those after another begin
     /// after it.
-    fn looks_pass(&self, from: usize, to: usize) -> bool
-        ensures { IsTrue result ↔ ((from < self.now.asked.now.front) × (self.now.asked.now.rear ≤ to)) }
+    fn looks_pass(&self, from_entry: usize, to_entry: usize) -> bool
+        ensures { IsTrue result ↔ ((from_entry < self.now.asked.now.front) × (self.now.asked.now.rear ≤ to_entry)) }
     {
-        from < self.asked.front && self.asked.rear <= to
+        from_entry < self.asked.front && self.asked.rear <= to_entry
     }
 
-    /// The number after that of an entry.
-    fn behind(&self, number: usize) -> usize
+    /// The number of the entry after that of a number, or of all entries after the last.
+    fn after(&self, number: usize) -> usize
         requires { number < length self.now.records.now.units.entries }
         ensures { result ≡ suc number }
     {
@@ -183,22 +183,26 @@ impl<'a, 's, C: Classes> Attempt<'a, 's, C> {
 
     // ---- blocks
 
-    /// What takes the place of a candidate that is a block, or `None` if it doesn't pass.
-    fn read_block(&self, alloc: Global, candidate: Candidate) -> Result<Option<Part>, AllocError>
+    /// What replaces a candidate that is a block, or `None` if it doesn't pass.
+    fn read_block(
+        &self,
+        alloc: Global,
+        candidate: Candidate,
+    ) -> Result<Option<ReparsedPart>, AllocError>
         requires block { candidate.is_block ≡ true }
         requires tries { (path : List ℕ) × CanTry (C.classes self.now.asked.now.classes.now) self.now (at_path path candidate) }
-        ensures { (path : List ℕ) (c : Change) → IsReady (C.classes self.now.asked.now.classes.now) c self.now → Among (at_path path candidate) (candidates (C.classes self.now.asked.now.classes.now) c self.now.root.now) → IfOk result (λ part. Decides (C.classes self.now.asked.now.classes.now) c self.now.root.now (at_path path candidate) part) }
+        ensures { (path : List ℕ) (c : TextReplacement) → IsReady (C.classes self.now.asked.now.classes.now) c self.now → Among (at_path path candidate) (candidates (C.classes self.now.asked.now.classes.now) c self.now.root.now) → IfOk result (λ part. Decides (C.classes self.now.asked.now.classes.now) c self.now.root.now (at_path path candidate) part) }
     {
-        let Some(from) = self.records.opening(candidate.start) else {
+        let Some(from_entry) = self.records.opening(candidate.start) else {
             return Ok(None);
         };
-        let Some(to) = self.records.closing(self.behind(from)) else {
+        let Some(to_entry) = self.records.closing(self.after(from_entry)) else {
             return Ok(None);
         };
-        if !self.looks_pass(from, to) {
+        if !self.looks_pass(from_entry, to_entry) {
             return Ok(None);
         }
-        let Some(read) = self.block_at(alloc, from, candidate.start)? else {
+        let Some(read) = self.block_at(alloc, from_entry, candidate.start)? else {
             return Ok(None);
         };
         let Some(end) = self.new_end(candidate) else {
@@ -208,13 +212,13 @@ impl<'a, 's, C: Classes> Attempt<'a, 's, C> {
             return Ok(None);
         }
         let entries = entries_of_block(alloc, candidate.start, &read)?;
-        Ok(Some(Part {
+        Ok(Some(ReparsedPart {
             nodes: read.nodes,
-            first: candidate.from,
+            first_child: candidate.from,
             end,
             entries,
-            from,
-            to,
+            from_entry,
+            to_entry,
         }))
     }
 
@@ -231,7 +235,7 @@ impl<'a, 's, C: Classes> Attempt<'a, 's, C> {
         let Some(entry) = self.records.entry(number) else {
             return Ok(None);
         };
-        let Tag::Opens(block, mode) = entry.tag else {
+        let EntryKind::Opens(block, mode) = entry.kind else {
             return Ok(None);
         };
         let Asked { new, classes, .. } = *self.asked;
@@ -245,7 +249,7 @@ impl<'a, 's, C: Classes> Attempt<'a, 's, C> {
     fn run_in(&self, block: &[usize]) -> Option<Run>
         requires leads { AtPath (λ _. Unit {0}) block.now self.now.root.now }
         requires fits { length (text_of self.now.root.now) < 2 ^ 64 }
-        ensures { (opens : ℕ) (e : Entry) → opening_of (start_at block.now 0 self.now.root.now) 0 0 self.now.records.now.units.entries ≡ Some opens → slice_get self.now.records.now.units.entries opens ≡ Some e → result ≡ Some (record { kind = RunKind.Block; at = start_at block.now 0 self.now.root.now; levels = e.count; first = suc opens }) }
+        ensures { (opens : ℕ) (e : Entry) → opening_of (start_at block.now 0 self.now.root.now) 0 0 self.now.records.now.units.entries ≡ Some opens → slice_get self.now.records.now.units.entries opens ≡ Some e → result ≡ Some (record { kind = RunKind.Block; at = start_at block.now 0 self.now.root.now; levels = e.count; first_entry = suc opens }) }
     {
         let at = byte_at(self.root, block);
         let opens = self.records.opening(at)?;
@@ -254,26 +258,26 @@ impl<'a, 's, C: Classes> Attempt<'a, 's, C> {
             kind: RunKind::Block,
             at,
             levels: entry.count,
-            first: self.behind(opens),
+            first_entry: self.after(opens),
         })
     }
 
-    /// What takes the place of a candidate that is pieces of the text's own run, or `None` if it doesn't pass.
+    /// What replaces a candidate that is pieces of the text's own run, or `None` if it doesn't pass.
     fn read_top(
         &self,
         alloc: Global,
         candidate: Candidate,
         serving: &mut Option<Serving<'s>>,
-    ) -> Result<Option<Part>, AllocError>
+    ) -> Result<Option<ReparsedPart>, AllocError>
         requires tries { CanServe (C.classes self.now.asked.now.classes.now) self.now [] candidate serving.old }
         requires pieces { candidate.is_block ≡ false }
-        ensures { (c : Change) → IsReady (C.classes self.now.asked.now.classes.now) c self.now → Among (at_path [] candidate) (candidates (C.classes self.now.asked.now.classes.now) c self.now.root.now) → ServesFor (C.classes self.now.asked.now.classes.now) c self.now.root.now [] candidate serving.old → IfOk result (λ part. Decides (C.classes self.now.asked.now.classes.now) c self.now.root.now (at_path [] candidate) part × ServesOr (C.classes self.now.asked.now.classes.now) c self.now.root.now [] candidate.depth serving.new) }
+        ensures { (c : TextReplacement) → IsReady (C.classes self.now.asked.now.classes.now) c self.now → Among (at_path [] candidate) (candidates (C.classes self.now.asked.now.classes.now) c self.now.root.now) → ServesFor (C.classes self.now.asked.now.classes.now) c self.now.root.now [] candidate serving.old → IfOk result (λ part. Decides (C.classes self.now.asked.now.classes.now) c self.now.root.now (at_path [] candidate) part × ServesOr (C.classes self.now.asked.now.classes.now) c self.now.root.now [] candidate.depth serving.new) }
     {
         let run = Run {
             kind: RunKind::Text,
             at: 0,
             levels: MAX_DEPTH,
-            first: 0,
+            first_entry: 0,
         };
         let Some(passing) = self.passing(alloc, candidate, run, serving)? else {
             return Ok(None);
@@ -282,16 +286,16 @@ impl<'a, 's, C: Classes> Attempt<'a, 's, C> {
         Ok(Some(part))
     }
 
-    /// What takes the place of a candidate that is pieces of a content block's run, or `None` if it doesn't pass.
+    /// What replaces a candidate that is pieces of a content block's run, or `None` if it doesn't pass.
     fn read_inner(
         &self,
         alloc: Global,
         candidate: Candidate,
         run: Run,
         serving: &mut Option<Serving<'s>>,
-    ) -> Result<Option<Part>, AllocError>
-        requires { (c : Change) × (path : List ℕ) × ReadsInner (C.classes self.now.asked.now.classes.now) c self.now path candidate run serving.old }
-        ensures { (c : Change) (path : List ℕ) → ReadsInner (C.classes self.now.asked.now.classes.now) c self.now path candidate run serving.old → IfOk result (λ part. Decides (C.classes self.now.asked.now.classes.now) c self.now.root.now (at_path path candidate) part × ServesOr (C.classes self.now.asked.now.classes.now) c self.now.root.now path candidate.depth serving.new) }
+    ) -> Result<Option<ReparsedPart>, AllocError>
+        requires { (c : TextReplacement) × (path : List ℕ) × ReadsInner (C.classes self.now.asked.now.classes.now) c self.now path candidate run serving.old }
+        ensures { (c : TextReplacement) (path : List ℕ) → ReadsInner (C.classes self.now.asked.now.classes.now) c self.now path candidate run serving.old → IfOk result (λ part. Decides (C.classes self.now.asked.now.classes.now) c self.now.root.now (at_path path candidate) part × ServesOr (C.classes self.now.asked.now.classes.now) c self.now.root.now path candidate.depth serving.new) }
     {
         let Some(passing) = self.passing(alloc, candidate, run, serving)? else {
             return Ok(None);
@@ -303,7 +307,7 @@ impl<'a, 's, C: Classes> Attempt<'a, 's, C> {
         self.with_block(alloc, run, passing)
     }
 
-    /// The pieces of a run that take a candidate's place, or `None` if it doesn't pass.
+    /// The pieces of a run that replace a candidate, or `None` if it doesn't pass.
     fn passing(
         &self,
         alloc: Global,
@@ -311,8 +315,8 @@ impl<'a, 's, C: Classes> Attempt<'a, 's, C> {
         run: Run,
         serving: &mut Option<Serving<'s>>,
     ) -> Result<Option<Passing<'a>>, AllocError>
-        requires { (c : Change) × (path : List ℕ) × Reads (C.classes self.now.asked.now.classes.now) c self.now path candidate run serving.old }
-        ensures { (c : Change) (path : List ℕ) (h : Reads (C.classes self.now.asked.now.classes.now) c self.now path candidate run serving.old) → IfOk result (λ o. Settles (C.classes self.now.asked.now.classes.now) c self.now.root.now path candidate run h.found o × ServesOr (C.classes self.now.asked.now.classes.now) c self.now.root.now path candidate.depth serving.new) }
+        requires { (c : TextReplacement) × (path : List ℕ) × Reads (C.classes self.now.asked.now.classes.now) c self.now path candidate run serving.old }
+        ensures { (c : TextReplacement) (path : List ℕ) (h : Reads (C.classes self.now.asked.now.classes.now) c self.now path candidate run serving.old) → IfOk result (λ o. Settles (C.classes self.now.asked.now.classes.now) c self.now.root.now path candidate run h.found o × ServesOr (C.classes self.now.asked.now.classes.now) c self.now.root.now path candidate.depth serving.new) }
     {
         let Some(bounds) = self.bounds(run, candidate) else {
             return Ok(None);
@@ -341,11 +345,11 @@ impl<'a, 's, C: Classes> Attempt<'a, 's, C> {
         alloc: Global,
         candidate: Candidate,
         run: Run,
-        from: &Cursor<'_>,
+        from: &EntryCursor<'_>,
         serving: &mut Option<Serving<'s>>,
     ) -> Result<Option<Serving<'s>>, AllocError>
-        requires { (c : Change) × (path : List ℕ) × (h : Reads (C.classes self.now.asked.now.classes.now) c self.now path candidate run serving.old) × BeginsThere (C.classes self.now.asked.now.classes.now) c path candidate run h.found from.now }
-        ensures begun { (c : Change) (path : List ℕ) (h : Reads (C.classes self.now.asked.now.classes.now) c self.now path candidate run serving.old) → BeginsThere (C.classes self.now.asked.now.classes.now) c path candidate run h.found from.now → IfOk result (λ o. ServesNow (C.classes self.now.asked.now.classes.now) c self.now.root.now path candidate run o) }
+        requires { (c : TextReplacement) × (path : List ℕ) × (h : Reads (C.classes self.now.asked.now.classes.now) c self.now path candidate run serving.old) × BeginsThere (C.classes self.now.asked.now.classes.now) c path candidate run h.found from.now }
+        ensures begun { (c : TextReplacement) (path : List ℕ) (h : Reads (C.classes self.now.asked.now.classes.now) c self.now path candidate run serving.old) → BeginsThere (C.classes self.now.asked.now.classes.now) c path candidate run h.found from.now → IfOk result (λ o. ServesNow (C.classes self.now.asked.now.classes.now) c self.now.root.now path candidate run o) }
         ensures taken { IfOk result (λ _. serving.new ≡ None) }
     {
         if let Some(current) = serving.take() {
@@ -360,7 +364,7 @@ impl<'a, 's, C: Classes> Attempt<'a, 's, C> {
         alloc: Global,
         candidate: Candidate,
         run: Run,
-        from: &Cursor<'_>,
+        from: &EntryCursor<'_>,
     ) -> Result<Option<Serving<'s>>, AllocError>
         requires boundary { IsCharBoundary self.now.asked.now.new.now candidate.start }
         requires some { 0 < run.levels }
@@ -381,21 +385,21 @@ impl<'a, 's, C: Classes> Attempt<'a, 's, C> {
         Ok(Some(Serving {
             reader,
             any: false,
-            first: candidate,
-            from: from.number(),
+            first_candidate: candidate,
+            first_entry: from.number(),
             last: candidate.end,
         }))
     }
 
     /// Where among the entries the candidate begins and ends.
     fn bounds(&self, run: Run, candidate: Candidate) -> Option<Bounds<'a>>
-        requires first { run.first ≤ length self.now.records.now.units.entries }
+        requires first { run.first_entry ≤ length self.now.records.now.units.entries }
         requires fits { end_of 0 self.now.records.now.units.entries < 2 ^ 64 }
-        ensures { (path : List ℕ) (from to looks : ℕ) → Ends self.now.records.now.units.entries run.first (at_path path candidate) from to → LooksFrom self.now.records.now.units.entries run.kind from to looks → AreBounds self.now.records.now.units.entries from to looks result }
+        ensures { (path : List ℕ) (from to looks : ℕ) → Ends self.now.records.now.units.entries run.first_entry (at_path path candidate) from to → LooksFrom self.now.records.now.units.entries run.kind from to looks → AreBounds self.now.records.now.units.entries from to looks result }
     {
         let from = self
             .records
-            .run_place(run.first, candidate.start)
+            .run_place(run.first_entry, candidate.start)
             .piece_from(candidate.start)?;
         if is_last(&from) {
             let looks = self.looks_at_end(run.kind, from.number())?;
@@ -410,8 +414,8 @@ impl<'a, 's, C: Classes> Attempt<'a, 's, C> {
         Some(Bounds { from, to, looks })
     }
 
-    /// From which entry on all looks have to begin after the stretch, if no piece of the run comes after the entry
-    /// of this number: from the one where its block ends, or from none, at a text's end.
+    /// The number of the entry from which on all looks have to begin after the stretch, if no piece of the run comes
+    /// after the entry of this number: from the one where its block ends, or from none, at a text's end.
     fn looks_at_end(&self, kind: RunKind, number: usize) -> Option<usize>
         requires within { number < length self.now.records.now.units.entries }
         requires fits { end_of 0 self.now.records.now.units.entries < 2 ^ 64 }
@@ -420,7 +424,7 @@ impl<'a, 's, C: Classes> Attempt<'a, 's, C> {
     {
         match kind {
             RunKind::Text => Some(self.records.count()),
-            RunKind::Block => self.records.closing(self.behind(number)),
+            RunKind::Block => self.records.closing(self.after(number)),
         }
     }
 
@@ -430,32 +434,36 @@ impl<'a, 's, C: Classes> Attempt<'a, 's, C> {
         alloc: Global,
         run: Run,
         passing: Passing<'_>,
-    ) -> Result<Option<Part>, AllocError>
+    ) -> Result<Option<ReparsedPart>, AllocError>
         requires text { IsUtf8 self.now.asked.now.new.now }
         requires fits { length self.now.asked.now.new.now < 2 ^ 64 - 1 }
         requires places { end_of 0 self.now.records.now.units.entries < 2 ^ 64 }
         requires boundary { IsCharBoundary self.now.asked.now.new.now run.at }
-        requires first { (0 < run.first) × (run.first ≤ length self.now.records.now.units.entries) }
-        requires block { (to : ℕ) × (levels : ℕ) × (mode : SyntaxMode) × SaysBlock self.now.records.now.units.entries (run.first - 1) to levels Block.Content mode }
-        ensures { (to levels : ℕ) (mode : SyntaxMode) → SaysBlock self.now.records.now.units.entries (run.first - 1) to levels Block.Content mode → IfOk result (λ part. HasBlock (C.classes self.now.asked.now.classes.now) (place_at self.now.asked.now.new.now run.at) run.at levels mode (run.first - 1) to passing.entry.first.from passing.entry.pieces part) }
+        requires first { (0 < run.first_entry) × (run.first_entry ≤ length self.now.records.now.units.entries) }
+        requires block { (to : ℕ) × (levels : ℕ) × (mode : SyntaxMode) × SaysBlock self.now.records.now.units.entries (run.first_entry - 1) to levels Block.Content mode }
+        ensures { (to levels : ℕ) (mode : SyntaxMode) → SaysBlock self.now.records.now.units.entries (run.first_entry - 1) to levels Block.Content mode → IfOk result (λ part. HasBlock (C.classes self.now.asked.now.classes.now) (place_at self.now.asked.now.new.now run.at) run.at levels mode (run.first_entry - 1) to passing.entry.first_candidate.from passing.entry.pieces part) }
     {
-        let opens = run.first - 1;
-        let Some(to) = self.records.closing(run.first) else {
+        let from_entry = run.first_entry - 1;
+        let Some(to_entry) = self.records.closing(run.first_entry) else {
             return Ok(None);
         };
-        let Some(read) = self.block_at(alloc, opens, run.at)? else {
+        let Some(read) = self.block_at(alloc, from_entry, run.at)? else {
             return Ok(None);
         };
         let entries = entries_of_block(alloc, run.at, &read)?;
-        let Passing { pieces, first, .. } = passing;
+        let Passing {
+            pieces,
+            first_candidate,
+            ..
+        } = passing;
         let end = pieces.end;
-        Ok(Some(Part {
+        Ok(Some(ReparsedPart {
             nodes: pieces.nodes,
-            first: first.from,
+            first_child: first_candidate.from,
             end,
             entries,
-            from: opens,
-            to,
+            from_entry,
+            to_entry,
         }))
     }
 }
@@ -466,17 +474,17 @@ impl Serving<'_> {
     pub(crate) fn goes_on(&self, candidate: Candidate) -> bool
         ensures { result ≡ true → GoesOn candidate self.now }
     {
-        if candidate.is_block || candidate.depth != self.first.depth {
+        if candidate.is_block || candidate.depth != self.first_candidate.depth {
             return false;
         }
-        candidate.start <= self.first.start && self.last <= candidate.end
+        candidate.start <= self.first_candidate.start && self.last <= candidate.end
     }
 
     /// Whether there are pieces for a candidate: some that were read, or old ones before them.
     fn has_pieces(&self, candidate: Candidate) -> bool
-        ensures { (m : ℕ) → (self.now.any ≡ true ↔ 0 < m) → (result ≡ true ↔ ((candidate.start < self.now.first.start) ⊎ (0 < m))) }
+        ensures { (m : ℕ) → (self.now.any ≡ true ↔ 0 < m) → (result ≡ true ↔ ((candidate.start < self.now.first_candidate.start) ⊎ (0 < m))) }
     {
-        self.any || candidate.start < self.first.start
+        self.any || candidate.start < self.first_candidate.start
     }
 
     /// Reads on for a candidate until the pieces end at a byte or after it, or their run ends.
@@ -488,7 +496,7 @@ impl Serving<'_> {
     ) -> Result<(), AllocError>
         requires { (r : Reading) × HasReadSome (C.classes classes.now) r end self.old.any self.old.reader }
         ensures read { (r : Reading) → HasReadSome (C.classes classes.now) r end self.old.any self.old.reader → IfOk result (λ _. HasReadTo (C.classes classes.now) r end self.new.any self.new.reader) }
-        ensures kept { IfOk result (λ _. (self.new.first ≡ self.old.first) × (self.new.from ≡ self.old.from) × (self.new.last ≡ candidate.end)) }
+        ensures kept { IfOk result (λ _. (self.new.first_candidate ≡ self.old.first_candidate) × (self.new.first_entry ≡ self.old.first_entry) × (self.new.last ≡ candidate.end)) }
     {
         self.last = candidate.end;
         'pieces: while self.reader.end() < end {
@@ -502,9 +510,9 @@ impl Serving<'_> {
 
     /// Whether the pieces read end at the byte where the candidate ends now, and may be there before the entry
     /// that follows a place.
-    fn fits(&self, candidate: Candidate, kind: RunKind, to: &Cursor<'_>, target: usize) -> bool
+    fn fits(&self, candidate: Candidate, kind: RunKind, to: &EntryCursor<'_>, target: usize) -> bool
         requires { to.now.number < length to.now.entries }
-        ensures { (y : Bool × ℕ) (m : ℕ) → SaysPiece to.now.entries to.now.number y → (self.now.any ≡ true ↔ 0 < m) → (result ≡ true ↔ ((self.now.reader.end ≡ target) × MeetsOn to.now.entries kind to.now.number (candidate.start < self.now.first.start) m y self.now.reader.carried)) }
+        ensures { (y : Bool × ℕ) (m : ℕ) → SaysPiece to.now.entries to.now.number y → (self.now.any ≡ true ↔ 0 < m) → (result ≡ true ↔ ((self.now.reader.end ≡ target) × MeetsOn to.now.entries kind to.now.number (candidate.start < self.now.first_candidate.start) m y self.now.reader.carried)) }
     {
         if self.reader.end() != target {
             return false;
@@ -516,14 +524,14 @@ impl Serving<'_> {
     /// What was read, for a candidate that it passes for.
     fn pass<'a>(self, candidate: Candidate, bounds: Bounds<'a>) -> Result<Passing<'a>, AllocError>
         ensures pieces { (k : CharClasses) (levels : ℕ) (kind : RunKind) (x : Bool × ℕ) (z : Place) (m : ℕ) → HasRead k levels kind x z m self.entry.reader → IfOk result (λ p. ArePieces k levels kind x z m p.pieces) }
-        ensures any { (m : ℕ) → (self.entry.any ≡ true ↔ 0 < m) → IfOk result (λ p. p.any ≡ true ↔ ((candidate.start < self.entry.first.start) ⊎ (0 < m))) }
-        ensures rest { IfOk result (λ p. (p.bounds ≡ bounds.entry) × (p.first ≡ self.entry.first) × (p.from ≡ self.entry.from)) }
+        ensures any { (m : ℕ) → (self.entry.any ≡ true ↔ 0 < m) → IfOk result (λ p. p.any ≡ true ↔ ((candidate.start < self.entry.first_candidate.start) ⊎ (0 < m))) }
+        ensures rest { IfOk result (λ p. (p.bounds ≡ bounds.entry) × (p.first_candidate ≡ self.entry.first_candidate) × (p.first_entry ≡ self.entry.first_entry)) }
     {
         let any = self.has_pieces(candidate);
         let Serving {
             reader,
-            first,
-            from,
+            first_candidate,
+            first_entry,
             ..
         } = self;
         let pieces = reader.finish()?;
@@ -531,8 +539,8 @@ impl Serving<'_> {
             bounds,
             pieces,
             any,
-            first,
-            from,
+            first_candidate,
+            first_entry,
         })
     }
 }
@@ -549,28 +557,28 @@ fn above(path: &[usize]) -> Option<&[usize]>
 }
 
 /// Whether no piece of the run comes after the entry that follows a place.
-fn is_last(place: &Cursor<'_>) -> bool
+fn is_last(place: &EntryCursor<'_>) -> bool
     requires { place.now.number < length place.now.entries }
     ensures { IsTrue result ↔ IsLast place.now.entries place.now.number }
 {
-    let mut behind = place.copy();
-    behind.next();
-    behind.piece_behind().is_none()
+    let mut after = place.copy();
+    after.next();
+    after.piece_after().is_none()
 }
 
 /// What is carried at a place, if a piece begins or ends there.
-fn carried_at(place: &Cursor<'_>) -> Option<Carried>
+fn carried_at(place: &EntryCursor<'_>) -> Option<Carried>
     ensures { (x : Bool × ℕ) → SaysPiece place.now.entries place.now.number x → result ≡ Some x }
 {
     let entry = place.copy().next()?;
-    match entry.tag {
-        Tag::Piece(at_start) => Some((at_start, entry.count)),
+    match entry.kind {
+        EntryKind::Piece(at_start) => Some((at_start, entry.count)),
         _ => None,
     }
 }
 
 /// Whether there are pieces in both texts, where those of the old one begin at a place.
-fn has_both(any: bool, from: &Cursor<'_>) -> bool
+fn has_both(any: bool, from: &EntryCursor<'_>) -> bool
     requires { from.now.number < length from.now.entries }
     ensures { result ≡ true ↔ ((any ≡ true) × (IsLast from.now.entries from.now.number → ⊥)) }
 {
@@ -581,7 +589,7 @@ fn has_both(any: bool, from: &Cursor<'_>) -> bool
 }
 
 /// Whether pieces that carry this at their end may be before the entry that follows a place.
-fn meets(kind: RunKind, to: &Cursor<'_>, any: bool, carried: Carried) -> bool
+fn meets(kind: RunKind, to: &EntryCursor<'_>, any: bool, carried: Carried) -> bool
     requires { to.now.number < length to.now.entries }
     ensures { (y : Bool × ℕ) (a b m : ℕ) → SaysPiece to.now.entries to.now.number y → (any ≡ true ↔ ((a < b) ⊎ (0 < m))) → (result ≡ true ↔ MeetsOn to.now.entries kind to.now.number (a < b) m y carried) }
 {
@@ -612,32 +620,32 @@ fn goes_alike(any: bool, was: Carried, carried: Carried) -> bool
 }
 
 /// The part of pieces with their own entries.
-fn part_of_pieces(alloc: Global, passing: Passing<'_>) -> Result<Part, AllocError>
-    requires start { passing.first.start < 2 ^ 64 - 1 }
+fn part_of_pieces(alloc: Global, passing: Passing<'_>) -> Result<ReparsedPart, AllocError>
+    requires start { passing.first_candidate.start < 2 ^ 64 - 1 }
     requires fits { AllFit passing.pieces.notes.items }
     ensures nodes { IfOk result (λ p. p.nodes ≡ passing.entry.pieces.nodes) }
-    ensures first { IfOk result (λ p. p.first ≡ passing.entry.first.from) }
+    ensures first { IfOk result (λ p. p.first_child ≡ passing.entry.first_candidate.from) }
     ensures end { IfOk result (λ p. p.end ≡ passing.entry.pieces.end) }
-    ensures entries { IfOk result (λ p. p.entries.units.entries ≡ entries_by passing.entry.first.start passing.entry.pieces.notes.items) }
-    ensures bounds { IfOk result (λ p. (p.from ≡ passing.entry.from) × (p.to ≡ passing.entry.bounds.to.number)) }
+    ensures entries { IfOk result (λ p. p.entries.units.entries ≡ entries_by passing.entry.first_candidate.start passing.entry.pieces.notes.items) }
+    ensures bounds { IfOk result (λ p. (p.from_entry ≡ passing.entry.first_entry) × (p.to_entry ≡ passing.entry.bounds.to.number)) }
 {
     let Passing {
         bounds,
         pieces,
-        first,
-        from,
+        first_candidate,
+        first_entry,
         ..
     } = passing;
     let mut entries = Records::new(alloc);
-    entries.add_all(first.start, &pieces.notes)?;
+    entries.add_all(first_candidate.start, &pieces.notes)?;
     let end = pieces.end;
-    Ok(Part {
+    Ok(ReparsedPart {
         nodes: pieces.nodes,
-        first: first.from,
+        first_child: first_candidate.from,
         end,
         entries,
-        from,
-        to: bounds.to.number(),
+        from_entry: first_entry,
+        to_entry: bounds.to.number(),
     })
 }
 

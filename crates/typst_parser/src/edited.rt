@@ -5,11 +5,11 @@ ghost use Rattle.typst_tree.specs.Order.{AreInOrder, IsNumbered, numbers_of};
 ghost use Rattle.typst_tree.specs.Replace.{Reaches};
 ghost use Rattle.typst_edits.specs.Edit.{Among};
 ghost use Rattle.typst_parser.specs.Attempt.{Speaks, at_path};
-ghost use Rattle.typst_parser.specs.Change.{Change, Makes, Holds, candidates};
+ghost use Rattle.typst_parser.specs.TextReplacement.{TextReplacement, Makes, Holds, candidates};
 ghost use Rattle.typst_parser.specs.Steps.{GoesOn, ServesFor, ServesOr};
 ghost use Rattle.typst_parser.specs.Reparse.{AreFirst, CanTake, CanTakeFirst, NonePasses, NonePassesOf, Puts, Takes, TakesFirst, TakesPlace};
 
-use crate::attempt::{Asked, Attempt, Part, Serving};
+use crate::attempt::{Asked, Attempt, ReparsedPart, Serving};
 use crate::replacement::Replacement;
 use std::alloc::{AllocError, Global};
 use std::ops::Range;
@@ -37,9 +37,9 @@ pub fn reparse<C: Classes>(
     edit: Replacement,
     classes: &C,
 ) -> Result<Option<Range<usize>>, AllocError>
-    requires { (c : Change) × (Makes c new.now edit × Holds (C.classes classes.now) c root.old records.old.units) }
-    ensures part { (c : Change) → Makes c new.now edit → Holds (C.classes classes.now) c root.old records.old.units → IfOk result (λ r. IfSome r (λ range. Takes (C.classes classes.now) c root.old root.new records.new.units range)) }
-    ensures none { (c : Change) → Makes c new.now edit → Holds (C.classes classes.now) c root.old records.old.units → result ≡ Ok None → NonePasses (C.classes classes.now) c root.old }
+    requires { (c : TextReplacement) × (Makes c new.now edit × Holds (C.classes classes.now) c root.old records.old.units) }
+    ensures part { (c : TextReplacement) → Makes c new.now edit → Holds (C.classes classes.now) c root.old records.old.units → IfOk result (λ r. IfSome r (λ range. Takes (C.classes classes.now) c root.old root.new records.new.units range)) }
+    ensures none { (c : TextReplacement) → Makes c new.now edit → Holds (C.classes classes.now) c root.old records.old.units → result ≡ Ok None → NonePasses (C.classes classes.now) c root.old }
     ensures undone { result ≡ Ok None → (root.new ≡ root.old) × (records.new.units ≡ records.old.units) }
     ensures err { OnErr result ((root.new ≡ root.old) × (records.new.units ≡ records.old.units)) }
     ensures ordered { IfOk result (λ r. IfSome r (λ _. IsNumbered root.old → IsNumbered root.new × AreInOrder (numbers_of root.new))) }
@@ -57,9 +57,9 @@ fn reparse_near<C: Classes>(
     edit: Replacement,
     classes: &C,
 ) -> Result<Option<Range<usize>>, AllocError>
-    requires { (c : Change) × (Makes c new.now edit × Holds (C.classes classes.now) c root.old records.old.units) }
-    ensures part { (c : Change) → Makes c new.now edit → Holds (C.classes classes.now) c root.old records.old.units → IfOk result (λ r. IfSome r (λ range. Takes (C.classes classes.now) c root.old root.new records.new.units range)) }
-    ensures none { (c : Change) → Makes c new.now edit → Holds (C.classes classes.now) c root.old records.old.units → result ≡ Ok None → NonePasses (C.classes classes.now) c root.old }
+    requires { (c : TextReplacement) × (Makes c new.now edit × Holds (C.classes classes.now) c root.old records.old.units) }
+    ensures part { (c : TextReplacement) → Makes c new.now edit → Holds (C.classes classes.now) c root.old records.old.units → IfOk result (λ r. IfSome r (λ range. Takes (C.classes classes.now) c root.old root.new records.new.units range)) }
+    ensures none { (c : TextReplacement) → Makes c new.now edit → Holds (C.classes classes.now) c root.old records.old.units → result ≡ Ok None → NonePasses (C.classes classes.now) c root.old }
     ensures undone { result ≡ Ok None → (root.new ≡ root.old) × (records.new.units ≡ records.old.units) }
     ensures err { OnErr result ((root.new ≡ root.old) × (records.new.units ≡ records.old.units)) }
     ensures ordered { IfOk result (λ r. IfSome r (λ _. IsNumbered root.old → IsNumbered root.new × AreInOrder (numbers_of root.new))) }
@@ -105,7 +105,7 @@ fn take_first<C: Classes>(
 ) -> Result<Option<Range<usize>>, AllocError>
     requires some { CanTakeFirst (C.classes asked.now.classes.now) asked.now root.old records.old.units found.now }
     requires within { from ≤ length found.now.items.items }
-    ensures first { (c : Change) → Speaks (C.classes asked.now.classes.now) c asked.now root.old records.old.units → AreFirst (C.classes asked.now.classes.now) c root.old found.now → NonePassesOf (C.classes asked.now.classes.now) c root.old from → IfOk result (λ range. TakesFirst (C.classes asked.now.classes.now) c root.old root.new records.new.units (length found.now.items.items) range) }
+    ensures first { (c : TextReplacement) → Speaks (C.classes asked.now.classes.now) c asked.now root.old records.old.units → AreFirst (C.classes asked.now.classes.now) c root.old found.now → NonePassesOf (C.classes asked.now.classes.now) c root.old from → IfOk result (λ range. TakesFirst (C.classes asked.now.classes.now) c root.old root.new records.new.units (length found.now.items.items) range) }
     ensures undone { result ≡ Ok None → (root.new ≡ root.old) × (records.new.units ≡ records.old.units) }
     ensures err { OnErr result ((root.new ≡ root.old) × (records.new.units ≡ records.old.units)) }
     ensures ordered { IfOk result (λ r. IfSome r (λ _. IsNumbered root.old → IsNumbered root.new × AreInOrder (numbers_of root.new))) }
@@ -146,7 +146,7 @@ fn front_of(path: &[usize], depth: usize) -> &[usize]
 }
 
 /// Puts what takes the candidate's place there, if it passes and its nodes find numbers; answers where it ends in
-/// the new text. Else nothing changes.
+/// the new text. Otherwise nothing changes.
 fn take_place<'s, C: Classes>(
     alloc: Global,
     root: &mut SyntaxNode,
@@ -157,7 +157,7 @@ fn take_place<'s, C: Classes>(
     serving: &mut Option<Serving<'s>>,
 ) -> Result<Option<usize>, AllocError>
     requires { CanTake (C.classes asked.now.classes.now) asked.now root.old records.old.units path.now candidate serving.old }
-    ensures taken { (c : Change) → Speaks (C.classes asked.now.classes.now) c asked.now root.old records.old.units → Among (at_path path.now candidate) (candidates (C.classes asked.now.classes.now) c root.old) → ServesFor (C.classes asked.now.classes.now) c root.old path.now candidate serving.old → IfOk result (λ end. TakesPlace (C.classes asked.now.classes.now) c (at_path path.now candidate) root.old root.new records.new.units end × ServesOr (C.classes asked.now.classes.now) c root.old path.now candidate.depth serving.new) }
+    ensures taken { (c : TextReplacement) → Speaks (C.classes asked.now.classes.now) c asked.now root.old records.old.units → Among (at_path path.now candidate) (candidates (C.classes asked.now.classes.now) c root.old) → ServesFor (C.classes asked.now.classes.now) c root.old path.now candidate serving.old → IfOk result (λ end. TakesPlace (C.classes asked.now.classes.now) c (at_path path.now candidate) root.old root.new records.new.units end × ServesOr (C.classes asked.now.classes.now) c root.old path.now candidate.depth serving.new) }
     ensures undone { result ≡ Ok None → (root.new ≡ root.old) × (records.new.units ≡ records.old.units) }
     ensures err { OnErr result ((root.new ≡ root.old) × (records.new.units ≡ records.old.units)) }
     ensures ordered { IfOk result (λ r. IfSome r (λ _. IsNumbered root.old → IsNumbered root.new × AreInOrder (numbers_of root.new))) }
@@ -184,19 +184,19 @@ fn put(
     records: &mut Records,
     path: &[usize],
     to: usize,
-    part: Part,
+    part: ReparsedPart,
 ) -> Result<bool, AllocError>
-    requires reaches { Reaches path.now part.first to root.old }
-    requires order { part.from ≤ part.to }
-    requires within { part.to < length records.old.units.entries }
-    ensures puts { IfOk result (λ done. Puts path.now part.first to part root.old root.new records.old.units records.new.units done) }
+    requires reaches { Reaches path.now part.first_child to root.old }
+    requires order { part.from_entry ≤ part.to_entry }
+    requires within { part.to_entry < length records.old.units.entries }
+    ensures puts { IfOk result (λ done. Puts path.now part.first_child to part root.old root.new records.old.units records.new.units done) }
     ensures err { OnErr result ((root.new ≡ root.old) × (records.new.units ≡ records.old.units)) }
     ensures ordered { IfOk result (λ done. done ≡ true → IsNumbered root.old → IsNumbered root.new × AreInOrder (numbers_of root.new)) }
 {
     records.reserve(&part.entries)?;
-    match root.replace_at(path, part.first..to, part.nodes) {
+    match root.replace_at(path, part.first_child..to, part.nodes) {
         Ok(()) => {
-            records.put(&part.entries, part.from, part.to);
+            records.put(&part.entries, part.from_entry, part.to_entry);
             Ok(true)
         }
         Err(SourceError::SpanNumbers) => Ok(false),

@@ -5,7 +5,7 @@ ghost use Rattle.std.specs.String.{string_bytes};
 ghost use Rattle.typst_tree.specs.Tree.{text_of, bare, nodes};
 ghost use Rattle.typst_edits.specs.Grammar.{tree};
 ghost use Rattle.typst_parser.specs.Headline.{Headline, edited, file_of, AreNumbered, AreOrdered, numbered_in};
-ghost use Rattle.typst_parser.specs.Tried.{Decides, Tries};
+ghost use Rattle.typst_parser.specs.Tried.{AnswersEdit, Tries};
 ghost use Rattle.typst_parser.specs.Records.{AreUnits, Edits, IsPlaced, IsPlacedBy, ReadsWhole};
 ghost use Rattle.typst_parser.specs.Answers.{Answers, AnswersText, change_of};
 
@@ -75,7 +75,7 @@ struct Parsed {
 }
 
 /// The tree of a text, numbered in a file, or without numbers if there is none, and the text's units.
-fn parse_anew<C: Classes>(
+fn parse_whole<C: Classes>(
     alloc: Global,
     text: &str,
     file: Option<FileId>,
@@ -116,7 +116,7 @@ impl<C: Classes + Drop> Source<C> {
         let Ok(lines) = Lines::new(alloc, text) else {
             return Err(SourceError::OutOfMemory);
         };
-        let made = parse_anew(alloc, lines.text(), Some(id), &classes)?;
+        let made = parse_whole(alloc, lines.text(), Some(id), &classes)?;
         Ok(Source {
             alloc,
             id,
@@ -299,7 +299,7 @@ impl<C: Classes> Source<C> {
         requires end { IsCharBoundary self.old.text replace.end }
         requires ordered { replace.start ≤ replace.end }
         ensures tried { IfOk result (λ t. Tries (C.classes self.old.classes) self.old self.new (edited self.old.text replace with.now) t) }
-        ensures decided { IfOk result (λ t. Decides (C.classes self.old.classes) self.old self.new (edited self.old.text replace with.now) (change_of self.old.text replace with.now) t) }
+        ensures decided { IfOk result (λ t. AnswersEdit (C.classes self.old.classes) self.old self.new (edited self.old.text replace with.now) (change_of self.old.text replace with.now) t) }
         ensures err { OnErr result (self.new ≡ self.old) }
         ensures memory { IfErr result (λ e. e ≡ SourceError.OutOfMemory) }
     {
@@ -307,7 +307,7 @@ impl<C: Classes> Source<C> {
             return Ok(None);
         }
         let Range { start, end } = replace;
-        let behind = self.text().len().saturating_sub(end);
+        let after = self.text().len().saturating_sub(end);
         let Ok(edited) = self.lines.start_edit(start..end, with) else {
             return Err(SourceError::OutOfMemory);
         };
@@ -319,7 +319,7 @@ impl<C: Classes> Source<C> {
         let edit = Replacement {
             start,
             old_end: end,
-            new_end: text.len().saturating_sub(behind),
+            new_end: text.len().saturating_sub(after),
         };
         match reparse(
             self.alloc,
@@ -344,7 +344,7 @@ impl<C: Classes> Source<C> {
         }
     }
 
-    /// Makes the edit by reading the whole of the new text.
+    /// Makes the edit by reading the whole new text.
     fn read_whole(&mut self, replace: Range<usize>, with: &str) -> Result<Range<usize>, SourceError>
         requires start { IsCharBoundary self.old.text replace.start }
         requires end { IsCharBoundary self.old.text replace.end }
@@ -358,7 +358,7 @@ impl<C: Classes> Source<C> {
         let Ok(edited) = self.lines.start_edit(replace, with) else {
             return Err(SourceError::OutOfMemory);
         };
-        let made = match parse_anew(self.alloc, edited.text(), file, &self.classes) {
+        let made = match parse_whole(self.alloc, edited.text(), file, &self.classes) {
             Ok(made) => made,
             Err(error) => {
                 self.lines = edited.take_back();

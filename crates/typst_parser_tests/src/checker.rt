@@ -132,7 +132,7 @@ fn prints_so_many_at_most(rt: HostRuntime) {
 }
 
 /// Whether a check of `TEXT` ends quietly where nobody reads what it prints after so many bytes.
-fn is_quiet_behind(alloc: Global, bytes: usize) -> bool {
+fn is_quiet_after(alloc: Global, bytes: usize) -> bool {
     match checked(alloc, PLAIN, TEXT, Room::of(bytes, Pace::Bytes)) {
         Ok((status, _, errors, tally)) => {
             status == 2 && errors.taken().is_empty() && tally.is_unheard && tally.files == 0
@@ -143,8 +143,8 @@ fn is_quiet_behind(alloc: Global, bytes: usize) -> bool {
 
 #[test]
 fn is_quiet_where_nobody_reads(rt: HostRuntime) {
-    assert!(rt; is_quiet_behind(rt.alloc(), 0));
-    assert!(rt; is_quiet_behind(rt.alloc(), 20));
+    assert!(rt; is_quiet_after(rt.alloc(), 0));
+    assert!(rt; is_quiet_after(rt.alloc(), 20));
 }
 
 /// Whether the list has these names.

@@ -1,5 +1,5 @@
 //! What an editor does with a text that it holds: edits it, finds a node by its span, walks the leaves,
-//! and tells where each error stands, by line and UTF-16 column.
+//! and prints where each error stands, by line and UTF-16 column.
 //!
 //! A program names `typst_parser` where this names `typst_cli`, which passes the same names on.
 
@@ -7,8 +7,8 @@ use std::alloc::{AllocError, Global};
 use std::ops::Range;
 use typst_cli::{Severity, Source, SyntaxNode, UnicodeClasses};
 
-/// What is told of the text below.
-const TOLD: &str = r#"parsed anew: 0..12
+/// What is printed of the text below.
+const PRINTED: &str = r#"parsed anew: 0..12
 heading 0..4
 heading marker "="
 space " "
@@ -23,11 +23,11 @@ text "a"
 
 #[test]
 fn an_editor_holds_a_text(rt: HostRuntime) {
-    assert!(rt; told(rt.alloc()).as_deref() == Some(TOLD));
+    assert!(rt; printed(rt.alloc()).as_deref() == Some(PRINTED));
 }
 
-/// Makes a source, replaces its text, and tells what became of it; nothing where memory was refused.
-fn told(alloc: Global) -> Option<String> {
+/// Makes a source, replaces its text, and prints what became of it; nothing where memory was refused.
+fn printed(alloc: Global) -> Option<String> {
     let text = String::from_str(alloc, "= Hi\n").ok()?;
     let mut source = Source::detached(alloc, text, UnicodeClasses).ok()?;
     let parsed = source.replace("= Hi\n💛 *a").ok()?;
@@ -40,15 +40,15 @@ fn tell_source(
     source: &Source<UnicodeClasses>,
     parsed: Range<usize>,
 ) -> Result<String, AllocError> {
-    let mut told = String::new(alloc);
-    write!(told, "parsed anew: {}..{}\n", parsed.start, parsed.end)?;
-    tell_heading(&mut told, source)?;
-    tell(&mut told, source, source.root())?;
-    Ok(told)
+    let mut printed = String::new(alloc);
+    write!(printed, "parsed anew: {}..{}\n", parsed.start, parsed.end)?;
+    print_heading(&mut printed, source)?;
+    print_node(&mut printed, source, source.root())?;
+    Ok(printed)
 }
 
-/// Finds the first node by its span, and tells where it is.
-fn tell_heading(told: &mut String, source: &Source<UnicodeClasses>) -> Result<(), AllocError> {
+/// Finds the first node by its span, and prints where it is.
+fn print_heading(printed: &mut String, source: &Source<UnicodeClasses>) -> Result<(), AllocError> {
     let Some(heading) = source.root().children().first() else {
         return Ok(());
     };
@@ -56,26 +56,30 @@ fn tell_heading(told: &mut String, source: &Source<UnicodeClasses>) -> Result<()
         return Ok(());
     };
     let (name, range) = (found.kind().name(), found.range());
-    write!(told, "{name} {}..{}\n", range.start, range.end)
+    write!(printed, "{name} {}..{}\n", range.start, range.end)
 }
 
 /// Tells the leaves of a node and its errors.
-fn tell(
-    told: &mut String,
+fn print_node(
+    printed: &mut String,
     source: &Source<UnicodeClasses>,
     node: &SyntaxNode,
 ) -> Result<(), AllocError> {
     if !node.leaf_text().is_empty() {
-        write!(told, "{} {:?}\n", node.kind().name(), node.leaf_text())?;
+        write!(printed, "{} {:?}\n", node.kind().name(), node.leaf_text())?;
     }
     for diagnostic in node.diagnostics() {
         if diagnostic.severity() == Severity::Error {
             let (line, column) = place_of(source, node).unwrap_or((0, 0));
-            write!(told, "{line}:{column}: error: {}\n", diagnostic.message())?;
+            write!(
+                printed,
+                "{line}:{column}: error: {}\n",
+                diagnostic.message()
+            )?;
         }
     }
     for kid in node.children() {
-        tell(told, source, kid)?;
+        print_node(printed, source, kid)?;
     }
     Ok(())
 }

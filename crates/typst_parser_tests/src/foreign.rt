@@ -1,18 +1,19 @@
 //! Sources of trees that were handed in: without numbers, of another file, of another text.
 
 use crate::sources::{Unicode, edit, edited, with_root};
-use crate::whole::{are_same_trees, has_lines, has_tree, nodes};
+use crate::whole::{are_same_trees, has_lines, has_tree};
 use std::alloc::Global;
 use typst_cli::{
     FileId, Source, SpanNumber, SubRange, SyntaxKind, SyntaxNode, UnicodeClasses, is_ordered, parse,
 };
+use typst_edited::nodes;
 
 /// An edit: the bytes that it replaces, what it puts there, and the bytes of the new text that it reads.
 type Step = ((usize, usize), &'static str, (usize, usize));
 
 /// Whether all nodes of a tree are of this file, or of none.
 fn are_of_file(alloc: Global, root: &SyntaxNode, file: Option<FileId>) -> Option<bool> {
-    let nodes = nodes(alloc, root)?;
+    let nodes = nodes(alloc, root).ok()?;
     for node in nodes.as_slice() {
         if node.span().id() != file || node.span().number().is_some() != file.is_some() {
             return Some(false);

@@ -100,7 +100,7 @@ fn tells_of_a_read_that_fails(rt: HostRuntime) {
     }
 }
 
-/// Whether a run writes as much of its answer as such a writer takes, and tells that it doesn't take all.
+/// Whether a run writes as much of its answer as such a writer takes, and reports that it doesn't take all.
 fn tells_unwritten(alloc: Global, bytes: usize, flush: Flush) -> bool {
     let mut room = Room::of(bytes, Pace::Interrupted);
     room.flush = flush;

@@ -114,7 +114,7 @@ fn holds_again(alloc: Global) -> Option<bool> {
     Some(source.root().spanless_eq(&root) && has_lines(alloc, source.lines(), TEXT)?)
 }
 
-/// Whether the root over strong text leads to its leaves and back, and its tags are told.
+/// Whether the root over strong text leads to its leaves and back, and its tags are right.
 fn leads_to_leaves(root: LinkedNode<'_>) -> Option<bool> {
     let star = root.leftmost_leaf()?;
     Some(is_star(star)? && is_text(star.next_leaf()?)?)
@@ -128,11 +128,11 @@ fn is_star(star: LinkedNode<'_>) -> Option<bool> {
 
 /// Whether a leaf is the text after that star.
 fn is_text(text: LinkedNode<'_>) -> Option<bool> {
-    let is_behind = text.prev_leaf()?.offset() == 0;
-    Some(is_behind && text.range() == (1..2) && text.leaf_text() == "b")
+    let is_after = text.prev_leaf()?.offset() == 0;
+    Some(is_after && text.range() == (1..2) && text.leaf_text() == "b")
 }
 
-/// Whether what a source tells of itself, and of its nodes, is told whatever was refused.
+/// Whether a source describes itself, and its nodes, whatever was refused.
 fn tells_without_memory(alloc: Global) -> Option<bool> {
     let source = detached(alloc, "*b*").ok()?;
     let span = source.root().span();

@@ -4,14 +4,14 @@ use Rattle.typst_tree.specs.Tree.{Forest, none, more, count}
 use Rattle.typst_tree.specs.Walks.{numbers}
 use Rattle.typst_tree.specs.Steps.{At, at}
 
--- nodes of the same tree behind a node
-abbrev pub AllBehind : At → List At → Type 0
-AllBehind a [] = Unit {0}
-AllBehind a (b ∷ bs) = ((b.root ≡ a.root) × (a.number < b.number)) × AllBehind a bs
+-- nodes of the same tree after a node
+abbrev pub AllAfter : At → List At → Type 0
+AllAfter a [] = Unit {0}
+AllAfter a (b ∷ bs) = ((b.root ≡ a.root) × (a.number < b.number)) × AllAfter a bs
 
-pub behind_from : (a : At) (n : ℕ) (f : Forest) → a.number < n → AllBehind a (map (at a.root) (numbers n f))
-behind_from a n none h = tt
-behind_from a n (more g ks r) h = ((refl, h), behind_from a (n + 1 + count ks) r (omega (arith, h)))
+pub after_from : (a : At) (n : ℕ) (f : Forest) → a.number < n → AllAfter a (map (at a.root) (numbers n f))
+after_from a n none h = tt
+after_from a n (more g ks r) h = ((refl, h), after_from a (n + 1 + count ks) r (omega (arith, h)))
 
-pub split : (a b : At) (xs bs : List At) → xs ≡ b ∷ bs → AllBehind a xs → ((b.root ≡ a.root) × (a.number < b.number)) × AllBehind a bs
-split a b xs bs e h = subst (AllBehind a) e h
+pub split : (a b : At) (xs bs : List At) → xs ≡ b ∷ bs → AllAfter a xs → ((b.root ≡ a.root) × (a.number < b.number)) × AllAfter a bs
+split a b xs bs e h = subst (AllAfter a) e h

@@ -43,7 +43,7 @@ read_word_named name =
     else (if bytes_eq name (codes "look") then Some read_word.Look
     else None)))))))))
 
--- the word that a name stands for, of those for what a tree tells
+-- the word that a name stands for, of those that print something of a tree
 abbrev pub tree_word_named : List ℕ → Option TreeWord
 tree_word_named name =
     if bytes_eq name (codes "link") then Some tree_word.Link

@@ -118,19 +118,19 @@ fn fault_of_edit(
     edit: Edit<'_>,
 ) -> Result<Option<&'static str>, AllocError> {
     match edit.source(alloc, text, UnicodeClasses) {
-        Ok((anew, answer)) => unlike_anew(alloc, source, text, edit, &anew, &answer),
+        Ok((fresh, answer)) => unlike_fresh(alloc, source, text, edit, &fresh, &answer),
         Err(SourceError::OutOfMemory) => Err(AllocError),
         Err(SourceError::SpanNumbers) => Ok(Some("out of span numbers")),
     }
 }
 
 /// What isn't as it has to be, by the edited source that was newly made, and what it answered.
-fn unlike_anew(
+fn unlike_fresh(
     alloc: Global,
     source: &mut Source<UnicodeClasses>,
     text: &str,
     edit: Edit<'_>,
-    anew: &Source<UnicodeClasses>,
+    fresh: &Source<UnicodeClasses>,
     answer: &Made,
 ) -> Result<Option<&'static str>, AllocError> {
     let made = edit.make(source)?;
@@ -143,7 +143,7 @@ fn unlike_anew(
     let Some(wanted) = Wanted::after(alloc, text, edit, &UnicodeClasses)? else {
         return Ok(Some("bad range"));
     };
-    match fault(alloc, anew, &wanted, false)? {
+    match fault(alloc, fresh, &wanted, false)? {
         Some(_) => Ok(Some("anew")),
         None => fault(alloc, source, &wanted, true),
     }

@@ -91,7 +91,7 @@ fn is_too_deep(node: &SyntaxNode) -> bool {
     }
 }
 
-/// Prints the line of a leaf that is so many steps below the root.
+/// Prints the line of a leaf that is a given number of steps below the root.
 fn print_leaf(printed: &mut String, leaf: &SyntaxNode, steps: usize) -> Result<(), AllocError> {
     let text = leaf.leaf_text();
     write!(printed, "{steps} {text:?}")?;

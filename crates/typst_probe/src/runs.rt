@@ -47,7 +47,7 @@ fn agrees_on_edit(alloc: Global, text: &str, at: usize) -> Result<bool, AllocErr
 
 const OUT_OF_MEMORY: &[u8] = b"out of memory\n";
 
-/// Whether a run ends with status 0 and prints what is wanted, and nothing else. Where it tells that memory is
+/// Whether a run ends with status 0 and prints what is wanted, and nothing else. Where it says that memory is
 /// refused, and prints nothing else, this is refused too. What it writes to takes no memory meanwhile.
 fn agrees(alloc: Global, text: &str, words: &[&str], wanted: &str) -> Result<bool, AllocError> {
     let mut input = text.as_bytes();

@@ -13,7 +13,7 @@ pub fn answer(alloc: Global, text: &str) -> Result<String, AllocError> {
     }
 }
 
-/// The line that tells why a source can't be made or edited.
+/// The line that says why a source can't be made or edited.
 pub fn refusal(alloc: Global, error: SourceError) -> Result<String, AllocError> {
     match error {
         SourceError::OutOfMemory => Err(AllocError),

@@ -24,7 +24,7 @@ pub enum Word {
     Printed(PrintedWord),
     /// How it is read in a mode or with a class value.
     Read(ReadWord),
-    /// What its tree tells.
+    /// What is printed of its tree.
     Tree(TreeWord),
     /// What edits of it answer.
     Edit(EditWord),

@@ -50,6 +50,8 @@ pub enum Change {
 #[derive(Clone, Copy, PartialEq, Eq)]
 pub enum Reading {
     Preorder,
+    Marked,
+    Diagnosed,
     Html,
     Stretches,
     Newlines,
@@ -58,7 +60,7 @@ pub enum Reading {
 
 /// Calls that take no memory.
 #[derive(Clone, Copy)]
-pub enum Telling {
+pub enum Query {
     EqualText,
     Lines,
     LinesCompare,
@@ -87,11 +89,11 @@ pub enum Call {
     Tree(TreeCall),
     Change(Change),
     Read(Reading),
-    Tell(Telling),
+    Query(Query),
 }
 
 /// The names of the calls.
-static CALLS: [(&str, Call); 47] = [
+static CALLS: [(&str, Call); 49] = [
     ("start", Call::Start),
     ("none", Call::Nothing),
     ("Source::new", Call::Source(SourceCall::New)),
@@ -124,24 +126,26 @@ static CALLS: [(&str, Call); 47] = [
     ("SyntaxNode::hint_at", Call::Change(Change::HintAt)),
     ("SyntaxNode::replace_at", Call::Change(Change::ReplaceAt)),
     ("SyntaxNode::preorder", Call::Read(Reading::Preorder)),
+    ("Preorder::next_marked", Call::Read(Reading::Marked)),
+    ("Preorder::next_diagnosed", Call::Read(Reading::Diagnosed)),
     ("highlight_html", Call::Read(Reading::Html)),
     ("tag_stretches", Call::Read(Reading::Stretches)),
     ("split_newlines", Call::Read(Reading::Newlines)),
     ("link_prefix", Call::Read(Reading::Link)),
-    ("equal-text", Call::Tell(Telling::EqualText)),
-    ("lines-tell", Call::Tell(Telling::Lines)),
-    ("lines-compare", Call::Tell(Telling::LinesCompare)),
-    ("lines-from", Call::Tell(Telling::LinesFrom)),
-    ("source-tells", Call::Tell(Telling::Source)),
-    ("leaves-tell", Call::Tell(Telling::Leaves)),
-    ("nodes-tell", Call::Tell(Telling::Nodes)),
-    ("nodes-change", Call::Tell(Telling::Changes)),
-    ("remarks-tell", Call::Tell(Telling::Remarks)),
-    ("kinds-tell", Call::Tell(Telling::Kinds)),
-    ("tags-tell", Call::Tell(Telling::Tags)),
-    ("spans-tell", Call::Tell(Telling::Spans)),
-    ("characters-tell", Call::Tell(Telling::Characters)),
-    ("classes-tell", Call::Tell(Telling::Classes)),
+    ("equal-text", Call::Query(Query::EqualText)),
+    ("lines-tell", Call::Query(Query::Lines)),
+    ("lines-compare", Call::Query(Query::LinesCompare)),
+    ("lines-from", Call::Query(Query::LinesFrom)),
+    ("source-tells", Call::Query(Query::Source)),
+    ("leaves-tell", Call::Query(Query::Leaves)),
+    ("nodes-tell", Call::Query(Query::Nodes)),
+    ("nodes-change", Call::Query(Query::Changes)),
+    ("remarks-tell", Call::Query(Query::Remarks)),
+    ("kinds-tell", Call::Query(Query::Kinds)),
+    ("tags-tell", Call::Query(Query::Tags)),
+    ("spans-tell", Call::Query(Query::Spans)),
+    ("characters-tell", Call::Query(Query::Characters)),
+    ("classes-tell", Call::Query(Query::Classes)),
 ];
 
 /// The call of a name.

@@ -1,12 +1,12 @@
-//! Makes calls of the library by their names, also such that are refused memory, and tells whether each is as it
+//! Makes calls of the library by their names, also some that are refused memory, and prints whether each is as it
 //! has to be.
 #![tactic(auto)]
 
 mod compared;
 mod library_call;
 mod one_call;
+mod query;
 mod subject;
-mod telling;
 mod word;
 mod written;
 

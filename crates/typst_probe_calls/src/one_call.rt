@@ -40,14 +40,14 @@ fn called(
             subject.take(alloc, call)?
         }
     };
-    let told = if answer == WRONG {
+    let answered = if answer == WRONG {
         "another value"
     } else if answer == twin.take(alloc, call)? {
         standing(alloc, subject, twin)?
     } else {
         "another answer"
     };
-    writeln!(printed, "{told}")?;
+    writeln!(printed, "{answered}")?;
     Ok(printed)
 }
 

@@ -1,7 +1,7 @@
 //! What calls of the library are made of.
 
-use crate::library_call::{Call, Change, LinesCall, Reading, SourceCall, Telling, TreeCall};
-use crate::{compared, telling, written};
+use crate::library_call::{Call, Change, LinesCall, Query, Reading, SourceCall, TreeCall};
+use crate::{compared, query, written};
 use std::alloc::{AllocError, Global};
 use std::ops::Range;
 use typst_edited::{
@@ -77,6 +77,8 @@ impl Kept {
     fn has(&self, alloc: Global, reading: Reading) -> Result<bool, AllocError> {
         match reading {
             Reading::Preorder => written::has_visits(alloc, &self.heading),
+            Reading::Marked => written::has_marked(alloc),
+            Reading::Diagnosed => written::has_diagnosed(alloc),
             Reading::Stretches => written::has_stretches(alloc, &self.heading),
             Reading::Newlines => written::has_lines(alloc),
             Reading::Link => written::has_link(alloc),
@@ -165,6 +167,30 @@ fn walked(alloc: Global, tree: &SyntaxNode) -> Result<usize, AllocError> {
     Ok(count)
 }
 
+/// How many nodes with errors or warnings, at them or below them, the walk through a tree comes to.
+fn marked(alloc: Global, tree: &SyntaxNode) -> Result<usize, AllocError> {
+    let mut walk = tree.preorder(alloc);
+    let mut count = 0usize;
+    for _ in 0..tree.descendants() {
+        if walk.next_marked()?.is_some() {
+            count = count.saturating_add(1);
+        }
+    }
+    Ok(count)
+}
+
+/// How many nodes with errors or warnings of their own the walk through a tree comes to.
+fn diagnosed(alloc: Global, tree: &SyntaxNode) -> Result<usize, AllocError> {
+    let mut walk = tree.preorder(alloc);
+    let mut count = 0usize;
+    for _ in 0..tree.descendants() {
+        if walk.next_diagnosed()?.is_some() {
+            count = count.saturating_add(1);
+        }
+    }
+    Ok(count)
+}
+
 /// The first child of a tree that has children.
 fn first_inner(tree: &SyntaxNode) -> usize {
     for (at, child) in tree.children().iter().enumerate() {
@@ -247,7 +273,7 @@ impl Subject {
                 Ok(0..self.tree.descendants())
             }
             Call::Read(reading) => self.call_of_reading(alloc, reading),
-            Call::Tell(telling) => Ok(self.told(alloc, telling)),
+            Call::Query(query) => Ok(self.answered(alloc, query)),
         }
     }
 
@@ -338,37 +364,39 @@ impl Subject {
     fn count(&self, alloc: Global, reading: Reading) -> Result<usize, AllocError> {
         match reading {
             Reading::Preorder => walked(alloc, &self.tree),
+            Reading::Marked => marked(alloc, &self.tree),
+            Reading::Diagnosed => diagnosed(alloc, &self.tree),
             Reading::Stretches => Ok(tag_stretches(alloc, &self.tree)?.len()),
             Reading::Newlines => Ok(split_newlines(alloc, self.kept.other.as_str())?.len()),
             Reading::Html | Reading::Link => Ok(0),
         }
     }
 
-    /// What calls tell that take no memory.
-    fn told(&mut self, alloc: Global, telling: Telling) -> Range<usize> {
-        match telling {
-            Telling::EqualText => if_right(self.keeps_equal_text(), 0),
-            Telling::LinesCompare => if_right(self.compares_lines(), 0),
-            Telling::LinesFrom => if_right(compared::are_found(&self.lines), 0),
-            telling => 0..self.summed(alloc, telling),
+    /// What calls answer that take no memory.
+    fn answered(&mut self, alloc: Global, query: Query) -> Range<usize> {
+        match query {
+            Query::EqualText => if_right(self.keeps_equal_text(), 0),
+            Query::LinesCompare => if_right(self.compares_lines(), 0),
+            Query::LinesFrom => if_right(compared::are_found(&self.lines), 0),
+            query => 0..self.summed(alloc, query),
         }
     }
 
-    /// What calls tell of which a sum is made.
-    fn summed(&mut self, alloc: Global, telling: Telling) -> usize {
-        match telling {
-            Telling::EqualText | Telling::LinesCompare | Telling::LinesFrom => 0,
-            Telling::Lines => telling::of_lines(&self.lines, self.kept.other.as_str()),
-            Telling::Source => telling::of_source(&self.source),
-            Telling::Leaves => telling::of_leaves(&self.tree),
-            Telling::Nodes => telling::of_nodes(&self.tree, self.source.root()),
-            Telling::Changes => telling::of_changes(alloc, &mut self.tree),
-            Telling::Remarks => telling::of_remarks(&self.tree),
-            Telling::Kinds => telling::of_kinds(),
-            Telling::Tags => telling::of_tags(),
-            Telling::Spans => telling::of_spans(),
-            Telling::Characters => telling::of_characters(self.kept.other.as_str()),
-            Telling::Classes => telling::of_classes(self.kept.other.as_str()),
+    /// The sum of what several calls answer.
+    fn summed(&mut self, alloc: Global, query: Query) -> usize {
+        match query {
+            Query::EqualText | Query::LinesCompare | Query::LinesFrom => 0,
+            Query::Lines => query::of_lines(&self.lines, self.kept.other.as_str()),
+            Query::Source => query::of_source(&self.source),
+            Query::Leaves => query::of_leaves(&self.tree),
+            Query::Nodes => query::of_nodes(&self.tree, self.source.root()),
+            Query::Changes => query::of_changes(alloc, &mut self.tree),
+            Query::Remarks => query::of_remarks(&self.tree),
+            Query::Kinds => query::of_kinds(),
+            Query::Tags => query::of_tags(),
+            Query::Spans => query::of_spans(),
+            Query::Characters => query::of_characters(self.kept.other.as_str()),
+            Query::Classes => query::of_classes(self.kept.other.as_str()),
         }
     }
 

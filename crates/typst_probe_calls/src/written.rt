@@ -1,8 +1,10 @@
-//! What calls give of small texts, written out by hand.
+//! What calls give of small texts, written out manually.
 
 use std::alloc::{AllocError, Global};
 use typst_lines::{link_prefix, split_newlines};
-use typst_parser::{SyntaxKind, SyntaxNode, Tag, Tagged, Visit, tag_stretches};
+use typst_parser::{
+    SyntaxKind, SyntaxNode, Tag, Tagged, UnicodeClasses, Visit, parse, tag_stretches,
+};
 
 /// A heading with a strong word.
 pub const HEADING: &str = "= a *b*";
@@ -23,7 +25,24 @@ static VISITS: [(SyntaxKind, usize, usize); 12] = [
     (SyntaxKind::Star, 6, 4),
 ];
 
-/// The bytes of its leaves, and the tag of each.
+/// A heading, a warning of two underscores, and an error of a star.
+const FAULTY: &str = "= a\n__ *b";
+
+/// Of the nodes of its tree those that have a warning or an error, at them or below them.
+static MARKED: [(SyntaxKind, usize, usize); 4] = [
+    (SyntaxKind::Markup, 0, 0),
+    (SyntaxKind::Emph, 4, 1),
+    (SyntaxKind::Strong, 7, 1),
+    (SyntaxKind::Error, 7, 2),
+];
+
+/// Those that have one themselves.
+static DIAGNOSED: [(SyntaxKind, usize, usize); 2] = [
+    (SyntaxKind::Emph, 4, 1),
+    (SyntaxKind::Error, 7, 2),
+];
+
+/// The bytes of the leaves of the heading, and the tag of each.
 static STRETCHES: [(usize, usize, Tag); 7] = [
     (0, 1, Tag::Heading),
     (1, 2, Tag::Heading),
@@ -57,6 +76,33 @@ pub fn has_visits(alloc: Global, heading: &SyntaxNode) -> Result<bool, AllocErro
 
 fn is_visit(visit: &Visit<'_>, (kind, offset, depth): (SyntaxKind, usize, usize)) -> bool {
     visit.node.kind() == kind && visit.offset == offset && visit.depth == depth
+}
+
+/// Whether the walk through the tree of the faulty text comes to its nodes that have a warning or an error, at them
+/// or below them.
+pub fn has_marked(alloc: Global) -> Result<bool, AllocError> {
+    let faulty = parse(alloc, FAULTY, &UnicodeClasses)?;
+    let mut walk = faulty.preorder(alloc);
+    for wanted in &MARKED {
+        match walk.next_marked()? {
+            Some(visit) if is_visit(&visit, *wanted) => {}
+            _ => return Ok(false),
+        }
+    }
+    Ok(walk.next_marked()?.is_none())
+}
+
+/// Whether the walk through the tree of the faulty text comes to its nodes that have one themselves.
+pub fn has_diagnosed(alloc: Global) -> Result<bool, AllocError> {
+    let faulty = parse(alloc, FAULTY, &UnicodeClasses)?;
+    let mut walk = faulty.preorder(alloc);
+    for wanted in &DIAGNOSED {
+        match walk.next_diagnosed()? {
+            Some(visit) if is_visit(&visit, *wanted) => {}
+            _ => return Ok(false),
+        }
+    }
+    Ok(walk.next_diagnosed()?.is_none())
 }
 
 /// Whether the stretches of the tree of the heading are its leaves with their tags.

@@ -88,7 +88,7 @@ pub fn linked(alloc: Global, text: &str) -> Result<String, AllocError> {
     Ok(shown)
 }
 
-/// What is told of bytes of a text, which the first line names: a line for each byte.
+/// What is shown for bytes of a text, which the first line names: a line for each byte.
 pub fn hovered(alloc: Global, text: &str) -> Result<String, AllocError> {
     let (bytes, text) = text.split_once('\n').unwrap_or((text, ""));
     let root = parse(alloc, text, &UnicodeClasses)?;
@@ -165,7 +165,7 @@ pub fn continued(alloc: Global, text: &str) -> Result<String, AllocError> {
         return String::from_str(alloc, "no edit\n");
     };
     let before = text.get(..edit.range.start).unwrap_or("?");
-    let behind = text.get(edit.range.end..).unwrap_or("?");
+    let after = text.get(edit.range.end..).unwrap_or("?");
     let put = edit.text.as_str();
-    format!(in alloc; "{before}{put}{behind}\n")
+    format!(in alloc; "{before}{put}{after}\n")
 }

@@ -133,7 +133,7 @@ impl Session {
         true
     }
 
-    /// What the message of a number is told.
+    /// What the message of a number is answered.
     pub fn told(&self, number: usize) -> &str {
         self.body(number).map_or("", told)
     }
@@ -149,7 +149,7 @@ impl Session {
     }
 }
 
-/// What a body tells, without its identifier and the name of tokens.
+/// What a body says, without its identifier and the name of tokens.
 pub fn told(body: &str) -> &str {
     for mark in ["\"data\":", "\"edits\":", "\"result\":"] {
         if let Some((_, told)) = body.split_once(mark) {

@@ -79,7 +79,7 @@ impl<'a> Script<'a> {
     }
 
     /// Whether a session of these frames goes on as it may where one request for memory is refused. Two others
-    /// go the same way before it: none of them was refused anything then, as only one request is. Else this is
+    /// go the same way before it: none of them was refused anything then, as only one request is. Otherwise this is
     /// refused.
     fn goes_on(self, alloc: Global, frames: &[String]) -> Result<bool, AllocError> {
         let clean = exchange(alloc, frames)?;

@@ -6,7 +6,7 @@ ghost use Rattle.typst_rows.specs.Escapes.{character_named};
 
 use std::alloc::{AllocError, Global};
 
-/// Writes a line of a row with what each escape names in its place. Gives false where an escape names nothing
+/// Writes a line of a row with each escape replaced by what it names. Gives false where an escape names nothing
 /// or isn't closed.
 pub fn push_decoded(out: &mut String, line: &str) -> Result<bool, AllocError> {
     let mut pieces = line.split('‹');

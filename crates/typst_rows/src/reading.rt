@@ -33,7 +33,7 @@ enum Part {
     Front,
     /// A title.
     Title,
-    /// The line of equals signs behind a title.
+    /// The line of equals signs after a title.
     Bar,
     /// The text of a row.
     Text,
@@ -134,7 +134,7 @@ fn push_newlines(out: &mut String, count: u64) -> Result<(), AllocError> {
     Ok(())
 }
 
-/// Whether the line stands round a title: sixteen or more equals signs and nothing else.
+/// Whether the line stands around a title: sixteen or more equals signs and nothing else.
 fn is_bar(line: &str) -> bool {
     line.len() >= 16 && line.chars().all(|c| c == '=')
 }

@@ -113,7 +113,7 @@ fn rows_at_each_pace(rt: HostRuntime) {
 
 static CUT_OFF: [&[u8]; 3] = [b"", b"Content-Length: 2\r\n", b"Content-Length: 2\r\n\r\n{"];
 
-/// Whether streams that fail where they would end tell that they weren't read.
+/// Whether streams that fail where they would end report that they weren't read.
 fn are_not_read(alloc: Global, streams: &[&[u8]]) -> Option<bool> {
     for bytes in streams {
         let stream = Reader::failing(bytes, Pace::Interrupted);
@@ -187,15 +187,15 @@ fn too_long(rt: HostRuntime) {
     assert!(rt; skips(rt.alloc(), stream) == Some(true));
 }
 
-/// Adds a line of so many bytes, which holds no length.
+/// Adds a line of a given number of bytes, which holds no length.
 fn add_line(head: &mut Vec<u8>, bytes: usize) -> Option<()> {
     head.extend_from_slice(b"x:").ok()?;
-    let behind = head.len().saturating_add(bytes).saturating_sub(2);
-    head.resize(behind, b'y').ok()?;
+    let after = head.len().saturating_add(bytes).saturating_sub(2);
+    head.resize(after, b'y').ok()?;
     head.extend_from_slice(b"\r\n").ok()
 }
 
-/// So many lines of so many bytes, and an empty body.
+/// So many lines of a given number of bytes, and an empty body.
 fn long_frame(alloc: Global, bytes: usize, lines: usize) -> Option<Vec<u8>> {
     let mut frame = Vec::new(alloc);
     for _ in 0..lines {
@@ -217,7 +217,7 @@ static HEADS: [Head; 4] = [
 ];
 
 /// Whether a stream with such a head has its bodies and ends so.
-fn ends_behind(alloc: Global, (bytes, lines, bodies, end): Head) -> Option<bool> {
+fn ends_after(alloc: Global, (bytes, lines, bodies, end): Head) -> Option<bool> {
     let frame = long_frame(alloc, bytes, lines)?;
     has(
         alloc,
@@ -227,9 +227,9 @@ fn ends_behind(alloc: Global, (bytes, lines, bodies, end): Head) -> Option<bool>
     )
 }
 
-fn all_end_behind(alloc: Global, heads: &[Head]) -> Option<bool> {
+fn all_end_after(alloc: Global, heads: &[Head]) -> Option<bool> {
     for head in heads {
-        if !ends_behind(alloc, *head)? {
+        if !ends_after(alloc, *head)? {
             return Some(false);
         }
     }
@@ -238,12 +238,12 @@ fn all_end_behind(alloc: Global, heads: &[Head]) -> Option<bool> {
 
 #[test]
 fn long_heads(rt: HostRuntime) {
-    assert!(rt; all_end_behind(rt.alloc(), &HEADS) == Some(true));
+    assert!(rt; all_end_after(rt.alloc(), &HEADS) == Some(true));
 }
 
 const WRITTEN: &[u8] = b"Content-Length: 11\r\n\r\n{\"id\": 100}";
 
-/// Whether a frame is written where there's room for so many bytes, and else a beginning is.
+/// Whether a frame is written where there's room for a given number of bytes, and else a beginning is.
 fn writes(alloc: Global, bytes: usize, pace: Pace) -> bool {
     let mut room = Room::of(bytes, pace);
     room.full = Full::TakesNothing;

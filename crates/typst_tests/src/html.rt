@@ -1,6 +1,6 @@
 //! The HTML of four documents that are built node by node.
 
-use crate::refusals::{DEEP, is_told};
+use crate::refusals::{DEEP, is_confirmed};
 use crate::rows::{Row, tree};
 use std::alloc::Global;
 use typst_highlight::highlight_html;
@@ -107,7 +107,7 @@ pub(crate) fn shows(alloc: Global, rows: &[Row], html: &str) -> Option<bool> {
 /// Whether the documents have their HTML, also the next time where memory was refused.
 fn are_shown(alloc: Global, documents: &[Shown]) -> bool {
     for (rows, html) in documents {
-        if !is_told(shows(alloc, rows, html), shows(alloc, rows, html)) {
+        if !is_confirmed(shows(alloc, rows, html), shows(alloc, rows, html)) {
             return false;
         }
     }

@@ -1,5 +1,5 @@
 //! Positions in a text, its edits, its line ends, and the cursor.
-use crate::refusals::is_told;
+use crate::refusals::is_confirmed;
 use std::alloc::Global;
 use typst_lines::{Lines, Scanner, ScannerExt, is_newline, split_newlines};
 
@@ -63,15 +63,15 @@ fn finds_places(alloc: Global) -> Option<bool> {
 }
 
 /// Whether one UTF-16 unit stands before this byte of a text.
-fn has_behind_one(alloc: Global, text: &str, byte: Option<usize>) -> Option<bool> {
+fn has_after_one(alloc: Global, text: &str, byte: Option<usize>) -> Option<bool> {
     Some(Lines::new(alloc, text).ok()?.utf16_to_byte(1) == byte)
 }
 
 #[test]
 fn places(rt: HostRuntime) {
     assert!(rt; finds_places(rt.alloc()) == Some(true));
-    assert!(rt; has_behind_one(rt.alloc(), "💛a", Some(4)) == Some(true));
-    assert!(rt; has_behind_one(rt.alloc(), "💛", None) == Some(true));
+    assert!(rt; has_after_one(rt.alloc(), "💛a", Some(4)) == Some(true));
+    assert!(rt; has_after_one(rt.alloc(), "💛", None) == Some(true));
 }
 
 pub(crate) fn lines_of(alloc: Global, text: &str) -> Option<Lines<String>> {
@@ -79,14 +79,14 @@ pub(crate) fn lines_of(alloc: Global, text: &str) -> Option<Lines<String>> {
 }
 
 /// Whether the text is this one, with its table newly made.
-pub(crate) fn is_anew(alloc: Global, lines: &Lines<String>, text: &str) -> Option<bool> {
-    let anew = Lines::new(alloc, text).ok()?;
-    for i in 0..anew.len_lines() {
-        if lines.line(i) != anew.line(i) {
+pub(crate) fn is_fresh(alloc: Global, lines: &Lines<String>, text: &str) -> Option<bool> {
+    let fresh = Lines::new(alloc, text).ok()?;
+    for i in 0..fresh.len_lines() {
+        if lines.line(i) != fresh.line(i) {
             return Some(false);
         }
     }
-    Some(lines.text() == text && lines.len_lines() == anew.len_lines())
+    Some(lines.text() == text && lines.len_lines() == fresh.len_lines())
 }
 
 /// A text, the range of it that an edit replaces, what is put there, and the text then.
@@ -116,14 +116,14 @@ fn edit_within(lines: &mut Lines<String>, (start, end): (usize, usize), with: &s
 fn gives_by_edit(alloc: Global, (old, range, with, new): Edit) -> Option<bool> {
     let mut lines = lines_of(alloc, old)?;
     edit_within(&mut lines, range, with)?;
-    is_anew(alloc, &lines, new)
+    is_fresh(alloc, &lines, new)
 }
 
 /// Whether the replacement by what the edit makes gives the table of the new text.
 fn gives_by_text(alloc: Global, (old, _, _, new): Edit) -> Option<bool> {
     let mut lines = lines_of(alloc, old)?;
     let is_replaced = lines.replace(new).ok()?;
-    Some(is_replaced && is_anew(alloc, &lines, new)?)
+    Some(is_replaced && is_fresh(alloc, &lines, new)?)
 }
 
 /// Whether all edits give the tables of the new texts.
@@ -181,10 +181,10 @@ fn splits_at_both(alloc: Global) -> Option<bool> {
 #[test]
 fn line_ends(rt: HostRuntime) {
     assert!(rt; is_newline('\u{2029}') && !is_newline('\t'));
-    assert!(rt; is_told(splits_at_both(rt.alloc()), splits_at_both(rt.alloc())));
+    assert!(rt; is_confirmed(splits_at_both(rt.alloc()), splits_at_both(rt.alloc())));
 }
 
-/// Whether a cursor at the front of `"ab\r\nc\u{85}"` tells what it passes.
+/// Whether a cursor at the front of `"ab\r\nc\u{85}"` says what it passes.
 fn passes(cursor: &mut Scanner) -> bool {
     let first = (cursor.eat(), cursor.scout(1));
     let second = (cursor.eat_until(&'\r'), cursor.scout(-2));

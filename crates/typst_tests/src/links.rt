@@ -1,5 +1,5 @@
 //! The brackets of links, and names of labels.
-use crate::refusals::is_told;
+use crate::refusals::is_confirmed;
 use crate::{Narrow, Wide};
 use std::alloc::{AllocError, Global};
 use typst_lines::{UnicodeClasses, is_valid_label_literal_id, link_prefix};
@@ -19,18 +19,18 @@ fn unpaired(alloc: Global, brackets: &str) -> Result<String, AllocError> {
     Ok(left)
 }
 
-/// Whether nothing but opening brackets is in the text.
+/// Whether the text has only opening brackets.
 fn only_opens(text: &str) -> bool {
     text.chars().all(|c| c == '(' || c == '[')
 }
 
-/// Whether all brackets are closed, where nothing but opening brackets is left without the pairs.
+/// Whether all brackets are closed, or only opening brackets are left without the pairs.
 fn closed(alloc: Global, brackets: &str) -> Result<Option<bool>, AllocError> {
     let left = unpaired(alloc, brackets)?;
     Ok(only_opens(left.as_str()).then_some(left.is_empty()))
 }
 
-/// The longest beginning of which nothing but opening brackets is left without its pairs, and whether
+/// The longest beginning of which only opening brackets are left without its pairs, and whether
 /// all its brackets are closed.
 fn longest(alloc: Global, brackets: &str) -> Result<(usize, bool), AllocError> {
     let mut best = (0, true);
@@ -102,7 +102,7 @@ static LINKS: [Link; 4] = [
 /// Whether texts begin with these links, also the next time where memory was refused.
 fn all_begin(alloc: Global, links: &[Link]) -> bool {
     for (text, link) in links {
-        if !is_told(begins(alloc, text, link), begins(alloc, text, link)) {
+        if !is_confirmed(begins(alloc, text, link), begins(alloc, text, link)) {
             return false;
         }
     }

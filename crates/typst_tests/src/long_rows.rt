@@ -11,7 +11,7 @@ use typst_tree::{LinkedNode, SyntaxNode, is_ordered};
 struct Place {
     parent: Option<usize>,
     /// After all that is below it.
-    behind: usize,
+    after: usize,
     begin: usize,
     end: usize,
     is_leaf: bool,
@@ -27,7 +27,7 @@ fn placed(node: &SyntaxNode, parent: Option<usize>, place: usize, begin: usize) 
     let is_leaf = node.children().is_empty();
     Place {
         parent,
-        behind: place.saturating_add(1),
+        after: place.saturating_add(1),
         begin,
         end: begin.saturating_add(node.leaf_text().len()),
         is_leaf,
@@ -75,7 +75,7 @@ fn reach(places: &mut [Place], place: usize) {
         return;
     };
     if let Some(above) = places.get_mut(parent) {
-        above.behind = above.behind.max(own.behind);
+        above.after = above.after.max(own.after);
         above.end = above.end.max(own.end);
     }
 }
@@ -136,11 +136,11 @@ fn wanted(places: &[Place], place: usize) -> Option<[Option<usize>; 6]> {
     let all = places.len();
     Some([
         own.parent,
-        first_place(places, own.behind, all, Aim::Child(own.parent)),
+        first_place(places, own.after, all, Aim::Child(own.parent)),
         leaf_before(places, place),
-        first_place(places, own.behind, all, Aim::Leaf),
-        first_place(places, place, own.behind, Aim::Leaf),
-        first_place(places, place, own.behind, Aim::Byte(own.begin)),
+        first_place(places, own.after, all, Aim::Leaf),
+        first_place(places, place, own.after, Aim::Leaf),
+        first_place(places, place, own.after, Aim::Byte(own.begin)),
     ])
 }
 

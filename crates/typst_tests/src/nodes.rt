@@ -66,7 +66,7 @@ fn says(node: &SyntaxNode, message: &str, hint: &str) -> bool {
     }
 }
 
-/// A token, what was expected in its place, and the error's message and hint.
+/// A token, what was expected instead of it, and the error's message and hint.
 type Expected = (
     SyntaxKind,
     &'static str,
@@ -214,7 +214,7 @@ static WIDE: [Part; 2] = [
     (&[(SyntaxKind::Markup, "", Some(200_000))], 1),
 ];
 
-/// Whether a tree of so many nodes, with numbers, is copied.
+/// Whether a tree of a given number of nodes, with numbers, is copied.
 fn is_copied(alloc: Global, parts: &[Part], nodes: usize) -> Option<bool> {
     let root = numbered(long_tree(alloc, parts)?, END)?;
     Some(root.descendants() == nodes && copies(alloc, &root)?)

@@ -52,7 +52,7 @@ const ORIGINAL_NUMBERS: &[u64] = &[
 enum Act {
     /// It gets numbers from a first one up to an end.
     Number(u64, u64),
-    /// Its first so many children are replaced by these leaves.
+    /// A number of its first children are replaced by these leaves.
     Replace(usize, &'static [Row]),
 }
 
@@ -238,10 +238,10 @@ const NEW: [Row; 3] = [
 
 /// Whether only the number at that place differs.
 fn differ_at(place: usize, old: &[u64], new: &[u64]) -> bool {
-    let behind = place.saturating_add(1);
+    let after = place.saturating_add(1);
     old.get(place) != new.get(place)
         && old.get(..place) == new.get(..place)
-        && old.get(behind..) == new.get(behind..)
+        && old.get(after..) == new.get(after..)
 }
 
 /// Whether only the number of the fourth leaf differs from the old ones once the three in the middle are

@@ -1,5 +1,5 @@
 //! Raw texts, by the rules, where memory is refused.
-use crate::refusals::is_told;
+use crate::refusals::is_confirmed;
 use std::alloc::Global;
 use typst_kinds::SyntaxKind;
 use typst_lexer::raw_node;
@@ -87,7 +87,7 @@ fn is_made(alloc: Global, (text, kind, leaves, message): Raw) -> Option<bool> {
 /// Whether the nodes of raw texts are as the rules say, also the next time where memory was refused.
 fn are_made(alloc: Global, raws: &[Raw]) -> bool {
     for raw in raws {
-        if !is_told(is_made(alloc, *raw), is_made(alloc, *raw)) {
+        if !is_confirmed(is_made(alloc, *raw), is_made(alloc, *raw)) {
             return false;
         }
     }

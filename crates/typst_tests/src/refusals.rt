@@ -1,6 +1,6 @@
 //! What is held whichever one request for memory is refused: `rt try --test --fail-alloc N`.
 
-use crate::lines::{is_anew, lines_of};
+use crate::lines::{is_fresh, lines_of};
 use crate::rows::{Row, leaf, list, tree};
 use crate::trees::{END, number, numbered, replace, same, sample};
 use std::alloc::{AllocError, Global};
@@ -9,16 +9,16 @@ use typst_kinds::{SourceError, Span, SubRange, SyntaxKind};
 use typst_lines::{Line, Lines, LinesFrom};
 use typst_tree::SyntaxNode;
 
-/// Whether what was asked twice is so: it is told at least once, as one request alone is refused, and never
-/// that it isn't.
-pub(crate) fn is_told(first: Option<bool>, again: Option<bool>) -> bool {
+/// Whether what was asked twice is so: it was confirmed at least once, as only one request is refused, and never
+/// denied.
+pub(crate) fn is_confirmed(first: Option<bool>, again: Option<bool>) -> bool {
     matches!(
         (first, again),
         (Some(true), Some(true) | None) | (None, Some(true))
     )
 }
 
-/// What is told where memory was refused: nothing, or that something changed.
+/// What is answered where memory was refused: nothing, or that something changed.
 fn refused(stays: bool) -> Option<bool> {
     if stays { None } else { Some(false) }
 }
@@ -56,7 +56,7 @@ enum Case {
     Copies,
     /// A copy of lines changes.
     ChangesLines(Way),
-    /// Lines tell of themselves and their positions, without memory.
+    /// Lines describe themselves and answer for positions, without memory.
     Tells,
     /// Lines are compared and hashed, without memory.
     Compares,
@@ -65,7 +65,7 @@ enum Case {
 }
 
 /// Whether a case is as it ought to be.
-fn tell(alloc: Global, case: &Case) -> Option<bool> {
+fn confirms(alloc: Global, case: &Case) -> Option<bool> {
     match case {
         Case::Changes(change) => changes_or_stays(alloc, change),
         Case::Expects => keyword_becomes_an_error(alloc),
@@ -74,16 +74,16 @@ fn tell(alloc: Global, case: &Case) -> Option<bool> {
         Case::MakesError => makes_error(alloc),
         Case::Copies => copies(alloc),
         Case::ChangesLines(way) => lines_change_or_stay(alloc, way),
-        Case::Tells => lines_tell(alloc),
+        Case::Tells => lines_answer(alloc),
         Case::Compares => lines_are_compared(alloc),
         Case::Converts => converts(alloc),
     }
 }
 
 /// Whether all cases are as they ought to be.
-fn are_told(alloc: Global, cases: &[Case]) -> bool {
+fn are_confirmed(alloc: Global, cases: &[Case]) -> bool {
     for case in cases {
-        if !is_told(tell(alloc, case), tell(alloc, case)) {
+        if !is_confirmed(confirms(alloc, case), confirms(alloc, case)) {
             return false;
         }
     }
@@ -150,7 +150,7 @@ const CHANGES: [Case; 8] = [
 
 #[test]
 fn a_refused_change_changes_nothing(rt: HostRuntime) {
-    assert!(rt; are_told(rt.alloc(), &CHANGES));
+    assert!(rt; are_confirmed(rt.alloc(), &CHANGES));
 }
 
 /// The leaves a and b three levels down.
@@ -214,7 +214,7 @@ const REPLACEMENTS: [Case; 6] = [
 
 #[test]
 fn a_refusal_at_depth_three_changes_nothing(rt: HostRuntime) {
-    assert!(rt; are_told(rt.alloc(), &REPLACEMENTS));
+    assert!(rt; are_confirmed(rt.alloc(), &REPLACEMENTS));
 }
 
 /// A text that takes memory of its own.
@@ -241,7 +241,7 @@ const MADE: [Case; 3] = [Case::MakesLeaf, Case::MakesError, Case::Copies];
 
 #[test]
 fn what_was_refused_is_made_again(rt: HostRuntime) {
-    assert!(rt; are_told(rt.alloc(), &MADE));
+    assert!(rt; are_confirmed(rt.alloc(), &MADE));
 }
 
 const LINES: &str = "ä\tcde\nf💛g\r\nhi\rjkl";
@@ -263,14 +263,14 @@ fn empty(lines: &mut Lines<String>, way: &Way) -> Result<bool, AllocError> {
 /// Whether the text is taken out, the next time where that is refused and the lines stay.
 fn empties(alloc: Global, lines: &mut Lines<String>, way: &Way) -> Option<bool> {
     if empty(lines, way).is_err() {
-        if !is_anew(alloc, lines, LINES)? {
+        if !is_fresh(alloc, lines, LINES)? {
             return Some(false);
         }
         empty(lines, way).ok()?;
     }
     match way {
-        Way::Edit => is_anew(alloc, lines, "\r\n"),
-        Way::Replace => is_anew(alloc, lines, ""),
+        Way::Edit => is_fresh(alloc, lines, "\r\n"),
+        Way::Replace => is_fresh(alloc, lines, ""),
     }
 }
 
@@ -284,7 +284,7 @@ fn lines_change_or_stay(alloc: Global, way: &Way) -> Option<bool> {
     let mut lines = lines_of(alloc, LINES)?;
     let mut copy = lines.try_clone().ok()?;
     let changes = empties(alloc, &mut copy, way)?;
-    Some(changes && is_kept(&mut lines) && is_anew(alloc, &lines, LINES)?)
+    Some(changes && is_kept(&mut lines) && is_fresh(alloc, &lines, LINES)?)
 }
 
 const WAYS: [Case; 2] = [
@@ -294,12 +294,12 @@ const WAYS: [Case; 2] = [
 
 #[test]
 fn refused_lines_stay(rt: HostRuntime) {
-    assert!(rt; are_told(rt.alloc(), &WAYS));
+    assert!(rt; are_confirmed(rt.alloc(), &WAYS));
 }
 
-/// Whether positions in lines of `LINES` are told.
-fn tell_positions(lines: &Lines<String>) -> bool {
-    let told = [
+/// Whether positions in lines of `LINES` are right.
+fn positions_hold(lines: &Lines<String>) -> bool {
+    let answers = [
         lines.byte_to_line(12),
         lines.byte_to_column(12),
         lines.byte_to_utf16(12),
@@ -307,22 +307,22 @@ fn tell_positions(lines: &Lines<String>) -> bool {
         lines.line_to_byte(1),
         lines.line_column_to_byte(1, 2),
     ];
-    told == [Some(1), Some(2), Some(9), Some(12), Some(7), Some(12)]
+    answers == [Some(1), Some(2), Some(9), Some(12), Some(7), Some(12)]
         && lines.byte_to_line_column(12) == Some((1, 2))
         && lines.line_to_range(1) == Some(7..15)
 }
 
-/// Whether lines of `LINES` tell of themselves.
-fn tell_of_themselves(lines: &Lines<String>) -> bool {
+/// Whether lines of `LINES` describe themselves.
+fn describe_themselves(lines: &Lines<String>) -> bool {
     [lines.len_bytes(), lines.len_utf16(), lines.len_lines()] == [21, 18, 4]
         && lines.text() == LINES
         && lines.replacement_range(LINES).is_none()
 }
 
-/// Whether lines tell positions and aren't changed by an equal text.
-fn lines_tell(alloc: Global) -> Option<bool> {
+/// Whether lines answer for positions and aren't changed by an equal text.
+fn lines_answer(alloc: Global) -> Option<bool> {
     let mut lines = lines_of(alloc, LINES)?;
-    Some(is_kept(&mut lines) && tell_positions(&lines) && tell_of_themselves(&lines))
+    Some(is_kept(&mut lines) && positions_hold(&lines) && describe_themselves(&lines))
 }
 
 /// What lines hash to.
@@ -359,8 +359,8 @@ fn lines_are_compared(alloc: Global) -> Option<bool> {
     Some(are_compared && is_second(lines.line(1)) && is_second(second()))
 }
 
-/// Whether `sample` with a warning tells of itself.
-fn tells_of_itself(node: &SyntaxNode) -> bool {
+/// Whether `sample` with a warning describes itself.
+fn describes_itself(node: &SyntaxNode) -> bool {
     let children = node.children().len();
     let remarks = node.diagnostics().len();
     [node.len(), node.descendants(), children, remarks] == [7, 8, 4, 1]
@@ -378,21 +378,21 @@ fn converts_and_numbers(node: &mut SyntaxNode) -> bool {
     is_detached && number(node, 2, END).is_ok() && node.span().number().is_some()
 }
 
-/// Whether a node tells of itself, is compared, and its kinds and spans change.
+/// Whether a node describes itself, is compared, and its kinds and spans change.
 fn converts(alloc: Global) -> Option<bool> {
     let mut node = warned(alloc)?;
-    let is_told = node.spanless_eq(&warned(alloc)?) && tells_of_itself(&node);
-    Some(is_told && converts_and_numbers(&mut node))
+    let is_confirmed = node.spanless_eq(&warned(alloc)?) && describes_itself(&node);
+    Some(is_confirmed && converts_and_numbers(&mut node))
 }
 
 /// Once they are made, lines take no memory for what these cases ask.
 #[test]
 fn lines_tell_positions_without_memory(rt: HostRuntime) {
-    assert!(rt; are_told(rt.alloc(), &[Case::Tells, Case::Compares]));
+    assert!(rt; are_confirmed(rt.alloc(), &[Case::Tells, Case::Compares]));
 }
 
 /// Nor does a node.
 #[test]
 fn a_node_changes_without_memory(rt: HostRuntime) {
-    assert!(rt; are_told(rt.alloc(), &[Case::Converts]));
+    assert!(rt; are_confirmed(rt.alloc(), &[Case::Converts]));
 }

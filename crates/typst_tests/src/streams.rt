@@ -27,7 +27,7 @@ impl Pace {
         interrupts
     }
 
-    /// How many of so many bytes are given or taken at once.
+    /// How many of a given number of bytes are given or taken at once.
     pub fn at_once(self, count: usize) -> usize
         ensures { result ≤ count }
     {

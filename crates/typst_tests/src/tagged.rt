@@ -1,7 +1,7 @@
 //! Stretches with tags, compared with the tags that each node says.
 
 use crate::html::{ERRORS, RIGHT_TO_LEFT, TERM};
-use crate::refusals::is_told;
+use crate::refusals::is_confirmed;
 use crate::rows::{Row, tree};
 use std::alloc::Global;
 use typst_highlight::{Tag, Tagged, highlight, tag_stretches};
@@ -71,7 +71,7 @@ fn has_stretches(alloc: Global, rows: &[Row]) -> Option<bool> {
 /// Whether those of all trees are, also the next time where memory was refused.
 fn have_stretches(alloc: Global, trees: &[&[Row]]) -> bool {
     for rows in trees {
-        if !is_told(has_stretches(alloc, rows), has_stretches(alloc, rows)) {
+        if !is_confirmed(has_stretches(alloc, rows), has_stretches(alloc, rows)) {
             return false;
         }
     }
@@ -116,5 +116,5 @@ fn are_wanted(alloc: Global) -> Option<bool> {
 
 #[test]
 fn an_error_has_the_tag_round_it(rt: HostRuntime) {
-    assert!(rt; is_told(are_wanted(rt.alloc()), are_wanted(rt.alloc())));
+    assert!(rt; is_confirmed(are_wanted(rt.alloc()), are_wanted(rt.alloc())));
 }

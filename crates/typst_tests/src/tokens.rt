@@ -83,8 +83,8 @@ fn ends_here(alloc: Global, lexer: &mut Lexer<'_, UnicodeClasses>) -> Option<boo
     let (cursor, newline) = (lexer.cursor(), lexer.newline());
     match lexer.scan(alloc) {
         Ok((token, taken)) => {
-            let is_behind = lexer.cursor() == cursor.saturating_add(taken.len());
-            is_behind.then_some(token.kind.same(SyntaxKind::End))
+            let is_after = lexer.cursor() == cursor.saturating_add(taken.len());
+            is_after.then_some(token.kind.same(SyntaxKind::End))
         }
         Err(_) => {
             let stays = lexer.cursor() == cursor && lexer.newline() == newline;

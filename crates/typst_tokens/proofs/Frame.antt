@@ -111,7 +111,7 @@ record SameSpan {M : Type 0} (m : Machine M) (state : M) (pb pa qb qa : List ℕ
 abbrev pub turned : {M : Type 0} → Machine M → M → List ℕ → ℕ → List ℕ → Turn M → List ℕ × M
 turned m state before c ahead t = elim t [ leave ↦ ([], state) | last after ↦ (c ∷ [], after) | go after ↦ (let r = spanned m after (c ∷ before) ahead in (c ∷ r.0, r.1)) ]
 
--- what is looked at behind the turn at a character
+-- what is looked at after the turn at a character
 abbrev pub turn_look : {M : Type 0} → Machine M → List ℕ → ℕ → List ℕ → Turn M → Look
 turn_look m before c ahead t = elim t [ leave ↦ no_look | last after ↦ no_look | go after ↦ from_before (c ∷ ahead) (span_look m after (c ∷ before) ahead) ]
 

@@ -14,7 +14,7 @@ use Rattle.typst_tokens.specs.Sight.{Sight, saw, went, sight}
 use Rattle.typst_tokens.specs.Memory.{Memory}
 use Rattle.typst_tokens.specs.declared.token.Token.{Token}
 
--- what is read behind the first character, by the others, their bytes and the keyword that they are
+-- what is read after the first character, by the others, their bytes and the keyword that they are
 abbrev named_by : ℕ → List ℕ → List ℕ → Option SyntaxKind → Sight → Token × Sight
 named_by c rest bytes found w = sight (elim found as (λ _. Reader Memory Token) [ Some k ↦ keyword_or_name rest k | None ↦ skip (length rest) (answer (named (c ∷ bytes))) ]) w
 

@@ -1,4 +1,4 @@
--- Two bytes of ASCII that pass, told by bits.
+-- Two bytes of ASCII that pass, by bits.
 use Rattle.std.proofs.Common.{◌≡◌, ◌<◌, ℕ, ◌+◌, Bool, true, false, not, ◌&&◌, ◌||◌, ◌==◌, nat_eq, if◌then◌else◌, slice_index_or, bit_and, refl, sym, ap, ◌∙◌, arith}
 use Rattle.std.specs.Char.{is_ascii, is_ascii_alphanumeric}
 use Rattle.typst_tokens.specs.Pairs.{bytes_pass}

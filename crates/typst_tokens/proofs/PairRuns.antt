@@ -52,7 +52,7 @@ prefix-on test c a e = let one : 1 + prefix_len test a ≡ suc (prefix_len test 
 prefix-off : (test : ℕ → Bool) (c : ℕ) (a : List ℕ) → test c ≡ false → prefix_len test (c ∷ a) ≡ 0
 prefix-off test c a e = rw e refl
 
--- behind a run of characters that pass by themselves the run goes on
+-- after a run of characters that pass by themselves the run goes on
 pub pairs-past : (alone : ℕ → Bool) (pairs : ℕ → Option ℕ → Bool) (z : Place) → past_pairs (either alone pairs) (past alone z) ≡ past_pairs (either alone pairs) z
 pairs-past alone pairs z = on z.before z.ahead
   where
@@ -127,7 +127,7 @@ both-true : (a b : Bool) → (a && b) ≡ true → (a ≡ true) × (b ≡ true)
 both-true true b e = (refl, e)
 both-true false b e = absurd (cc)
 
--- what the bytes tell to pass, a run goes on behind
+-- a run goes on after what passes by its bytes
 pub bytes-on : (test : ℕ → Option ℕ → Bool) (s : List ℕ) → IsUtf8 s → (i c d : ℕ) → IsCharBoundary s i → i + 1 < length s → c ≡ get_or s i 0 → d ≡ get_or s (i + 1) 0 → bytes_pass test c d ≡ true
     → IsCharBoundary s (i + 1) × ((past_pairs test (place_at s (i + 1)) ≡ past_pairs test (place_at s i)) × (length (place_at s (i + 1)).ahead ≤ length (place_at s i).ahead))
 bytes-on test s u i c d start lt is next e =
@@ -136,10 +136,10 @@ bytes-on test s u i c d start lt is next e =
     let z = place_at s i in
     let one = IsStep-from_ascii s u i c start (omega (arith, lt)) is (below-128 c first.0) in
     let two = IsStep-from_ascii s u (i + 1) d one.boundary lt next (below-128 d second.0) in
-    let behind : scout 1 z ≡ Some d = sym (two-scout z (place_at s (i + 1)) (Some d) one.moves (sym two.next)) in (
+    let after : scout 1 z ≡ Some d = sym (two-scout z (place_at s (i + 1)) (Some d) one.moves (sym two.next)) in (
       one.boundary,
       (
-        ap (past_pairs test) one.moves ∙ pairs-on test c z (sym one.next) (ap (test c) behind ∙ second.1),
+        ap (past_pairs test) one.moves ∙ pairs-on test c z (sym one.next) (ap (test c) after ∙ second.1),
         subst (λ (y : Place). length y.ahead ≤ length z.ahead) (sym one.moves) (moved-less 1 z.before z.ahead),
       ),
     )
@@ -154,7 +154,7 @@ pub record RunsOn (test : ℕ → Option ℕ → Bool) (s : List ℕ) (from : Pl
   pub shorter : length (place_at s i).ahead ≤ length from.ahead
 
 module _ (test : ℕ → Option ℕ → Bool) (s : List ℕ) (u : IsUtf8 s) (from : Place) where
-  -- so it does behind a byte that tells to pass
+  -- so it does after a byte that passes
   pub runs-on : (i j : ℕ) → j ≡ i + 1 → RunsOn test s from i → j < length s → bytes_pass test (get_or s i 0) (get_or s j 0) ≡ true → RunsOn test s from j
   runs-on i j next r lt e =
       let P : ℕ → Type 0 = λ k. k < length s → bytes_pass test (get_or s i 0) (get_or s k 0) ≡ true → RunsOn test s from k in
@@ -162,7 +162,7 @@ module _ (test : ℕ → Option ℕ → Bool) (s : List ℕ) (u : IsUtf8 s) (fro
       let on = bytes-on test s u i _ _ r.boundary lt refl refl e in
       record { boundary = on.0; past = on.1.0 ∙ r.past; shorter = omega (arith, on.1.1, r.shorter) }) lt e
 
-  -- and behind four of them
+  -- and after four of them
   pub runs-on-four : (i : ℕ) → RunsOn test s from i → i + 4 < length s → four_pass test s i ≡ true → RunsOn test s from (i + 4)
   runs-on-four i r lt e =
       let passes : ℕ → ℕ → Bool = λ i j. bytes_pass test (get_or s i 0) (get_or s j 0) in

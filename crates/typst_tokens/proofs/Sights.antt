@@ -109,7 +109,7 @@ position-step c z e = step z.before z.ahead e
     step b [] e = absurd (cc)
     step b (d ∷ a) e = let bounds = len_utf8_bounds d in omega (arith, position-on d b a)
 
--- a look that read this character last ends behind it, or behind the mark
+-- a look that read this character last ends after it, or after the mark
 end-from : (n : ℕ) (b a : List ℕ) → position (moved_from (suc n) b a) + (if is_none (slice_get a n) then 1 else 0) ≡ far (suc n) (place b a)
 end-from n b [] = let e : is_none {T = ℕ} (slice_get [] n) ≡ true = refl in omega (arith, far-end n b)
 end-from zero b (c ∷ a) = omega (arith, far-on 0 c b a, far-none (place (c ∷ b) a))

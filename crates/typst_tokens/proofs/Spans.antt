@@ -7,7 +7,7 @@ use Rattle.typst_tokens.specs.Sight.{far, Sight, Covers, saw, saw_by, went, sigh
 use Rattle.typst_tokens.proofs.Frame.{turned, turn_look}
 use Rattle.typst_tokens.proofs.Sights.{far-none, far-le, far-on, same-sight, covers-saw, covers-saw_by, saw-both, saw-nothing, saw-ahead, saw-before, went-nowhere}
 
--- what is read behind the turn at a character
+-- what is read after the turn at a character
 abbrev pub turned_sight : {A M : Type 0} → Machine M → M → (M → Reader M A) → Sight → Turn M → A × Sight
 turned_sight m state k w t = elim t [ leave ↦ sight (k state) w | last after ↦ sight (k after) (went 1 w) | go after ↦ sight (eat_span m after k) (went 1 w) ]
 
@@ -25,7 +25,7 @@ module _ {A M : Type 0} (m : Machine M) (state : M) (k : M → Reader M A) (c : 
   abbrev looks : Look
   looks = glimpse (m state) (place b (c ∷ a))
 
-  -- behind the looks of the turn itself
+  -- after the looks of the turn itself
   abbrev turning : Sight
   turning = saw_by looks (saw 1 at_c)
 

@@ -146,7 +146,7 @@ rest-place k c v w t h g = ap (λ (p : Turn Memory × Sight). p.1.place) (sym g 
 pub rest-covers : (k : CharClasses) (c : ℕ) (v w : Sight) (t : Turn Memory) → Covers v → regard (text_step k c) v ≡ (t, w) → Covers w
 rest-covers k c v w t h g = subst Covers (ap (λ (p : Turn Memory × Sight). p.1) (sym (regard-is (text_step k c) v h) ∙ g)) (covers-saw_by (glimpse (text_step k c) v.place) v h)
 
--- behind a character and a run fewer are ahead
+-- after a character and a run fewer are ahead
 pub rest-shortens : (test : ℕ → Option ℕ → Bool) (c : ℕ) (z y : Place) → y ≡ z → Some c ≡ scout 0 z → length (past_pairs test (moved 1 y)).ahead < length z.ahead
 rest-shortens test c z y e s = rw e (shorter z.before z.ahead s)
   where

@@ -40,7 +40,7 @@ dot = peek 1 (λ c.
 unfoldable pub equals : Reader Memory Token
 equals = eat (if_next (λ c. c == 61) (answer (plain kind.EqEq)) (if_next (λ c. c == 62) (answer (plain kind.Arrow)) (answer (plain kind.Eq))))
 
--- `!` comes next, which is nothing but the beginning of `!=`.
+-- `!` comes next, which is only the beginning of `!=`.
 unfoldable pub bang : Reader Memory Token
 bang = peek 1 (λ c. if passes (λ c. c == 61) c then skip 2 (answer (plain kind.ExclEq)) else invalid 33)
 

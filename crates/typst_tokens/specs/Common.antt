@@ -31,7 +31,7 @@ is_parbreak Markup ends = nat_lt 1 ends
 is_parbreak Math ends = false
 is_parbreak Code ends = false
 
--- Whitespace in which so many lines end.
+-- Whitespace in which a given number of lines end.
 abbrev pub space : SyntaxMode → ℕ → Token
 space mode ends = record { kind = if is_parbreak mode ends then kind.Parbreak else kind.Space; newline = nat_lt 0 ends; fault = None }
 

@@ -82,7 +82,7 @@ pub data Turn (M : Type 0) : Type 0 where
 abbrev pub Machine : Type 0 → Type 0
 Machine M = M → Step (Turn M)
 
--- a machine that looks at nothing but the character
+-- a machine that looks only at the character
 abbrev pub by_character : {M : Type 0} → (M → ℕ → Turn M) → Machine M
 by_character step memory = see 0 (λ c. turn (elim c [ None ↦ leave | Some c ↦ step memory c ]))
 

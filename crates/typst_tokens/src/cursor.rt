@@ -310,8 +310,8 @@ impl<'a> Cursor<'a> {
         ensures sight { self.new ≡ went_past_pairs (either (P.CharSet.members set.now) (P.PairSet.before set.now)) self.old }
         ensures covers { spec.Covers self.old }
     {
-        let (behind, c) = past_pairs(&mut self.s, set);
-        self.reach = self.reach.max(end_of(&behind, c));
+        let (after, c) = past_pairs(&mut self.s, set);
+        self.reach = self.reach.max(end_of(&after, c));
         c
     }
 }

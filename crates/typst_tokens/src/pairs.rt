@@ -28,7 +28,7 @@ pub(crate) fn past_pairs<'a, P: PairSet>(
     set: &P,
 ) -> (Scanner<'a>, Option<char>)
     ensures moved { place s.new ≡ spec.past_pairs (spec.either (P.CharSet.members set.now) (P.PairSet.before set.now)) (place s.old) }
-    ensures behind { place result.0 ≡ moved 1 (place s.new) }
+    ensures after { place result.0 ≡ moved 1 (place s.new) }
     ensures next { result.1 ≡ scout 0 (place s.new) }
     ensures same_text { s.new.text.now ≡ s.old.text.now }
 {
@@ -36,14 +36,14 @@ pub(crate) fn past_pairs<'a, P: PairSet>(
     'runs: loop {
         past_ascii(&mut at, set);
         at.eat_while(set);
-        let mut behind = at;
-        let next = behind.eat();
-        let mut further = behind;
+        let mut after = at;
+        let next = after.eat();
+        let mut further = after;
         if !passes(set, next, further.eat()) {
             *s = at;
-            return (behind, next);
+            return (after, next);
         }
-        at = behind;
+        at = after;
     }
 }
 

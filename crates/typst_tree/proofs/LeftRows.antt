@@ -1,10 +1,15 @@
 -- What is left of a walk in preorder, row by row.
-use Rattle.std.proofs.Common.{◌≡◌, ℕ, ◌+◌, List, [], ◌∷◌, ◌++◌, length, map, refl, ap, sym, ◌∙◌, arith, append_assoc, append-nil}
+use Rattle.std.proofs.Common.{◌≡◌, ℕ, ◌+◌, ◌<◌, Option, Some, None, Result, Ok, Err, IfOk, Bool, cond, true, false, ◌||◌, List, [], ◌∷◌, ◌++◌, length, map, refl, ap, sym, subst, ◌∙◌, arith, append_assoc, append-nil, length-append}
+use Rattle.std.specs.Iterator.{YieldsFirstBy}
+use Rattle.std.proofs.lemmas.Bool.{or_parts}
 use Rattle.std.proofs.lemmas.List.{map-append}
-use Rattle.typst_tree.specs.Tree.{Forest, none, more, Tree, forest, places, preorder, saturated, text_of}
-use Rattle.typst_tree.specs.Preorder.{Visited, row, walk}
-use Rattle.typst_tree.specs.LeftRows.{left, left_above}
+use Rattle.std.proofs.lemmas.List.Elements.{filter-append}
+use Rattle.typst_kinds.specs.Head.{has_any}
+use Rattle.typst_tree.specs.Tree.{Forest, none, more, Tree, forest, places, preorder, saturated, text_of, have_diagnostics}
+use Rattle.typst_tree.specs.Preorder.{Visited, visited, row, walk, below, is_marked, marked, is_diagnosed, diagnosed}
+use Rattle.typst_tree.specs.LeftRows.{left, left_above, IsReady, IsAtMarked}
 use Rattle.typst_tree.specs.declared.preorder.Row.{Row}
+use Rattle.typst_tree.specs.declared.preorder.Visit.{Visit}
 
 nodes_of_row : (o d : ℕ) (f : Forest) → map (λ (v : Visited). v.node) (row o d f) ≡ preorder f
 nodes_of_row o d none = refl
@@ -35,3 +40,81 @@ left_pushed (x ∷ rows) r = ap (λ vs. vs ++ left x) (left_pushed rows r) ∙ a
 -- a row above takes the place of one that is passed
 pub popped : (old new : List Row) (here next : Row) → length here.trees.now ≡ 0 → old ≡ new ++ next ∷ [] → left next ++ left_above new ≡ left here ++ left_above old
 popped old new here next e f = rw (passed here e, f) (sym (left_pushed new next))
+
+none_marked : (o d : ℕ) (f : Forest) → have_diagnostics f ≡ false → marked (row o d f) ≡ []
+none_marked o d none e = refl
+none_marked o d (more h ks r) e =
+    let t : Tree = record { head = h; kids = ks } in
+    let v : Visited = record { node = t; offset = o; depth = d } in
+    let kids = row (saturated (o + length h.text)) (saturated (d + 1)) ks in
+    let rest = row (saturated (o + length (text_of t))) d r in
+    let p = or_parts (has_any h.diagnostics) (have_diagnostics ks || have_diagnostics r) e in
+    let q = or_parts (have_diagnostics ks) (have_diagnostics r) p.1 in
+    let clean : is_marked v ≡ false = λ i. p.0 i || q.0 i in
+    ap (λ b. cond b (v ∷ marked (kids ++ rest)) (marked (kids ++ rest))) clean
+    ∙ filter-append is_marked kids rest
+    ∙ ap (λ vs. vs ++ marked rest) (none_marked (saturated (o + length h.text)) (saturated (d + 1)) ks q.0)
+    ∙ none_marked (saturated (o + length (text_of t))) d r q.1
+
+-- an unmarked tree is passed
+pub passed_unmarked : (v : Visited) (here behind above : List Visited) → here ≡ v ∷ (below v ++ behind) → is_marked v ≡ false → marked (here ++ above) ≡ marked (behind ++ above)
+passed_unmarked v here behind above h e =
+    let p = or_parts (has_any v.node.head.diagnostics) (have_diagnostics v.node.kids) e in
+    let rest = below v ++ (behind ++ above) in
+    ap (λ vs. marked (vs ++ above)) h ∙ ap (λ vs. marked (v ∷ vs)) (append_assoc (below v) behind above)
+    ∙ ap (λ b. cond b (v ∷ marked rest) (marked rest)) e
+    ∙ filter-append is_marked (below v) (behind ++ above)
+    ∙ ap (λ vs. vs ++ marked (behind ++ above)) (none_marked (saturated (v.offset + length v.node.head.text)) (saturated (v.depth + 1)) v.node.kids p.1)
+
+-- and fewer nodes are left
+pub passed_fewer : (v : Visited) (here behind above : List Visited) → here ≡ v ∷ (below v ++ behind) → length (behind ++ above) < length (here ++ above)
+passed_fewer v here behind above h =
+    omega (arith, ap length h, length-append (below v) behind, length-append behind above, length-append here above)
+
+-- a marked node is the next one
+pub at_marked : (v : Visited) (here later above : List Visited) → here ≡ v ∷ later → is_marked v ≡ true → IsAtMarked (here ++ above)
+at_marked v here later above h m = subst (λ vs. IsAtMarked (vs ++ above)) (sym h) m
+
+-- none is left where the row of the next node is passed
+pub at_end : (here : Row) (above : List Row) → IsReady here above → length here.trees.now ≡ 0 → IsAtMarked (left here ++ left_above above)
+at_end here [] r e = subst IsAtMarked (sym (ap (λ (vs : List Visited). vs ++ []) (passed here e))) tt
+at_end here (x ∷ xs) r e = absurd (omega (arith, r.ends e))
+
+yields_marked : (old mid new : List Visited) (o : Option Visit) → marked mid ≡ marked old → IsAtMarked mid → YieldsFirstBy visited (λ (vs : List Visited). vs) mid o new → YieldsFirstBy visited marked old o new
+yields_marked old mid new None k m y = (sym k ∙ ap marked y.0, ap marked y.1)
+yields_marked old mid new (Some v) k m y =
+    let is : is_marked (visited v) ≡ true = subst IsAtMarked y m in
+    sym k ∙ ap marked y ∙ ap (λ b. cond b (visited v ∷ marked new) (marked new)) is
+
+-- a step after unmarked nodes were passed
+pub ok_marked : {E : Type 0} (old mid new : List Visited) (r : Result (Option Visit) E) → marked mid ≡ marked old → IsAtMarked mid → IfOk r (λ o. YieldsFirstBy visited (λ (vs : List Visited). vs) mid o new) → IfOk r (λ o. YieldsFirstBy visited marked old o new)
+ok_marked old mid new (Ok o) k m y = yields_marked old mid new o k m y
+ok_marked old mid new (Err e) k m y = y
+
+past_clean : (v : Visited) (vs : List Visited) → has_any v.node.head.diagnostics ≡ false → diagnosed (v ∷ vs) ≡ diagnosed vs
+past_clean v vs e = ap (λ b. cond b (v ∷ diagnosed vs) (diagnosed vs)) e
+
+with_one : (v : Visited) (vs : List Visited) (a b : Bool) → has_any v.node.head.diagnostics ≡ a → have_diagnostics v.node.kids ≡ b → diagnosed (marked vs) ≡ diagnosed vs → diagnosed (marked (v ∷ vs)) ≡ diagnosed (v ∷ vs)
+with_one v vs true b own kids later =
+    let is : is_marked v ≡ true = ap (λ c. c || have_diagnostics v.node.kids) own in
+    ap (λ c. diagnosed (cond c (v ∷ marked vs) (marked vs))) is
+    ∙ ap (λ ws. cond (has_any v.node.head.diagnostics) (v ∷ ws) ws) later
+with_one v vs false true own kids later =
+    let is : is_marked v ≡ true = λ i. own i || kids i in
+    ap (λ c. diagnosed (cond c (v ∷ marked vs) (marked vs))) is ∙ past_clean v (marked vs) own ∙ later ∙ sym (past_clean v vs own)
+with_one v vs false false own kids later =
+    let is : is_marked v ≡ false = λ i. own i || kids i in
+    ap (λ c. diagnosed (cond c (v ∷ marked vs) (marked vs))) is ∙ later ∙ sym (past_clean v vs own)
+
+-- a node that has a diagnostic itself is marked
+diagnosed_marked : (vs : List Visited) → diagnosed (marked vs) ≡ diagnosed vs
+diagnosed_marked [] = refl
+diagnosed_marked (v ∷ vs) = with_one v vs (has_any v.node.head.diagnostics) (have_diagnostics v.node.kids) refl refl (diagnosed_marked vs)
+
+-- where the same marked nodes are left, the same have diagnostics themselves
+pub diagnosed_same : (old new : List Visited) → marked old ≡ marked new → diagnosed old ≡ diagnosed new
+diagnosed_same old new e = sym (diagnosed_marked old) ∙ ap diagnosed e ∙ diagnosed_marked new
+
+-- and after the next marked node
+pub diagnosed_next : (old : List Visited) (v : Visited) (new : List Visited) → marked old ≡ v ∷ marked new → diagnosed old ≡ cond (is_diagnosed v) (v ∷ diagnosed new) (diagnosed new)
+diagnosed_next old v new e = sym (diagnosed_marked old) ∙ ap diagnosed e ∙ ap (λ ws. cond (is_diagnosed v) (v ∷ ws) ws) (diagnosed_marked new)

@@ -1,5 +1,6 @@
 -- Where the clauses are proved. A function that isn't named here needs no lemma.
 --   inner, and counts of all children           AddedChildren: one_more, adds_more; ChildlessLeaves: whole_more
+--   has_diagnostics                             Marks: have_more, has_same, has_synthesized, have_kind, any_pushed
 --   drop                                        Fewer: most-swap_remove
 --   try_clone                                   Copies: way_down, way_up, copied, copied_back
 --   the texts of an error                       Waiting: opened, closed
@@ -12,7 +13,8 @@
 --   replace_at along a long path                PutAt: put_moved, replaced_back, put_back, refused_there
 --   replace_at: equal ones set aside            SameTree: front_more, front_none; SetAside
 --   replace_at: the stretch that is numbered    Growth: growth_found, growth_ends; Stretches: growth_has_room, cut
---   replace_at: its counts                      MovedCounts: swapped_moved, set_moved
+--   replace_at: its counts and its mark         MovedCounts: swapped_moved, set_moved; Marks: swapped_marks, set_marks
+--   the marks along a long path                 PathMarks: put_marked, swapped_mark, level_on
 --   replace_at: clause ordered, law keeps_order KeepsOrder: keeps_order
 --   law replaces_children, law replaces_text    ReplacesChildren: replaces_children, replaces_text
 --   law keeps_others                            KeepsOthers: replaced_keeps; AlongPath: along
@@ -28,9 +30,11 @@ pub mod Growth
 pub mod KeepsOrder
 pub mod KeepsOthers
 pub mod LastChild
+pub mod Marks
 pub mod MovedCounts
 pub mod Numbering
 pub mod NumbersInOrder
+pub mod PathMarks
 pub mod PutAt
 pub mod RefusesFull
 pub mod ReplacesChildren
@@ -53,7 +57,7 @@ pub mod Waiting
 --   find: a node finds itself            FindsOwnSpan: finds_own; SingleNodes: same_span
 --   find, find_number from `ordered`     RisingNumbers: none_past, found_only
 --   is_ordered                           OrderBelow: nodes_within, order_own, order_child, order_node_but
---   Preorder                             LeftRows
+--   Preorder                             LeftRows; next_marked: ok_marked; next_diagnosed: diagnosed_next, diagnosed_same
 -- For crates above: Inside; LastLeaf: last_append, last_none; PassesOver: no_child_before, no_child_after; RisingNumbers: rising_from; SingleNodes; WalksInPreorder.
 pub mod Branches
 pub mod FindsOwnSpan

@@ -12,7 +12,8 @@ use Rattle.typst_tree.proofs.Numbering.{some_nodes}
 use Rattle.typst_tree.proofs.MovedCounts.{Moved, set_moved}
 use Rattle.typst_tree.proofs.StepDown.{at_slice_get, slice_get_is}
 
-got_at : (xs : List Tree) (i : ℕ) (k : Tree) → slice_get xs i ≡ Some k → (i < length xs) × (k ≡ get_or xs i k)
+-- the child that is at a place
+pub got_at : (xs : List Tree) (i : ℕ) (k : Tree) → slice_get xs i ≡ Some k → (i < length xs) × (k ≡ get_or xs i k)
 got_at [] i k e = absurd (cc)
 got_at (x ∷ xs) zero k e = let same : x ≡ k = cc in (omega arith, sym same)
 got_at (x ∷ xs) (suc i) k e = let r = got_at xs i k e in (omega (arith, r.0), r.1)
@@ -74,14 +75,14 @@ put_on path rest i z t k l h xs e p n q r =
     rw (p, ← e, trees_forest, got, r) refl
 
 -- the step down to child i
-record Step (path : List ℕ) (i : ℕ) (z t u : Tree) : Type 0 where
-  kid : Tree
-  new : Tree
-  found : slice_get (kids_of t) i ≡ Some kid
-  puts : put_at path z kid ≡ Some new
-  is : u ≡ with_kids t (slice_set (kids_of t) i new)
+pub record Step (path : List ℕ) (i : ℕ) (z t u : Tree) : Type 0 where
+  pub kid : Tree
+  pub new : Tree
+  pub found : slice_get (kids_of t) i ≡ Some kid
+  pub puts : put_at path z kid ≡ Some new
+  pub is : u ≡ with_kids t (slice_set (kids_of t) i new)
 
-step : (path : List ℕ) (i : ℕ) (z t u : Tree) → put_at (i ∷ path) z t ≡ Some u → Step path i z t u
+pub step : (path : List ℕ) (i : ℕ) (z t u : Tree) → put_at (i ∷ path) z t ≡ Some u → Step path i z t u
 step path i z t u e = by_kid (slice_get (kids_of t) i) refl e
   where
     by_new : (k : Tree) (o : Option Tree) → slice_get (kids_of t) i ≡ Some k → put_at path z k ≡ o → option_map (λ l. with_kids t (slice_set (kids_of t) i l)) o ≡ Some u → Step path i z t u
@@ -227,7 +228,7 @@ reaches_from (i ∷ path) a b t h = by_kid (slice_get (kids_of t) i) h (λ k r. 
 pub walk_on : (path : List ℕ) (j : ℕ) (t k : Tree) (h : Head) (xs : List Tree) → j < length path → over h xs ≡ t → slice_get xs (get_or path j 0) ≡ Some k → node_at (drop j path) t ≡ node_at (drop (j + 1) path) k
 walk_on path j t k h xs l e got = rw (drop_more path j 0 l, ← e, trees_forest, got) refl
 
-slice_get_none : (xs : List Tree) (i : ℕ) → length xs ≤ i → slice_get xs i ≡ None
+pub slice_get_none : (xs : List Tree) (i : ℕ) → length xs ≤ i → slice_get xs i ≡ None
 slice_get_none [] i l = refl
 slice_get_none (x ∷ xs) zero l = absurd (omega (arith, l))
 slice_get_none (x ∷ xs) (suc i) l = slice_get_none xs i (omega (arith, l))

@@ -1,7 +1,7 @@
 -- What is left of a walk in preorder (for private clauses).
-use Rattle.std.specs.Prelude.{◌≡◌, ◌<◌, List, [], ◌∷◌, ◌++◌, length, All}
+use Rattle.std.specs.Prelude.{◌≡◌, ◌<◌, true, List, [], ◌∷◌, ◌++◌, length, All}
 use Rattle.typst_tree.specs.Tree.{forest}
-use Rattle.typst_tree.specs.Preorder.{Visited, row}
+use Rattle.typst_tree.specs.Preorder.{Visited, row, is_marked}
 use Rattle.typst_tree.specs.declared.preorder.Row.{Row}
 
 -- the visits that are left in a row
@@ -21,3 +21,8 @@ HasTrees r = 0 < length r.trees.now
 pub record IsReady (here : Row) (above : List Row) : Type 0 where
   pub ends : length here.trees.now ≡ 0 → length above ≡ 0
   pub have_trees : All HasTrees above
+
+-- the next visit that is left, if there is one, is of a marked node
+abbrev pub IsAtMarked : List Visited → Type 0
+IsAtMarked [] = Unit {0}
+IsAtMarked (v ∷ vs) = is_marked v ≡ true

@@ -3,7 +3,7 @@ use Rattle.std.specs.Prelude.{ℕ, ◌+◌, ◌-◌, ◌*◌, ◌/◌, ◌<◌, 
 use Rattle.typst_kinds.specs.Head.{Head}
 use Rattle.typst_tree.specs.Tree.{Forest, none, more, Tree, count, nodes}
 
--- a stretch with no number below the first or past the last
+-- a stretch that is empty or has only numbers that nodes can have
 abbrev pub IsStretch : ℕ → ℕ → Type 0
 IsStretch a e = a < e → (2 ≤ a) × (e ≤ 2 ^ 47)
 

@@ -1,7 +1,8 @@
 -- The visits of a walk through a tree in preorder.
-use Rattle.std.specs.Prelude.{ℕ, ◌+◌, List, [], ◌∷◌, ◌++◌, length, refl}
+use Rattle.std.specs.Prelude.{ℕ, ◌+◌, Bool, List, [], ◌∷◌, ◌++◌, filter, length, refl}
 use Rattle.std.specs.Coded.{Coded, code_by, coded×, coded_ℕ, coded_list}
-use Rattle.typst_tree.specs.Tree.{Forest, none, more, Tree, tree_code, text_of, saturated}
+use Rattle.typst_kinds.specs.Head.{has_any}
+use Rattle.typst_tree.specs.Tree.{Forest, none, more, Tree, tree_code, text_of, saturated, has_diagnostics}
 use Rattle.typst_tree.specs.declared.preorder.Visit.{Visit}
 
 -- a visit: a node, the byte where it begins, and how many levels it is below the node that the walk
@@ -36,3 +37,19 @@ walk offset t = row offset 0 (more t.head t.kids none)
 -- the visits of the nodes below a visited one
 abbrev pub below : Visited → List Visited
 below v = row (saturated (v.offset + length v.node.head.text)) (saturated (v.depth + 1)) v.node.kids
+
+-- a visit of a marked node: it or a node below it has a diagnostic
+abbrev pub is_marked : Visited → Bool
+is_marked v = has_diagnostics v.node
+
+-- of some visits those of marked nodes
+abbrev pub marked : List Visited → List Visited
+marked vs = filter is_marked vs
+
+-- a visit of a node that has a diagnostic itself
+abbrev pub is_diagnosed : Visited → Bool
+is_diagnosed v = has_any v.node.head.diagnostics
+
+-- of some visits those of nodes that have diagnostics themselves
+abbrev pub diagnosed : List Visited → List Visited
+diagnosed vs = filter is_diagnosed vs

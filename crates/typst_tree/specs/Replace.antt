@@ -1,10 +1,10 @@
 -- Children replaced along a path.
-use Rattle.std.specs.Prelude.{◌≡◌, ◌^◌, ℕ, zero, suc, ◌+◌, ◌-◌, ◌*◌, ◌≤◌, ◌<◌, Bool, nat_le, ◌==◌, ◌&&◌, min, max, IsTrue, List, [], ◌∷◌, ◌++◌, length, take, drop, reverse, Option, Some, None, option_map, option_and_then, slice_get, slice_set, slice_range, if◌then◌else◌}
+use Rattle.std.specs.Prelude.{◌≡◌, ◌^◌, ℕ, zero, suc, ◌+◌, ◌-◌, ◌*◌, ◌≤◌, ◌<◌, Bool, nat_le, ◌==◌, ◌&&◌, ◌||◌, min, max, IsTrue, List, [], ◌∷◌, ◌++◌, length, take, drop, reverse, Option, Some, None, option_map, option_and_then, unwrap_or, slice_get, slice_set, slice_range, if◌then◌else◌}
 use Rattle.typst_tree.specs.declared.replace.Counts.{Counts}
 use Rattle.typst_tree.specs.declared.replace.Stretch.{Stretch}
 use Rattle.typst_kinds.specs.Span.{SpanValue, number_of}
-use Rattle.typst_kinds.specs.Head.{Head}
-use Rattle.typst_tree.specs.Tree.{Tree, forest, trees, count, nodes, saturated, text_of}
+use Rattle.typst_kinds.specs.Head.{Head, has_any}
+use Rattle.typst_tree.specs.Tree.{Tree, forest, trees, count, nodes, saturated, text_of, have_diagnostics, has_diagnostics}
 use Rattle.typst_tree.specs.Numbers.{numbered_list, stride}
 use Rattle.typst_tree.specs.Same.{front}
 
@@ -16,7 +16,7 @@ kids_of t = trees t.kids
 abbrev pub with_kids : Tree → List Tree → Tree
 with_kids t ts = record { head = t.head; kids = forest ts }
 
--- where a node's numbers end
+-- where a node's numbers end: `upper_at` (Order.antt) of its head
 abbrev pub upper_of : Tree → ℕ
 upper_of t = if t.head.is_inner then t.head.upper else number_of t.head.span + 1
 
@@ -145,10 +145,27 @@ abbrev pub put_at : List ℕ → Tree → Tree → Option Tree
 put_at [] u t = Some u
 put_at (i ∷ path) u t = option_map (λ k. with_kids t (slice_set (kids_of t) i k)) (option_and_then (put_at path u) (slice_get (kids_of t) i))
 
--- the length of a tree's text and how many nodes it has
+-- the length of a tree's text, how many nodes it has, and whether one has a diagnostic
 pub record ComesTo (t : Tree) (n : Counts) : Type 0 where
   pub len : n.len ≡ saturated (length (text_of t))
   pub nodes : n.nodes ≡ saturated (nodes t)
+  pub mark : n.is_marked ≡ has_diagnostics t
+
+-- one of the trees has a diagnostic, the one at i left out
+abbrev pub have_others : ℕ → List Tree → Bool
+have_others i xs = have_diagnostics (forest (take i xs)) || have_diagnostics (forest (drop (i + 1) xs))
+
+-- one level above n levels, or the first one if there is something
+abbrev pub levels_above : Bool → ℕ → ℕ
+levels_above b zero = if b then 1 else 0
+levels_above b (suc n) = suc (suc n)
+
+-- how many nodes on a path have a diagnostic, at them or below them, that isn't in the node at the
+-- path's end. They are the first ones
+abbrev pub marked_levels : List ℕ → Tree → ℕ
+marked_levels [] t = 0
+marked_levels (i ∷ path) t =
+    unwrap_or (option_map (λ k. levels_above (has_any t.head.diagnostics || have_others i (kids_of t)) (marked_levels path k)) (slice_get (kids_of t) i)) 0
 
 -- there is a tree, and P holds of it
 abbrev pub At : (Tree → Type 0) → Option Tree → Type 0

@@ -1,5 +1,5 @@
 -- A syntax tree as contracts see it, and the functions of it that contracts name.
-use Rattle.std.specs.Prelude.{◌≡◌, ℕ, ◌+◌, ◌-◌, ◌^◌, ◌≤◌, List, [], ◌∷◌, ◌++◌, None, min, zero, suc, refl, if◌then◌else◌}
+use Rattle.std.specs.Prelude.{◌≡◌, ℕ, ◌+◌, ◌-◌, ◌^◌, ◌≤◌, Bool, ◌||◌, false, List, [], ◌∷◌, ◌++◌, None, min, zero, suc, refl, if◌then◌else◌}
 use Rattle.std.specs.Coded.{Coded, code_by, coded×}
 use Rattle.std.proofs.Common.{ap, subst, sym, arith}
 use base.Stored.{Gv, gnil, gnum, gcons}
@@ -8,7 +8,7 @@ use Rattle.typst_kinds.specs.declared.kind.SyntaxKind.{SyntaxKind}
 use Rattle.typst_kinds.specs.Kinds.{is_error}
 use Rattle.typst_kinds.specs.Diagnostic.{Diagnostic, Hint, hint_with}
 use Rattle.typst_kinds.specs.Span.{SpanValue}
-use Rattle.typst_kinds.specs.Head.{Head, head_code, bare_head, spanned, leaf_head, inner_head, error_head, diagnosed, helped}
+use Rattle.typst_kinds.specs.Head.{Head, head_code, bare_head, spanned, leaf_head, inner_head, error_head, diagnosed, helped, has_any}
 
 -- several trees: none, or a first one by its head and children, and then more
 pub data Forest : Type 0 where
@@ -90,6 +90,15 @@ text_of t = t.head.text ++ joined t.kids
 -- how many nodes a tree has, its root counted
 abbrev pub nodes : Tree → ℕ
 nodes t = 1 + count t.kids
+
+-- a node of the forest has a diagnostic
+abbrev pub have_diagnostics : Forest → Bool
+have_diagnostics none = false
+have_diagnostics (more h ks r) = has_any h.diagnostics || (have_diagnostics ks || have_diagnostics r)
+
+-- the tree's root or a node below it has a diagnostic
+abbrev pub has_diagnostics : Tree → Bool
+has_diagnostics t = has_any t.head.diagnostics || have_diagnostics t.kids
 
 -- the forest, spans aside
 abbrev pub bare_forest : Forest → Forest

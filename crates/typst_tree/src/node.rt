@@ -1,7 +1,8 @@
 ghost use Rattle.std.specs.Prelude.{◌≡◌, ◌↔◌, IsTrue, [], ◌<◌, ◌≤◌, ◌^◌, length, ◌++◌, IfOk, OnOk, OnErr, None, Some, string_bytes, take, remove, true, false};
 ghost use Rattle.typst_kinds.specs.Kinds.{is_error};
 ghost use Rattle.typst_kinds.specs.Diagnostic.{warning_with, hint_with};
-ghost use Rattle.typst_tree.specs.Tree.{forest, trees, text_of, nodes, saturated, bare, leaf_of, inner_of, error_of, synthesized, with_kind, at_child, made_error, remarked, advised};
+ghost use Rattle.typst_kinds.specs.Head.{has_any};
+ghost use Rattle.typst_tree.specs.Tree.{forest, trees, text_of, nodes, saturated, has_diagnostics, have_diagnostics, bare, leaf_of, inner_of, error_of, synthesized, with_kind, at_child, made_error, remarked, advised};
 ghost use Rattle.typst_tree.specs.Replace.{upper_of};
 ghost use Rattle.typst_tree.specs.Order.{IsWhole};
 ghost use Rattle.typst_tree.specs.Messages.{made_expected, made_unexpected};
@@ -67,7 +68,7 @@ struct Ancestor<'a> {
 impl Model for SyntaxNode {
     ghost use Rattle.std.specs.Prelude.{◌≡◌, length};
     ghost use Rattle.typst_kinds.specs.Head.{kept};
-    ghost use Rattle.typst_tree.specs.Tree.{Tree, tree_code, forest, nodes, text_of, most_le-count};
+    ghost use Rattle.typst_tree.specs.Tree.{Tree, tree_code, forest, nodes, text_of, has_diagnostics, most_le-count};
     ghost use Rattle.typst_tree.specs.Order.{IsWhole};
     ghost use Rattle.std.proofs.Common.{arith};
 
@@ -77,7 +78,7 @@ impl Model for SyntaxNode {
 
     ghost view = { λ a. record { head = a.own.head; kids = forest a.kids.items } };
 
-    ghost invariant = { λ a. (a.own.len ≡ kept (length (text_of (record { head = a.own.head; kids = forest a.kids.items })))) × (a.own.descendants ≡ kept (nodes (record { head = a.own.head; kids = forest a.kids.items }))) × IsWhole (record { head = a.own.head; kids = forest a.kids.items }) };
+    ghost invariant = { λ a. (a.own.len ≡ kept (length (text_of (record { head = a.own.head; kids = forest a.kids.items })))) × (a.own.descendants ≡ kept (nodes (record { head = a.own.head; kids = forest a.kids.items }))) × IsWhole (record { head = a.own.head; kids = forest a.kids.items }) × (a.own.is_marked ≡ has_diagnostics (record { head = a.own.head; kids = forest a.kids.items })) };
 
     ghost size = { nodes };
 
@@ -140,13 +141,15 @@ impl SyntaxNode {
     {
         let mut len: usize = 0;
         let mut descendants: usize = 1;
+        let mut is_marked = false;
         for kid in &kids {
             kid.leaves_are_bare();
             len = len.saturating_add(kid.len());
             descendants = descendants.saturating_add(kid.descendants());
+            is_marked |= kid.has_diagnostics();
         }
         SyntaxNode {
-            own: Own::inner(kind, len, descendants),
+            own: Own::inner(kind, len, descendants, is_marked),
             kids,
         }
     }
@@ -393,6 +396,22 @@ impl SyntaxNode {
         ensures { result.now ≡ self.now.head.diagnostics }
     {
         self.own.diagnostics()
+    }
+
+    /// Whether the node itself has an error or a warning.
+    pub(crate) fn is_diagnosed(&self) -> bool
+        ensures { result ≡ has_any self.now.head.diagnostics }
+    {
+        !self.diagnostics().is_empty()
+    }
+
+    /// Whether the node or a node below it has an error or a warning. Each node keeps the answer, so that it takes a
+    /// constant time.
+    #[inline(always)]
+    pub fn has_diagnostics(&self) -> bool
+        ensures { result ≡ has_diagnostics self.now }
+    {
+        self.own.is_marked()
     }
 
     /// Whether the text is as long as that of another node, and the nodes are as many, by the counts

@@ -71,7 +71,8 @@ impl<'a> Preorder<'a> {
     ghost use Rattle.std.specs.Prelude.{◌≡◌, map, IfOk, OnErr};
     ghost use Rattle.std.specs.Iterator.{YieldsFirstBy};
     ghost use Rattle.typst_tree.specs.Tree.{places};
-    ghost use Rattle.typst_tree.specs.Preorder.{visited, walk};
+    ghost use Rattle.typst_tree.specs.Preorder.{visited, walk, marked, diagnosed};
+    ghost use Rattle.typst_tree.specs.LeftRows.{IsAtMarked};
 
     /// The walk through a node, which begins at a byte, and all nodes below it.
     pub fn new(alloc: Global, node: &'a SyntaxNode, offset: usize) -> Preorder<'a>
@@ -104,6 +105,46 @@ impl<'a> Preorder<'a> {
         behind.keep_above(&mut self.above)?;
         self.here = below;
         Ok(Some(visit))
+    }
+
+    /// The next node that has errors or warnings, at it or below it, or `None` if no node that is left has some. If
+    /// memory is refused, none of them is passed.
+    ///
+    /// The walk passes a node without any together with all below it. So going through a tree by this alone looks
+    /// at the nodes that it gives and at their children.
+    pub fn next_marked(&mut self) -> Result<Option<Visit<'a>>, AllocError>
+        ensures ok { IfOk result (λ visit. YieldsFirstBy visited marked self.old visit self.new) }
+        ensures err { OnErr result (marked self.new ≡ marked self.old) }
+    {
+        self.pass_unmarked();
+        self.next()
+    }
+
+    /// The next node that has errors or warnings itself, or `None` if no node that is left has some. If memory is
+    /// refused, none of them is passed. It looks at no more nodes than `next_marked`.
+    pub fn next_diagnosed(&mut self) -> Result<Option<Visit<'a>>, AllocError>
+        ensures ok { IfOk result (λ visit. YieldsFirstBy visited diagnosed self.old visit self.new) }
+        ensures err { OnErr result (diagnosed self.new ≡ diagnosed self.old) }
+    {
+        while let Some(visit) = self.next_marked()? {
+            if visit.node.is_diagnosed() {
+                return Ok(Some(visit));
+            }
+        }
+        Ok(None)
+    }
+
+    /// Passes the nodes before the next one that has diagnostics, at it or below it.
+    fn pass_unmarked(&mut self)
+        ensures kept { marked self.new ≡ marked self.old }
+        ensures next { IsAtMarked self.new }
+    {
+        while let Some((visit, behind)) = self.here.split_first() {
+            if visit.node.has_diagnostics() {
+                return;
+            }
+            self.here = behind.or_above(&mut self.above);
+        }
     }
 }
 

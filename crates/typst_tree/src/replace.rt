@@ -1,9 +1,9 @@
-ghost use Rattle.std.specs.Prelude.{◌≡◌, ◌↔◌, ℕ, ◌+◌, ◌-◌, ◌*◌, ◌^◌, ◌<◌, ◌≤◌, ◌++◌, length, slice_range, Some, None, IfSome, OnErr, OnOk, IfErr, IsTrue, option_map, true, false, [], reverse, vec_len};
-ghost use Rattle.typst_kinds.specs.Head.{kept};
-ghost use Rattle.typst_tree.specs.Tree.{forest, joined, count, saturated, text_of, nodes};
+ghost use Rattle.std.specs.Prelude.{◌≡◌, ◌↔◌, ℕ, ◌+◌, ◌-◌, ◌*◌, ◌^◌, ◌<◌, ◌≤◌, ◌++◌, ◌||◌, nat_lt, if◌then◌else◌, length, slice_range, Some, None, IfSome, OnErr, OnOk, IfErr, IsTrue, option_map, true, false, [], reverse, vec_len};
+ghost use Rattle.typst_kinds.specs.Head.{kept, has_any, with_counts};
+ghost use Rattle.typst_tree.specs.Tree.{forest, joined, count, saturated, text_of, nodes, have_diagnostics, has_diagnostics};
 ghost use Rattle.typst_tree.specs.Order.{IsWhole, IsWholeForest, IsNumbered, AreInOrder, numbers_of};
 ghost use Rattle.typst_tree.specs.Same.{front};
-ghost use Rattle.typst_tree.specs.Replace.{At, ComesTo, node_at, put_at, Reaches, replaced, replaced_at, kids_of, start_of, end_of, upper_of, left_of, right_of, wanted, room, has_room, growth, is_all, fit, IsFit, exchanged, swapped};
+ghost use Rattle.typst_tree.specs.Replace.{At, ComesTo, have_others, marked_levels, node_at, put_at, Reaches, replaced, replaced_at, kids_of, start_of, end_of, upper_of, left_of, right_of, wanted, room, has_room, growth, is_all, fit, IsFit, exchanged, swapped};
 
 use crate::SyntaxNode;
 use crate::items::{keep_middle, remove, splice};
@@ -21,11 +21,12 @@ struct Stretch {
     stride: u64,
 }
 
-/// The length of the text of one or several trees, and how many nodes they have.
+/// The length of the text of one or several trees, how many nodes they have, and whether one has diagnostics.
 #[derive(Clone, Copy)]
 struct Counts {
     len: usize,
     nodes: usize,
+    is_marked: bool,
 }
 
 /// What the counts of the nodes on a path lose and get, where the node at the path's end is exchanged.
@@ -35,31 +36,56 @@ struct Swap {
     come: Counts,
 }
 
+impl Swap {
+    /// Whether a node on the path has diagnostics, at it or below it, after the exchange. It had some before if
+    /// `was_marked`, and has some elsewhere if there are `levels`.
+    fn marks(&self, was_marked: bool, levels: usize) -> bool
+        ensures { result ≡ (self.now.come.is_marked || (if self.now.gone.is_marked then nat_lt 0 levels else was_marked)) }
+    {
+        if self.come.is_marked {
+            return true;
+        }
+        if self.gone.is_marked {
+            levels > 0
+        } else {
+            was_marked
+        }
+    }
+}
+
 /// Up to how many steps a path is gone with a frame of the stack for each.
 const SHORT: usize = 64;
 
-/// The lengths and the counts of nodes of `kids`, added up.
+/// The lengths and the counts of nodes of `kids`, added up, and whether one has diagnostics.
 fn totals(kids: &[SyntaxNode]) -> Counts
     ensures len { result.len ≡ saturated (length (joined (forest kids.now))) }
     ensures nodes { result.nodes ≡ saturated (count (forest kids.now)) }
+    ensures mark { result.is_marked ≡ have_diagnostics (forest kids.now) }
     ensures whole { IsWholeForest (forest kids.now) }
 {
     let mut len: usize = 0;
     let mut nodes: usize = 0;
+    let mut is_marked = false;
     for kid in kids {
         kid.leaves_are_bare();
         len = len.saturating_add(kid.len());
         nodes = nodes.saturating_add(kid.descendants());
+        is_marked |= kid.has_diagnostics();
     }
-    Counts { len, nodes }
+    Counts {
+        len,
+        nodes,
+        is_marked,
+    }
 }
 
-/// The lengths and the counts of nodes of the children `from..to`, added up.
+/// The lengths and the counts of nodes of the children `from..to`, added up, and whether one has diagnostics.
 fn totals_within(kids: &[SyntaxNode], from: usize, to: usize) -> Counts
     requires order { from ≤ to }
     requires within { to ≤ length kids.now }
     ensures len { result.len ≡ saturated (length (joined (forest (slice_range kids.now from to)))) }
     ensures nodes { result.nodes ≡ saturated (count (forest (slice_range kids.now from to))) }
+    ensures mark { result.is_marked ≡ have_diagnostics (forest (slice_range kids.now from to)) }
 {
     totals(&kids[from..to])
 }
@@ -288,28 +314,68 @@ fn swap_children(
     exchange(own, kids, id, from + front, to - back, new)
 }
 
+/// Whether a child has diagnostics, at it or below it.
+fn have_diagnostics(kids: &[SyntaxNode]) -> bool
+    ensures { result ≡ have_diagnostics (forest kids.now) }
+{
+    for kid in kids {
+        if kid.has_diagnostics() {
+            return true;
+        }
+    }
+    false
+}
+
+/// Whether a child other than that of index `at` has diagnostics, at it or below it.
+fn have_others(kids: &[SyntaxNode], at: usize) -> bool
+    requires { at < length kids.now }
+    ensures { result ≡ have_others at kids.now }
+{
+    if have_diagnostics(&kids[..at]) {
+        return true;
+    }
+    have_diagnostics(&kids[at + 1..])
+}
+
+/// Whether a child of an inner node has diagnostics, or the node itself has some, after children `gone` were replaced
+/// by `come`. All are looked at only where diagnostics went and none came.
+fn stays_marked(own: &Own, kids: &[SyntaxNode], gone: Counts, come: Counts) -> bool
+    ensures { result ≡ (come.is_marked || (if gone.is_marked then have_diagnostics (forest kids.now) else own.now.is_marked)) }
+{
+    if come.is_marked {
+        return true;
+    }
+    if gone.is_marked {
+        have_diagnostics(kids)
+    } else {
+        own.is_marked()
+    }
+}
+
 /// Counts the text and the nodes of an inner node again, after its children changed.
 fn renew(own: &mut Own, kids: &[SyntaxNode])
     requires { own.old.head.is_inner ≡ false → 1 < own.old.descendants }
-    ensures { own.new ≡ record { head = own.old.head; len = kept (length (own.old.head.text ++ joined (forest kids.now))); descendants = kept (1 + count (forest kids.now)) } }
+    ensures { own.new ≡ with_counts own.old (length (own.old.head.text ++ joined (forest kids.now))) (1 + count (forest kids.now)) (have_diagnostics (forest kids.now)) }
 {
     let below = totals(kids);
     let text = own.text().len();
     own.set_counts(
         text.saturating_add(below.len),
         below.nodes.saturating_add(1),
+        below.is_marked,
     );
 }
 
-/// Sets the counts of an inner node after children of the counts `gone` were replaced by ones of the counts
-/// `come`. All are counted again only where the node keeps no exact counts.
+/// Sets the counts and the mark of an inner node after children of the counts `gone` were replaced by ones of the
+/// counts `come`. All are counted again only where the node keeps no exact counts.
 fn recount(own: &mut Own, kids: &[SyntaxNode], gone: Counts, come: Counts)
     requires inner { own.old.head.is_inner ≡ false → 1 < own.old.descendants }
     requires shorter { own.old.len < 2 ^ 32 - 1 → gone.len ≤ own.old.len }
     requires fewer { own.old.descendants < 2 ^ 32 - 1 → gone.nodes ≤ own.old.descendants }
     requires len { own.old.len < 2 ^ 32 - 1 → kept (own.old.len - gone.len + come.len) ≡ kept (length (own.old.head.text ++ joined (forest kids.now))) }
+    requires mark { (has_any own.old.head.diagnostics || (come.is_marked || (if gone.is_marked then have_diagnostics (forest kids.now) else own.old.is_marked))) ≡ (has_any own.old.head.diagnostics || have_diagnostics (forest kids.now)) }
     requires nodes { own.old.descendants < 2 ^ 32 - 1 → kept (own.old.descendants - gone.nodes + come.nodes) ≡ kept (1 + count (forest kids.now)) }
-    ensures { own.new ≡ record { head = own.old.head; len = kept (length (own.old.head.text ++ joined (forest kids.now))); descendants = kept (1 + count (forest kids.now)) } }
+    ensures { own.new ≡ with_counts own.old (length (own.old.head.text ++ joined (forest kids.now))) (1 + count (forest kids.now)) (have_diagnostics (forest kids.now)) }
 {
     let len = own.len();
     let descendants = own.descendants();
@@ -317,23 +383,27 @@ fn recount(own: &mut Own, kids: &[SyntaxNode], gone: Counts, come: Counts)
         renew(own, kids);
         return;
     }
+    let is_marked = stays_marked(own, kids, gone, come);
     own.set_counts(
         (len - gone.len).saturating_add(come.len),
         (descendants - gone.nodes).saturating_add(come.nodes),
+        is_marked,
     );
 }
 
 impl SyntaxNode {
-    /// The length of the whole tree's text, and how many nodes it has.
+    /// The length of the whole tree's text, how many nodes it has, and whether one has diagnostics.
     fn counts(&self) -> Counts
         ensures len { result.len ≡ saturated (length (text_of self.now)) }
         ensures nodes { result.nodes ≡ saturated (nodes self.now) }
+        ensures mark { result.is_marked ≡ has_diagnostics self.now }
         ensures whole { IsWhole self.now }
     {
         self.leaves_are_bare();
         Counts {
             len: self.len(),
             nodes: self.descendants(),
+            is_marked: self.has_diagnostics(),
         }
     }
 
@@ -415,6 +485,7 @@ impl SyntaxNode {
     {
         let alloc = *self.kids.allocator();
         let gone = self.node_at(path).unwrap().counts();
+        let levels = self.levels_left(path, gone);
         let mut node = SyntaxNode::inner(SyntaxKind::Markup, Vec::new(alloc));
         let nothing = node.counts();
         self.swap_at(
@@ -424,6 +495,7 @@ impl SyntaxNode {
                 gone,
                 come: nothing,
             },
+            levels,
         );
         let replaced = node.replace(from, to, nodes);
         let come = node.counts();
@@ -434,6 +506,7 @@ impl SyntaxNode {
                 gone: nothing,
                 come,
             },
+            0,
         );
         replaced
     }
@@ -449,13 +522,59 @@ impl SyntaxNode {
         Some(node)
     }
 
+    /// How many nodes on a path stay marked where the node at the path's end is taken out, which has the counts
+    /// `gone`. Without diagnostics in it no mark changes, and nothing is counted.
+    fn levels_left(&self, path: &[usize], gone: Counts) -> usize
+        ensures { gone.is_marked ≡ true → result ≡ marked_levels path.now self.now }
+    {
+        if gone.is_marked {
+            self.marked_levels(path)
+        } else {
+            0
+        }
+    }
+
+    /// How many nodes on a path have diagnostics, at them or below them, that aren't in the node at the path's end.
+    /// They are the first ones.
+    fn marked_levels(&self, path: &[usize]) -> usize
+        ensures { result ≡ marked_levels path.now self.now }
+    {
+        let mut levels = 0;
+        let mut depth = 0;
+        let mut node = self;
+        for at in path {
+            let Some(kid) = node.kids.get(*at) else {
+                return levels;
+            };
+            depth += 1;
+            if node.has_elsewhere(*at) {
+                levels = depth;
+            }
+            node = kid;
+        }
+        levels
+    }
+
+    /// Whether the node itself has diagnostics, or a tree below it other than the child of index `at`.
+    fn has_elsewhere(&self, at: usize) -> bool
+        requires { at < length (kids_of self.now) }
+        ensures { result ≡ (has_any self.now.head.diagnostics || have_others at (kids_of self.now)) }
+    {
+        if self.is_diagnosed() {
+            return true;
+        }
+        have_others(self.kids.as_slice(), at)
+    }
+
     /// Exchanges the node that `path` leads to for another one. Counts are set on the way down, so that nothing is
-    /// left to do after the call in the last place, and it takes no frame of the stack for a level.
-    fn swap_at(&mut self, path: &[usize], node: &mut SyntaxNode, swap: &Swap)
+    /// left to do after the call in the last place, and it takes no frame of the stack for a level. Where diagnostics
+    /// go, the first `levels` nodes on the path stay marked.
+    fn swap_at(&mut self, path: &[usize], node: &mut SyntaxNode, swap: &Swap, levels: usize)
         requires short { length (text_of self.old) < 2 ^ 32 - 1 }
         requires few { nodes self.old < 2 ^ 32 - 1 }
         requires gone { At (λ t. ComesTo t swap.now.gone) (node_at path.now self.old) }
         requires come { ComesTo node.old swap.now.come }
+        requires levels { swap.now.gone.is_marked ≡ true → levels ≡ marked_levels path.now self.old }
         ensures tree { put_at path.now node.old self.old ≡ Some self.new }
         ensures node { node_at path.now self.old ≡ Some node.new }
     {
@@ -466,12 +585,14 @@ impl SyntaxNode {
         };
         let len = self.own.len() - swap.gone.len;
         let nodes = self.own.descendants() - swap.gone.nodes;
+        let is_marked = swap.marks(self.own.is_marked(), levels);
         self.own.set_counts(
             len.saturating_add(swap.come.len),
             nodes.saturating_add(swap.come.nodes),
+            is_marked,
         );
         let kid = &mut self.kids[*first];
-        kid.swap_at(rest, node, swap);
+        kid.swap_at(rest, node, swap, levels.saturating_sub(1));
     }
 
     /// Whether `path` leads to an inner node that has children `from..to`.

@@ -72,10 +72,10 @@ const TAKEN: usize = 3;
 pub fn broken(alloc: Global, random: &mut Random, outcome: &mut Outcome) -> anyhow::Result<()> {
     for bytes in [20_000, 60_000] {
         for marks in IN_MARKUP {
-            type_behind(alloc, random, Shape::Document, bytes, *marks, outcome)?;
+            type_after(alloc, random, Shape::Document, bytes, *marks, outcome)?;
         }
         for marks in IN_CODE {
-            type_behind(alloc, random, Shape::Package, bytes, *marks, outcome)?;
+            type_after(alloc, random, Shape::Package, bytes, *marks, outcome)?;
         }
     }
     Ok(())
@@ -83,7 +83,7 @@ pub fn broken(alloc: Global, random: &mut Random, outcome: &mut Outcome) -> anyh
 
 /// Makes a source of a text of a shape and a size, types a mark that opens something, a word, and the
 /// mark that closes it, and holds the tree while it is open and once it is closed.
-fn type_behind(
+fn type_after(
     alloc: Global,
     random: &mut Random,
     shape: Shape,

@@ -43,8 +43,8 @@ pub fn with_word(
     word: &str,
 ) -> Result<String, AllocError> {
     let mut out = String::new(alloc);
-    if let (Some(front), Some(behind)) = (text.get(..place), text.get(place..)) {
-        for part in [front, word, behind] {
+    if let (Some(front), Some(after)) = (text.get(..place), text.get(place..)) {
+        for part in [front, word, after] {
             out.push_str(part)?;
         }
     }

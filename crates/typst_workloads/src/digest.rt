@@ -135,7 +135,7 @@ impl Outcome {
         }
     }
 
-    /// Notes whether a result, of which it is told what it is, is what was made in another way.
+    /// Notes whether a result, which `what` names, is what was made in another way.
     pub fn hold(&mut self, what: &'static str, agrees: bool) {
         self.held = self.held.saturating_add(1);
         self.agreed = self.agreed.saturating_add(u64::from(agrees));

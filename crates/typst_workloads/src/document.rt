@@ -77,7 +77,7 @@ const OPERATORS: &[&str] = &[
     " + ", " - ", " <= ", " = ", " dot ", " ", " / ", " => ", ", ",
 ];
 
-/// So many bytes of prose stand above a long table: more than 128 nodes.
+/// A given number of bytes of prose stand above a long table: more than 128 nodes.
 const PROSE_BYTES: usize = 12_000;
 
 /// What a text is like.
@@ -93,7 +93,7 @@ pub enum Shape {
     Package,
     /// Functions of code, all of them in one code block.
     OnePackage,
-    /// Lines with nothing but a comment, and some code.
+    /// Lines that are only a comment, and some code.
     Comments,
     /// Formulas full of calls and attachments.
     Formulas,
@@ -107,7 +107,7 @@ pub enum Shape {
     LongLine,
 }
 
-/// A text of a shape, of about so many bytes.
+/// A text of a shape, of about a given number of bytes.
 pub fn document(
     alloc: Global,
     random: &mut Random,
@@ -135,7 +135,7 @@ pub fn document(
     Ok(text)
 }
 
-/// Writes parts of a shape till the text has so many bytes.
+/// Writes parts of a shape until the text has a given number of bytes.
 fn push_parts(
     text: &mut String,
     random: &mut Random,
@@ -324,7 +324,7 @@ fn push_nested(text: &mut String, random: &mut Random) -> Result<(), AllocError>
     }
 }
 
-/// Writes a list in a list, and so on, so many lines deep.
+/// Writes a list in a list, and so on, a given number of lines deep.
 fn push_lists(text: &mut String, random: &mut Random, depth: usize) -> Result<(), AllocError> {
     for level in 0..depth {
         push_times(text, "  ", level)?;

@@ -1,6 +1,6 @@
 //! The work of editing a source.
 
-use crate::typing::{boundary, told};
+use crate::typing::{as_anyhow, boundary};
 use std::alloc::Global;
 use typst_parser::{Source, UnicodeClasses};
 
@@ -17,7 +17,7 @@ impl Edited {
     /// A source of the text.
     pub fn new(alloc: Global, text: String) -> anyhow::Result<Edited> {
         let middle = boundary(text.as_str(), text.len() / 2);
-        let source = Source::detached(alloc, text, UnicodeClasses).map_err(told)?;
+        let source = Source::detached(alloc, text, UnicodeClasses).map_err(as_anyhow)?;
         Ok(Edited {
             source,
             middle,
@@ -35,7 +35,7 @@ impl Edited {
             anyhow::bail!("the letter is gone");
         }
         let with = if self.has_letter { "" } else { "a" };
-        let parsed = self.source.edit(start..end, with).map_err(told)?;
+        let parsed = self.source.edit(start..end, with).map_err(as_anyhow)?;
         self.has_letter = !self.has_letter;
         let root = self.source.root();
         Ok(

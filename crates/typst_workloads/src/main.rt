@@ -1,5 +1,5 @@
 //! Does the jobs that users of the library wait for, on texts that it makes from a seed, and prints a
-//! digest of all that came out; or repeats one call on the text on standard input, and tells the time.
+//! digest of all that came out; or repeats one call on the text on standard input, and prints the time.
 #![tactic(auto)]
 
 mod broken;
@@ -77,7 +77,7 @@ fn do_jobs(
     Ok(())
 }
 
-/// Does a job, prints what came of it, and tells whether all results agree.
+/// Does a job, prints what came of it, and answers whether all results agree.
 fn do_job(
     rt: &HostRuntime,
     job: Job,
@@ -109,7 +109,7 @@ fn repeat_on(rt: &HostRuntime, work: Work, rounds: u64, text: String) -> anyhow:
     tell(rt, work.word(), bytes, checksum, nanoseconds)
 }
 
-/// Prints the checksum of rounds on so many bytes, and the nanoseconds of one.
+/// Prints the checksum of rounds on a given number of bytes, and the nanoseconds of one.
 fn tell(
     rt: &HostRuntime,
     word: &str,

@@ -4,7 +4,7 @@ use crate::changed::{formatted, with_word};
 use crate::digest::Outcome;
 use crate::document::Shape;
 use crate::random::Random;
-use crate::typing::{boundary, hold_tree, source, told};
+use crate::typing::{as_anyhow, boundary, hold_tree, source};
 use std::alloc::Global;
 use typst_parser::{Source, SyntaxNode, UnicodeClasses};
 
@@ -103,7 +103,7 @@ fn replace(
     new: &str,
     outcome: &mut Outcome,
 ) -> anyhow::Result<()> {
-    source.replace(new).map_err(told)?;
+    source.replace(new).map_err(as_anyhow)?;
     outcome.digest.add_tree(source.root());
     Ok(())
 }

@@ -59,7 +59,7 @@ fn show(random: &mut Random, lines: &Lines<String>, queries: usize, outcome: &mu
     outcome.hold("the way back from a position", agrees);
 }
 
-/// Asks for the line, the column and the UTF-16 offset of a byte and for the ways back, and tells
+/// Asks for the line, the column and the UTF-16 offset of a byte and for the ways back, and answers
 /// whether these lead to the byte.
 fn ask(lines: &Lines<String>, byte: usize, outcome: &mut Outcome) -> bool {
     let digest = &mut outcome.digest;

@@ -93,7 +93,7 @@ fn type_into(
     desk.hold(alloc, outcome)
 }
 
-/// A source of a text of a shape, of about so many bytes.
+/// A source of a text of a shape, of about a given number of bytes.
 pub fn source(
     alloc: Global,
     random: &mut Random,
@@ -101,7 +101,7 @@ pub fn source(
     bytes: usize,
 ) -> anyhow::Result<Source<UnicodeClasses>> {
     let text = document(alloc, random, shape, bytes)?;
-    Source::detached(alloc, text, UnicodeClasses).map_err(told)
+    Source::detached(alloc, text, UnicodeClasses).map_err(as_anyhow)
 }
 
 /// Holds a source's tree, of which it is told what it is, against the one that is newly parsed.
@@ -111,8 +111,8 @@ pub fn hold_tree(
     what: &'static str,
     outcome: &mut Outcome,
 ) -> anyhow::Result<()> {
-    let anew = parse(alloc, source.text(), &UnicodeClasses)?;
-    outcome.hold(what, anew.spanless_eq(source.root()));
+    let fresh = parse(alloc, source.text(), &UnicodeClasses)?;
+    outcome.hold(what, fresh.spanless_eq(source.root()));
     Ok(())
 }
 
@@ -145,7 +145,7 @@ impl Desk {
         self.source.text()
     }
 
-    /// Does sessions till no keystroke is left, and at most so many.
+    /// Does sessions until no keystroke is left, but no more than a given number.
     fn sessions(
         &mut self,
         most: usize,
@@ -258,7 +258,7 @@ impl Desk {
         }
         match text.get(place..) {
             None => place,
-            Some(behind) => match behind.find(" $\n") {
+            Some(after) => match after.find(" $\n") {
                 None => place,
                 Some(dollar) => place.saturating_add(dollar),
             },
@@ -283,7 +283,7 @@ impl Desk {
         }
         self.left = self.left.saturating_sub(1);
         self.until_marked = self.until_marked.saturating_sub(1);
-        self.source.edit(start..end, with).map_err(told)?;
+        self.source.edit(start..end, with).map_err(as_anyhow)?;
         let at = start.saturating_add(with.len());
         self.ask(at, outcome);
         Ok(at)
@@ -354,8 +354,8 @@ pub fn boundary(text: &str, byte: usize) -> usize {
     0
 }
 
-/// What is told of an error.
-pub fn told(error: SourceError) -> anyhow::Error {
+/// An error of a source as one of the program.
+pub fn as_anyhow(error: SourceError) -> anyhow::Error {
     match error {
         SourceError::OutOfMemory => anyhow::anyhow!("out of memory"),
         SourceError::SpanNumbers => anyhow::anyhow!("out of span numbers"),

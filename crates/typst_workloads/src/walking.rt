@@ -6,7 +6,7 @@ use crate::random::Random;
 use std::alloc::Global;
 use typst_parser::{LinkedNode, SyntaxNode, UnicodeClasses, highlight, parse};
 
-/// So many bytes are shown on the screen.
+/// A given number of bytes are shown on the screen.
 const SCREEN: usize = 4000;
 
 /// The texts that are walked through from end to end: what they are like, and their bytes.
@@ -35,7 +35,7 @@ pub fn walking(alloc: Global, random: &mut Random, outcome: &mut Outcome) -> any
     Ok(())
 }
 
-/// The tree of a text of a shape, of about so many bytes.
+/// The tree of a text of a shape, of about a given number of bytes.
 fn parsed(
     alloc: Global,
     random: &mut Random,

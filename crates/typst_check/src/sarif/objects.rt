@@ -5,8 +5,8 @@ ghost use Rattle.json.specs.Value.{value_view};
 ghost use Rattle.typst_cli.specs.Ndjson.{count_member, text_member};
 ghost use Rattle.typst_check.specs.Sarif as spec;
 
+use super::finding::{NdjsonFinding, Region, hints_of};
 use super::rules::{RULES, Rule, rule_of};
-use super::told::{Region, Told, hints_of};
 use json::{Error, Value, Writer};
 use std::alloc::AllocError;
 
@@ -78,32 +78,42 @@ pub fn write_result(writer: &mut Writer, uri: &str, line: &Value) -> Result<(), 
     ensures before { OnOk result (writer.new.before ≡ writer.old.before) }
     ensures tokens { OnOk result (spec.WritesResult uri.now (value_view line.now) writer.old.tokens writer.new.tokens) }
 {
-    let told = Told::of_line(line)?;
+    let finding = NdjsonFinding::of_line(line)?;
     let hints = hints_of(line)?;
-    write_object(writer, uri, &told, hints)
+    write_object(writer, uri, &finding, hints)
 }
 
 /// Writes a result with these hints.
-fn write_object(writer: &mut Writer, uri: &str, told: &Told, hints: &[Value]) -> Result<(), Error>
+fn write_object(
+    writer: &mut Writer,
+    uri: &str,
+    finding: &NdjsonFinding,
+    hints: &[Value],
+) -> Result<(), Error>
     ensures before { OnOk result (writer.new.before ≡ writer.old.before) }
-    ensures tokens { OnOk result ((rule : List ℕ) × (writer.new.tokens ≡ writer.old.tokens ++ spec.result_item uri.now rule told.now (map value_view hints.now))) }
+    ensures tokens { OnOk result ((rule : List ℕ) × (writer.new.tokens ≡ writer.old.tokens ++ spec.result_item uri.now rule finding.now (map value_view hints.now))) }
 {
     writer.begin_object()?;
-    write_told(writer, uri, rule_of(told), told)?;
-    write_hints(writer, uri, told.region, hints)?;
+    write_finding(writer, uri, rule_of(finding), finding)?;
+    write_hints(writer, uri, finding.region, hints)?;
     writer.end_object()?;
     Ok(())
 }
 
 /// Writes what an error or a warning says, by which rule, and its place.
-fn write_told(writer: &mut Writer, uri: &str, rule: &str, told: &Told) -> Result<(), AllocError>
+fn write_finding(
+    writer: &mut Writer,
+    uri: &str,
+    rule: &str,
+    finding: &NdjsonFinding,
+) -> Result<(), AllocError>
     ensures before { OnOk result (writer.new.before ≡ writer.old.before) }
-    ensures tokens { OnOk result (writer.new.tokens ≡ writer.old.tokens ++ spec.told_members uri.now rule.now told.now) }
+    ensures tokens { OnOk result (writer.new.tokens ≡ writer.old.tokens ++ spec.finding_members uri.now rule.now finding.now) }
 {
     write_text(writer, "ruleId", rule)?;
-    write_text(writer, "level", told.severity)?;
-    write_message(writer, told.message)?;
-    write_locations(writer, uri, told.region)
+    write_text(writer, "level", finding.severity)?;
+    write_message(writer, finding.message)?;
+    write_locations(writer, uri, finding.region)
 }
 
 /// Writes the one place of a result.

@@ -1,6 +1,6 @@
 //! The rules that a log of SARIF names: kinds of messages, by the words with which these begin.
 
-use super::told::Told;
+use super::finding::NdjsonFinding;
 
 /// A kind of messages.
 #[derive(Debug, Clone, Copy)]
@@ -50,12 +50,12 @@ pub static RULES: [Rule; 7] = [
 ];
 
 /// The name of the rule of an error or a warning.
-pub fn rule_of(told: &Told) -> &'static str {
-    if told.severity == WARNING.id {
+pub fn rule_of(finding: &NdjsonFinding) -> &'static str {
+    if finding.severity == WARNING.id {
         return WARNING.id;
     }
     for rule in &RULES {
-        if told.message.starts_with(rule.id) {
+        if finding.message.starts_with(rule.id) {
             return rule.id;
         }
     }

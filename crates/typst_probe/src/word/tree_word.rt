@@ -1,4 +1,4 @@
-//! What the tree of a text tells, or a part of the text; and what names trees know.
+//! What is printed of the tree of a text, or of a part of the text, and the names that trees use.
 
 ghost use Rattle.std.specs.Prelude.{◌≡◌};
 ghost use Rattle.typst_probe.specs.Words.{tree_word_named};
@@ -6,7 +6,7 @@ ghost use Rattle.typst_probe.specs.Words.{tree_word_named};
 use crate::{candidates, links, modes, names, notes, spans, stretches, tagged, tags};
 use std::alloc::{AllocError, Global};
 
-/// What a tree tells.
+/// What is printed of a tree.
 #[derive(Clone, Copy)]
 pub enum TreeWord {
     /// The link that the text begins with.

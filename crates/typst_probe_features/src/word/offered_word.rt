@@ -21,7 +21,7 @@ pub enum OfferedWord {
     QuickFixes,
     /// The links of the text.
     DocumentLinks,
-    /// What is told of bytes of the text.
+    /// What is shown for bytes of the text.
     Hover,
     /// What the words before bytes of the text may become.
     Completions,

@@ -1,7 +1,7 @@
 use Rattle.std.proofs.Common.{◌++◌, ap, sym, ◌∙◌}
 use Rattle.std.specs.Prelude.{option_and_then}
 use Rattle.typst_candidates.specs.declared.enclosing.Enclosing.TheVariants as enclosing
-use Rattle.typst_candidates.specs.Rows.{pieces_at}
+use Rattle.typst_candidates.specs.Edges.{pieces_at}
 use Rattle.typst_candidates.specs.Stops.{found_in_all, run_of}
 use Rattle.typst_candidates.proofs.Stops.{found-push}
 use Rattle.typst_candidates.proofs.candidate.push_run.Goals as goal

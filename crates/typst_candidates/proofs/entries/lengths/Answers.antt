@@ -1,6 +1,6 @@
 use Rattle.std.proofs.Common.{false, ◌≡◌, ◌+◌, ◌%◌, ◌^◌, ◌<◌, suc, get_or, length, take, ap, sym, ◌∙◌, arith}
 use Rattle.typst_candidates.specs.declared.entry.Entry.{Entry}
-use Rattle.typst_candidates.specs.declared.entry.Tag.TheVariants as tag
+use Rattle.typst_candidates.specs.declared.entry.EntryKind.TheVariants as entry_kind
 use Rattle.typst_candidates.specs.Packed.{lengths}
 use Rattle.typst_candidates.proofs.Rounds.{two-more}
 use Rattle.typst_candidates.proofs.Spans.{lengths-next}
@@ -8,7 +8,7 @@ use Rattle.typst_candidates.proofs.entries.lengths.Goals as goal
 
 -- what would stand where there is no entry
 abbrev none : Entry
-none = record { tag = tag.Piece false; step = 0; gap = 0; forth = 0; back = 0; count = 0 }
+none = record { kind = entry_kind.Piece false; step = 0; gap = 0; forth = 0; back = 0; count = 0 }
 
 pub loop-entry-preserved : goal.loop-entry-preserved
 loop-entry-preserved c =

@@ -5,8 +5,8 @@ use Rattle.std.proofs.lemmas.List.Elements.{All-pop, All-push}
 use Rattle.std.specs.Prelude.{All}
 use Rattle.typst_parser.specs.Tree.{text_of}
 use Rattle.typst_cli.specs.PrintedTree.{deeper, head_lines, own_line, remarks}
-use Rattle.typst_cli.specs.declared.tree.Row.{Row}
-use Rattle.typst_cli.proofs.RowLemmas.{Fits, behind_fits, below_fits, first_fits, indented, last_level, left_lines, left_more, left_passed, level_boundary, level_cut, level_two, next_level, steps_more, steps_passed}
+use Rattle.typst_cli.specs.declared.tree.Siblings.{Siblings}
+use Rattle.typst_cli.proofs.RowLemmas.{Fits, after_fits, below_fits, first_fits, indented, last_level, left_lines, left_more, left_passed, level_boundary, level_cut, level_two, next_level, steps_more, steps_passed}
 use Rattle.typst_cli.proofs.tree.print_node.Goals as goal
 use Rattle.typst_cli.proofs.tree.print_node.Goals.{In-Some}
 
@@ -44,7 +44,7 @@ loop-row-preserved-in_default-split_first c =
 
 pub overflow_add-end : goal.overflow_add-end
 overflow_add-end c =
-    omega (arith, c.len.ensures, first_fits c.in-Some.row c.in-Some-split_first.node.now c.in-Some-split_first.behind.now (fit (goal.at.overflow_add-end c).In-Some).1 c.in-Some-split_first.ensures.cases.0)
+    omega (arith, c.len.ensures, first_fits c.in-Some.row c.in-Some-split_first.node.now c.in-Some-split_first.after.now (fit (goal.at.overflow_add-end c).In-Some).1 c.in-Some-split_first.ensures.cases.0)
 
 pub range-requires-clause-end_boundary : goal.range-requires-clause-end_boundary
 range-requires-clause-end_boundary c =
@@ -53,9 +53,9 @@ range-requires-clause-end_boundary c =
 
 pub loop-row-smaller : goal.loop-row-smaller
 loop-row-smaller c =
-    let behind : Row = record { trees = c.in-Some-split_first.behind; start = c.in-Some.row.start + c.len.result } in
-    let below : Row = record { trees = c.children.result; start = c.in-Some.row.start } in
-    steps_more c.loop-row.rows.items c.pop.new.self.items c.push-in-Some-2.new.self.items c.in-Some.row behind below c.in-Some-split_first.node.now c.in-Some-split_first.behind.now
+    let after : Siblings = record { trees = c.in-Some-split_first.after; start = c.in-Some.row.start + c.len.result } in
+    let below : Siblings = record { trees = c.children.result; start = c.in-Some.row.start } in
+    steps_more c.loop-row.rows.items c.pop.new.self.items c.push-in-Some-2.new.self.items c.in-Some.row after below c.in-Some-split_first.node.now c.in-Some-split_first.after.now
     c.in-Some.ensures.items (c.in_ok-push-3.ensures.items ∙ ap (λ rs. rs ++ below ∷ []) c.in_ok-push-2.ensures.items)
     c.in-Some-split_first.ensures.cases.0 refl c.children.ensures
 
@@ -66,12 +66,12 @@ loop-row-preserved c =
     let trees = c.in-Some-split_first.ensures.cases.0 in
     let start : ℕ = c.in-Some.row.start in
     let end : ℕ = start + c.len.result in
-    let behind : Row = record { trees = c.in-Some-split_first.behind; start = end } in
-    let below : Row = record { trees = c.children.result; start = start } in
+    let after : Siblings = record { trees = c.in-Some-split_first.after; start = end } in
+    let below : Siblings = record { trees = c.children.result; start = start } in
     let fits : Fits c.in-Some.row = (fit at).1 in
-    let ends : end ≡ start + length (text_of node) = omega (arith, c.len.ensures, first_fits c.in-Some.row node behind.trees.now fits trees) in
-    let one : c.push-in-Some.new.self.items ≡ c.pop.new.self.items ++ behind ∷ [] = c.in_ok-push-2.ensures.items in
-    let grown : c.push-in-Some-2.new.self.items ≡ (c.pop.new.self.items ++ behind ∷ []) ++ below ∷ [] = c.in_ok-push-3.ensures.items ∙ ap (λ rs. rs ++ below ∷ []) one in
+    let ends : end ≡ start + length (text_of node) = omega (arith, c.len.ensures, first_fits c.in-Some.row node after.trees.now fits trees) in
+    let one : c.push-in-Some.new.self.items ≡ c.pop.new.self.items ++ after ∷ [] = c.in_ok-push-2.ensures.items in
+    let grown : c.push-in-Some-2.new.self.items ≡ (c.pop.new.self.items ++ after ∷ []) ++ below ∷ [] = c.in_ok-push-3.ensures.items ∙ ap (λ rs. rs ++ below ∷ []) one in
     let own : List ℕ = above at in
     let old : List ℕ = string_bytes c.loop-row.printed in
     let cut : take (c.len-width.result - 2) c.deref.result.now ≡ own =
@@ -81,7 +81,7 @@ loop-row-preserved c =
     c.in_ok-print_head.ensures
     ∙ ap (λ i. old ++ (own_line i start end node.head ++ remarks c.as_str.result.now node.head.diagnostics)) indent
     ∙ ap (λ d. old ++ (own_line own start end node.head ++ remarks d node.head.diagnostics)) (c.as_str.ensures.value ∙ level at) in
-    let left = left_more c.args.indent.now c.loop-row.rows.items c.pop.new.self.items c.push-in-Some-2.new.self.items c.in-Some.row behind below node behind.trees.now end
+    let left = left_more c.args.indent.now c.loop-row.rows.items c.pop.new.self.items c.push-in-Some-2.new.self.items c.in-Some.row after below node after.trees.now end
     c.in-Some.ensures.items grown trees refl refl c.children.ensures refl ends in
     record {
       written =
@@ -91,9 +91,9 @@ loop-row-preserved c =
       deeper =
           c.in_ok-push_str.ensures.bytes
           ∙ next_level c.args.indent.now (string_bytes c.loop-row.deeper) c.loop-row.rows.items c.push-in-Some-2.new.self.items c.loop-row.invariant.deeper
-          (omega (arith, ap length c.in-Some.ensures.items, length_push c.pop.new.self.items c.in-Some.row, ap length grown, length_push (c.pop.new.self.items ++ behind ∷ []) below, length_push c.pop.new.self.items behind));
+          (omega (arith, ap length c.in-Some.ensures.items, length_push c.pop.new.self.items c.in-Some.row, ap length grown, length_push (c.pop.new.self.items ++ after ∷ []) below, length_push c.pop.new.self.items after));
       fit =
           subst (All Fits) (sym grown)
-          (All-push Fits (c.pop.new.self.items ++ behind ∷ []) below (All-push Fits c.pop.new.self.items behind (fit at).0 (behind_fits c.in-Some.row node behind.trees.now fits trees behind refl ends))
-          (below_fits c.in-Some.row node behind.trees.now fits trees below c.children.ensures refl));
+          (All-push Fits (c.pop.new.self.items ++ after ∷ []) below (All-push Fits c.pop.new.self.items after (fit at).0 (after_fits c.in-Some.row node after.trees.now fits trees after refl ends))
+          (below_fits c.in-Some.row node after.trees.now fits trees below c.children.ensures refl));
     }

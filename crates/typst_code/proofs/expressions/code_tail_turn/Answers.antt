@@ -1,5 +1,5 @@
 use Rattle.std.proofs.Common.{sym, ap, ◌∙◌}
-use Rattle.typst_language.specs.Hand.{told}
+use Rattle.typst_language.specs.Hand.{as_at_hand}
 use Rattle.typst_language.proofs.Steps.{does-next, does-peek, does-gives}
 use Rattle.typst_code.specs.Expressions.{code_tail_turn, code_tail}
 use Rattle.typst_code.specs.declared.heads.CodeTail.TheVariants as tail
@@ -29,7 +29,7 @@ returns-in_ok-binary_expr-in-Binary-clause-means g c l h b = does-next (does-pee
 pub returns-in-Nothing-clause-means : goal.returns-in-Nothing-clause-means
 unfolding code_tail_turn
 returns-in-Nothing-clause-means g c l h b =
-    let nothing = ap (λ k. code_tail c.args.atomic c.args.least k (told c.args.p.now.hand).has_trivia) (sym c.current.ensures)
+    let nothing = ap (λ k. code_tail c.args.atomic c.args.least k (as_at_hand c.args.p.now.hand).has_trivia) (sym c.current.ensures)
     ∙ ap (code_tail c.args.atomic c.args.least c.current.result) (sym c.had_trivia.ensures)
     ∙ sym c.code_tail.ensures
     ∙ c.in-Nothing.is in

@@ -1,9 +1,9 @@
 use Rattle.std.proofs.Common.{◌∙◌, ap}
 use Rattle.typst_language.proofs.Steps.{does-next, does-gives, does-peek}
 use Rattle.typst_language.proofs.Values.{does-value}
-use Rattle.typst_code.specs.Parens.{as_group, behind_group}
+use Rattle.typst_code.specs.Parens.{as_group, after_group}
 use Rattle.typst_code.proofs.parens.as_group.Goals as goal
 
 pub returns : goal.returns
 unfolding as_group
-returns g c l h = does-next (c.in_ok-kind.ensures l h) (does-next (does-peek _) (does-value (c.behind_group.ensures ∙ ap (behind_group c.in_ok-kind.kind) c.current.ensures) does-gives))
+returns g c l h = does-next (c.in_ok-kind.ensures l h) (does-next (does-peek _) (does-value (c.after_group.ensures ∙ ap (after_group c.in_ok-kind.kind) c.current.ensures) does-gives))

@@ -16,7 +16,7 @@ pub returns-in_ok-params-in-Arrow : goal.returns-in_ok-params-in-Arrow
 returns-in_ok-params-in-Arrow g c l h b =
     let place = c.checkpoint-place.ensures in
     let began = c.begin_guess-aside.ensures in
-    let first = c.in_ok-behind.ensures l h in
+    let first = c.in_ok-after.ensures l h in
     let remembered = c.in_ok-remember-in-Arrow.ensures in
     does-value c.in-Arrow.is
     (does-chosen refl
@@ -31,7 +31,7 @@ pub returns-in_ok-destructuring-in-Eq : goal.returns-in_ok-destructuring-in-Eq
 returns-in_ok-destructuring-in-Eq g c l h b =
     let place = c.checkpoint-place.ensures in
     let began = c.begin_guess-aside.ensures in
-    let first = c.in_ok-behind.ensures l h in
+    let first = c.in_ok-after.ensures l h in
     let remembered = c.in_ok-remember-in-Eq.ensures in
     does-value c.in-Eq.is
     (does-either (place.saved ∙ ap saved began.begun) (ap is_eq c.in-Eq.is)
@@ -45,4 +45,4 @@ pub returns-in-Nothing : goal.returns-in-Nothing
 returns-in-Nothing g c l h b =
     let began = c.begin_guess-aside.ensures in
     does-chosen (ap is_eq c.in-Nothing.is)
-    (does-chosen (ap is_arrow c.in-Nothing.is) (does-aside began.begun began.aside c.checkpoint-place.ensures.saved (c.in_ok-behind.ensures l h) c.look_before.ensures))
+    (does-chosen (ap is_arrow c.in-Nothing.is) (does-aside began.begun began.aside c.checkpoint-place.ensures.saved (c.in_ok-after.ensures l h) c.look_before.ensures))

@@ -32,4 +32,4 @@ returns-in-Some-Eq-default g c l h b =
 pub returns : goal.returns
 unfolding readings
 returns g c l h b =
-    asks-yes (same kind.LeftParen) c.current.ensures refl (is-so c.ne.ensures c.if-ne.false) (does-dropped c.end_guess.ensures (c.in_ok-behind.ensures l h b))
+    asks-yes (same kind.LeftParen) c.current.ensures refl (is-so c.ne.ensures c.if-ne.false) (does-dropped c.end_guess.ensures (c.in_ok-after.ensures l h b))

@@ -15,8 +15,8 @@ returns-clause-back c = back-law
 pub returns-clause-inner_back : goal.returns-clause-inner_back
 returns-clause-inner_back c = inner-back-law
 
-pub returns-clause-behind_trivia : goal.returns-clause-behind_trivia
-returns-clause-behind_trivia c = leading-trivia-law
+pub returns-clause-after_trivia : goal.returns-clause-after_trivia
+returns-clause-after_trivia c = leading-trivia-law
 
-pub returns-clause-inner_behind_trivia : goal.returns-clause-inner_behind_trivia
-returns-clause-inner_behind_trivia c = inner-leading-trivia-law
+pub returns-clause-inner_after_trivia : goal.returns-clause-inner_after_trivia
+returns-clause-inner_after_trivia c = inner-leading-trivia-law

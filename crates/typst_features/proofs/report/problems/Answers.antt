@@ -1,5 +1,7 @@
-use Rattle.typst_features.proofs.VisitedProblems.{of_walk}
+use Rattle.std.proofs.Common.{◌∙◌}
+use Rattle.typst_tree.specs.Preorder.{walk}
+use Rattle.typst_features.proofs.VisitedProblems.{of_walk, of_diagnosed}
 use Rattle.typst_features.proofs.report.problems.Goals as goal
 
 pub loop-walk-init : goal.loop-walk-init
-loop-walk-init c = rw (c.new-found.ensures.items, c.preorder-walk.ensures.walk) (of_walk c.args.root.now)
+loop-walk-init c = rw (c.new-found.ensures.items, c.preorder-walk.ensures.walk) (of_diagnosed (walk 0 c.args.root.now) ∙ of_walk c.args.root.now)

@@ -1,12 +1,13 @@
 use Rattle.std.proofs.Common.{◌≡◌, ◌++◌, length}
 use Rattle.std.specs.List.{flat_map}
 use Rattle.std.specs.Prelude.{map}
+use Rattle.typst_tree.specs.Preorder.{diagnosed}
 use Rattle.typst_features.proofs.VisitedProblems.{own_of}
 use Rattle.typst_features.specs.Problems.{reported, node}
 use Rattle.typst_features.proofs.report.problems.Given as goal
 
 abbrev pub invariant-loop-walk : goal.invariant-loop-walk
-invariant-loop-walk l = map reported l.found.items ++ flat_map own_of l.walk ≡ node 0 l.root
+invariant-loop-walk l = map reported l.found.items ++ flat_map own_of (diagnosed l.walk) ≡ node 0 l.root
 
 abbrev pub decreases-loop-walk : goal.decreases-loop-walk
-decreases-loop-walk l = length l.walk
+decreases-loop-walk l = length (diagnosed l.walk)

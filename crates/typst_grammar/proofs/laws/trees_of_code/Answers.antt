@@ -20,7 +20,7 @@ use Rattle.typst_tokens.specs.Names.{label_or_text, ref_marker, ref_or_text}
 use Rattle.typst_tokens.specs.Labels.{label}
 use Rattle.typst_tokens.specs.Raw.{raw}
 use Rattle.typst_language.specs.Tokens.{backtick}
-use Rattle.typst_language.specs.RawLines.{later_rows, inline_leaves}
+use Rattle.typst_language.specs.RawLines.{later_lines, inline_leaves}
 use Rattle.typst_language.specs.Raw.{raw_node}
 use Rattle.typst_language.specs.Steps.{read_block}
 use Rattle.typst_code.specs.Markup.{content_block, direct_content, reference}
@@ -42,7 +42,7 @@ use Rattle.typst_code.specs.Statements.{field, show_rule, contextual}
 use Rattle.typst_code.specs.Expressions.{unary_expr, code_primary, binary_expr, not_in, direct_field, call_tail, code_tail_turn, code_expr}
 
 pub returns : goal.returns
-unfolding tree whole meaning_of note_piece markup_turn markup_exprs markup_run markup markup_is_empty delimited heading item term_item markup_expr deeper eat_making eat convert_and_eat eat_if close_if unexpected expected expect flush_trivia within node node_with_trivia note less repeated run ahead ahead_asks column_at hand_at hand_asks of_mode hash slash star token text_token markup_token heading_token sign text_from code_point backslash dot marker_or_text marker hyphen minus emphasis numbering line_ends whitespace shebang line_comment block_comment comment_end number_after encode link link_or_text label label_or_text ref_marker ref_or_text raw backtick later_rows inline_leaves raw_node read_block content_block direct_content reference grow nest growing nesting whole_code tree_code code_token single less_token with_equals dots code_dot equals bang keyword_or_name ident foreign invalid suffixed exponent_digits signed_digits exponent fraction decimal dotted in_base zero_first number_token string expects expect_identifier seeing embedded_end embedded_expr embedded string_key missing_break statement_end statement code_turn code_exprs code code_block spread pair separator code_item group_turn group_rest group named as_group readings parens argument argument_turn argument_list listed_arguments content_turn missing_arguments begin_arguments arguments field show_rule contextual unary_expr code_primary binary_expr not_in direct_field call_tail code_tail_turn code_expr
+unfolding tree whole meaning_of note_piece markup_turn markup_exprs markup_run markup markup_is_empty delimited heading item term_item markup_expr deeper eat_making eat convert_and_eat eat_if close_if unexpected expected expect flush_trivia within node node_with_trivia note less repeated run ahead ahead_asks column_at hand_at hand_asks of_mode hash slash star token text_token markup_token heading_token sign text_from code_point backslash dot marker_or_text marker hyphen minus emphasis numbering line_ends whitespace shebang line_comment block_comment comment_end number_after encode link link_or_text label label_or_text ref_marker ref_or_text raw backtick later_lines inline_leaves raw_node read_block content_block direct_content reference grow nest growing nesting whole_code tree_code code_token single less_token with_equals dots code_dot equals bang keyword_or_name ident foreign invalid suffixed exponent_digits signed_digits exponent fraction decimal dotted in_base zero_first number_token string expects expect_identifier seeing embedded_end embedded_expr embedded string_key missing_break statement_end statement code_turn code_exprs code code_block spread pair separator code_item group_turn group_rest group named as_group readings parens argument argument_turn argument_list listed_arguments content_turn missing_arguments begin_arguments arguments field show_rule contextual unary_expr code_primary binary_expr not_in direct_field call_tail code_tail_turn code_expr
 returns c = λ beyond. record {
   products = refl;
   sums = refl;

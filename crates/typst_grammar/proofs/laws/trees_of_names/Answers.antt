@@ -20,13 +20,13 @@ use Rattle.typst_tokens.specs.Names.{label_or_text, ref_marker, ref_or_text}
 use Rattle.typst_tokens.specs.Labels.{label}
 use Rattle.typst_tokens.specs.Raw.{raw}
 use Rattle.typst_language.specs.Tokens.{backtick}
-use Rattle.typst_language.specs.RawLines.{later_rows, inline_leaves}
+use Rattle.typst_language.specs.RawLines.{later_lines, inline_leaves}
 use Rattle.typst_language.specs.Raw.{raw_node}
 use Rattle.typst_language.specs.Steps.{read_block}
 use Rattle.typst_code.specs.Markup.{content_block, direct_content, reference}
 
 pub returns : goal.returns
-unfolding tree whole meaning_of note_piece markup_turn markup_exprs markup_run markup markup_is_empty delimited heading item term_item markup_expr deeper eat_making eat convert_and_eat eat_if close_if unexpected expected expect flush_trivia within node node_with_trivia note less repeated run ahead ahead_asks column_at hand_at hand_asks of_mode hash slash star token text_token markup_token heading_token sign text_from code_point backslash dot marker_or_text marker hyphen minus emphasis numbering line_ends whitespace shebang line_comment block_comment comment_end number_after encode link link_or_text label label_or_text ref_marker ref_or_text raw backtick later_rows inline_leaves raw_node read_block content_block direct_content reference
+unfolding tree whole meaning_of note_piece markup_turn markup_exprs markup_run markup markup_is_empty delimited heading item term_item markup_expr deeper eat_making eat convert_and_eat eat_if close_if unexpected expected expect flush_trivia within node node_with_trivia note less repeated run ahead ahead_asks column_at hand_at hand_asks of_mode hash slash star token text_token markup_token heading_token sign text_from code_point backslash dot marker_or_text marker hyphen minus emphasis numbering line_ends whitespace shebang line_comment block_comment comment_end number_after encode link link_or_text label label_or_text ref_marker ref_or_text raw backtick later_lines inline_leaves raw_node read_block content_block direct_content reference
 returns c = λ beyond. record {
   reference = refl;
   apart = refl;

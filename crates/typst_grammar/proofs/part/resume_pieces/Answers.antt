@@ -2,15 +2,15 @@ use Rattle.std.proofs.Common.{refl}
 use Rattle.typst_language.specs.Calls.Call.{MarkupExpr, CodeExpr, MathExpr, Pattern}
 use Rattle.typst_language.proofs.Steps.{does-look}
 use Rattle.typst_lines.specs.Place.{place_at}
-use Rattle.typst_grammar.specs.Told.{told_at}
+use Rattle.typst_grammar.specs.Guessing.{guessing_at}
 use Rattle.typst_grammar.proofs.AtLevels.{calls-at, fills-level}
-use Rattle.typst_grammar.proofs.Pieces.{starts, fills-in, told_in}
+use Rattle.typst_grammar.proofs.Pieces.{starts, fills-in, guessing_in}
 use Rattle.typst_grammar.proofs.part.resume_pieces.Goals as goal
 
 pub returns : goal.returns
 returns g c =
     let k = g.C.Classes.classes c.args.classes.now in
     let n = c.args.levels in
-    let l = told_in k n c.args.kind in
-    let look = does-look (c.in_ok-look.ensures l (fills-in k n c.args.kind (fills-level k n refl refl (λ old new x y r q. calls-at (told_at k n) (MarkupExpr x y) r q.2 q.3 q.4) (λ old new x y r q. calls-at (told_at k n) (CodeExpr x y) r q.2 q.3 q.4) (λ old new x y r q. calls-at (told_at k n) (MathExpr x y) r q.2 q.3 q.4.1) (λ old new x y r q. calls-at (told_at k n) (Pattern x y) r q.2 q.3 q.4.2)))) in
-    starts k n c.args.kind c.args.carried (place_at c.args.text.now c.args.at) _ _ _ c.requires.some c.resume-parser.ensures look (c.in_ok-end.ensures l) refl refl refl
+    let l = guessing_in k n c.args.kind in
+    let look = does-look (c.in_ok-look.ensures l (fills-in k n c.args.kind (fills-level k n refl refl (λ old new x y r q. calls-at (guessing_at k n) (MarkupExpr x y) r q.2 q.3 q.4) (λ old new x y r q. calls-at (guessing_at k n) (CodeExpr x y) r q.2 q.3 q.4) (λ old new x y r q. calls-at (guessing_at k n) (MathExpr x y) r q.2 q.3 q.4.1) (λ old new x y r q. calls-at (guessing_at k n) (Pattern x y) r q.2 q.3 q.4.2)))) in
+    starts k n c.args.kind c.args.carried (place_at c.args.text.now c.args.at) _ _ c.requires.some c.resume-parser.ensures look c.token_start-end.ensures refl refl refl

@@ -16,7 +16,7 @@ pub returns : goal.returns
 unfolding eat_making eat convert_and_eat eat_if close_if unexpected expected expect flush_trivia within node node_with_trivia note less repeated run ahead ahead_asks column_at hand_at hand_asks of_mode hash slash star token text_token markup_token heading_token sign text_from code_point backslash dot marker_or_text marker hyphen minus emphasis numbering line_ends whitespace shebang line_comment block_comment comment_end number_after encode grow nest growing nesting
 returns c = λ beyond. record {
   grows_left = refl;
-  grows_behind_trivia = refl;
+  grows_after_trivia = refl;
   nests_right = refl;
   hints_back = refl;
   hints_nothing = refl;

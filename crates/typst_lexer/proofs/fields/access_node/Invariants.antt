@@ -3,11 +3,11 @@ use Rattle.std.specs.Str.{chars}
 use Rattle.typst_lines.specs.Place.{passes, scout}
 use Rattle.typst_lines.specs.Scanner.{place}
 use Rattle.typst_lexer.specs.Fields.{access_node, fields_node}
-use Rattle.typst_lexer.proofs.Accesses.{names_behind, no_dot}
+use Rattle.typst_lexer.proofs.Accesses.{names_after, no_dot}
 use Rattle.typst_lexer.proofs.fields.access_node.Given as goal
 
 abbrev pub invariant-fields : goal.invariant-fields
-invariant-fields l = (access_node (chars l.text) ≡ fields_node l.node (names_behind (place l.s))) × (passes no_dot (scout 0 (place l.s)) ≡ false)
+invariant-fields l = (access_node (chars l.text) ≡ fields_node l.node (names_after (place l.s))) × (passes no_dot (scout 0 (place l.s)) ≡ false)
 
 abbrev pub decreases-fields : goal.decreases-fields
 decreases-fields l = length (place l.s).ahead

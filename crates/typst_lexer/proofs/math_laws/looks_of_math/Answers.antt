@@ -3,14 +3,14 @@ use Rattle.typst_tokens.specs.Strings.{string}
 use Rattle.typst_lexer.specs.ArgumentTokens.{before_colon, named_argument, before_spread, spread_argument}
 use Rattle.typst_lexer.specs.Atoms.{cluster, number, text}
 use Rattle.typst_lexer.specs.Math.{primes, atom, by_class, single, math_from, math}
-use Rattle.typst_lexer.specs.MathNames.{behind_name, named, name}
+use Rattle.typst_lexer.specs.MathNames.{after_name, named, name}
 use Rattle.typst_lexer.specs.Shorthands.{hyphen, tilde, colon, equals, greater, less_short, less_middle, less, bar, bracket, bang, dot, several}
 use Rattle.typst_tokens.specs.Common.{sign}
 use Rattle.typst_tokens.specs.Escapes.{backslash}
 use Rattle.typst_lexer.proofs.math_laws.looks_of_math.Goals as goal
 
 pub returns : goal.returns
-unfolding string before_colon named_argument before_spread spread_argument cluster number text primes atom by_class single math_from math behind_name named name hyphen tilde colon equals greater less_short less_middle less bar bracket bang dot several sign backslash
+unfolding string before_colon named_argument before_spread spread_argument cluster number text primes atom by_class single math_from math after_name named name hyphen tilde colon equals greater less_short less_middle less bar bracket bang dot several sign backslash
 returns c = λ beyond. record {
   letter = record { look = refl; token = refl; taken = refl };
   sign = record { look = refl; token = refl; taken = refl };

@@ -1,7 +1,7 @@
 use Rattle.std.proofs.Common.{take, sym, ap, ◌∙◌}
 use Rattle.std.specs.Str.{chars}
 use Rattle.typst_lines.specs.Place.{Place, moved, passes}
-use Rattle.typst_lexer.proofs.OwnNames.{size, behind-is, text-stays, own-is, own-some, own-inside, name-cluster, name-ident}
+use Rattle.typst_lexer.proofs.OwnNames.{size, after-is, text-stays, own-is, own-some, own-inside, name-cluster, name-ident}
 use Rattle.typst_lexer.specs.MathNames.{continues}
 use Rattle.typst_tokens.specs.Sight.{Sight, text_of, went}
 use Rattle.typst_lexer.proofs.math_names.name.Goals as goal
@@ -10,14 +10,14 @@ pub since-own-requires-clause-text : goal.since-own-requires-clause-text
 since-own-requires-clause-text g c =
     let k = g.C.Classes.classes c.args.classes.now in
     let v = c.args.s.now in
-    let b = behind-is k v c.eat.new.self c.eat_while.new.self (c.eat.ensures.sight ∙ ap (went 1) c.second.ensures.sight) c.eat_while.ensures.sight in
+    let b = after-is k v c.eat.new.self c.eat_while.new.self (c.eat.ensures.sight ∙ ap (went 1) c.second.ensures.sight) c.eat_while.ensures.sight in
     c.ahead.ensures.text ∙ text-stays (size k v.place) v.place c.eat_while.new.self.place b ∙ sym (c.ahead-start.ensures.text ∙ ap (λ (x : Sight). text_of x.place) c.second.ensures.sight)
 
 pub since-own-requires-clause-after : goal.since-own-requires-clause-after
 since-own-requires-clause-after g c =
     let k = g.C.Classes.classes c.args.classes.now in
     let v = c.args.s.now in
-    let b = behind-is k v c.eat.new.self c.eat_while.new.self (c.eat.ensures.sight ∙ ap (went 1) c.second.ensures.sight) c.eat_while.ensures.sight in
+    let b = after-is k v c.eat.new.self c.eat_while.new.self (c.eat.ensures.sight ∙ ap (went 1) c.second.ensures.sight) c.eat_while.ensures.sight in
     let start = c.ahead-start.ensures.place ∙ ap (λ (x : Sight). x.place) c.second.ensures.sight in
     (size k v.place, c.ahead.ensures.place ∙ b ∙ ap (moved (size k v.place)) (sym start))
 
@@ -25,7 +25,7 @@ pub is_cluster-requires-clause-some : goal.is_cluster-requires-clause-some
 is_cluster-requires-clause-some g c =
     let k = g.C.Classes.classes c.args.classes.now in
     let v = c.args.s.now in
-    let b = behind-is k v c.eat.new.self c.eat_while.new.self (c.eat.ensures.sight ∙ ap (went 1) c.second.ensures.sight) c.eat_while.ensures.sight in
+    let b = after-is k v c.eat.new.self c.eat_while.new.self (c.eat.ensures.sight ∙ ap (went 1) c.second.ensures.sight) c.eat_while.ensures.sight in
     let start = c.ahead-start.ensures.place ∙ ap (λ (x : Sight). x.place) c.second.ensures.sight in
     let m = c.ahead.ensures.place ∙ b ∙ ap (moved (size k v.place)) (sym start) in
     let own = c.since-own.ensures (size k v.place) m ∙ ap (λ (z : Place). take (size k v.place) z.ahead) start in
@@ -35,7 +35,7 @@ pub is_cluster-requires-clause-inside : goal.is_cluster-requires-clause-inside
 is_cluster-requires-clause-inside g c =
     let k = g.C.Classes.classes c.args.classes.now in
     let v = c.args.s.now in
-    let b = behind-is k v c.eat.new.self c.eat_while.new.self (c.eat.ensures.sight ∙ ap (went 1) c.second.ensures.sight) c.eat_while.ensures.sight in
+    let b = after-is k v c.eat.new.self c.eat_while.new.self (c.eat.ensures.sight ∙ ap (went 1) c.second.ensures.sight) c.eat_while.ensures.sight in
     let start = c.ahead-start.ensures.place ∙ ap (λ (x : Sight). x.place) c.second.ensures.sight in
     let m = c.ahead.ensures.place ∙ b ∙ ap (moved (size k v.place)) (sym start) in
     let own = c.since-own.ensures (size k v.place) m ∙ ap (λ (z : Place). take (size k v.place) z.ahead) start in
@@ -46,7 +46,7 @@ returns-then-is_cluster g c =
     let k = g.C.Classes.classes c.args.classes.now in
     let v = c.args.s.now in
     let first = c.eat.ensures.sight ∙ ap (went 1) c.second.ensures.sight in
-    let b = behind-is k v c.eat.new.self c.eat_while.new.self first c.eat_while.ensures.sight in
+    let b = after-is k v c.eat.new.self c.eat_while.new.self first c.eat_while.ensures.sight in
     let start = c.ahead-start.ensures.place ∙ ap (λ (x : Sight). x.place) c.second.ensures.sight in
     let m = c.ahead.ensures.place ∙ b ∙ ap (moved (size k v.place)) (sym start) in
     let own = c.since-own.ensures (size k v.place) m ∙ ap (λ (z : Place). take (size k v.place) z.ahead) start in
@@ -59,10 +59,10 @@ returns g c =
     let k = g.C.Classes.classes c.args.classes.now in
     let v = c.args.s.now in
     let first = c.eat.ensures.sight ∙ ap (went 1) c.second.ensures.sight in
-    let b = behind-is k v c.eat.new.self c.eat_while.new.self first c.eat_while.ensures.sight in
+    let b = after-is k v c.eat.new.self c.eat_while.new.self first c.eat_while.ensures.sight in
     let start = c.ahead-start.ensures.place ∙ ap (λ (x : Sight). x.place) c.second.ensures.sight in
     let m = c.ahead.ensures.place ∙ b ∙ ap (moved (size k v.place)) (sym start) in
     let own = c.since-own.ensures (size k v.place) m ∙ ap (λ (z : Place). take (size k v.place) z.ahead) start in
-    name-ident k c.args.c v c.eat.new.self c.eat_while.new.self c.behind_name.new.s (chars c.since-own.result.now) c.is_cluster.result c.behind_name.result
+    name-ident k c.args.c v c.eat.new.self c.eat_while.new.self c.after_name.new.s (chars c.since-own.result.now) c.is_cluster.result c.after_name.result
     (ap (passes (continues k)) (sym c.second.ensures.second) ∙ sym c.continues_name.ensures ∙ c.if-not-continues_name.false) first c.eat_while.ensures.sight
-    (own-is k c.args.c v.place (chars c.since-own.result.now) c.requires.next own) c.is_cluster.ensures c.if-is_cluster.false c.behind_name.ensures
+    (own-is k c.args.c v.place (chars c.since-own.result.now) c.requires.next own) c.is_cluster.ensures c.if-is_cluster.false c.after_name.ensures

@@ -1,7 +1,7 @@
 use Rattle.std.proofs.Common.{refl, sym, ap, ◌∙◌, min}
 use Rattle.std.specs.Str.{chars}
 use Rattle.typst_lines.specs.Scanner.{place}
-use Rattle.typst_lexer.specs.RawLines.{least_indent, later_rows}
+use Rattle.typst_lexer.specs.RawLines.{least_indent, later_lines}
 use Rattle.typst_lexer.proofs.Moves.{later-first, past-end, line-shorter, nothing-left}
 use Rattle.typst_lexer.proofs.Loops.{least-step}
 use Rattle.typst_lexer.proofs.Rows.{later-none}
@@ -11,7 +11,7 @@ pub loop-s-init : goal.loop-s-init
 loop-s-init c = record {
   least =
       ap (least_indent c.indent-least.result) (later-first c.args.text.now (place c.new-s.result) (place c.eat_while.new.self) c.new-s.ensures.place c.eat_while.ensures.moved)
-      ∙ ap (λ n. least_indent n (later_rows (chars c.args.text.now))) c.indent-least.ensures;
+      ∙ ap (λ n. least_indent n (later_lines (chars c.args.text.now))) c.indent-least.ensures;
   at_end = past-end (place c.new-s.result) (place c.eat_while.new.self) c.eat_while.ensures.moved;
 }
 
@@ -46,4 +46,4 @@ loop-s-preserved c =
 pub returns : goal.returns
 returns c =
     let none = nothing-left (place c.loop-s.s).ahead c.loop-s.invariant.at_end (sym c.loop-s-test.ensures.taken) in
-    sym (ap (least_indent c.loop-s.least) (ap later_rows none ∙ later-none)) ∙ c.loop-s.invariant.least
+    sym (ap (least_indent c.loop-s.least) (ap later_lines none ∙ later-none)) ∙ c.loop-s.invariant.least

@@ -1,5 +1,5 @@
 use Rattle.std.proofs.Common.{refl}
-use Rattle.typst_language.specs.Shape.Change.{unparened}
+use Rattle.typst_language.specs.Shape.NodeChange.{unparened}
 use Rattle.typst_language.specs.Shape.Shape.{keeps}
 use Rattle.typst_language.proofs.Steps.{does-node}
 use Rattle.typst_markup.specs.Attachments.{operand}

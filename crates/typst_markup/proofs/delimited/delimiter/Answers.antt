@@ -1,4 +1,4 @@
-use Rattle.typst_language.specs.Shape.Change.{renamed}
+use Rattle.typst_language.specs.Shape.NodeChange.{renamed}
 use Rattle.typst_language.specs.Shape.Shape.{keeps}
 use Rattle.typst_language.proofs.Steps.{does-next, does-gives, does-node}
 use Rattle.typst_markup.specs.Delimited.{delimiter}

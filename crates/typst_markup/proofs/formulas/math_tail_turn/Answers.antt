@@ -1,5 +1,5 @@
 use Rattle.std.proofs.Common.{sym, ap, ◌∙◌}
-use Rattle.typst_language.specs.Hand.{told}
+use Rattle.typst_language.specs.Hand.{as_at_hand}
 use Rattle.typst_language.proofs.Steps.{does-next, does-peek, does-gives}
 use Rattle.typst_markup.specs.MathExpressions.{math_tail_turn, math_tail}
 use Rattle.typst_markup.specs.declared.math_heads.MathTail.TheVariants as tail
@@ -33,7 +33,7 @@ returns-in_ok-convert_and_eat-in-Factorial g c l h = does-next (does-peek _) (at
 pub returns-in-Nothing : goal.returns-in-Nothing
 unfolding math_tail_turn
 returns-in-Nothing g c l h =
-    let nothing = ap (λ k. math_tail c.args.callee c.args.least c.args.stops k (told c.args.p.now.hand).has_trivia) (sym c.current.ensures)
+    let nothing = ap (λ k. math_tail c.args.callee c.args.least c.args.stops k (as_at_hand c.args.p.now.hand).has_trivia) (sym c.current.ensures)
     ∙ ap (math_tail c.args.callee c.args.least c.args.stops c.current.result) (sym c.had_trivia.ensures)
     ∙ sym c.math_tail.ensures
     ∙ c.in-Nothing.is in

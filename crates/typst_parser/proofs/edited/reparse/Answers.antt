@@ -1,7 +1,7 @@
 use Rattle.std.proofs.Common.{◌≡◌, ap, sym, subst, ◌∙◌}
 use Rattle.std.specs.Prelude.{OnErr}
 use Rattle.typst_candidates.specs.Records.{Kept}
-use Rattle.typst_parser.specs.Change.{Holds}
+use Rattle.typst_parser.specs.TextReplacement.{Holds}
 use Rattle.typst_parser.proofs.Answering.{places-fit}
 use Rattle.typst_parser.proofs.edited.reparse.Goals as goal
 

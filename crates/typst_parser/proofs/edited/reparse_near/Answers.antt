@@ -1,10 +1,10 @@
 use Rattle.std.proofs.Common.{◌≡◌, ℕ, ◌+◌, ◌<◌, ◌≤◌, ◌^◌, List, length, min, take, Option, None, Some, Ok, refl, sym, ap, ◌∙◌, subst, arith}
 use Rattle.std.specs.Prelude.{map}
 use Rattle.typst_tree.specs.Tree.{Tree}
-use Rattle.typst_candidates.specs.Rows.{spelled}
+use Rattle.typst_candidates.specs.Edges.{spelled}
 use Rattle.typst_edits.specs.Answer.{Refused}
 use Rattle.typst_edits.specs.Every.{Every}
-use Rattle.typst_parser.specs.Change.{candidates}
+use Rattle.typst_parser.specs.TextReplacement.{candidates}
 use Rattle.typst_parser.specs.Reparse.{NonePasses, NonePassesOf, TakesFirst}
 use Rattle.typst_parser.specs.declared.attempt.Asked.{Asked}
 use Rattle.typst_parser.proofs.Answering.{each-fewer, edit-order, holds-still, none-of, none-still, places-fit, root-fits, speaks-still, taken-before}

@@ -6,7 +6,7 @@ use Rattle.typst_candidates.specs.declared.candidate.Candidate as code
 use Rattle.typst_edits.specs.Answer.{Refused}
 use Rattle.typst_edits.specs.Every.{Every}
 use Rattle.typst_parser.specs.Attempt.{at_path}
-use Rattle.typst_parser.specs.Change.{Change, candidates}
+use Rattle.typst_parser.specs.TextReplacement.{TextReplacement, candidates}
 use Rattle.typst_parser.specs.Reparse.{NonePassesOf, TakesPlace}
 use Rattle.typst_parser.specs.Steps.{ServesOr}
 use Rattle.typst_parser.proofs.Answering.{each-fewer, each-next, takes-it}

@@ -1,6 +1,6 @@
 use Rattle.std.proofs.Common.{◌≡◌, ◌+◌}
 use Rattle.typst_parser.specs.Attempt.{Speaks}
-use Rattle.typst_parser.specs.Change.{Change}
+use Rattle.typst_parser.specs.TextReplacement.{TextReplacement}
 use Rattle.typst_parser.specs.Reparse.{AreFirst, NonePassesOf}
 use Rattle.typst_parser.proofs.Serving.{ServesAt}
 use Rattle.typst_parser.proofs.edited.take_first.Given as goal
@@ -9,8 +9,8 @@ abbrev pub invariant-loop-candidate : goal.invariant-loop-candidate
 invariant-loop-candidate g l = record {
   same : l.root ≡ l.fn.root;
   units : l.records.units ≡ l.fn.records.units;
-  refused : (c : Change) → Speaks (g.C.Classes.classes l.asked.classes.now) c l.asked l.fn.root l.fn.records.units → AreFirst (g.C.Classes.classes l.asked.classes.now) c l.fn.root l.found
+  refused : (c : TextReplacement) → Speaks (g.C.Classes.classes l.asked.classes.now) c l.asked l.fn.root l.fn.records.units → AreFirst (g.C.Classes.classes l.asked.classes.now) c l.fn.root l.found
       → NonePassesOf (g.C.Classes.classes l.asked.classes.now) c l.fn.root l.from → NonePassesOf (g.C.Classes.classes l.asked.classes.now) c l.fn.root (l.from + l.candidate-index);
-  serves : (c : Change) → Speaks (g.C.Classes.classes l.asked.classes.now) c l.asked l.fn.root l.fn.records.units → AreFirst (g.C.Classes.classes l.asked.classes.now) c l.fn.root l.found
+  serves : (c : TextReplacement) → Speaks (g.C.Classes.classes l.asked.classes.now) c l.asked l.fn.root l.fn.records.units → AreFirst (g.C.Classes.classes l.asked.classes.now) c l.fn.root l.found
       → ServesAt (g.C.Classes.classes l.asked.classes.now) c l.fn.root l.steps.items l.serving;
 }

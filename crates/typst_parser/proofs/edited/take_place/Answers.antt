@@ -52,7 +52,7 @@ returns-then-branch-clause-taken g c = λ ch speaks chosen serves.
     let all = c.in_ok-part.ensures ch speaks chosen serves in
     let p = c.in-Some.part in
     let is = subst (Decides k ch root d) c.in-Some.is all.0 in
-    let puts = subst (Puts c.args.path.now p.first c.args.candidate.to p root c.put.new.root units c.put.new.records.units) c.if-branch.true c.in_ok-put.ensures.puts in
+    let puts = subst (Puts c.args.path.now p.first_child c.args.candidate.to p root c.put.new.root units c.put.new.records.units) c.if-branch.true c.in_ok-put.ensures.puts in
     (part-taken k ch root units speaks.holds d chosen p c.put.new.root c.put.new.records.units is puts.0 puts.1, all.1)
 
 pub returns-clause-taken : goal.returns-clause-taken
@@ -64,5 +64,5 @@ returns-clause-taken g c = λ ch speaks chosen serves.
     let all = c.in_ok-part.ensures ch speaks chosen serves in
     let p = c.in-Some.part in
     let is = subst (Decides k ch root d) c.in-Some.is all.0 in
-    let puts = subst (Puts c.args.path.now p.first c.args.candidate.to p root c.put.new.root units c.put.new.records.units) c.if-branch.false c.in_ok-put.ensures.puts in
+    let puts = subst (Puts c.args.path.now p.first_child c.args.candidate.to p root c.put.new.root units c.put.new.records.units) c.if-branch.false c.in_ok-put.ensures.puts in
     (full-refused k ch root units speaks.holds d chosen p is puts.0, all.1)

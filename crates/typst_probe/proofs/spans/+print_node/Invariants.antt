@@ -1,11 +1,11 @@
 use Rattle.std.proofs.Common.{◌-◌}
 use Rattle.typst_tree.specs.Tree.{nodes}
 use Rattle.typst_tree.specs.Linked.{linked, left}
-use Rattle.typst_probe.proofs.Below.{AllBehind}
+use Rattle.typst_probe.proofs.Below.{AllAfter}
 use Rattle.typst_probe.proofs.spans.+print_node.Given as goal
 
 abbrev pub decreases-print_node : goal.decreases-print_node
 decreases-print_node l = nodes (linked l.node).root - (linked l.node).number
 
 abbrev pub invariant-loop-child : goal.invariant-loop-child
-invariant-loop-child l = AllBehind (linked l.fn.node) (left l.child-iterator)
+invariant-loop-child l = AllAfter (linked l.fn.node) (left l.child-iterator)

@@ -3,14 +3,14 @@ use Rattle.typst_tree.specs.Tree.{nodes}
 use Rattle.typst_tree.specs.Linked.{linked, left}
 use Rattle.typst_tree.specs.Steps.{node_of}
 use Rattle.typst_tree.proofs.Inside.{inside}
-use Rattle.typst_probe.proofs.Below.{AllBehind, behind_from, split}
+use Rattle.typst_probe.proofs.Below.{AllAfter, after_from, split}
 use Rattle.typst_probe.proofs.tags.+print_tags.Goals as goal
 
 pub loop-child-init : goal.loop-child-init
 loop-child-init t c =
     let a = linked c.args.node in
-    let here = behind_from a (a.number + 1) (node_of a).kids (omega arith) in
-    subst (λ i. AllBehind a (left i)) (sym c.into_iter-child-iterator.ensures.into_iter_gives) (subst (AllBehind a) (sym c.children-child-items.ensures) here)
+    let here = after_from a (a.number + 1) (node_of a).kids (omega arith) in
+    subst (λ i. AllAfter a (left i)) (sym c.into_iter-child-iterator.ensures.into_iter_gives) (subst (AllAfter a) (sym c.children-child-items.ensures) here)
 
 pub loop-child-preserved : goal.loop-child-preserved
 loop-child-preserved t c =

@@ -1,6 +1,6 @@
 use Rattle.std.proofs.Common.{◌≡◌, ◌+◌, ◌<◌, ◌^◌, take, drop, length}
 use Rattle.typst_tree.specs.Order.{IsWholeForest}
-use Rattle.typst_tree.specs.Tree.{forest, joined, count, saturated}
+use Rattle.typst_tree.specs.Tree.{forest, joined, count, saturated, have_diagnostics}
 use Rattle.typst_tree.proofs.replace.totals.Given as goal
 
 abbrev pub invariant-loop-kid : goal.invariant-loop-kid
@@ -9,5 +9,6 @@ invariant-loop-kid l = record {
   many : saturated (l.nodes + count (forest (drop l.kid-index l.kids))) ≡ saturated (count (forest l.kids));
   small_len : l.len < 2 ^ 64;
   small_count : l.nodes < 2 ^ 64;
+  marked : l.is_marked ≡ have_diagnostics (forest (take l.kid-index l.kids));
   whole : IsWholeForest (forest (take l.kid-index l.kids));
 }

@@ -1,6 +1,6 @@
 use Rattle.std.proofs.Common.{◌≡◌, ◌-◌, drop, ap, subst, arith}
 use Rattle.typst_candidates.specs.Anchors.{IsAnchor}
-use Rattle.typst_candidates.specs.Cursors.{Place}
+use Rattle.typst_candidates.specs.Cursors.{EntryPlace}
 use Rattle.typst_candidates.specs.Entries.{front_of}
 use Rattle.typst_candidates.specs.Records.{Kept}
 use Rattle.typst_candidates.proofs.Anchors.{front-from}
@@ -14,7 +14,7 @@ returns-then-reach-at-clause-count c =
     let h = subst (λ (k : Kept). IsAnchor k.units.entries a) c.self.view_is c.self.invariant.1 in
     let le = c.if-reach-at.true in
     let order = h.order in
-    let is = ap (λ (p : Place). p.number) c.walk_at.ensures in
+    let is = ap (λ (p : EntryPlace). p.number) c.word_cursor_at.ensures in
     let same = ap (λ n. front_of at (at - (at - a.start)) (drop n es)) is in
     let near : at - (at - a.start) ≡ a.start = omega (arith, le, order) in
     let back = ap (λ s. front_of at s (drop a.number es)) near in

@@ -16,5 +16,5 @@ begun c =
 pub returns-clause-anchor : goal.returns-clause-anchor
 returns-clause-anchor c = (begun c).anchor
 
-pub returns-clause-behind : goal.returns-clause-behind
-returns-clause-behind c = (begun c).behind
+pub returns-clause-after : goal.returns-clause-after
+returns-clause-after c = (begun c).after

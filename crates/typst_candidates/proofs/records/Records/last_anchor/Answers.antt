@@ -1,5 +1,5 @@
 use Rattle.std.proofs.Common.{◌-◌, ◌≤◌, ◌<◌, length, ap, sym, arith}
-use Rattle.typst_candidates.specs.Cursors.{Place}
+use Rattle.typst_candidates.specs.Cursors.{EntryPlace}
 use Rattle.typst_candidates.proofs.Anchors.{PassedOn, anchor-on, at-anchor, passed-on}
 use Rattle.typst_candidates.proofs.records.Records.last_anchor.Goals as goal
 use Rattle.typst_candidates.proofs.records.Records.last_anchor.Goals.{After-max-reach}
@@ -20,15 +20,15 @@ on c =
 less : (c : After-max-reach) → length c.args.self.now.units.entries - c.next.new.self.number < length c.args.self.now.units.entries - c.loop-entry.place.number
 less c =
     let within = (on c).within in
-    let number = ap (λ (p : Place). p.number) c.in-Some.ensures.place in
+    let number = ap (λ (p : EntryPlace). p.number) c.in-Some.ensures.place in
     omega (arith, within, number)
 
 pub loop-entry-preserved-then-start-window-2 : goal.loop-entry-preserved-then-start-window-2
 loop-entry-preserved-then-start-window-2 c =
     let reached = on (goal.at.loop-entry-preserved-then-start-window-2 c).After-max-reach in
-    let behind = reached.passed.behind in
+    let after = reached.passed.after in
     let number = c.number.ensures in
-    let order : c.args.from.number ≤ c.number.result = omega (arith, behind, number) in
+    let order : c.args.from.number ≤ c.number.result = omega (arith, after, number) in
     let is = ap (λ n. record { number = n; start = c.start-start.result; reach = c.max-reach.result; first = c.args.from.first; outer = c.args.from.outer }) number in
     record {
       passed = reached.passed;

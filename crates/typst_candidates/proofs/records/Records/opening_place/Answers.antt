@@ -1,6 +1,6 @@
 use Rattle.std.proofs.Common.{◌-◌, drop, ap, subst, ◌∙◌, arith}
 use Rattle.typst_candidates.specs.Anchors.{IsAnchor}
-use Rattle.typst_candidates.specs.Cursors.{Place}
+use Rattle.typst_candidates.specs.Cursors.{EntryPlace}
 use Rattle.typst_candidates.specs.Records.{Kept, opening_of}
 use Rattle.typst_candidates.proofs.Anchors.{opening-around, opening-from}
 use Rattle.typst_candidates.proofs.records.Records.opening_place.Goals as goal
@@ -12,7 +12,7 @@ returns-then-start-at-clause-later c =
     let a = c.self.inside.anchor in
     let h = subst (λ (k : Kept). IsAnchor k.units.entries a) c.self.view_is c.self.invariant.1 in
     let lt = c.if-start-at.true in
-    let is = ap (λ (p : Place). p.number) c.walk_at.ensures in
+    let is = ap (λ (p : EntryPlace). p.number) c.word_cursor_at.ensures in
     ap (λ n. opening_of at (at - (at - a.start)) n (drop n es)) is
     ∙ ap (λ s. opening_of at s a.number (drop a.number es)) (omega (arith, lt)) ∙ opening-from es a at h lt
 
@@ -24,6 +24,6 @@ returns-then-outer-at-clause-later c =
     let h = subst (λ (k : Kept). IsAnchor k.units.entries a) c.self.view_is c.self.invariant.1 in
     let lt = c.if-outer-at.true in
     let n = c.saturating_sub.result in
-    let is = ap (λ (p : Place). p.number) c.walk_at-then-outer-at.ensures in
+    let is = ap (λ (p : EntryPlace). p.number) c.word_cursor_at-then-outer-at.ensures in
     ap (λ m. opening_of at (at - (at - a.outer)) m (drop m es)) is
     ∙ ap (λ s. opening_of at s n (drop n es)) (omega (arith, lt)) ∙ opening-around es a at n h (omega (arith, c.saturating_sub.ensures)) lt

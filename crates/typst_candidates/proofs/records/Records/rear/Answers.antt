@@ -1,7 +1,7 @@
 use Rattle.std.proofs.Common.{◌≡◌, ℕ, ◌+◌, ◌≤◌, ◌^◌, length, take, drop, true, false, Some, ap, sym, subst, ◌∙◌, arith}
 use Rattle.std.specs.List.{slice_get}
-use Rattle.typst_candidates.specs.Cursors.{AreNear, Place, start_at}
-use Rattle.typst_candidates.specs.Entries.{end_of, is_behind, rear_of}
+use Rattle.typst_candidates.specs.Cursors.{AreNear, EntryPlace, start_at}
+use Rattle.typst_candidates.specs.Entries.{end_of, is_after, rear_of}
 use Rattle.typst_candidates.proofs.Blocks.{rear-block}
 use Rattle.typst_candidates.proofs.Passes.{rear-none, rear-step, rear-stop}
 use Rattle.typst_candidates.proofs.records.Records.rear.Goals as goal
@@ -15,15 +15,15 @@ entries-preserved-in-Some c =
     let inv = c.entries.invariant in
     let passed = c.in-Some.ensures in
     let is = passed.passes.new_is in
-    let behind : is_behind at (start_at p) c.entries.back ≡ true = ap (λ (s : ℕ). is_behind at s c.entries.back) (sym c.start.ensures) ∙ sym c.is_behind.ensures ∙ c.entries-test.true in
-    let same : q.entries ≡ es = sym (ap (λ (r : Place). r.entries) is) ∙ inv.entries in
-    let number : p.number ≡ q.number + 16 = ap (λ (r : Place). r.number) is in
+    let after : is_after at (start_at p) c.entries.back ≡ true = ap (λ (s : ℕ). is_after at s c.entries.back) (sym c.start.ensures) ∙ sym c.is_after.ensures ∙ c.entries-test.true in
+    let same : q.entries ≡ es = sym (ap (λ (r : EntryPlace). r.entries) is) ∙ inv.entries in
+    let number : p.number ≡ q.number + 16 = ap (λ (r : EntryPlace). r.number) is in
     let fits = passed.passes.within in
     let long = ap length same in
-    let test : is_behind at (end_of 0 (take (q.number + 16) es)) c.entries.back ≡ true =
-    ap (λ us. is_behind at (end_of 0 (take (q.number + 16) us)) c.entries.back) (sym inv.entries) ∙ ap (λ n. is_behind at (end_of 0 (take n p.entries)) c.entries.back) (sym number) ∙ behind in
+    let test : is_after at (end_of 0 (take (q.number + 16) es)) c.entries.back ≡ true =
+    ap (λ us. is_after at (end_of 0 (take (q.number + 16) us)) c.entries.back) (sym inv.entries) ∙ ap (λ n. is_after at (end_of 0 (take n p.entries)) c.entries.back) (sym number) ∙ after in
     let over = rear-block es at c.entries.back q.number passed.first (subst (λ us. slice_get us q.number ≡ Some passed.first) same passed.first_is) test (subst (λ us. AreNear (take 16 (drop q.number us))) same passed.passes.near)
-    (subst (λ us. at + 2 ^ 4 ≤ end_of 0 (take q.number us)) same passed.behind) in
+    (subst (λ us. at + 2 ^ 4 ≤ end_of 0 (take q.number us)) same passed.after) in
     record {
       entries = same;
       within = omega (arith, fits, long);
@@ -36,9 +36,9 @@ returns-in_default-back c =
     let inv = c.entries.invariant in
     let q = c.pass_far_back.new.self in
     let same = c.in_default.ensures in
-    let number = ap (λ (r : Place). r.number) same in
+    let number = ap (λ (r : EntryPlace). r.number) same in
     let within = inv.within in
-    rear-none es c.args.at c.entries.back q (ap (λ (r : Place). r.entries) same ∙ inv.entries) (omega (arith, number, within)) c.in_default-back.ensures.entry ∙ ap (λ n. rear_of c.args.at 0 0 (take n es) c.entries.back) number ∙ inv.later
+    rear-none es c.args.at c.entries.back q (ap (λ (r : EntryPlace). r.entries) same ∙ inv.entries) (omega (arith, number, within)) c.in_default-back.ensures.entry ∙ ap (λ n. rear_of c.args.at 0 0 (take n es) c.entries.back) number ∙ inv.later
 
 pub entries-preserved : goal.entries-preserved
 entries-preserved c =
@@ -48,15 +48,15 @@ entries-preserved c =
     let q = c.pass_far_back.new.self in
     let inv = c.entries.invariant in
     let same = c.in_default.ensures in
-    let number = ap (λ (r : Place). r.number) same in
+    let number = ap (λ (r : EntryPlace). r.number) same in
     let within = inv.within in
-    let behind : is_behind at (start_at p) c.entries.back ≡ true = ap (λ (s : ℕ). is_behind at s c.entries.back) (sym c.start.ensures) ∙ sym c.is_behind.ensures ∙ c.entries-test.true in
-    let s = rear-step es at c.entries.back q c.back.new.self c.in-Some-back.entry (ap (λ (r : Place). r.entries) same ∙ inv.entries) (omega (arith, number, within)) c.in-Some-back.ensures.entry c.in-Some-back.ensures.place
-    (ap (λ (r : Place). is_behind at (start_at r) c.entries.back) same ∙ behind) in
+    let after : is_after at (start_at p) c.entries.back ≡ true = ap (λ (s : ℕ). is_after at s c.entries.back) (sym c.start.ensures) ∙ sym c.is_after.ensures ∙ c.entries-test.true in
+    let s = rear-step es at c.entries.back q c.back.new.self c.in-Some-back.entry (ap (λ (r : EntryPlace). r.entries) same ∙ inv.entries) (omega (arith, number, within)) c.in-Some-back.ensures.entry c.in-Some-back.ensures.place
+    (ap (λ (r : EntryPlace). is_after at (start_at r) c.entries.back) same ∙ after) in
     record { entries = s.entries; within = s.within; later = s.counts ∙ ap (λ n. rear_of at 0 0 (take n es) c.entries.back) number ∙ inv.later }
 
 pub returns : goal.returns
 returns c =
     let p = c.entries.place in
-    let before : is_behind c.args.at (start_at p) c.entries.back ≡ false = ap (λ (s : ℕ). is_behind c.args.at s c.entries.back) (sym c.start.ensures) ∙ sym c.is_behind.ensures ∙ c.entries-test.false in
+    let before : is_after c.args.at (start_at p) c.entries.back ≡ false = ap (λ (s : ℕ). is_after c.args.at s c.entries.back) (sym c.start.ensures) ∙ sym c.is_after.ensures ∙ c.entries-test.false in
     c.number.ensures ∙ rear-stop c.args.self.now.units.entries c.args.at c.entries.back p c.entries.invariant.entries c.entries.invariant.within before ∙ c.entries.invariant.later

@@ -6,12 +6,12 @@ use Rattle.typst_check.proofs.sarif.objects.write_result.Goals as goal
 
 pub returns-clause-tokens : goal.returns-clause-tokens
 returns-clause-tokens c =
-    let told = c.in_ok-told.told in
+    let finding = c.in_ok-finding.finding in
     let hints = map value_view c.in_ok-hints.hints.now in
     on_ok c.write_object.result _ _
     (λ w. record {
-      result = result_item c.args.uri.now w.0 told hints;
-      is = record { told = told; read = c.in_ok-told.ensures; hints = hints; listed = c.in_ok-hints.ensures; rule = w.0; is = refl };
+      result = result_item c.args.uri.now w.0 finding hints;
+      is = record { finding = finding; read = c.in_ok-finding.ensures; hints = hints; listed = c.in_ok-hints.ensures; rule = w.0; is = refl };
       appended = w.1;
     })
     c.write_object.ensures.tokens

@@ -3,6 +3,6 @@ use Rattle.typst_cli.proofs.page.Page.next_cut.Given as goal
 
 abbrev pub invariant-loop-finding : goal.invariant-loop-finding
 invariant-loop-finding l = record {
-  behind : l.at < l.cut;
+  after : l.at < l.cut;
   within : l.cut ≤ l.end;
 }

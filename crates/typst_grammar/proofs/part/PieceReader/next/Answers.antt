@@ -4,33 +4,32 @@ use Rattle.typst_code.specs.Markup.{markup_turn}
 use Rattle.typst_grammar.specs.Pieces.{stops_of}
 use Rattle.typst_grammar.specs.declared.part.RunKind.{RunKind}
 use Rattle.typst_language.specs.View.{Does}
-use Rattle.typst_grammar.specs.Told.{told_at}
+use Rattle.typst_grammar.specs.Guessing.{guessing_at}
 use Rattle.typst_grammar.proofs.AtLevels.{calls-at, fills-level}
-use Rattle.typst_grammar.proofs.Pieces.{reads-on, reads-none, shorter, fills-at, told_in}
+use Rattle.typst_grammar.proofs.Pieces.{reads-on, reads-none, shorter, fills-at, guessing_in}
 use Rattle.typst_grammar.proofs.part.PieceReader.next.Goals as goal
 
 pub returns-then-not-more-clause-read : goal.returns-then-not-more-clause-read
 returns-then-not-more-clause-read g c = λ levels which x z m h. (
     let k = g.C.Classes.classes c.args.classes.now in
-    let l = told_in k levels which in
-    let did = rw c.if-not-more.true at c.in_ok-more.ensures l (fills-at k c.args.self.now.levels levels which h.levels_are (fills-level k c.args.self.now.levels refl refl (λ old new x y r q. calls-at (told_at k c.args.self.now.levels) (MarkupExpr x y) r q.2 q.3 q.4) (λ old new x y r q. calls-at (told_at k c.args.self.now.levels) (CodeExpr x y) r q.2 q.3 q.4) (λ old new x y r q. calls-at (told_at k c.args.self.now.levels) (MathExpr x y) r q.2 q.3 q.4.1) (λ old new x y r q. calls-at (told_at k c.args.self.now.levels) (Pattern x y) r q.2 q.3 q.4.2))) in
+    let l = guessing_in k levels which in
+    let did = rw c.if-not-more.true at c.in_ok-more.ensures l (fills-at k c.args.self.now.levels levels which h.levels_are (fills-level k c.args.self.now.levels refl refl (λ old new x y r q. calls-at (guessing_at k c.args.self.now.levels) (MarkupExpr x y) r q.2 q.3 q.4) (λ old new x y r q. calls-at (guessing_at k c.args.self.now.levels) (CodeExpr x y) r q.2 q.3 q.4) (λ old new x y r q. calls-at (guessing_at k c.args.self.now.levels) (MathExpr x y) r q.2 q.3 q.4.1) (λ old new x y r q. calls-at (guessing_at k c.args.self.now.levels) (Pattern x y) r q.2 q.3 q.4.2))) in
     reads-none k levels which x z m c.args.self.now _ c.in_ok-more.carried h
     (subst (λ (s : RunKind). Does l (markup_turn true (stops_of s) c.args.self.now.carried) (false, c.in_ok-more.carried) c.args.self.now.parser c.read_piece.new.p) h.kind_is did) refl refl refl refl)
 
 pub returns-clause-read : goal.returns-clause-read
 returns-clause-read g c = λ levels which x z m h. (
     let k = g.C.Classes.classes c.args.classes.now in
-    let l = told_in k levels which in
-    let did = rw c.if-not-more.false at c.in_ok-more.ensures l (fills-at k c.args.self.now.levels levels which h.levels_are (fills-level k c.args.self.now.levels refl refl (λ old new x y r q. calls-at (told_at k c.args.self.now.levels) (MarkupExpr x y) r q.2 q.3 q.4) (λ old new x y r q. calls-at (told_at k c.args.self.now.levels) (CodeExpr x y) r q.2 q.3 q.4) (λ old new x y r q. calls-at (told_at k c.args.self.now.levels) (MathExpr x y) r q.2 q.3 q.4.1) (λ old new x y r q. calls-at (told_at k c.args.self.now.levels) (Pattern x y) r q.2 q.3 q.4.2))) in
-    reads-on k levels which x z m c.args.self.now _ c.in_ok-more.carried c.read_piece.new.p h
+    let l = guessing_in k levels which in
+    let did = rw c.if-not-more.false at c.in_ok-more.ensures l (fills-at k c.args.self.now.levels levels which h.levels_are (fills-level k c.args.self.now.levels refl refl (λ old new x y r q. calls-at (guessing_at k c.args.self.now.levels) (MarkupExpr x y) r q.2 q.3 q.4) (λ old new x y r q. calls-at (guessing_at k c.args.self.now.levels) (CodeExpr x y) r q.2 q.3 q.4) (λ old new x y r q. calls-at (guessing_at k c.args.self.now.levels) (MathExpr x y) r q.2 q.3 q.4.1) (λ old new x y r q. calls-at (guessing_at k c.args.self.now.levels) (Pattern x y) r q.2 q.3 q.4.2))) in
+    reads-on k levels which x z m c.args.self.now _ c.in_ok-more.carried h
     (subst (λ (s : RunKind). Does l (markup_turn true (stops_of s) c.args.self.now.carried) (true, c.in_ok-more.carried) c.args.self.now.parser c.read_piece.new.p) h.kind_is did)
-    (c.in_ok-self.ensures l) h.levels_are h.kind_is refl)
+    c.token_start-self.ensures h.levels_are h.kind_is refl)
 
 pub returns-clause-shorter : goal.returns-clause-shorter
 returns-clause-shorter g c = λ levels which x z m h says. (
     let k = g.C.Classes.classes c.args.classes.now in
-    let l = told_in k levels which in
-    let did = rw c.if-not-more.false at c.in_ok-more.ensures l (fills-at k c.args.self.now.levels levels which h.levels_are (fills-level k c.args.self.now.levels refl refl (λ old new x y r q. calls-at (told_at k c.args.self.now.levels) (MarkupExpr x y) r q.2 q.3 q.4) (λ old new x y r q. calls-at (told_at k c.args.self.now.levels) (CodeExpr x y) r q.2 q.3 q.4) (λ old new x y r q. calls-at (told_at k c.args.self.now.levels) (MathExpr x y) r q.2 q.3 q.4.1) (λ old new x y r q. calls-at (told_at k c.args.self.now.levels) (Pattern x y) r q.2 q.3 q.4.2))) in
-    shorter k levels which x z m c.args.self.now (record { parser = c.token_start.new.p; carried = c.in_ok-more.carried; levels = c.args.self.now.levels; kind = c.args.self.now.kind; end = c.in_ok-self.field-0 }) c.in_ok-more.carried c.read_piece.new.p h
-    (subst (λ (s : RunKind). Does l (markup_turn true (stops_of s) c.args.self.now.carried) (true, c.in_ok-more.carried) c.args.self.now.parser c.read_piece.new.p) h.kind_is did)
-    (c.in_ok-self.ensures l))
+    let l = guessing_in k levels which in
+    let did = rw c.if-not-more.false at c.in_ok-more.ensures l (fills-at k c.args.self.now.levels levels which h.levels_are (fills-level k c.args.self.now.levels refl refl (λ old new x y r q. calls-at (guessing_at k c.args.self.now.levels) (MarkupExpr x y) r q.2 q.3 q.4) (λ old new x y r q. calls-at (guessing_at k c.args.self.now.levels) (CodeExpr x y) r q.2 q.3 q.4) (λ old new x y r q. calls-at (guessing_at k c.args.self.now.levels) (MathExpr x y) r q.2 q.3 q.4.1) (λ old new x y r q. calls-at (guessing_at k c.args.self.now.levels) (Pattern x y) r q.2 q.3 q.4.2))) in
+    shorter k levels which x z m c.args.self.now c.in_ok-more.carried c.read_piece.new.p h
+    (subst (λ (s : RunKind). Does l (markup_turn true (stops_of s) c.args.self.now.carried) (true, c.in_ok-more.carried) c.args.self.now.parser c.read_piece.new.p) h.kind_is did))

@@ -3,8 +3,8 @@ use Rattle.std.specs.Prelude.{slice_get}
 use Rattle.std.proofs.lemmas.Option.{slice_get-get_or}
 use Rattle.typst_lexer.specs.Nodes.{is_leaf}
 use Rattle.typst_language.specs.Bytes.{bytes_left}
-use Rattle.typst_language.proofs.Knowing.{found-is, place-behind}
-use Rattle.typst_language.specs.View.{View, behind_paren}
+use Rattle.typst_language.proofs.Knowing.{found-is, place-after}
+use Rattle.typst_language.specs.View.{View, place_after_paren}
 use Rattle.typst_language.proofs.parser.Parser.guessed.Goals as goal
 
 pub entries-init : goal.entries-init
@@ -18,7 +18,7 @@ returns-then-is_this g c l n f =
     let found = rw c.deref.ensures.value at c.in-Some.ensures.lookup in
     let get : slice_get i.memo.items c.entries.at ≡ Some c.in-Some.entry.now = slice_get-get_or i.memo.items c.entries.at c.in-Some.entry.now found.3.0 ∙ ap Some (sym found.1) in
     found-is {l = l} {v = c.args.self.now} c.in-Some.entry.now c.entries.at _ _ f (ap (λ (v : View). slice_get v.memo c.entries.at) (sym c.self.view_is) ∙ get) c.if-entry-left.false
-    (c.left-left.ensures ∙ ap bytes_left (place-behind i.ahead c.self.invariant.stands) ∙ ap (λ (v : View). bytes_left (behind_paren v)) c.self.view_is)
+    (c.left-left.ensures ∙ ap bytes_left (place-after i.ahead c.self.invariant.stands) ∙ ap (λ (v : View). bytes_left (place_after_paren v)) c.self.view_is)
     leaf
     (n ∙ sym c.levels.ensures) this.levels this.outer this.paren
 

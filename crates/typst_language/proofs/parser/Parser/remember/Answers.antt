@@ -2,7 +2,7 @@ use Rattle.std.proofs.Common.{List, ◌∙◌, refl, ap, sym}
 use Rattle.typst_language.specs.Bytes.{bytes_left}
 use Rattle.typst_language.specs.Cursor.{view_of}
 use Rattle.typst_language.specs.declared.memo.Guessed.{Guessed}
-use Rattle.typst_language.proofs.Knowing.{place-behind, remembers-more, remembers-same}
+use Rattle.typst_language.proofs.Knowing.{place-after, remembers-more, remembers-same}
 use Rattle.typst_language.proofs.parser.Parser.remember.Goals as goal
 
 pub returns-then-self-lt2 : goal.returns-then-self-lt2
@@ -14,4 +14,4 @@ returns g c =
     rw (sym c.self.view_is)
     (remembers-more {v = view_of i} _ _ _ c.first_at-at.result (ap (λ (es : List Guessed). record (view_of i) { memo = es }) c.in_ok-insert.ensures.items)
     (sym c.is_leaf.ensures ∙ c.if-not-is_leaf.false)
-    (c.left.ensures ∙ ap bytes_left (place-behind i.ahead c.self.invariant.stands)) c.levels.ensures refl refl refl c.hull.ensures)
+    (c.left.ensures ∙ ap bytes_left (place-after i.ahead c.self.invariant.stands)) c.levels.ensures refl refl refl c.hull.ensures)

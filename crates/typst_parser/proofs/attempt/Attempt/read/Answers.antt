@@ -2,9 +2,9 @@ use Rattle.std.proofs.Common.{◌≡◌, ◌-◌, ◌<◌, ◌^◌, true, false,
 use Rattle.std.specs.Prelude.{IfOk, Option}
 use Rattle.typst_edits.specs.Edit.{Among}
 use Rattle.typst_parser.specs.Attempt.{Decides, at_path}
-use Rattle.typst_parser.specs.Change.{candidates}
+use Rattle.typst_parser.specs.TextReplacement.{candidates}
 use Rattle.typst_parser.specs.Steps.{CanServe, ServesFor, ServesOr}
-use Rattle.typst_parser.specs.declared.attempt.Part.{Part}
+use Rattle.typst_parser.specs.declared.attempt.ReparsedPart.{ReparsedPart}
 use Rattle.typst_parser.proofs.ReadSteps.{above-fits, above-leads, above-never, above-reads}
 use Rattle.typst_parser.proofs.RunSteps.{if-ok}
 use Rattle.typst_parser.proofs.Serving.{for-or}
@@ -20,7 +20,7 @@ returns-then-candidate g c = λ ch ready chosen serves.
     let path = c.args.path.now in
     let d = c.args.candidate in
     if-ok c.read_block.result (Decides k ch root (at_path path d)) (λ o. Decides k ch root (at_path path d) o × ServesOr k ch root path d.depth c.args.serving.now)
-    (λ (o : Option Part) w. (w, for-or k ch root path d c.args.serving.now serves)) (c.read_block.ensures path ch ready chosen)
+    (λ (o : Option ReparsedPart) w. (w, for-or k ch root path d c.args.serving.now serves)) (c.read_block.ensures path ch ready chosen)
 
 pub read_top-requires-clause-tries : goal.read_top-requires-clause-tries
 read_top-requires-clause-tries g c =

@@ -3,7 +3,7 @@ use Rattle.std.specs.Prelude.{Option}
 use Rattle.typst_lines.specs.Place.{place_at}
 use Rattle.typst_parser.specs.Attempt.{Decides, at_path}
 use Rattle.typst_parser.specs.Steps.{HasBlock, ServesOr, Settles}
-use Rattle.typst_parser.specs.declared.attempt.Part.{Part}
+use Rattle.typst_parser.specs.declared.attempt.ReparsedPart.{ReparsedPart}
 use Rattle.typst_parser.proofs.Answering.{places-fit}
 use Rattle.typst_parser.proofs.ReadSteps.{inner-reads}
 use Rattle.typst_parser.proofs.RunSteps.{block-decides, if-ok, inner-boundary, inner-bounds, new-few, passing-few, passing-more, passing-part, passing-start, says-inner}
@@ -29,7 +29,7 @@ has_both-requires g c =
     let run = c.args.run in
     let h = inner-reads k c.args.self.now ch path c.args.candidate run c.args.serving.now c.requires.2 in
     let found = subst (Settles k ch root path c.args.candidate run h.found) c.in-Some.is (c.in_ok-passing.ensures ch path h).0 in
-    from-within k ch (at_path path c.args.candidate) run.kind run.levels run.first h.found c.in-Some.passing.bounds.from found.from
+    from-within k ch (at_path path c.args.candidate) run.kind run.levels run.first_entry h.found c.in-Some.passing.bounds.from found.from
 
 pub part_of_pieces-requires-clause-start : goal.part_of_pieces-requires-clause-start
 part_of_pieces-requires-clause-start g c =
@@ -106,5 +106,5 @@ returns g c = λ ch path inner.
     let all = c.in_ok-passing.ensures ch path h in
     let found = subst (Settles k ch root path c.args.candidate run h.found) c.in-Some.is all.0 in
     let i = inner.found in
-    if-ok c.with_block.result (HasBlock k (place_at asked.new.now run.at) run.at i.levels i.mode (run.first - 1) i.to p.first.from p.pieces) (λ o. Decides k ch root (at_path path c.args.candidate) o × ServesOr k ch root path c.args.candidate.depth c.passing.new.serving)
-    (λ (o : Option Part) w. (block-decides k ch asked root units inner.ready path c.args.candidate i run inner.is h.found p found o w, all.1)) (c.with_block.ensures i.to i.levels i.mode (says-inner k ch asked root units inner.ready path c.args.candidate i run inner.is))
+    if-ok c.with_block.result (HasBlock k (place_at asked.new.now run.at) run.at i.levels i.mode (run.first_entry - 1) i.to p.first_candidate.from p.pieces) (λ o. Decides k ch root (at_path path c.args.candidate) o × ServesOr k ch root path c.args.candidate.depth c.passing.new.serving)
+    (λ (o : Option ReparsedPart) w. (block-decides k ch asked root units inner.ready path c.args.candidate i run inner.is h.found p found o w, all.1)) (c.with_block.ensures i.to i.levels i.mode (says-inner k ch asked root units inner.ready path c.args.candidate i run inner.is))

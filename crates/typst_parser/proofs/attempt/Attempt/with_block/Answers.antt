@@ -10,7 +10,7 @@ use Rattle.typst_parser.proofs.attempt.Attempt.with_block.Goals as goal
 
 pub returns-in_default : goal.returns-in_default
 returns-in_default g c = λ to levels mode says.
-    let e = says-closes c.args.self.now.records.now.units.entries c.args.run.first to levels block.Content mode c.requires.first.0 says in
+    let e = says-closes c.args.self.now.records.now.units.entries c.args.run.first_entry to levels block.Content mode c.requires.first.0 says in
     let n = c.in_default.ensures in
     absurd (cc)
 
@@ -41,7 +41,7 @@ returns g c = λ to levels mode says.
       first_is = refl;
       end = refl;
       from_is = refl;
-      to_is = same_Some c.in-Some.to to (c.in-Some.ensures ∙ says-closes c.args.self.now.records.now.units.entries c.args.run.first to levels block.Content mode c.requires.first.0 says);
+      to_is = same_Some c.in-Some.to_entry to (c.in-Some.ensures ∙ says-closes c.args.self.now.records.now.units.entries c.args.run.first_entry to levels block.Content mode c.requires.first.0 says);
       read = c.in-Some-2.read;
       is_read = subst (IsReadBlock k levels block.Content mode z) c.in-Some-2.is (c.in_ok-read.ensures to levels block.Content mode says);
       entries = c.in_ok-entries.ensures;

@@ -3,7 +3,7 @@ use Rattle.typst_parser.specs.Answers.{change_of}
 use Rattle.typst_parser.specs.Headline.{edited}
 use Rattle.typst_parser.specs.Held.{Held}
 use Rattle.typst_parser.specs.Records.{ReadsWhole}
-use Rattle.typst_parser.specs.Tried.{Decides, Tries}
+use Rattle.typst_parser.specs.Tried.{AnswersEdit, Tries}
 use Rattle.typst_parser.proofs.Changed.{edited-by}
 use Rattle.typst_parser.proofs.Reparsed.{answers-whole}
 use Rattle.typst_parser.proofs.source.Source.edit.Goals as goal
@@ -14,7 +14,7 @@ returns-in-Some-clause-answer g c =
     let old = c.args.self.now in
     let now = c.read_part.new.self in
     let text = edited old.text c.args.replace c.args.with.now in
-    let read = subst (Decides k old now text (change_of old.text c.args.replace c.args.with.now)) c.in-Some.is c.in_ok-range.ensures.decided in
+    let read = subst (AnswersEdit k old now text (change_of old.text c.args.replace c.args.with.now)) c.in-Some.is c.in_ok-range.ensures.decided in
     let has = read.0 in
     record { recorded = λ _. read.1; unrecorded = λ none. absurd (cc) }
 
@@ -31,7 +31,7 @@ returns-clause-answer g c =
     let range = c.in_ok-read_whole.field-0 in
     let n = length text - (length was - r.end) in
     let h = edited-by old.text old.text was text with r (length was - r.end) (length text) n refl c.text-text.ensures c.text-text.utf8 c.utf8.with c.requires.start c.requires.end c.requires.ordered refl refl refl refl in
-    let none = subst (Decides k old mid text (change_of old.text r with)) c.in_default.is c.in_ok-range.ensures.decided in
+    let none = subst (AnswersEdit k old mid text (change_of old.text r with)) c.in_default.is c.in_ok-range.ensures.decided in
     let same = subst (Tries k old mid text) c.in_default.is c.in_ok-range.ensures.tried in
     let read = subst (λ (s : Held g.row.C.Denot). ReadsWhole (g.C.Classes.classes s.classes) s now (edited s.text r with) range) same c.in_ok-read_whole.ensures.whole in
     answers-whole k old now with r n text h refl range (c.in_ok-read_whole.ensures.edits.text_is ∙ ap (λ (s : Held g.row.C.Denot). edited s.text r with) same) read none

@@ -1,6 +1,6 @@
 use Rattle.std.proofs.Common.{◌≡◌, ◌∙◌, ◌-◌, ◌<◌, ◌^◌, ◌++◌, List, ℕ, true, take, drop, length, None, Some, Ok, ap, sym, subst, refl, arith}
 use Rattle.std.specs.Str.{IsCharBoundary}
-use Rattle.typst_parser.specs.Change.{candidates}
+use Rattle.typst_parser.specs.TextReplacement.{candidates}
 use Rattle.typst_edits.specs.Answer.{IsAnswer}
 use Rattle.typst_parser.specs.Reparse.{NonePasses}
 use Rattle.typst_parser.specs.Answers.{change_of}
@@ -20,8 +20,8 @@ reparse-requires g c =
     let at : i.lines ≡ c.args.self.now.text = ap (λ (s : Held g.row.C.Denot). s.text) c.self.view_is in
     let old : Held g.row.C.Denot = record { id = i.id; text = i.lines; root = i.root; classes = i.classes; has_records = i.has_records } in
     let now : Held g.row.C.Denot = record { id = i.id; text = c.in-Ok.edited.after; root = i.root; classes = i.classes; has_records = i.has_records } in
-    let h = edited-by i.lines i.lines c.text.result.now c.in-Ok.edited.after c.args.with.now r c.saturating_sub-behind.result (length c.text-text.result.now) c.saturating_sub.result refl (c.text.ensures ∙ sym at) c.text.utf8 c.utf8.with
-    (subst (λ t. IsCharBoundary t r.start) (sym at) c.requires.start) (subst (λ t. IsCharBoundary t r.end) (sym at) c.requires.end) c.requires.ordered (c.in-Ok.ensures.after) c.saturating_sub-behind.ensures (ap length (c.text-text.ensures)) c.saturating_sub.ensures in
+    let h = edited-by i.lines i.lines c.text.result.now c.in-Ok.edited.after c.args.with.now r c.saturating_sub-after.result (length c.text-text.result.now) c.saturating_sub.result refl (c.text.ensures ∙ sym at) c.text.utf8 c.utf8.with
+    (subst (λ t. IsCharBoundary t r.start) (sym at) c.requires.start) (subst (λ t. IsCharBoundary t r.end) (sym at) c.requires.end) c.requires.ordered (c.in-Ok.ensures.after) c.saturating_sub-after.ensures (ap length (c.text-text.ensures)) c.saturating_sub.ensures in
     let had = c.self.invariant c.if-not-self.false in
     let fits : length now.text < 2 ^ 64 - 1 = omega (arith, c.if-text.false, ap length (c.text-text.ensures)) in
     (change_by h, (makes-text k old now (record { start = r.start; old_end = r.end; new_end = c.saturating_sub.result }) h i.records.units had c.text-text.result.now c.text-text.ensures fits, holds k old now (record { start = r.start; old_end = r.end; new_end = c.saturating_sub.result }) h i.records.units had))
@@ -34,8 +34,8 @@ invariant_of-self-in-Ok-Some g c = λ has. (
     let at : i.lines ≡ c.args.self.now.text = ap (λ (s : Held g.row.C.Denot). s.text) c.self.view_is in
     let old : Held g.row.C.Denot = record { id = i.id; text = i.lines; root = i.root; classes = i.classes; has_records = i.has_records } in
     let now : Held g.row.C.Denot = record { id = i.id; text = c.keep.result; root = c.reparse.new.root; classes = i.classes; has_records = i.has_records } in
-    let h = edited-by i.lines i.lines c.text.result.now c.keep.result c.args.with.now r c.saturating_sub-behind.result (length c.text-text.result.now) c.saturating_sub.result refl (c.text.ensures ∙ sym at) c.text.utf8 c.utf8.with
-    (subst (λ t. IsCharBoundary t r.start) (sym at) c.requires.start) (subst (λ t. IsCharBoundary t r.end) (sym at) c.requires.end) c.requires.ordered (c.keep.ensures ∙ c.in-Ok.ensures.after) c.saturating_sub-behind.ensures (ap length (c.text-text.ensures ∙ sym c.keep.ensures)) c.saturating_sub.ensures in
+    let h = edited-by i.lines i.lines c.text.result.now c.keep.result c.args.with.now r c.saturating_sub-after.result (length c.text-text.result.now) c.saturating_sub.result refl (c.text.ensures ∙ sym at) c.text.utf8 c.utf8.with
+    (subst (λ t. IsCharBoundary t r.start) (sym at) c.requires.start) (subst (λ t. IsCharBoundary t r.end) (sym at) c.requires.end) c.requires.ordered (c.keep.ensures ∙ c.in-Ok.ensures.after) c.saturating_sub-after.ensures (ap length (c.text-text.ensures ∙ sym c.keep.ensures)) c.saturating_sub.ensures in
     let had = c.self.invariant c.if-not-self.false in
     let fits : length now.text < 2 ^ 64 - 1 = omega (arith, c.if-text.false, ap length (c.text-text.ensures ∙ sym c.keep.ensures)) in
     records-again k old now (record { start = r.start; old_end = r.end; new_end = c.saturating_sub.result }) h i.records.units had c.text-text.result.now (c.text-text.ensures ∙ sym c.keep.ensures) fits c.reparse.new.records.units c.in-Ok-Some.range c.in-Ok-Some.field-0 c.in-Ok-Some.field-0-is c.in-Ok-Some.ensures.part c.in-Ok-Some.ensures.ordered)
@@ -48,8 +48,8 @@ returns-in-Ok-Some-clause-tried g c =
     let at : i.lines ≡ c.args.self.now.text = ap (λ (s : Held g.row.C.Denot). s.text) c.self.view_is in
     let old : Held g.row.C.Denot = record { id = i.id; text = i.lines; root = i.root; classes = i.classes; has_records = i.has_records } in
     let now : Held g.row.C.Denot = record { id = i.id; text = c.keep.result; root = c.reparse.new.root; classes = i.classes; has_records = i.has_records } in
-    let h = edited-by i.lines i.lines c.text.result.now c.keep.result c.args.with.now r c.saturating_sub-behind.result (length c.text-text.result.now) c.saturating_sub.result refl (c.text.ensures ∙ sym at) c.text.utf8 c.utf8.with
-    (subst (λ t. IsCharBoundary t r.start) (sym at) c.requires.start) (subst (λ t. IsCharBoundary t r.end) (sym at) c.requires.end) c.requires.ordered (c.keep.ensures ∙ c.in-Ok.ensures.after) c.saturating_sub-behind.ensures (ap length (c.text-text.ensures ∙ sym c.keep.ensures)) c.saturating_sub.ensures in
+    let h = edited-by i.lines i.lines c.text.result.now c.keep.result c.args.with.now r c.saturating_sub-after.result (length c.text-text.result.now) c.saturating_sub.result refl (c.text.ensures ∙ sym at) c.text.utf8 c.utf8.with
+    (subst (λ t. IsCharBoundary t r.start) (sym at) c.requires.start) (subst (λ t. IsCharBoundary t r.end) (sym at) c.requires.end) c.requires.ordered (c.keep.ensures ∙ c.in-Ok.ensures.after) c.saturating_sub-after.ensures (ap length (c.text-text.ensures ∙ sym c.keep.ensures)) c.saturating_sub.ensures in
     let had = c.self.invariant c.if-not-self.false in
     let fits : length now.text < 2 ^ 64 - 1 = omega (arith, c.if-text.false, ap length (c.text-text.ensures ∙ sym c.keep.ensures)) in
     let text : now.text ≡ edited i.lines r c.args.with.now = c.keep.ensures ∙ c.in-Ok.ensures.after in
@@ -64,8 +64,8 @@ returns-in-Ok-Some-clause-decided g c =
     let at : i.lines ≡ c.args.self.now.text = ap (λ (s : Held g.row.C.Denot). s.text) c.self.view_is in
     let old : Held g.row.C.Denot = record { id = i.id; text = i.lines; root = i.root; classes = i.classes; has_records = i.has_records } in
     let now : Held g.row.C.Denot = record { id = i.id; text = c.keep.result; root = c.reparse.new.root; classes = i.classes; has_records = i.has_records } in
-    let h = edited-by i.lines i.lines c.text.result.now c.keep.result c.args.with.now r c.saturating_sub-behind.result (length c.text-text.result.now) c.saturating_sub.result refl (c.text.ensures ∙ sym at) c.text.utf8 c.utf8.with
-    (subst (λ t. IsCharBoundary t r.start) (sym at) c.requires.start) (subst (λ t. IsCharBoundary t r.end) (sym at) c.requires.end) c.requires.ordered (c.keep.ensures ∙ c.in-Ok.ensures.after) c.saturating_sub-behind.ensures (ap length (c.text-text.ensures ∙ sym c.keep.ensures)) c.saturating_sub.ensures in
+    let h = edited-by i.lines i.lines c.text.result.now c.keep.result c.args.with.now r c.saturating_sub-after.result (length c.text-text.result.now) c.saturating_sub.result refl (c.text.ensures ∙ sym at) c.text.utf8 c.utf8.with
+    (subst (λ t. IsCharBoundary t r.start) (sym at) c.requires.start) (subst (λ t. IsCharBoundary t r.end) (sym at) c.requires.end) c.requires.ordered (c.keep.ensures ∙ c.in-Ok.ensures.after) c.saturating_sub-after.ensures (ap length (c.text-text.ensures ∙ sym c.keep.ensures)) c.saturating_sub.ensures in
     let had = c.self.invariant c.if-not-self.false in
     let fits : length now.text < 2 ^ 64 - 1 = omega (arith, c.if-text.false, ap length (c.text-text.ensures ∙ sym c.keep.ensures)) in
     let answer = answer-again k old now (record { start = r.start; old_end = r.end; new_end = c.saturating_sub.result }) h i.records.units had c.text-text.result.now (c.text-text.ensures ∙ sym c.keep.ensures) fits c.reparse.new.records.units c.in-Ok-Some.range c.in-Ok-Some.field-0 c.in-Ok-Some.field-0-is c.in-Ok-Some.ensures.part c.in-Ok-Some.ensures.ordered in
@@ -80,8 +80,8 @@ returns-in-Ok-None-clause-decided g c =
     let at : i.lines ≡ c.args.self.now.text = ap (λ (s : Held g.row.C.Denot). s.text) c.self.view_is in
     let old : Held g.row.C.Denot = record { id = i.id; text = i.lines; root = i.root; classes = i.classes; has_records = i.has_records } in
     let now : Held g.row.C.Denot = record { id = i.id; text = c.in-Ok.edited.after; root = i.root; classes = i.classes; has_records = i.has_records } in
-    let h = edited-by i.lines i.lines c.text.result.now c.in-Ok.edited.after c.args.with.now r c.saturating_sub-behind.result (length c.text-text.result.now) c.saturating_sub.result refl (c.text.ensures ∙ sym at) c.text.utf8 c.utf8.with
-    (subst (λ t. IsCharBoundary t r.start) (sym at) c.requires.start) (subst (λ t. IsCharBoundary t r.end) (sym at) c.requires.end) c.requires.ordered (c.in-Ok.ensures.after) c.saturating_sub-behind.ensures (ap length (c.text-text.ensures)) c.saturating_sub.ensures in
+    let h = edited-by i.lines i.lines c.text.result.now c.in-Ok.edited.after c.args.with.now r c.saturating_sub-after.result (length c.text-text.result.now) c.saturating_sub.result refl (c.text.ensures ∙ sym at) c.text.utf8 c.utf8.with
+    (subst (λ t. IsCharBoundary t r.start) (sym at) c.requires.start) (subst (λ t. IsCharBoundary t r.end) (sym at) c.requires.end) c.requires.ordered (c.in-Ok.ensures.after) c.saturating_sub-after.ensures (ap length (c.text-text.ensures)) c.saturating_sub.ensures in
     let had = c.self.invariant c.if-not-self.false in
     let fits : length now.text < 2 ^ 64 - 1 = omega (arith, c.if-text.false, ap length (c.text-text.ensures)) in
     let is : c.reparse.result ≡ Ok None = c.in-Ok-None.is ∙ ap (λ o. Ok o) c.in-Ok-None.field-0-is in

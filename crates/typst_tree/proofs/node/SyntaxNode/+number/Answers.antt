@@ -1,9 +1,10 @@
-use Rattle.std.proofs.Common.{◌≡◌, ◌+◌, ◌*◌, ◌<◌, ◌≤◌, length, arith, refl, ap, ◌∙◌}
+use Rattle.std.proofs.Common.{◌≡◌, ◌+◌, ◌*◌, ◌<◌, ◌≤◌, length, arith, refl, ap, sym, ◌∙◌}
 use Rattle.std.proofs.Math.ListN.{set}
 use Rattle.typst_tree.specs.Tree.{Tree, nodes, forest, count}
 use Rattle.typst_tree.proofs.Numbering.{Next, next_at, forest_numbered, nodes_numbered, text_numbered, numbered_bare}
 use Rattle.typst_tree.proofs.LastChild.{but_kept, counted, counted_still, counted_more, counted_here, counted_same, counted_all, counted_none}
 use Rattle.typst_tree.proofs.ChildlessLeaves.{whole_same_tree}
+use Rattle.typst_tree.proofs.Marks.{has_same}
 use Rattle.typst_tree.specs.Numbers.{numbered, numbered_list}
 use Rattle.typst_tree.proofs.node.SyntaxNode.+number.Goals as goal
 use Rattle.typst_tree.proofs.node.SyntaxNode.+number.Goals.{then-i-last, else-i-last, After-len-i-end, After-descendants-in-loop-i, After-descendants-then-last-len, After-number-then-last-len, Else-last-len}
@@ -112,13 +113,13 @@ pub invariant_of-self : goal.invariant_of-self
 invariant_of-self t c =
     let one : Tree = record { head = c.self.inside.own.head; kids = forest c.self.inside.kids.items } in
     rw (all_kids t (goal.at.invariant_of-self t c).After-number-then-last-len (last_next t (goal.at.invariant_of-self t c).After-descendants-then-last-len), forest_numbered, c.loop-i.invariant.own, c.place.ensures, c.stride-step.ensures.value, all t (goal.at.invariant_of-self t c).After-len-i-end, text_numbered c.args.id.now c.args.start c.args.room one, nodes_numbered c.args.id.now c.args.start c.args.room one)
-    (c.self.invariant.0, c.self.invariant.1, whole_same_tree (numbered c.args.id.now c.args.start c.args.room one) one (numbered_bare c.args.id.now c.args.start c.args.room one) c.self.invariant.2)
+    (c.self.invariant.0, c.self.invariant.1, whole_same_tree (numbered c.args.id.now c.args.start c.args.room one) one (numbered_bare c.args.id.now c.args.start c.args.room one) c.self.invariant.2, c.self.invariant.3 ∙ sym (has_same (numbered c.args.id.now c.args.start c.args.room one) one (numbered_bare c.args.id.now c.args.start c.args.room one)))
 
 pub invariant_of-self-else-last-len : goal.invariant_of-self-else-last-len
 invariant_of-self-else-last-len t c =
     let one : Tree = record { head = c.self.inside.own.head; kids = forest c.self.inside.kids.items } in
     rw (none_left t c, forest_numbered, c.loop-i.invariant.own, c.place.ensures, c.stride-step.ensures.value, all t (goal.at.invariant_of-self-else-last-len t c).After-len-i-end, text_numbered c.args.id.now c.args.start c.args.room one, nodes_numbered c.args.id.now c.args.start c.args.room one)
-    (c.self.invariant.0, c.self.invariant.1, whole_same_tree (numbered c.args.id.now c.args.start c.args.room one) one (numbered_bare c.args.id.now c.args.start c.args.room one) c.self.invariant.2)
+    (c.self.invariant.0, c.self.invariant.1, whole_same_tree (numbered c.args.id.now c.args.start c.args.room one) one (numbered_bare c.args.id.now c.args.start c.args.room one) c.self.invariant.2, c.self.invariant.3 ∙ sym (has_same (numbered c.args.id.now c.args.start c.args.room one) one (numbered_bare c.args.id.now c.args.start c.args.room one)))
 
 pub returns-then-last-len : goal.returns-then-last-len
 returns-then-last-len t c =

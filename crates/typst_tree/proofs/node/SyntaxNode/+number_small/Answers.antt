@@ -1,8 +1,9 @@
-use Rattle.std.proofs.Common.{◌≡◌, ◌+◌, ◌*◌, ◌≤◌, get_or, arith, refl, ap, ◌∙◌}
+use Rattle.std.proofs.Common.{◌≡◌, ◌+◌, ◌*◌, ◌≤◌, get_or, arith, refl, ap, sym, ◌∙◌}
 use Rattle.std.proofs.Math.ListN.{length-set}
 use Rattle.typst_tree.specs.Tree.{Tree, nodes, forest, count}
 use Rattle.typst_tree.proofs.Numbering.{Next, next_fits, numbered_more, numbered_vec, forest_numbered, nodes_numbered, text_numbered, numbered_bare, later}
 use Rattle.typst_tree.proofs.ChildlessLeaves.{whole_same_tree}
+use Rattle.typst_tree.proofs.Marks.{has_same}
 use Rattle.typst_tree.specs.Numbers.{numbered}
 use Rattle.typst_tree.proofs.node.SyntaxNode.+number_small.Goals as goal
 use Rattle.typst_tree.proofs.node.SyntaxNode.+number_small.Goals.{number_kids-After-descendants-in-loop-kid}
@@ -47,7 +48,7 @@ number_kids-invariant_of-self t c =
     let is = numbered_vec c.args.id.now c.stride-step.result (c.args.start + c.stride-step.result) c.self.inside.kids _ c.loop-kid.kid-items _ c.deref_mut-kid-items.ensures.value c.loop-kid.invariant.done (omega arith) in
     let one : Tree = record { head = c.self.inside.own.head; kids = forest c.self.inside.kids.items } in
     rw (is, forest_numbered, c.place.ensures, c.stride-step.ensures.value, all, text_numbered c.args.id.now c.args.start c.args.room one, nodes_numbered c.args.id.now c.args.start c.args.room one)
-    (c.self.invariant.0, c.self.invariant.1, whole_same_tree (numbered c.args.id.now c.args.start c.args.room one) one (numbered_bare c.args.id.now c.args.start c.args.room one) c.self.invariant.2)
+    (c.self.invariant.0, c.self.invariant.1, whole_same_tree (numbered c.args.id.now c.args.start c.args.room one) one (numbered_bare c.args.id.now c.args.start c.args.room one) c.self.invariant.2, c.self.invariant.3 ∙ sym (has_same (numbered c.args.id.now c.args.start c.args.room one) one (numbered_bare c.args.id.now c.args.start c.args.room one)))
 
 pub number_kids-returns : goal.number_kids-returns
 number_kids-returns t c =

@@ -4,6 +4,7 @@ use Rattle.typst_tree.specs.Tree.{count}
 use Rattle.typst_tree.proofs.Numbering.{some_nodes}
 use Rattle.typst_tree.proofs.StepDown.{reached, replaced_on, replaced_at_not}
 use Rattle.typst_tree.proofs.MovedCounts.{Recounted, set_moved, one_total, recounted}
+use Rattle.typst_tree.proofs.Marks.{Marks, set_marks}
 use Rattle.typst_tree.proofs.node.SyntaxNode.+replace_below.Goals as goal
 
 pub index_mut-kid-requires : goal.index_mut-kid-requires
@@ -39,6 +40,15 @@ recount-requires-clause-fewer t c = (counted t c).fewer
 pub recount-requires-clause-len : goal.recount-requires-clause-len
 recount-requires-clause-len t c = (counted t c).len
 
+marks : (t : ℕ) (c : goal.After-as_slice t) → Marks c.self-2.inside.own c.as_slice.result.now c.counts-gone.result c.counts-come.result
+marks t c =
+    let r = reached c.args.path.now c.in-Some.rest.now c.in-Some.first.now c.args.from c.args.to c.args.self.now c.self-2.inside.own.head c.self-2.inside.kids.items c.self-2.view_is c.in-Some.ensures.cases.0 c.requires.reaches in
+    rw c.as_slice.ensures.value
+    (set_marks c.self-2.inside.own c.self-2.inside.kids.items c.in-Some.first.now c.index_mut-kid.result.now c.replace_below.new.self c.counts-gone.result c.counts-come.result r.within c.index_mut-kid.ensures.value c.self-2.invariant.3 c.counts-gone.ensures.mark c.counts-come.ensures.mark)
+
+pub recount-requires-clause-mark : goal.recount-requires-clause-mark
+recount-requires-clause-mark t c = marks t c
+
 pub recount-requires-clause-nodes : goal.recount-requires-clause-nodes
 recount-requires-clause-nodes t c = (counted t c).nodes
 
@@ -48,7 +58,7 @@ invariant_of-self-2 t c =
     let m = set_moved c.self-2.inside.kids.items c.in-Some.first.now c.index_mut-kid.result.now c.replace_below.new.self r.within c.index_mut-kid.ensures.value in
     let w = c.counts-come.ensures.whole in
     rw (c.recount.ensures, c.as_slice.ensures.value)
-    (refl, refl, (λ q. absurd (omega (arith, ap count (c.self-2.invariant.2.0 q), some_nodes c.self-2.inside.kids.items (omega (arith, r.within)))), m.whole c.self-2.invariant.2.1 (w.0, w.1, tt)))
+    (refl, refl, (λ q. absurd (omega (arith, ap count (c.self-2.invariant.2.0 q), some_nodes c.self-2.inside.kids.items (omega (arith, r.within)))), m.whole c.self-2.invariant.2.1 (w.0, w.1, tt)), refl)
 
 pub returns-clause-ok : goal.returns-clause-ok
 returns-clause-ok t c =

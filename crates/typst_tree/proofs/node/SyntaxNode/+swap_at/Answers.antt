@@ -1,9 +1,12 @@
-use Rattle.std.proofs.Common.{◌≡◌, ◌<◌, ◌-◌, ◌^◌, ℕ, [], ◌∷◌, Some, length, arith, refl, ap, sym, ◌∙◌}
+use Rattle.std.proofs.Common.{◌≡◌, ◌<◌, ◌-◌, ◌^◌, ◌||◌, ℕ, [], ◌∷◌, Some, length, arith, refl, ap, sym, ◌∙◌}
 use Rattle.std.proofs.Math.ListN.{set}
-use Rattle.typst_tree.specs.Tree.{Tree, count, nodes, text_of}
+use Rattle.typst_kinds.specs.Head.{has_any}
+use Rattle.typst_tree.specs.Tree.{Tree, count, nodes, text_of, has_diagnostics}
 use Rattle.typst_tree.specs.Replace.{ComesTo, node_at}
 use Rattle.typst_tree.proofs.Numbering.{some_nodes}
 use Rattle.typst_tree.proofs.MovedCounts.{one_total, recounted}
+use Rattle.typst_tree.proofs.SpansAside.{over}
+use Rattle.typst_tree.proofs.PathMarks.{swapped_mark, levels_on}
 use Rattle.typst_tree.proofs.PutAt.{at_some, leads, node_on, put_on, put_moved, smaller}
 use Rattle.typst_tree.proofs.node.SyntaxNode.+swap_at.Goals as goal
 use Rattle.typst_tree.proofs.node.SyntaxNode.+swap_at.Goals.{After-leaves_are_bare}
@@ -34,7 +37,7 @@ swap_at-requires t c =
     let k = c.index_mut-kid.result.now in
     let r = leads (λ x. ComesTo x c.args.swap.now.gone) c.args.path.now c.in-Some.rest.now i c.args.self.now c.self.inside.own.head xs c.self.view_is c.in-Some.ensures.cases.0 c.requires.gone in
     let s = smaller (i ∷ []) k c.args.self.now (node_on (i ∷ []) [] i c.args.self.now k c.self.inside.own.head xs c.self.view_is refl r.0 c.index_mut-kid.ensures.value) in
-    (omega (arith, c.decreases, c.in-Some.ensures.cases.1), (omega (arith, s.0, c.requires.short), (omega (arith, s.1, c.requires.few), (rw c.index_mut-kid.ensures.value (r.1 k), c.requires.come))))
+    (omega (arith, c.decreases, c.in-Some.ensures.cases.1), (omega (arith, s.0, c.requires.short), (omega (arith, s.1, c.requires.few), (rw c.index_mut-kid.ensures.value (r.1 k), (c.requires.come, λ e. c.saturating_sub.ensures ∙ ap (λ n. n - 1) (c.requires.levels e) ∙ levels_on c.args.path.now c.in-Some.rest.now i c.args.self.now k c.self.inside.own.head xs c.self.view_is c.in-Some.ensures.cases.0 r.0 c.index_mut-kid.ensures.value)))))
 
 pub invariant_of-self : goal.invariant_of-self
 invariant_of-self t c =
@@ -50,8 +53,15 @@ invariant_of-self t c =
     let short : c.self.inside.own.len < 2 ^ 32 - 1 = omega (arith, c.requires.short, c.self.invariant.0, ap (λ u. length (text_of u)) c.self.view_is) in
     let few : c.self.inside.own.descendants < 2 ^ 32 - 1 = omega (arith, c.requires.few, c.self.invariant.1, ap nodes c.self.view_is) in
     let w = c.leaves_are_bare.ensures in
-    rw c.set_counts.ensures
-    (omega (arith, n.len short), omega (arith, n.nodes few), (λ q. absurd (omega (arith, ap count (c.self.invariant.2.0 q), some_nodes xs (omega (arith, r.0)))), m.whole c.self.invariant.2.1 (w.0, w.1, tt)))
+    rw c.set_counts.ensures (
+      omega (arith, n.len short),
+      omega (arith, n.nodes few),
+      (λ q. absurd (omega (arith, ap count (c.self.invariant.2.0 q), some_nodes xs (omega (arith, r.0)))), m.whole c.self.invariant.2.1 (w.0, w.1, tt)),
+      ap (λ b. has_any c.self.inside.own.head.diagnostics || b) c.marks-is_marked.ensures
+          ∙ swapped_mark c.args.path.now x.0 z c.args.self.now (over c.self.inside.own.head (set xs i c.swap_at.new.self)) c.args.levels c.args.swap.now.gone.is_marked c.args.swap.now.come.is_marked _ x.1
+          (put_on c.args.path.now c.in-Some.rest.now i z c.args.self.now k c.swap_at.new.self c.self.inside.own.head xs c.self.view_is c.in-Some.ensures.cases.0 r.0 c.index_mut-kid.ensures.value c.swap_at.ensures.tree)
+          x.2.mark c.requires.come.mark (c.is_marked.ensures ∙ c.self.invariant.3 ∙ ap has_diagnostics c.self.view_is) c.requires.levels,
+    )
 
 pub returns-clause-tree : goal.returns-clause-tree
 returns-clause-tree t c =

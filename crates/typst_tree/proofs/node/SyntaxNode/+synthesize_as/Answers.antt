@@ -1,10 +1,11 @@
-use Rattle.std.proofs.Common.{◌≡◌, ◌<◌, ◌≤◌, length, map, arith, ap, refl, ◌∙◌}
+use Rattle.std.proofs.Common.{◌≡◌, ◌<◌, ◌≤◌, length, map, arith, ap, sym, refl, ◌∙◌}
 use Rattle.std.proofs.Math.ListN.{set}
 use Rattle.typst_tree.specs.Tree.{Tree, nodes, forest, synthesized}
 use Rattle.typst_tree.proofs.ChildlessLeaves.{whole_synthesized}
 use Rattle.typst_tree.proofs.Forests.{joined_spanned, count_with_each, forest_synthesized}
 use Rattle.typst_tree.proofs.LastChild.{mapped_still, mapped_more, mapped_here, mapped_same, mapped_all, mapped_none}
 use Rattle.typst_tree.proofs.Numbering.{nodes_at}
+use Rattle.typst_tree.proofs.Marks.{has_synthesized}
 use Rattle.typst_tree.proofs.node.SyntaxNode.+synthesize_as.Goals as goal
 use Rattle.typst_tree.proofs.node.SyntaxNode.+synthesize_as.Goals.{then-i-last, else-i-last, After-synthesize_as-then-last-len, Else-last-len}
 
@@ -73,12 +74,12 @@ none_left t c =
 pub invariant_of-self : goal.invariant_of-self
 invariant_of-self t c =
     rw (all t (goal.at.invariant_of-self t c).After-synthesize_as-then-last-len, forest_synthesized, joined_spanned, count_with_each, c.loop-i.invariant.own, c.set_span.ensures)
-    (c.self.invariant.0, c.self.invariant.1, whole_synthesized c.args.span.now (record { head = c.self.inside.own.head; kids = forest c.self.inside.kids.items }) c.self.invariant.2)
+    (c.self.invariant.0, c.self.invariant.1, whole_synthesized c.args.span.now (record { head = c.self.inside.own.head; kids = forest c.self.inside.kids.items }) c.self.invariant.2, c.self.invariant.3 ∙ sym (has_synthesized c.args.span.now (record { head = c.self.inside.own.head; kids = forest c.self.inside.kids.items })))
 
 pub invariant_of-self-else-last-len : goal.invariant_of-self-else-last-len
 invariant_of-self-else-last-len t c =
     rw (none_left t c, forest_synthesized, joined_spanned, count_with_each, c.loop-i.invariant.own, c.set_span.ensures)
-    (c.self.invariant.0, c.self.invariant.1, whole_synthesized c.args.span.now (record { head = c.self.inside.own.head; kids = forest c.self.inside.kids.items }) c.self.invariant.2)
+    (c.self.invariant.0, c.self.invariant.1, whole_synthesized c.args.span.now (record { head = c.self.inside.own.head; kids = forest c.self.inside.kids.items }) c.self.invariant.2, c.self.invariant.3 ∙ sym (has_synthesized c.args.span.now (record { head = c.self.inside.own.head; kids = forest c.self.inside.kids.items })))
 
 pub returns-then-last-len : goal.returns-then-last-len
 returns-then-last-len t c =

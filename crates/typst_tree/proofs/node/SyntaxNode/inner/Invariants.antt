@@ -1,6 +1,6 @@
 use Rattle.std.proofs.Common.{◌≡◌, ◌+◌, ◌<◌, ◌^◌, take, drop, length}
 use Rattle.typst_tree.specs.Order.{IsWholeForest}
-use Rattle.typst_tree.specs.Tree.{forest, joined, count, saturated}
+use Rattle.typst_tree.specs.Tree.{forest, joined, count, saturated, have_diagnostics}
 use Rattle.typst_tree.proofs.node.SyntaxNode.inner.Given as goal
 
 abbrev pub invariant-loop-kid : goal.invariant-loop-kid
@@ -9,5 +9,6 @@ invariant-loop-kid l = record {
   many : saturated (l.descendants + count (forest (drop l.kid-index l.kid-items))) ≡ saturated (1 + count (forest l.kid-items));
   small_len : l.len < 2 ^ 64;
   small_count : l.descendants < 2 ^ 64;
+  marked : l.is_marked ≡ have_diagnostics (forest (take l.kid-index l.kid-items));
   whole : IsWholeForest (forest (take l.kid-index l.kid-items));
 }

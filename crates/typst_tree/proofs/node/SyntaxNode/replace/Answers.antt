@@ -3,6 +3,7 @@ use Rattle.std.specs.Prelude.{slice_range}
 use Rattle.typst_tree.proofs.SpansAside.{trees_forest}
 use Rattle.typst_tree.proofs.StepDown.{replaced_is, replaced_not}
 use Rattle.typst_tree.proofs.MovedCounts.{Recounted, swapped_moved, recounted}
+use Rattle.typst_tree.proofs.Marks.{Marks, swapped_marks}
 use Rattle.typst_tree.proofs.node.SyntaxNode.replace.Goals as goal
 
 pub totals_within-gone-requires-clause-within : goal.totals_within-gone-requires-clause-within
@@ -29,6 +30,15 @@ recount-requires-clause-fewer c = (counted c).fewer
 pub recount-requires-clause-len : goal.recount-requires-clause-len
 recount-requires-clause-len c = (counted c).len
 
+marks : (c : goal.After-as_slice-3) → Marks c.self.inside.own c.as_slice-3.result.now c.totals_within-gone.result c.totals-come.result
+marks c =
+    rw c.as_slice-3.ensures.value
+    (swapped_marks c.args.self.now c.in-Some.id c.self.inside.own c.self.inside.kids.items c.args.from c.args.to c.args.nodes.items c.swap_children.new.kids.items c.totals_within-gone.result c.totals-come.result c.self.view_is c.requires.order c.requires.within c.in_default-swap_children.ensures.ok c.self.invariant.3
+    (rw c.as_slice.ensures.value at c.totals_within-gone.ensures.mark) (rw c.as_slice-2.ensures.value at c.totals-come.ensures.mark))
+
+pub recount-requires-clause-mark : goal.recount-requires-clause-mark
+recount-requires-clause-mark c = marks c
+
 pub recount-requires-clause-nodes : goal.recount-requires-clause-nodes
 recount-requires-clause-nodes c = (counted c).nodes
 
@@ -38,7 +48,7 @@ invariant_of-self-2 c =
     swapped_moved c.args.self.now c.in-Some.id c.self.inside.own.head c.self.inside.kids.items c.args.from c.args.to c.args.nodes.items c.swap_children.new.kids.items c.self.view_is c.requires.order c.requires.within c.in_default-swap_children.ensures.ok in
     let inner : IsTrue c.self.inside.own.head.is_inner = rw (← c.self.view_is) at c.requires.inner in
     rw (c.recount.ensures, c.as_slice-3.ensures.value)
-    (refl, refl, (λ q. absurd (cc), m.whole c.self.invariant.2.1 (rw c.as_slice-2.ensures.value at c.totals-come.ensures.whole)))
+    (refl, refl, (λ q. absurd (cc), m.whole c.self.invariant.2.1 (rw c.as_slice-2.ensures.value at c.totals-come.ensures.whole)), refl)
 
 pub returns-in-Err-clause-refused : goal.returns-in-Err-clause-refused
 returns-in-Err-clause-refused c = λ e.

@@ -1,8 +1,9 @@
-use Rattle.std.proofs.Common.{◌≡◌, ◌∙◌, [], Bor, Option, Some, None, Result, Ok, Err, length, arith, refl}
+use Rattle.std.proofs.Common.{◌≡◌, ◌∙◌, [], Bor, Option, Some, None, Result, Ok, Err, false, length, arith, sym, refl}
 use Rattle.std.specs.Prelude.{IsSome, option_map, IfErr}
+use Rattle.std.proofs.lemmas.Bool.{true≢false}
 use Rattle.std.proofs.lemmas.Result.{on_ok_weaker, on_err_weaker}
 use Rattle.typst_tree.specs.declared.node.SyntaxNode.{SyntaxNode}
-use Rattle.typst_tree.specs.Tree.{Tree, nodes, text_of}
+use Rattle.typst_tree.specs.Tree.{Tree, nodes, text_of, has_diagnostics}
 use Rattle.typst_tree.specs.Replace.{Reaches, node_at, replaced, replaced_at}
 use Rattle.typst_tree.proofs.PutAt.{at_some, changed_by, put_back, put_there, reaches_there, refused_there, replaced_back}
 use Rattle.typst_tree.proofs.node.SyntaxNode.replace_far.Goals as goal
@@ -43,7 +44,12 @@ swap_at-requires-2-clause-few c =
 
 pub swap_at-requires-2-clause-gone : goal.swap_at-requires-2-clause-gone
 swap_at-requires-2-clause-gone c =
-    rw (put_there c.args.path.now c.inner-node.result c.args.self.now c.swap_at.new.self c.swap_at.ensures.tree) (record { len = c.counts-nothing.ensures.len; nodes = c.counts-nothing.ensures.nodes })
+    rw (put_there c.args.path.now c.inner-node.result c.args.self.now c.swap_at.new.self c.swap_at.ensures.tree) (record { len = c.counts-nothing.ensures.len; nodes = c.counts-nothing.ensures.nodes; mark = c.counts-nothing.ensures.mark })
+
+pub swap_at-requires-2-clause-levels : goal.swap_at-requires-2-clause-levels
+swap_at-requires-2-clause-levels c = λ e.
+    let none : has_diagnostics c.inner-node.result ≡ false = rw (c.inner-node.ensures, c.new.ensures.items) refl in
+    absurd (true≢false (sym e ∙ c.counts-nothing.ensures.mark ∙ none))
 
 pub returns-clause-ok : goal.returns-clause-ok
 returns-clause-ok c =

@@ -1,0 +1,19 @@
+use Rattle.std.proofs.Common.{◌≡◌, ◌≤◌, ◌++◌, ℕ, List, length, take}
+use Rattle.std.specs.Prelude.{map}
+use Rattle.typst_candidates.specs.Edges.{IsWhole, spelled}
+use Rattle.typst_candidates.specs.Stops.{found_in_all}
+use Rattle.typst_candidates.proofs.candidate.CandidateSearch.found_in_all.Given as goal
+
+-- what was found, with what is found in the runs and blocks that are left, begins as all of it does
+abbrev pub invariant-loop-innermost : goal.invariant-loop-innermost
+invariant-loop-innermost l =
+    let es = l.self.records.now.units.entries in
+    record {
+      room : length l.found.items.items ≤ l.found.most;
+      found : (path : List ℕ) → take l.found.most (map (spelled path) l.found.items.items ++ found_in_all es path l.around.items) ≡ take l.found.most (found_in_all es path l.initial.around.items);
+      most : l.found.most ≤ l.self.most;
+      whole : IsWhole l.self.window → l.found.most ≡ l.self.most;
+    }
+
+abbrev pub decreases-loop-innermost : goal.decreases-loop-innermost
+decreases-loop-innermost l = length l.around.items

@@ -1,0 +1,13 @@
+use Rattle.std.proofs.Common.{◌≡◌}
+use Rattle.typst_candidates.specs.Candidates.{back_past, holds_at, laid, clings}
+use Rattle.typst_candidates.specs.Edges.{IsEdge}
+use Rattle.typst_candidates.proofs.children.Children.back_past_clinging.Given as goal
+
+abbrev pub decreases-loop-edge : goal.decreases-loop-edge
+decreases-loop-edge l = l.edge.index
+
+abbrev pub invariant-loop-edge : goal.invariant-loop-edge
+invariant-loop-edge l = record {
+  edge : IsEdge l.self.at l.self.kids.now l.edge;
+  index : back_past (holds_at (λ d. clings d.node) (laid l.self.at l.self.kids.now)) l.fn.from.index ≡ back_past (holds_at (λ d. clings d.node) (laid l.self.at l.self.kids.now)) l.edge.index;
+}

@@ -1,0 +1,37 @@
+use Rattle.std.proofs.Common.{◌≡◌, ◌+◌, ◌∙◌, ℕ, ap, sym, subst, refl, arith}
+use Rattle.typst_candidates.specs.Cursors.{PassesBlock, EntryPlace, entry_after, start_at}
+use Rattle.typst_candidates.specs.Entries.{end_of}
+use Rattle.typst_candidates.proofs.Blocks.{end-block}
+use Rattle.typst_candidates.proofs.cursor.EntryCursor.pass_far_back.Goals as goal
+
+-- where a block begins that ends at a place
+begun : (old new : EntryPlace) (span : ℕ) → PassesBlock new old span → start_at old ≡ start_at new + span
+begun old new span p = ap start_at p.new_is ∙ end-block new.entries new.number 16 ∙ p.span_is (start_at new)
+
+pub invariant_of-self-2 : goal.invariant_of-self-2
+invariant_of-self-2 c =
+    let passes = c.in-Some.ensures.some.0 in
+    let new = c.pass_block_back.new.self in
+    let at = begun c.self.inside.word_cursor new c.in-Some.span passes in
+    let start = c.self.invariant.0 in
+    let same = ap (λ (p : EntryPlace). end_of 0 p.entries) passes.new_is in
+    let fits = c.self.invariant.1 in
+    (omega (arith, at, start), omega (arith, same, fits))
+
+pub returns : goal.returns
+returns c =
+    let passes = c.in-Some.ensures.some.0 in
+    let less = c.in-Some.ensures.some.1 in
+    let new = c.pass_block_back.new.self in
+    let at = begun c.self.inside.word_cursor new c.in-Some.span passes in
+    let start = c.self.invariant.0 in
+    let most = c.saturating_sub-most.ensures in
+    let far = c.saturating_sub.ensures in
+    record {
+      span = c.in-Some.span;
+      passes = subst (λ (p : EntryPlace). PassesBlock new p c.in-Some.span) c.self.view_is passes;
+      after = omega (arith, at, start, less, most, far);
+      first = c.in_ok-first.first;
+      first_is = sym (c.in_ok-first.ensures.entry ∙ ap entry_after c.copy.ensures.place);
+      back_is = refl;
+    }

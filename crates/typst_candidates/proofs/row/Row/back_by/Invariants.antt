@@ -1,9 +1,0 @@
-use Rattle.std.proofs.Common.{◌≡◌, ◌-◌}
-use Rattle.typst_candidates.specs.Rows.{IsEdge}
-use Rattle.typst_candidates.proofs.row.Row.back_by.Given as goal
-
-abbrev pub invariant-loop : goal.invariant-loop
-invariant-loop l = record {
-  edge : IsEdge l.self.at l.self.kids.now l.edge;
-  index : l.edge.index ≡ l.fn.from.index - l.counter;
-}

@@ -1,0 +1,54 @@
+use Rattle.std.proofs.Common.{◌+◌, ◌≤◌, Some, length, drop, get_or, if◌then◌else◌, ap, sym, ◌∙◌, arith}
+use Rattle.std.proofs.lemmas.Bool.Decides.{nat_tests}
+use Rattle.std.proofs.lemmas.List.{drop_all}
+use Rattle.typst_tree.specs.Replace.{marked_levels}
+use Rattle.typst_tree.proofs.SpansAside.{trees_forest}
+use Rattle.typst_tree.proofs.StepDown.{slice_get_is}
+use Rattle.typst_tree.proofs.PathMarks.{all_levels, level_on, level_off}
+use Rattle.typst_tree.proofs.node.SyntaxNode.marked_levels.Goals as goal
+use Rattle.typst_tree.proofs.node.SyntaxNode.marked_levels.Goals.{then-has_elsewhere, else-has_elsewhere}
+
+pub loop-at-preserved : goal.loop-at-preserved
+loop-at-preserved c =
+    let path = c.args.path.now in
+    let j = c.loop-at.at-index in
+    let xs = c.node.inside.kids.items in
+    let k = c.in-Some.kid.now in
+    let levels = c.loop-at.levels in
+    let m = marked_levels (drop (j + 1) path) k in
+    let found = rw c.deref.ensures.value at c.in-Some.ensures.lookup in
+    let got = slice_get_is xs (get_or path j 0) k found.3.0 ∙ ap Some (sym found.1) in
+    let step = level_on path j c.loop-at.node.now k c.node.inside.own.head xs levels c.has_elsewhere.result c.loop-at-test.true c.node.view_is got c.has_elsewhere.ensures in
+    elim c.if-has_elsewhere.branch [
+      | then-has_elsewhere w ↦
+          rw (w.levels-is, w.node-is)
+          (record {
+            depth = omega (arith, c.loop-at.invariant.depth);
+            levels = ap (λ n. all_levels (j + 1) (n + 1) m) c.loop-at.invariant.depth ∙ sym (step ∙ ap (λ b. all_levels (j + 1) (if b then j + 1 else levels) m) w.if-has_elsewhere.true) ∙ c.loop-at.invariant.levels;
+          })
+      | else-has_elsewhere w ↦
+          rw (w.levels-is, w.node-is)
+          (record {
+            depth = omega (arith, c.loop-at.invariant.depth);
+            levels = sym (step ∙ ap (λ b. all_levels (j + 1) (if b then j + 1 else levels) m) w.if-has_elsewhere.false) ∙ c.loop-at.invariant.levels;
+          })
+    ]
+
+pub has_elsewhere-requires : goal.has_elsewhere-requires
+has_elsewhere-requires c =
+    let found = rw c.deref.ensures.value at c.in-Some.ensures.lookup in rw (← c.node.view_is, trees_forest) found.3.0
+
+pub returns-in_default : goal.returns-in_default
+returns-in_default c =
+    let path = c.args.path.now in
+    let j = c.loop-at.at-index in
+    let xs = c.node.inside.kids.items in
+    let none = rw c.deref.ensures.value at c.in_default.ensures.lookup in
+    let past : length xs ≤ get_or path j 0 = grind (arith, nat_tests, none) in
+    sym (ap (all_levels j c.loop-at.levels) (level_off path j c.loop-at.node.now c.node.inside.own.head xs c.loop-at-test.true c.node.view_is past))
+    ∙ c.loop-at.invariant.levels
+
+pub returns : goal.returns
+returns c =
+    sym (ap (λ p. all_levels c.loop-at.at-index c.loop-at.levels (marked_levels p c.loop-at.node.now)) (drop_all c.loop-at.at-index c.args.path.now (omega arith)))
+    ∙ c.loop-at.invariant.levels

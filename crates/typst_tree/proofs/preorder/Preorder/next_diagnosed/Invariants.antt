@@ -1,0 +1,9 @@
+use Rattle.std.proofs.Common.{◌≡◌, length}
+use Rattle.typst_tree.specs.Preorder.{marked, diagnosed}
+use Rattle.typst_tree.proofs.preorder.Preorder.next_diagnosed.Given as goal
+
+abbrev pub invariant-loop-visit : goal.invariant-loop-visit
+invariant-loop-visit l = diagnosed l.self ≡ diagnosed l.initial.self
+
+abbrev pub decreases-loop-visit : goal.decreases-loop-visit
+decreases-loop-visit l = length (marked l.self)

@@ -1,0 +1,6 @@
+use Rattle.std.proofs.Common.{◌≡◌, take, false}
+use Rattle.typst_tree.specs.Tree.{forest, have_diagnostics}
+use Rattle.typst_tree.proofs.replace.have_diagnostics.Given as goal
+
+abbrev pub invariant-loop-kid : goal.invariant-loop-kid
+invariant-loop-kid l = have_diagnostics (forest (take l.kid-index l.kids)) ≡ false
