@@ -2,6 +2,7 @@
 #![tactic(auto)]
 
 mod bound;
+mod lines;
 mod offered;
 mod shown;
 mod word;
