@@ -1,5 +1,7 @@
 //! The calls of the library that are made by their names.
 
+use crate::walk::Walk;
+
 /// A call that makes or changes a source.
 #[derive(Clone, Copy)]
 pub enum SourceCall {
@@ -47,12 +49,9 @@ pub enum Change {
 }
 
 /// A call that makes something else of a tree or a text.
-#[derive(Clone, Copy, PartialEq, Eq)]
+#[derive(Clone, Copy)]
 pub enum Reading {
-    Preorder,
-    Marked,
-    Diagnosed,
-    Html,
+    Walk(Walk),
     Stretches,
     Newlines,
     Link,
@@ -88,6 +87,7 @@ pub enum Call {
     Lines(LinesCall),
     Tree(TreeCall),
     Change(Change),
+    Html,
     Read(Reading),
     Query(Query),
 }
@@ -125,10 +125,19 @@ static CALLS: [(&str, Call); 49] = [
     ("SyntaxNode::hint", Call::Change(Change::Hint)),
     ("SyntaxNode::hint_at", Call::Change(Change::HintAt)),
     ("SyntaxNode::replace_at", Call::Change(Change::ReplaceAt)),
-    ("SyntaxNode::preorder", Call::Read(Reading::Preorder)),
-    ("Preorder::next_marked", Call::Read(Reading::Marked)),
-    ("Preorder::next_diagnosed", Call::Read(Reading::Diagnosed)),
-    ("highlight_html", Call::Read(Reading::Html)),
+    (
+        "SyntaxNode::preorder",
+        Call::Read(Reading::Walk(Walk::Whole)),
+    ),
+    (
+        "Preorder::next_marked",
+        Call::Read(Reading::Walk(Walk::Marked)),
+    ),
+    (
+        "Preorder::next_diagnosed",
+        Call::Read(Reading::Walk(Walk::Diagnosed)),
+    ),
+    ("highlight_html", Call::Html),
     ("tag_stretches", Call::Read(Reading::Stretches)),
     ("split_newlines", Call::Read(Reading::Newlines)),
     ("link_prefix", Call::Read(Reading::Link)),

@@ -7,6 +7,7 @@ mod library_call;
 mod one_call;
 mod query;
 mod subject;
+mod walk;
 mod word;
 mod written;
 

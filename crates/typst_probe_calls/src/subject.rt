@@ -76,13 +76,10 @@ impl Kept {
     /// Whether what is made of a small tree or text is what is written.
     fn has(&self, alloc: Global, reading: Reading) -> Result<bool, AllocError> {
         match reading {
-            Reading::Preorder => written::has_visits(alloc, &self.heading),
-            Reading::Marked => written::has_marked(alloc),
-            Reading::Diagnosed => written::has_diagnosed(alloc),
+            Reading::Walk(walk) => written::has_visits(alloc, walk, &self.heading),
             Reading::Stretches => written::has_stretches(alloc, &self.heading),
             Reading::Newlines => written::has_lines(alloc),
             Reading::Link => written::has_link(alloc),
-            Reading::Html => Ok(true),
         }
     }
 }
@@ -153,42 +150,6 @@ fn middle_edit(text: &str) -> Edit<'static> {
 fn noted_tree(alloc: Global, text: &str) -> Result<SyntaxNode, AllocError> {
     let noted = parse_noted(alloc, text, &UnicodeClasses)?;
     Ok(noted.tree)
-}
-
-/// How many nodes the walk through a tree comes to.
-fn walked(alloc: Global, tree: &SyntaxNode) -> Result<usize, AllocError> {
-    let mut walk = tree.preorder(alloc);
-    let mut count = 0usize;
-    for _ in 0..tree.descendants() {
-        if walk.next()?.is_some() {
-            count = count.saturating_add(1);
-        }
-    }
-    Ok(count)
-}
-
-/// How many nodes with errors or warnings, at them or below them, the walk through a tree comes to.
-fn marked(alloc: Global, tree: &SyntaxNode) -> Result<usize, AllocError> {
-    let mut walk = tree.preorder(alloc);
-    let mut count = 0usize;
-    for _ in 0..tree.descendants() {
-        if walk.next_marked()?.is_some() {
-            count = count.saturating_add(1);
-        }
-    }
-    Ok(count)
-}
-
-/// How many nodes with errors or warnings of their own the walk through a tree comes to.
-fn diagnosed(alloc: Global, tree: &SyntaxNode) -> Result<usize, AllocError> {
-    let mut walk = tree.preorder(alloc);
-    let mut count = 0usize;
-    for _ in 0..tree.descendants() {
-        if walk.next_diagnosed()?.is_some() {
-            count = count.saturating_add(1);
-        }
-    }
-    Ok(count)
 }
 
 /// The first child of a tree that has children.
@@ -272,6 +233,10 @@ impl Subject {
                 changed(alloc, &mut self.tree, change)?;
                 Ok(0..self.tree.descendants())
             }
+            Call::Html => {
+                self.made = highlight_html(alloc, &self.tree)?;
+                Ok(0..self.made.len())
+            }
             Call::Read(reading) => self.call_of_reading(alloc, reading),
             Call::Query(query) => Ok(self.answered(alloc, query)),
         }
@@ -348,11 +313,7 @@ impl Subject {
 
     /// A call that makes something of the tree, or of a text, and makes it of a small one, too, for which it is
     /// written what has to come.
-    fn call_of_reading(&mut self, alloc: Global, reading: Reading) -> Answer {
-        if reading == Reading::Html {
-            self.made = highlight_html(alloc, &self.tree)?;
-            return Ok(0..self.made.len());
-        }
+    fn call_of_reading(&self, alloc: Global, reading: Reading) -> Answer {
         if self.kept.has(alloc, reading)? {
             Ok(0..self.count(alloc, reading)?)
         } else {
@@ -363,12 +324,10 @@ impl Subject {
     /// How much is made of the tree, or of the other text.
     fn count(&self, alloc: Global, reading: Reading) -> Result<usize, AllocError> {
         match reading {
-            Reading::Preorder => walked(alloc, &self.tree),
-            Reading::Marked => marked(alloc, &self.tree),
-            Reading::Diagnosed => diagnosed(alloc, &self.tree),
+            Reading::Walk(walk) => walk.count(alloc, &self.tree),
             Reading::Stretches => Ok(tag_stretches(alloc, &self.tree)?.len()),
             Reading::Newlines => Ok(split_newlines(alloc, self.kept.other.as_str())?.len()),
-            Reading::Html | Reading::Link => Ok(0),
+            Reading::Link => Ok(0),
         }
     }
 

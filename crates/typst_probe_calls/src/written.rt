@@ -1,16 +1,15 @@
 //! What calls give of small texts, written out manually.
 
+use crate::walk::{Place, Walk};
 use std::alloc::{AllocError, Global};
 use typst_lines::{link_prefix, split_newlines};
-use typst_parser::{
-    SyntaxKind, SyntaxNode, Tag, Tagged, UnicodeClasses, Visit, parse, tag_stretches,
-};
+use typst_parser::{SyntaxKind, SyntaxNode, Tag, Tagged, UnicodeClasses, parse, tag_stretches};
 
 /// A heading with a strong word.
 pub const HEADING: &str = "= a *b*";
 
 /// The nodes of its tree, each before its children: the kind, the byte at which it begins, and how deep it lies.
-static VISITS: [(SyntaxKind, usize, usize); 12] = [
+const VISITS: &[Place] = &[
     (SyntaxKind::Markup, 0, 0),
     (SyntaxKind::Heading, 0, 1),
     (SyntaxKind::HeadingMarker, 0, 2),
@@ -29,7 +28,7 @@ static VISITS: [(SyntaxKind, usize, usize); 12] = [
 const FAULTY: &str = "= a\n__ *b";
 
 /// Of the nodes of its tree those that have a warning or an error, at them or below them.
-static MARKED: [(SyntaxKind, usize, usize); 4] = [
+const MARKED: &[Place] = &[
     (SyntaxKind::Markup, 0, 0),
     (SyntaxKind::Emph, 4, 1),
     (SyntaxKind::Strong, 7, 1),
@@ -37,10 +36,7 @@ static MARKED: [(SyntaxKind, usize, usize); 4] = [
 ];
 
 /// Those that have one themselves.
-static DIAGNOSED: [(SyntaxKind, usize, usize); 2] = [
-    (SyntaxKind::Emph, 4, 1),
-    (SyntaxKind::Error, 7, 2),
-];
+const DIAGNOSED: &[Place] = &[(SyntaxKind::Emph, 4, 1), (SyntaxKind::Error, 7, 2)];
 
 /// The bytes of the leaves of the heading, and the tag of each.
 static STRETCHES: [(usize, usize, Tag); 7] = [
@@ -57,52 +53,25 @@ static STRETCHES: [(usize, usize, Tag); 7] = [
 const LINES: &str = "a\r\nb\n\nc\u{2028}";
 
 /// What stands between them.
-static BETWEEN: [&str; 5] = ["a", "b", "", "c", ""];
+const BETWEEN: &[&str] = &["a", "b", "", "c", ""];
 
 /// A text that begins with a link in which a bracket stays open, and the link.
 const LINKED: (&str, &str) = ("https://a.b/(c)[d](e. f", "https://a.b/(c)[d](e");
 
-/// Whether the walk through the tree of the heading comes to its nodes.
-pub fn has_visits(alloc: Global, heading: &SyntaxNode) -> Result<bool, AllocError> {
-    let mut walk = heading.preorder(alloc);
-    for wanted in &VISITS {
-        match walk.next()? {
-            Some(visit) if is_visit(&visit, *wanted) => {}
-            _ => return Ok(false),
-        }
+/// Whether a walk comes to its nodes: through the tree of the heading where it comes to all, and else through that
+/// of the faulty text.
+pub fn has_visits(alloc: Global, walk: Walk, heading: &SyntaxNode) -> Result<bool, AllocError> {
+    match walk {
+        Walk::Whole => walk.has(alloc, heading, VISITS),
+        Walk::Marked => has_faulty(alloc, walk, MARKED),
+        Walk::Diagnosed => has_faulty(alloc, walk, DIAGNOSED),
     }
-    Ok(walk.next()?.is_none())
 }
 
-fn is_visit(visit: &Visit<'_>, (kind, offset, depth): (SyntaxKind, usize, usize)) -> bool {
-    visit.node.kind() == kind && visit.offset == offset && visit.depth == depth
-}
-
-/// Whether the walk through the tree of the faulty text comes to its nodes that have a warning or an error, at them
-/// or below them.
-pub fn has_marked(alloc: Global) -> Result<bool, AllocError> {
+/// Whether a walk through the tree of the faulty text comes to these nodes.
+fn has_faulty(alloc: Global, walk: Walk, places: &[Place]) -> Result<bool, AllocError> {
     let faulty = parse(alloc, FAULTY, &UnicodeClasses)?;
-    let mut walk = faulty.preorder(alloc);
-    for wanted in &MARKED {
-        match walk.next_marked()? {
-            Some(visit) if is_visit(&visit, *wanted) => {}
-            _ => return Ok(false),
-        }
-    }
-    Ok(walk.next_marked()?.is_none())
-}
-
-/// Whether the walk through the tree of the faulty text comes to its nodes that have one themselves.
-pub fn has_diagnosed(alloc: Global) -> Result<bool, AllocError> {
-    let faulty = parse(alloc, FAULTY, &UnicodeClasses)?;
-    let mut walk = faulty.preorder(alloc);
-    for wanted in &DIAGNOSED {
-        match walk.next_diagnosed()? {
-            Some(visit) if is_visit(&visit, *wanted) => {}
-            _ => return Ok(false),
-        }
-    }
-    Ok(walk.next_diagnosed()?.is_none())
+    walk.has(alloc, &faulty, places)
 }
 
 /// Whether the stretches of the tree of the heading are its leaves with their tags.
@@ -113,30 +82,26 @@ pub fn has_stretches(alloc: Global, heading: &SyntaxNode) -> Result<bool, AllocE
 
 fn are_stretches(found: &[Tagged]) -> bool {
     let mut rest = found.iter();
-    for (start, end, tag) in &STRETCHES {
-        match rest.next() {
-            Some(stretch) if stretch.range == (*start..*end) && stretch.tag == Some(*tag) => {}
-            _ => return false,
+    for wanted in &STRETCHES {
+        if !is_stretch(rest.next(), *wanted) {
+            return false;
         }
     }
     rest.next().is_none()
+}
+
+/// Whether there is a stretch, and it is the one that is wanted.
+fn is_stretch(stretch: Option<&Tagged>, (start, end, tag): (usize, usize, Tag)) -> bool {
+    match stretch {
+        Some(stretch) => stretch.range == (start..end) && stretch.tag == Some(tag),
+        None => false,
+    }
 }
 
 /// Whether a text is split at its line ends.
 pub fn has_lines(alloc: Global) -> Result<bool, AllocError> {
     let found = split_newlines(alloc, LINES)?;
-    Ok(are_between(found.as_slice()))
-}
-
-fn are_between(found: &[&str]) -> bool {
-    let mut rest = found.iter();
-    for wanted in &BETWEEN {
-        match rest.next() {
-            Some(line) if *line == *wanted => {}
-            _ => return false,
-        }
-    }
-    rest.next().is_none()
+    Ok(found.as_slice() == BETWEEN)
 }
 
 /// Whether the link is found that a text begins with, and that a bracket stays open in it.
