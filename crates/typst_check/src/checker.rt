@@ -4,6 +4,7 @@ use crate::request::{Request, VERSION};
 use crate::sarif::Log;
 use crate::words::Word;
 use std::alloc::{AllocError, Global};
+use std::cmp::Ordering;
 use std::fs::{self, DirEntry, File};
 use std::io::{self, Read};
 use typst_cli::check::{Fault, check, tell};
@@ -30,8 +31,19 @@ pub struct Checker<'r> {
     status: u8,
 }
 
-/// A path below a folder, and whether it is that of a folder.
-type Below = (String, bool);
+/// What lies in a folder.
+#[derive(Drop)]
+struct Below {
+    path: String,
+    is_folder: bool,
+}
+
+impl Below {
+    /// Whether it is a folder or a document.
+    fn is_wanted(&self) -> bool {
+        self.is_folder || self.path.as_str().ends_with(EXTENSION)
+    }
+}
 
 impl<'r> Checker<'r> {
     /// A run for a request, in which nothing was checked yet.
@@ -174,16 +186,16 @@ impl<'r> Checker<'r> {
         let mut pending = Vec::new(self.alloc);
         self.list(folder, &mut pending)?;
         for _ in 0..u64::MAX {
-            let Some((path, is_folder)) = pending.pop() else {
+            let Some(next) = pending.pop() else {
                 break;
             };
             if self.tally.is_unheard {
                 break;
             }
-            if is_folder {
-                self.list(path.as_str(), &mut pending)?;
+            if next.is_folder {
+                self.list(next.path.as_str(), &mut pending)?;
             } else {
-                self.check_file(path.as_str());
+                self.check_file(next.path.as_str());
             }
         }
         Ok(())
@@ -201,19 +213,26 @@ impl<'r> Checker<'r> {
         };
         let mut below = Vec::new(self.alloc);
         for entry in entries {
-            match below_of(self.alloc, entry) {
-                Ok((path, is_folder)) => {
-                    if is_folder || path.as_str().ends_with(EXTENSION) {
-                        below.push((path, is_folder))?;
-                    }
-                }
-                Err(reason) => self.tell(folder, Fault::NotRead(reason)),
-            }
+            self.add_entry(folder, entry, &mut below)?;
         }
-        below.sort()?;
-        below.reverse();
-        for one in below {
-            pending.push(one)?;
+        below.sort_by(last_first)?;
+        pending.append(&mut below)
+    }
+
+    /// Adds what the entry of a folder stands for, if it is a document or a folder.
+    fn add_entry(
+        &mut self,
+        folder: &str,
+        entry: io::Result<DirEntry>,
+        below: &mut Vec<Below>,
+    ) -> Result<(), AllocError> {
+        match below_of(self.alloc, entry) {
+            Ok(one) => {
+                if one.is_wanted() {
+                    below.push(one)?;
+                }
+            }
+            Err(reason) => self.tell(folder, Fault::NotRead(reason)),
         }
         Ok(())
     }
@@ -251,10 +270,20 @@ fn read_whole<R: Read>(alloc: Global, input: &mut R) -> io::Result<Vec<u8>> {
     Ok(bytes)
 }
 
-/// The path of an entry, and whether it is that of a folder. A link to a folder isn't one.
+/// The order by paths, the last first.
+fn last_first(one: &Below, other: &Below) -> Ordering {
+    let by_path = other.path.cmp(&one.path);
+    by_path.then(other.is_folder.cmp(&one.is_folder))
+}
+
+/// What an entry stands for. A link to a folder isn't one.
 fn below_of(alloc: Global, entry: io::Result<DirEntry>) -> io::Result<Below> {
     let entry = entry?;
     let is_folder = entry.file_type()?.is_dir();
-    let path = String::from_str(alloc, entry.path().as_str())?;
-    Ok((path, is_folder))
+    let path = path_of(alloc, &entry)?;
+    Ok(Below { path, is_folder })
+}
+
+fn path_of(alloc: Global, entry: &DirEntry) -> Result<String, AllocError> {
+    String::from_str(alloc, entry.path().as_str())
 }

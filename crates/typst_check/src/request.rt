@@ -2,7 +2,7 @@
 
 use clap::error::ErrorKind;
 use clap::{Arg, ArgAction, Command, Error, value_parser};
-use std::alloc::Global;
+use std::alloc::{AllocError, Global};
 use typst_cli::form::{Form, Format, Options};
 
 /// What the words ask for.
@@ -22,6 +22,15 @@ pub struct Request<'a> {
 const FORMATS: [&str; 4] = ["short", "ndjson", "github", "sarif"];
 
 const COLORS: [&str; 3] = ["auto", "always", "never"];
+
+/// What `--tree` isn't given with.
+const TREE_CONFLICTS: [&str; 3] = ["format", "color", "max-errors"];
+
+/// What `--page` isn't given with.
+const PAGE_CONFLICTS: [&str; 5] = ["tree", "format", "color", "max-errors", "files-from"];
+
+/// What `--quiet` isn't given with.
+const QUIET_CONFLICTS: [&str; 2] = ["tree", "page"];
 
 /// The version of Typst whose grammar this is.
 pub const VERSION: &str = "0.15.1";
@@ -84,13 +93,8 @@ fn format_named(name: Option<&str>, color: bool) -> Format {
 }
 
 /// The command line of the program. Of an option that is repeated the last counts.
-fn command<'a>(alloc: Global) -> Result<Command<'a>, Error> {
-    let files = Arg::new(alloc, "files")
-        .action(ArgAction::Append)
-        .required_unless_present("files-from")?
-        .value_name("FILE")
-        .help("Files to check, folders of which all *.typ below are, or - for standard input");
-    let command = Command::new(alloc, "typst_check")
+fn command<'a>(alloc: Global) -> Result<Command<'a>, AllocError> {
+    Command::new(alloc, "typst_check")
         .version(VERSION)
         .about(ABOUT)
         .after_help(STATUS)
@@ -103,103 +107,113 @@ fn command<'a>(alloc: Global) -> Result<Command<'a>, Error> {
         .arg(deny_flag(alloc)?)?
         .arg(input_name(alloc)?)?
         .arg(list(alloc)?)?
-        .arg(files)?;
-    Ok(command)
+        .arg(files(alloc)?)
 }
 
-fn format<'a>(alloc: Global) -> Result<Arg<'a>, Error> {
-    let format = Arg::new(alloc, "format")
-        .long("format")
-        .value_parser(FORMATS.as_slice())
-        .default_value("short")
-        .overrides_with("format")?
-        .help("How errors and warnings are printed");
-    Ok(format)
+/// An option `--name` that takes a value.
+fn option<'a>(alloc: Global, name: &'a str, help: &'a str) -> Result<Arg<'a>, AllocError> {
+    Arg::new(alloc, name)
+        .long(name)
+        .help(help)
+        .overrides_with(name)
 }
 
-fn color<'a>(alloc: Global) -> Result<Arg<'a>, Error> {
-    let color = Arg::new(alloc, "color")
-        .long("color")
-        .value_parser(COLORS.as_slice())
-        .default_value("auto")
-        .overrides_with("color")?
-        .help(
-            "Whether the short format has colours. A terminal isn't known as one, so auto is never",
-        );
-    Ok(color)
+/// An option `--name` that takes none.
+fn flag<'a>(alloc: Global, name: &'a str, help: &'a str) -> Result<Arg<'a>, AllocError> {
+    let flag = option(alloc, name, help)?;
+    Ok(flag.action(ArgAction::SetTrue))
 }
 
-fn tree_flag<'a>(alloc: Global) -> Result<Arg<'a>, Error> {
-    let flag = Arg::new(alloc, "tree")
-        .long("tree")
-        .action(ArgAction::SetTrue)
-        .overrides_with("tree")?
-        .conflicts_with("format")?
-        .conflicts_with("color")?
-        .conflicts_with("max-errors")?
-        .help("Prints the syntax tree, a JSON object a line for each node");
-    Ok(flag)
+/// The option that is one of these words.
+fn choice<'a>(option: Arg<'a>, words: &'a [&'a str], default: &'a str) -> Arg<'a> {
+    option.value_parser(words).default_value(default)
 }
 
-fn page_flag<'a>(alloc: Global) -> Result<Arg<'a>, Error> {
-    let flag = Arg::new(alloc, "page")
-        .long("page")
-        .action(ArgAction::SetTrue)
-        .overrides_with("page")?
-        .conflicts_with("tree")?
-        .conflicts_with("format")?
-        .conflicts_with("color")?
-        .conflicts_with("max-errors")?
-        .conflicts_with("files-from")?
-        .help("Prints the text of one file as an HTML page, highlighted, with its errors");
-    Ok(flag)
+/// The argument, which isn't given with any of the others.
+fn in_conflict<'a>(arg: Arg<'a>, others: &'a [&'a str]) -> Result<Arg<'a>, AllocError> {
+    arg.conflicts_with_all(others)
 }
 
-fn quiet_flag<'a>(alloc: Global) -> Result<Arg<'a>, Error> {
-    let flag = Arg::new(alloc, "quiet")
-        .long("quiet")
-        .short('q')
-        .action(ArgAction::SetTrue)
-        .overrides_with("quiet")?
-        .conflicts_with("tree")?
-        .conflicts_with("page")?
-        .help("Prints no errors and warnings: the status tells of them");
-    Ok(flag)
+fn format<'a>(alloc: Global) -> Result<Arg<'a>, AllocError> {
+    let format = option(alloc, "format", "How errors and warnings are printed")?;
+    Ok(choice(format, FORMATS.as_slice(), "short"))
 }
 
-fn most<'a>(alloc: Global) -> Result<Arg<'a>, Error> {
-    let most = Arg::new(alloc, "max-errors")
-        .long("max-errors")
-        .value_name("N")
-        .value_parser(value_parser!(usize))
-        .overrides_with("max-errors")?
-        .help("Prints at most so many errors and warnings of each file");
-    Ok(most)
+fn color<'a>(alloc: Global) -> Result<Arg<'a>, AllocError> {
+    let color = option(
+        alloc,
+        "color",
+        "Whether the short format has colours. A terminal isn't known as one, so auto is never",
+    )?;
+    Ok(choice(color, COLORS.as_slice(), "auto"))
 }
 
-fn deny_flag<'a>(alloc: Global) -> Result<Arg<'a>, Error> {
-    let flag = Arg::new(alloc, "deny-warnings")
-        .long("deny-warnings")
-        .action(ArgAction::SetTrue)
-        .overrides_with("deny-warnings")?
-        .help("Ends with status 1 for warnings, too");
-    Ok(flag)
+fn tree_flag<'a>(alloc: Global) -> Result<Arg<'a>, AllocError> {
+    let flag = flag(
+        alloc,
+        "tree",
+        "Prints the syntax tree, a JSON object a line for each node",
+    )?;
+    in_conflict(flag, TREE_CONFLICTS.as_slice())
 }
 
-fn input_name<'a>(alloc: Global) -> Result<Arg<'a>, Error> {
-    let name = Arg::new(alloc, "stdin-filename")
-        .long("stdin-filename")
-        .value_name("NAME")
-        .overrides_with("stdin-filename")?
-        .help("The name that is printed for standard input");
-    Ok(name)
+fn page_flag<'a>(alloc: Global) -> Result<Arg<'a>, AllocError> {
+    let flag = flag(
+        alloc,
+        "page",
+        "Prints the text of one file as an HTML page, highlighted, with its errors",
+    )?;
+    in_conflict(flag, PAGE_CONFLICTS.as_slice())
 }
 
-fn list<'a>(alloc: Global) -> Result<Arg<'a>, Error> {
-    let list = Arg::new(alloc, "files-from")
-        .long("files-from")
-        .value_name("LIST")
-        .overrides_with("files-from")?
-        .help("A file with names of files, ended by NUL or newlines, or - for standard input");
-    Ok(list)
+fn quiet_flag<'a>(alloc: Global) -> Result<Arg<'a>, AllocError> {
+    let flag = flag(
+        alloc,
+        "quiet",
+        "Prints no errors and warnings: the status tells of them",
+    )?;
+    in_conflict(flag.short('q'), QUIET_CONFLICTS.as_slice())
+}
+
+fn most<'a>(alloc: Global) -> Result<Arg<'a>, AllocError> {
+    let most = option(
+        alloc,
+        "max-errors",
+        "Prints at most so many errors and warnings of each file",
+    )?;
+    Ok(most.value_name("N").value_parser(value_parser!(usize)))
+}
+
+fn deny_flag<'a>(alloc: Global) -> Result<Arg<'a>, AllocError> {
+    flag(
+        alloc,
+        "deny-warnings",
+        "Ends with status 1 for warnings, too",
+    )
+}
+
+fn input_name<'a>(alloc: Global) -> Result<Arg<'a>, AllocError> {
+    let name = option(
+        alloc,
+        "stdin-filename",
+        "The name that is printed for standard input",
+    )?;
+    Ok(name.value_name("NAME"))
+}
+
+fn list<'a>(alloc: Global) -> Result<Arg<'a>, AllocError> {
+    let list = option(
+        alloc,
+        "files-from",
+        "A file with names of files, ended by NUL or newlines, or - for standard input",
+    )?;
+    Ok(list.value_name("LIST"))
+}
+
+fn files<'a>(alloc: Global) -> Result<Arg<'a>, AllocError> {
+    Arg::new(alloc, "files")
+        .action(ArgAction::Append)
+        .value_name("FILE")
+        .help("Files to check, folders of which all *.typ below are, or - for standard input")
+        .required_unless_present("files-from")
 }
