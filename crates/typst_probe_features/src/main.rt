@@ -2,7 +2,6 @@
 #![tactic(auto)]
 
 mod bound;
-mod lines;
 mod offered;
 mod shown;
 mod word;

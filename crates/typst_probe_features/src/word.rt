@@ -34,18 +34,9 @@ impl RowWord for Word {
     }
 
     fn answer(self, alloc: Global, text: &str) -> Result<String, AllocError> {
-        let mut shown = String::new(alloc);
-        self.show(alloc, &mut shown, text)?;
-        Ok(shown)
-    }
-}
-
-impl Word {
-    /// Shows the whole answer about a text.
-    fn show(self, alloc: Global, shown: &mut String, text: &str) -> Result<(), AllocError> {
         match self {
-            Word::Shown(word) => word.show(alloc, shown, text),
-            Word::Offered(word) => word.show(alloc, shown, text),
+            Word::Shown(word) => word.answer(alloc, text),
+            Word::Offered(word) => word.answer(alloc, text),
         }
     }
 }

@@ -48,18 +48,18 @@ impl OfferedWord {
         }
     }
 
-    /// Shows the whole answer about a text.
-    pub fn show(self, alloc: Global, shown: &mut String, text: &str) -> Result<(), AllocError> {
+    /// The whole answer about a text.
+    pub fn answer(self, alloc: Global, text: &str) -> Result<String, AllocError> {
         match self {
-            OfferedWord::Expansions => offered::show_expansions(alloc, shown, text),
-            OfferedWord::Names => bound::show_names(alloc, shown, text),
-            OfferedWord::Occurrences => bound::show_occurrences(alloc, shown, text),
-            OfferedWord::ShownProblems => offered::show_reported(alloc, shown, text),
-            OfferedWord::QuickFixes => offered::show_fixes(alloc, shown, text),
-            OfferedWord::DocumentLinks => offered::show_links(alloc, shown, text),
-            OfferedWord::Hover => offered::show_hovers(alloc, shown, text),
-            OfferedWord::Completions => offered::show_completions(alloc, shown, text),
-            OfferedWord::NextItem => offered::show_next_item(alloc, shown, text),
+            OfferedWord::Expansions => offered::expanded(alloc, text),
+            OfferedWord::Names => bound::meanings(alloc, text),
+            OfferedWord::Occurrences => bound::occurring(alloc, text),
+            OfferedWord::ShownProblems => offered::reported(alloc, text),
+            OfferedWord::QuickFixes => offered::fixed(alloc, text),
+            OfferedWord::DocumentLinks => offered::linked(alloc, text),
+            OfferedWord::Hover => offered::hovered(alloc, text),
+            OfferedWord::Completions => offered::completed(alloc, text),
+            OfferedWord::NextItem => offered::continued(alloc, text),
         }
     }
 }

@@ -45,17 +45,17 @@ impl ShownWord {
         }
     }
 
-    /// Shows the whole answer about a text.
-    pub fn show(self, alloc: Global, shown: &mut String, text: &str) -> Result<(), AllocError> {
+    /// The whole answer about a text.
+    pub fn answer(self, alloc: Global, text: &str) -> Result<String, AllocError> {
         match self {
-            ShownWord::Outline => shown::show_outline(alloc, shown, text),
-            ShownWord::Foldings => shown::show_foldings(alloc, shown, text),
-            ShownWord::Selections => shown::show_selections(alloc, shown, text),
-            ShownWord::Mentions => shown::show_mentioned(alloc, shown, text),
-            ShownWord::Problems => shown::show_problems(alloc, shown, text),
-            ShownWord::SemanticTokens => shown::show_tokens(alloc, shown, text),
-            ShownWord::TokensIn => shown::show_tokens_in(alloc, shown, text),
-            ShownWord::Deltas => shown::show_delta(alloc, shown, text),
+            ShownWord::Outline => shown::outline(alloc, text),
+            ShownWord::Foldings => shown::folds(alloc, text),
+            ShownWord::Selections => shown::selected(alloc, text),
+            ShownWord::Mentions => shown::mentioned(alloc, text),
+            ShownWord::Problems => shown::reported(alloc, text),
+            ShownWord::SemanticTokens => shown::tokens(alloc, text),
+            ShownWord::TokensIn => shown::tokens_in(alloc, text),
+            ShownWord::Deltas => shown::delta(alloc, text),
         }
     }
 }
