@@ -150,7 +150,7 @@ impl Entries {
         ensures gone { (end_of 0 (take (suc from) self.old.entries) + result) % 2 ^ 64 ≡ end_of 0 (take (suc to) self.old.entries) % 2 ^ 64 }
     {
         let between = &self.words[from + 1..to + 1];
-        let first = beside(&self.words[..from + 1]);
+        let first = passed_at(&self.words, self.tally, from + 1);
         let last = first + beside(between);
         let gone = spans(between).wrapping_add(lengths(&self.wide[first..last]));
         self.tally = self.tally.upto(from + 1);

@@ -4,6 +4,8 @@ use Rattle.typst_tree.specs.Tree.{Forest, none, more, Tree, count, forest, place
 use Rattle.typst_tree.specs.Walks.{numbers}
 use Rattle.typst_tree.specs.Steps.{At, at, children}
 use Rattle.typst_tree.specs.Linked.{linked, left}
+use Rattle.typst_tree.specs.declared.linked.LinkedNode.{LinkedNode}
+use Rattle.std.specs.Prelude.{MatchOption}
 use Rattle.typst_tree.proofs.WalksInPreorder.{length_places}
 use Rattle.typst_highlight.specs.Walk.{tree_of}
 use Rattle.typst_highlight.specs.declared.tags.Tag.{Tag}
@@ -14,7 +16,7 @@ use Rattle.typst_names.specs.Names.{is_end}
 use Rattle.typst_names.specs.RoleRows.{steps}
 use Rattle.typst_names.specs.declared.contexts.Context.{Context}
 use Rattle.typst_names.specs.declared.contexts.Context.TheVariants as context
-use Rattle.typst_styles.specs.Seeking.{AreRows, IsRow, IsSpot, Standing, Takes, first_number, left_of, left_of_all, node, number, of_spot, row, steps_all, steps_left}
+use Rattle.typst_styles.specs.Seeking.{AreRows, IsRow, IsSpot, Passes, Standing, Takes, first_number, left_of, left_of_all, node, number, of_first, of_spot, row, steps_all, steps_left}
 use Rattle.typst_styles.specs.Tokens.{all_tokens}
 use Rattle.typst_styles.specs.declared.seeking.Row.{Row}
 use Rattle.typst_styles.specs.declared.seeking.Spot.{Spot}
@@ -81,35 +83,62 @@ pub record Taken (w v : Row) (t : Tree) (ts : List Tree) (s : Spot) : Type 0 whe
   pub then_in : v.context ≡ after w.context t.head.kind
   pub still : v.around ≡ w.around
 
+-- the first node of a row is passed
+pub record Passed (w v : Row) (t : Tree) (ts : List Tree) : Type 0 where
+  pub were : w.nodes.now ≡ t ∷ ts
+  pub placed : left v.places ≡ rest_of (left w.places)
+  pub later : v.nodes.now ≡ ts
+  pub end : v.start ≡ behind w.start t.head t.kids
+  pub then_in : v.context ≡ after w.context t.head.kind
+  pub still : v.around ≡ w.around
+
+pub passes : (root : Tree) (w v : Row) (t : Tree) (ts : List Tree) → IsRow root w → Passed w v t ts → Passes root w v
+passes root w v t ts is k =
+    let n : ℕ = number w in
+    let m : ℕ = n + (1 + count t.kids) in
+    let same : n + 1 + count t.kids ≡ m = omega arith in
+    let rest : left v.places ≡ map (at root) (numbers m (forest v.nodes.now)) =
+    k.placed
+    ∙ (ap rest_of (is.places ∙ ap (λ xs. map (at root) (numbers n (forest xs))) k.were)
+    ∙ (ap (λ j. map (at root) (numbers j (forest ts))) same ∙ ap (λ xs. map (at root) (numbers m (forest xs))) (sym k.later))) in
+    let stands : Standing root n (forest (t ∷ ts)) = subst (λ xs. Standing root n (forest xs)) k.were is.standing in (
+      is_row root m v rest (subst (λ xs. Standing root m (forest xs)) (sym k.later) stands.1.1),
+      λ text.
+          let whole : left_of text root w ≡ node text root n w.start w.around w.context (is_end (forest ts)) t ++ row text root m (behind w.start t.head t.kids) w.around (after w.context t.head.kind) (forest ts) =
+          ap (λ xs. row text root n w.start w.around w.context (forest xs)) k.were in
+          let first : node text root n w.start w.around w.context (is_end (forest ts)) t ≡ of_first text root n w.start w.around w.context w.nodes.now = ap (of_first text root n w.start w.around w.context) (sym k.were) in
+          let others : row text root m (behind w.start t.head t.kids) w.around (after w.context t.head.kind) (forest ts) ≡ left_of text root v =
+          (λ i. row text root m (sym k.end i) (sym k.still i) (sym k.then_in i) (forest (sym k.later i))) ∙ left_from text root m v rest in
+          whole ∙ (λ i. first i ++ others i),
+    )
+
+-- the places that are left after the first, whether there is one or not
+pub left_after : (ps qs : List At) (o : Option LinkedNode) → MatchOption o ((ps ≡ []) × (qs ≡ [])) (λ x. ps ≡ linked x ∷ qs) → qs ≡ rest_of ps
+left_after ps qs None h = h.1 ∙ ap rest_of (sym h.0)
+left_after ps qs (Some x) h = ap rest_of (sym h)
+
 pub takes : (root : Tree) (w v : Row) (t : Tree) (ts : List Tree) (s : Spot) → IsRow root w → Taken w v t ts s → Takes root w (Some s) v
 takes root w v t ts s is k =
     let n : ℕ = number w in
-    let m : ℕ = n + (1 + count t.kids) in
+    let others = passes root w v t ts is (record { were = k.were; placed = ap rest_of (sym k.placed); later = k.later; end = k.end; then_in = k.then_in; still = k.still }) in
     let parts : linked s.place ∷ left v.places ≡ at root n ∷ map (at root) (numbers (n + 1 + count t.kids) (forest ts)) =
     sym k.placed ∙ (is.places ∙ ap (λ xs. map (at root) (numbers n (forest xs))) k.were) in
     let place : linked s.place ≡ at root n = ap (first_of (at root n)) parts in
-    let same : n + 1 + count t.kids ≡ m = omega arith in
-    let rest : left v.places ≡ map (at root) (numbers m (forest v.nodes.now)) =
-    ap rest_of parts ∙ (ap (λ j. map (at root) (numbers j (forest ts))) same ∙ ap (λ xs. map (at root) (numbers m (forest xs))) (sym k.later)) in
     let stands : Standing root n (forest (t ∷ ts)) = subst (λ xs. Standing root n (forest xs)) k.were is.standing in
     let num : (linked s.place).number ≡ n = ap (λ (a : At). a.number) place in
     let alone_it : Standing root n (more t.head t.kids none) = (stands.0, (stands.1.0, tt)) in
     let spot : IsSpot root s = record {
       place = place ∙ ap (at root) (sym num);
       standing = subst (λ j. Standing root j (more s.node.node.now.head s.node.node.now.kids none)) (sym num) (subst (λ (u : Tree). Standing root n (more u.head u.kids none)) (sym k.tree) alone_it);
-    } in
-    let later : IsRow root v = is_row root m v rest (subst (λ xs. Standing root m (forest xs)) (sym k.later) stands.1.1) in (
+    } in (
       spot,
       (
-        later,
+        others.0,
         λ text.
-            let whole : left_of text root w ≡ node text root n w.start w.around w.context (is_end (forest ts)) t ++ row text root m (behind w.start t.head t.kids) w.around (after w.context t.head.kind) (forest ts) =
-            ap (λ xs. row text root n w.start w.around w.context (forest xs)) k.were in
-            let mine : node text root n w.start w.around w.context (is_end (forest ts)) t ≡ of_spot text root s =
-            (λ i. node text root (sym num i) (sym k.start i) (sym k.around i) (sym k.role_in i) (sym k.is_last i) (sym k.tree i)) in
-            let others : row text root m (behind w.start t.head t.kids) w.around (after w.context t.head.kind) (forest ts) ≡ left_of text root v =
-            (λ i. row text root m (sym k.end i) (sym k.still i) (sym k.then_in i) (forest (sym k.later i))) ∙ left_from text root m v rest in
-            whole ∙ (λ i. mine i ++ others i),
+            let mine : of_first text root n w.start w.around w.context w.nodes.now ≡ of_spot text root s =
+            ap (of_first text root n w.start w.around w.context) k.were
+            ∙ (λ i. node text root (sym num i) (sym k.start i) (sym k.around i) (sym k.role_in i) (sym k.is_last i) (sym k.tree i)) in
+            others.1 text ∙ ap (λ l. l ++ left_of text root v) mine,
       ),
     )
 
@@ -126,6 +155,13 @@ nothing_left text root n a u c (t ∷ ts) e = absurd (omega (arith, e))
 
 pub takes_none : (root : Tree) (w : Row) → length w.nodes.now ≡ 0 → (text : List ℕ) → left_of text root w ≡ []
 takes_none root w e = λ text. nothing_left text root (number w) w.start w.around w.context w.nodes.now e
+
+of_none : (text : List ℕ) (root : Tree) (n a : ℕ) (u : Option Tag) (c : Context) (ts : List Tree) → length ts ≡ 0 → of_first text root n a u c ts ≡ []
+of_none text root n a u c [] e = refl
+of_none text root n a u c (t ∷ ts) e = absurd (omega (arith, e))
+
+pub passes_none : (root : Tree) (w : Row) → length w.nodes.now ≡ 0 → IsRow root w → Passes root w w
+passes_none root w e is = (is, λ text. ap (λ l. l ++ left_of text root w) (sym (of_none text root (number w) w.start w.around w.context w.nodes.now e)))
 
 -- where a node is left there is a place for it
 pub has_place : (root : Tree) (w : Row) (t : Tree) (ts : List Tree) → IsRow root w → w.nodes.now ≡ t ∷ ts → left w.places ≡ [] → ⊥

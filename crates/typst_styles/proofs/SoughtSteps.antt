@@ -1,5 +1,5 @@
 -- The steps of a walk for tokens.
-use Rattle.std.proofs.Common.{◌≡◌, ℕ, ◌+◌, ◌≤◌, List, [], ◌∷◌, ◌++◌, Option, ap, sym, subst, ◌∙◌, arith, append-nil, append_assoc}
+use Rattle.std.proofs.Common.{◌≡◌, ℕ, ◌+◌, ◌≤◌, List, [], ◌∷◌, ◌++◌, Option, None, Some, ap, sym, subst, ◌∙◌, arith, append-nil, append_assoc}
 use Rattle.std.specs.declared.ops.Range.{Range}
 use Rattle.typst_tree.specs.Tree.{Tree, forest}
 use Rattle.typst_tree.specs.Linked.{linked}
@@ -9,9 +9,10 @@ use Rattle.typst_highlight.specs.Names.{first_tag}
 use Rattle.typst_highlight.specs.Nodes.{tag_of}
 use Rattle.typst_names.specs.Bytes.{inner, behind}
 use Rattle.typst_names.specs.Contexts.{below, role_of}
+use Rattle.typst_names.specs.Names.{is_end}
 use Rattle.typst_names.specs.RoleRows.{steps}
 use Rattle.typst_names.specs.declared.contexts.Role.{Role}
-use Rattle.typst_styles.specs.Seeking.{AreRows, IsRow, IsSpot, left_of, left_of_all, number, of_spot, own, row, steps_all, steps_left, tag_in}
+use Rattle.typst_styles.specs.Seeking.{AreRows, IsFewer, IsRow, IsSpot, Seeks, Takes, left_of, left_of_all, number, of_first, of_spot, own, row, steps_all, steps_left, tag_in}
 use Rattle.typst_styles.specs.Styles.{style_of}
 use Rattle.typst_styles.specs.Tokens.{stretch, touching}
 use Rattle.typst_styles.specs.declared.seeking.Row.{Row}
@@ -22,11 +23,23 @@ use Rattle.typst_styles.proofs.TokensTouching.{node-ended, row-begun, touching-a
 
 -- ---- what a range doesn't touch
 
-pub passed : (range : Range ℕ) (text : List ℕ) (root : Tree) (s : Spot) (later : List Token) → behind s.node.start s.node.node.now.head s.node.node.now.kids ≤ range.start → touching range (of_spot text root s ++ later) ≡ touching range later
-passed range text root s later l =
-    let n : ℕ = (linked s.place).number in
-    touching-append range (of_spot text root s) later
-    ∙ ap (λ ts. ts ++ touching range later) (node-ended range text root n s.node.start (tag_in root n s.around) (role_of s.context s.node.node.now.head.kind s.is_last) (below s.context s.node.node.now.head.kind) s.node.node.now.head s.node.node.now.kids l)
+pub skipped : (range : Range ℕ) (text : List ℕ) (root : Tree) (w : Row) (t : Tree) (ts : List Tree) (later : List Token) → w.nodes.now ≡ t ∷ ts → behind w.start t.head t.kids ≤ range.start
+    → touching range (of_first text root (number w) w.start w.around w.context w.nodes.now ++ later) ≡ touching range later
+skipped range text root w t ts later e l =
+    let n : ℕ = number w in
+    let here : List Tree → List Token = of_first text root n w.start w.around w.context in
+    touching-append range (here w.nodes.now) later
+    ∙ ap (λ us. us ++ touching range later)
+    (ap (λ xs. touching range (here xs)) e ∙ node-ended range text root n w.start (tag_in root n w.around) (role_of w.context t.head.kind (is_end (forest ts))) (below w.context t.head.kind) t.head t.kids l)
+
+-- what is left of a row, the first node of which is taken out or isn't there, is left of one that passed nodes before it
+pub sought : (range : Range ℕ) (text : List ℕ) (root : Tree) (was w v : Row) (o : Option Spot) → touching range (left_of text root was) ≡ touching range (left_of text root w) → Takes root w o v → Seeks range text root was o v
+sought range text root was w v None e t = e ∙ ap (touching range) (t text)
+sought range text root was w v (Some s) e t = (t.0, (t.1.0, e ∙ ap (touching range) (t.1.1 text)))
+
+pub sought_fewer : (was w v : Row) (o : Option Spot) → steps_left w ≤ steps_left was → IsFewer w o v → IsFewer was o v
+sought_fewer was w v None l less = tt
+sought_fewer was w v (Some s) l less = omega (arith, l, less)
 
 pub over : (range : Range ℕ) (text : List ℕ) (root : Tree) (w : Row) → range.end ≤ w.start → touching range (left_of text root w) ≡ []
 over range text root w l = row-begun range text root (number w) w.start w.around w.context (forest w.nodes.now) l

@@ -1,5 +1,5 @@
 -- The tokens of a tree, node by node, and what is left of a walk that leaves out what a range doesn't touch (of private clauses).
-use Rattle.std.specs.Prelude.{◌≡◌, ℕ, ◌+◌, ◌<◌, Bool, List, [], ◌∷◌, ◌++◌, map, Option, None, Some}
+use Rattle.std.specs.Prelude.{◌≡◌, ℕ, ◌+◌, ◌<◌, Bool, List, [], ◌∷◌, ◌++◌, length, map, Option, None, Some}
 use Rattle.std.specs.declared.ops.Range.{Range}
 use Rattle.typst_kinds.specs.Head.{Head}
 use Rattle.typst_tree.specs.Tree.{Forest, none, more, Tree, count, forest}
@@ -94,6 +94,15 @@ abbrev pub Takes : Tree → Row → Option Spot → Row → Type 0
 Takes root w None v = (text : List ℕ) → left_of text root w ≡ []
 Takes root w (Some s) v = IsSpot root s × (IsRow root v × ((text : List ℕ) → left_of text root w ≡ of_spot text root s ++ left_of text root v))
 
+-- the tokens of the first of some trees side by side
+abbrev pub of_first : List ℕ → Tree → ℕ → ℕ → Option Tag → Context → List Tree → List Token
+of_first text root n a u c [] = []
+of_first text root n a u c (t ∷ ts) = node text root n a u c (is_end (forest ts)) t
+
+-- the first node of a row was passed, if there is one: its tokens are those that are left no more
+abbrev pub Passes : Tree → Row → Row → Type 0
+Passes root w v = IsRow root v × ((text : List ℕ) → left_of text root w ≡ of_first text root (number w) w.start w.around w.context w.nodes.now ++ left_of text root v)
+
 -- the nodes of a row up to one that may touch a range were taken out, or there is none; those before it don't touch the range
 abbrev pub Seeks : Range ℕ → List ℕ → Tree → Row → Option Spot → Row → Type 0
 Seeks range text root w None v = touching range (left_of text root w) ≡ []
@@ -102,6 +111,10 @@ Seeks range text root w (Some s) v = IsSpot root s × (IsRow root v × (touching
 -- how many steps a row takes at most
 abbrev pub steps_left : Row → ℕ
 steps_left w = 1 + steps (forest w.nodes.now)
+
+-- a row of which a node was passed takes fewer steps, if it had one
+abbrev pub IsShorter : Row → Row → Type 0
+IsShorter w v = 0 < length w.nodes.now → steps_left v < steps_left w
 
 -- how many steps some rows take at most
 abbrev pub steps_all : List Row → ℕ

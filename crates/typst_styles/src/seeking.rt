@@ -148,6 +148,27 @@ impl<'t> Row<'t> {
         })
     }
 
+    /// Passes the first node, if there is one. What a `Spot` has beside it isn't made, as a walk passes many nodes
+    /// before those that it takes out.
+    #[inline(always)]
+    fn pass(&mut self)
+        ensures passes { (root : Tree) → spec.IsRow root self.old → spec.Passes root self.old self.new }
+        ensures fewer { spec.IsShorter self.old self.new }
+    {
+        let Some((node, later)) = self.nodes.split_first() else {
+            return;
+        };
+        let _place = self.places.next();
+        let passed = Placed {
+            node,
+            start: self.start,
+        };
+        let context = self.context;
+        self.nodes = later;
+        self.start = passed.end();
+        self.context = context.after(node.kind());
+    }
+
     /// Takes out the nodes up to the first that may touch the range.
     fn seek(&mut self, wanted: &Wanted<'t>) -> Option<Spot<'t>>
         requires { spec.IsRow wanted.now.root.now self.old }
@@ -155,12 +176,17 @@ impl<'t> Row<'t> {
         ensures fewer { spec.IsFewer self.old result self.new }
     {
         'nodes: while self.start < wanted.within.end {
-            let Some(spot) = self.take() else {
+            let Some((node, _)) = self.nodes.split_first() else {
                 return None;
             };
-            if wanted.within.start < spot.node.end() {
-                return Some(spot);
+            let first = Placed {
+                node,
+                start: self.start,
+            };
+            if wanted.within.start < first.end() {
+                return self.take();
             }
+            self.pass();
         }
         None
     }
