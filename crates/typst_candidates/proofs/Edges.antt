@@ -2,7 +2,7 @@
 use Rattle.std.proofs.Common.{◌≡◌, ℕ, zero, suc, ◌+◌, ◌-◌, ◌^◌, ◌<◌, ◌≤◌, Bool, true, false, min, List, [], ◌∷◌, length, drop, get_or, refl, ap, sym, subst, ◌∙◌, arith, add-one, nat_lt, nat_le, drop_of_length-le}
 use Rattle.std.specs.Prelude.{◌||◌, not, max}
 use Rattle.std.proofs.lemmas.Bool.Decides.{nat_tests}
-use Rattle.typst_tree.specs.Tree.{Tree, forest, trees, text_of, saturated}
+use Rattle.typst_tree.specs.Tree.{Tree, text_of, saturated}
 pub use Rattle.typst_tree.proofs.SpansAside.{trees_forest}
 use Rattle.typst_candidates.specs.Candidates.{first_near, end_near, clings, leads, with_hash, around, Child, laid, begins, begun, ended, holds_at, back_past, on_past}
 
