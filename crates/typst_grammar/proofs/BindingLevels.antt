@@ -19,9 +19,10 @@ use Rattle.typst_code.specs.Markup.{content_block}
 use Rattle.typst_code.specs.Sequences.{code_block}
 use Rattle.typst_grammar.specs.Grammar.{block_production, rules, meaning, level_at}
 use Rattle.typst_grammar.proofs.Fine.{All, shape_by, unbinary, tame_kind, tame-unbinary}
-use Rattle.typst_grammar.proofs.FineRuns.{AllBind, gives-all, PlainBy, Plain, plain-weaker, Still, binds-run}
-use Rattle.typst_grammar.proofs.PlainParts.{inside_content, plain-inside-content}
-use Rattle.typst_grammar.proofs.PlainCode.{inside_code, plain-inside-code}
+use Rattle.typst_grammar.proofs.FineRuns.{AllBind, gives-all, PlainBy, plain-weaker, Still, binds-run}
+use Rattle.typst_grammar.proofs.Proper.{free, Proper, proper-plain}
+use Rattle.typst_grammar.proofs.PlainParts.{inside_content, proper-inside-content}
+use Rattle.typst_grammar.proofs.PlainCode.{inside_code, proper-inside-code}
 use Rattle.typst_grammar.proofs.Grown.{Operand}
 
 module _ (k : CharClasses) where
@@ -29,10 +30,14 @@ module _ (k : CharClasses) where
   abbrev pub CallsBind : ℕ → Type 0
   CallsBind levels = (c : Call) → AllBind (meaning k levels c)
 
+  -- what is proper makes no binary node
+  no-binary : {A : Type 0} (p : Parser A) → Proper free p → PlainBy unbinary p
+  no-binary p w = plain-weaker tame_kind unbinary tame-unbinary p (proper-plain free p w)
+
   -- of its node no more is asked than that it is no binary one
-  unbinary-node : (i : SyntaxKind) (p : Parser Bool) → unbinary i ≡ true → Plain p → PlainBy unbinary (node (encloses i) p)
+  unbinary-node : (i : SyntaxKind) (p : Parser Bool) → unbinary i ≡ true → Proper free p → PlainBy unbinary (node (encloses i) p)
   unfolding node
-  unbinary-node i p e w = (refl, λ _. ((gives-all (λ closed. shape_by unbinary (encloses i closed) ≡ true) enclosed p, plain-weaker tame_kind unbinary tame-unbinary p w), λ _. tt))
+  unbinary-node i p e w = (refl, λ _. ((gives-all (λ closed. shape_by unbinary (encloses i closed) ≡ true) enclosed p, no-binary p w), λ _. tt))
     where
       enclosed : (closed : Bool) → shape_by unbinary (encloses i closed) ≡ true
       enclosed true = e
@@ -40,16 +45,16 @@ module _ (k : CharClasses) where
 
   plain-block : (b : Block) → PlainBy unbinary (block_production b)
   unfolding content_block code_block
-  plain-block block.Content = (unbinary-node kind.ContentBlock inside_content refl plain-inside-content, λ _. tt)
-  plain-block block.Code = (unbinary-node kind.CodeBlock inside_code refl plain-inside-code, λ _. tt)
+  plain-block block.Content = (unbinary-node kind.ContentBlock inside_content refl (proper-inside-content free (λ _ _. refl)), λ _. tt)
+  plain-block block.Code = (unbinary-node kind.CodeBlock inside_code refl (proper-inside-code free), λ _. tt)
 
   -- so do its blocks
   blocks-bind : (levels : ℕ) → CallsBind levels → (b : Block) → AllBind (blocks_of (rules k) k levels (meaning k levels) b)
   blocks-bind levels d b = binds-run (blockless k levels (meaning k levels)) d (λ x z s h. record { nodes = tt; known = h }) _ (refl, λ _. plain-block b)
 
   -- and all that makes no binary node
-  pub level-binds : {A : Type 0} (levels : ℕ) → CallsBind levels → (p : _) → Plain {A = A} p → AllBind (run (level_at k levels) p)
-  level-binds levels d p w = binds-run (level_at k levels) d (blocks-bind levels d) p (plain-weaker tame_kind unbinary tame-unbinary p w)
+  pub level-binds : {A : Type 0} (levels : ℕ) → CallsBind levels → (p : Parser A) → Proper free p → AllBind (run (level_at k levels) p)
+  level-binds levels d p w = binds-run (level_at k levels) d (blocks-bind levels d) p (no-binary p w)
 
   -- an operand, and what binds less tightly after it
   abbrev pub Operands : ℕ → Meaning (Unit {0}) → Type 0

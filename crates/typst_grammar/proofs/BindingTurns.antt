@@ -7,7 +7,7 @@ use Rattle.typst_kinds.specs.declared.kind.SyntaxKind.{SyntaxKind}
 use Rattle.typst_kinds.specs.declared.kind.SyntaxKind.TheVariants as kind
 use Rattle.typst_kinds.specs.declared.operator.BinOp.{BinOp}
 use Rattle.typst_kinds.specs.declared.operator.BinOp.TheVariants as binary
-use Rattle.typst_tree.specs.Tree.{Tree, forest, trees, inner_of}
+use Rattle.typst_tree.specs.Tree.{Tree, forest, inner_of}
 use Rattle.typst_tree.proofs.SpansAside.{trees_forest}
 use Rattle.typst_code.specs.declared.heads.CodeTail.{CodeTail}
 use Rattle.typst_code.specs.declared.heads.CodeTail.TheVariants as tail

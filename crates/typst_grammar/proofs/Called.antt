@@ -22,15 +22,15 @@ use Rattle.typst_language.specs.Meaning.{Outcome, Level, plain, reshaped, less, 
 use Rattle.typst_language.proofs.Ends.{hand-again, hand-takes}
 use Rattle.typst_language.proofs.Backs.{backs-run, backs-turns}
 use Rattle.typst_grammar.specs.Grammar.{level_at}
-use Rattle.typst_grammar.proofs.CodeMoves.{moves-block}
-use Rattle.typst_grammar.proofs.Moves.{Moves, moves-next, moves-within, moves-eat}
+use Rattle.typst_grammar.proofs.PlainCode.{first-read, first-list}
+use Rattle.typst_grammar.proofs.CodeMoves.{moves-first}
 use Rattle.typst_grammar.proofs.Fine.{All}
 use Rattle.typst_grammar.proofs.FineRuns.{Still, still-hand}
 use Rattle.typst_language.proofs.Within.{on_both}
 use Rattle.typst_grammar.proofs.Heads.{Bare, standing-none}
 use Rattle.typst_grammar.proofs.Operands.{exact-plain, exact-joined}
 use Rattle.typst_grammar.proofs.Leads.{Leads, leads-joined, leads-reshaped}
-use Rattle.typst_grammar.proofs.Firsts.{calls-back, blocks-back, fills-arguments, fills-read}
+use Rattle.typst_grammar.proofs.Firsts.{calls-back, blocks-back, fills-first}
 
 -- it leads, and takes something
 pub record Takes {A : Type 0} (n : ℕ) (o : Outcome A) : Type 0 where
@@ -117,7 +117,7 @@ module _ (k : CharClasses) (levels : ℕ) where
         let t = next_of s in
         let x = at-next s a in
         let o = run l (read_block block.Content) w t in
-        let first = takes-of n o (leads-at t o x (fills-read k levels block.Content w t x.still)) (moves-block k levels block.Content w t (some t x)) in
+        let first = takes-of n o (leads-at t o x (fills-first k levels (read_block block.Content) (first-read false block.Content) w t x.still)) (moves-first k levels (read_block block.Content) (first-read false block.Content) w t (some t x)) in
         takes-look s _ (takes-joined n o (plain (true, tt) o.state) first (record { back = omega arith; left = omega arith }))
     content-by s a false f = absurd (cc)
 
@@ -144,10 +144,6 @@ module _ (k : CharClasses) (levels : ℕ) where
     abbrev after_list : Bool → Parser Bool
     after_list closed = repeat content_turn tt >>= λ _. gives closed
 
-    moves-list : Moves l argument_list
-    unfolding argument_list
-    moves-list = moves-within l _ _ (moves-next l _ _ (moves-eat l))
-
     listed-by : (s : Point) → At s → (b : Bool) → same kind.LeftParen h.kind ≡ b → Takes n (followed (joined (look s) (if b then run l argument_list w (next_of s) else plain true (next_of s))) (λ v. run l (after_list v)) w)
     unfolding run
     listed-by s a true f =
@@ -155,7 +151,7 @@ module _ (k : CharClasses) (levels : ℕ) where
         let x = at-next s a in
         let o = run l argument_list w t in
         let q = joined (look s) o in
-        let first = takes-look s o (takes-of n o (leads-at t o x (fills-arguments l (calls-back k levels) (blocks-back k levels) w t x.still)) (moves-list w t (some t x))) in
+        let first = takes-look s o (takes-of n o (leads-at t o x (fills-first k levels argument_list (first-list true false) w t x.still)) (moves-first k levels argument_list (first-list true false) w t (some t x))) in
         takes-joined n q (run l (after_list q.value) (moved q.taken w) q.state) first (tidy (after_list q.value) (moved q.taken w) q.state)
     listed-by s a false f =
         let t = next_of s in

@@ -27,11 +27,11 @@ use Rattle.typst_language.proofs.Knot.{sane-at}
 use Rattle.typst_language.proofs.Places.{no-end}
 use Rattle.typst_grammar.specs.Grammar.{rules, level_at}
 use Rattle.typst_grammar.specs.Binding.{any_errors}
-use Rattle.typst_grammar.proofs.Fine.{All, Fines, is_ordinary, tame_kind, tame-ordinary}
-use Rattle.typst_grammar.proofs.FineRuns.{if_by, Gives, gives-all, gives-run, PlainBy, Plain, plain-weaker, Still, still-hand}
+use Rattle.typst_grammar.proofs.Fine.{All, Fines, is_ordinary}
+use Rattle.typst_grammar.proofs.FineRuns.{if_by, Gives, gives-all, gives-run, PlainBy, Still, still-hand}
 use Rattle.typst_grammar.proofs.Heads.{LastIs, standing-none}
-use Rattle.typst_grammar.proofs.PlainParts.{plain-eat, plain-expected, plain-deep, plain-deeper}
-use Rattle.typst_grammar.proofs.PlainCode.{plain-field, plain-call, plain-primary}
+use Rattle.typst_grammar.proofs.Proper.{ordinary, proper-deep}
+use Rattle.typst_grammar.proofs.PlainCode.{proper-primary, proper-tail-turn}
 use Rattle.typst_grammar.proofs.Grown.{errors-after, kind_at, Ended, Grown, Operand, operand-growths}
 use Rattle.typst_grammar.proofs.BindingLevels.{CallsBind, DeeperOperands, level-binds}
 use Rattle.typst_grammar.proofs.Lost.{Holds, Lost, operand-lost}
@@ -40,58 +40,19 @@ use Rattle.typst_grammar.proofs.Tails.{turn-turned}
 
 -- ---- what a turn reads and says
 
-plain-binary : (op : _) → Plain (binary_expr op)
-unfolding binary_expr
-plain-binary op = (plain-eat, λ _. (plain-deeper _ _, λ _. tt))
-
-plain-not : Plain not_in
-unfolding not_in
-plain-not = (plain-eat, λ _. (refl, λ _. (plain-binary _, (plain-expected _, λ _. tt))))
-
-plain-direct : Plain direct_field
-unfolding direct_field
-plain-direct = (refl, λ _. (plain-field, tt))
-
-plain-tail : (t : CodeTail) → Plain (tail_by t)
-plain-tail tail.Call = plain-call
-plain-tail tail.Field = plain-field
-plain-tail tail.DirectField = plain-direct
-plain-tail tail.NotIn = plain-not
-plain-tail (tail.Binary op) = plain-binary op
-plain-tail tail.Nothing = tt
-
-plain-turn : (least : ℕ) (x : Unit {0}) → Plain (code_tail_turn false least x)
-unfolding code_tail_turn
-plain-turn least x = (refl, λ a. plain-tail (code_tail false least a.kind a.has_trivia))
-
 abbrev Says : Option Shape × Unit {0} → Type 0
 Says v = Holds v.0
-
-says-call : Gives Says call_tail
-unfolding call_tail
-says-call = gives-all _ (λ _. tt) arguments
-
-says-field : Gives Says field
-unfolding field
-says-field = gives-all _ (λ _. gives-all _ (λ _. tt) expect_identifier) eat
-
-says-direct : Gives Says direct_field
-unfolding direct_field
-says-direct = λ _. (says-field, tt)
 
 says-binary : (op : _) → Gives Says (binary_expr op)
 unfolding binary_expr
 says-binary op = gives-all _ (λ _. gives-all _ (λ _. tt) (deeper _ _)) eat
 
-says-not : Gives Says not_in
-unfolding not_in
-says-not = gives-all _ (λ _ _. (says-binary _, gives-all _ (λ _. tt) (expected _))) eat
-
 says-tail : (t : CodeTail) → Gives Says (tail_by t)
-says-tail tail.Call = says-call
-says-tail tail.Field = says-field
-says-tail tail.DirectField = says-direct
-says-tail tail.NotIn = says-not
+unfolding call_tail field direct_field not_in
+says-tail tail.Call = gives-all _ (λ _. tt) arguments
+says-tail tail.Field = gives-all _ (λ _. gives-all _ (λ _. tt) expect_identifier) eat
+says-tail tail.DirectField = λ _. (gives-all _ (λ _. gives-all _ (λ _. tt) expect_identifier) eat, tt)
+says-tail tail.NotIn = gives-all _ (λ _ _. (says-binary _, gives-all _ (λ _. tt) (expected _))) eat
 says-tail (tail.Binary op) = says-binary op
 says-tail tail.Nothing = tt
 
@@ -117,13 +78,16 @@ orders-tail tail.NotIn = gives-all _ (λ _ _. (orders-binary _, gives-all _ (λ 
 orders-tail (tail.Binary op) = orders-binary op
 orders-tail tail.Nothing = refl
 
+turn-ordinary : (least : ℕ) (x : Unit {0}) → PlainBy is_ordinary (code_tail_turn false least x)
+turn-ordinary least x = ordinary (code_tail_turn false least x) (proper-tail-turn _ false least x)
+
 pub ordinary-expr : (least : ℕ) → PlainBy is_ordinary (code_expr false least)
 unfolding code_expr grow code_tail_turn
 ordinary-expr least = (
   refl,
   λ _. (
-    plain-weaker tame_kind is_ordinary tame-ordinary (code_primary false) (plain-primary false),
-    λ x. (λ a. orders-tail (code_tail false least a.kind a.has_trivia), plain-weaker tame_kind is_ordinary tame-ordinary (code_tail_turn false least x) (plain-turn least x)),
+    ordinary (code_primary false) (proper-primary _ false),
+    λ x. (λ a. orders-tail (code_tail false least a.kind a.has_trivia), turn-ordinary least x),
   ),
 )
 
@@ -153,7 +117,7 @@ module _ (k : CharClasses) (levels : ℕ) (d : CallsBind k levels) (ops : Deeper
   grown-operand : (z : Place) (s : Point) (n : ℕ) (o : Outcome (Unit {0})) → bound (moved o.taken z) o.state ≤ bound z s → Grown k least n z s o ⊎ Lost k least n z s o → Operand k least z s (growths turns_by n (suc (bound z s)) o z)
   grown-operand z s n o h (inl g) = operand-growths k least turns_by n z s (λ x y. turn-turned k levels d ops least n z s x y) (suc (bound z s)) o (omega (arith, h)) g
   grown-operand z s n o h (inr g) =
-      operand-lost k least n z s turns_by (λ x. level-binds k levels d (code_tail_turn false least x) (plain-turn least x)) (λ x. (sane-at (rules k) k levels (code_tail_turn false least x)).backs)
+      operand-lost k least n z s turns_by (λ x. level-binds k levels d (code_tail_turn false least x) (proper-tail-turn _ false least x)) (λ x. (sane-at (rules k) k levels (code_tail_turn false least x)).backs)
       (λ x w t. gives-run l Says (code_tail_turn false least x) (says-turn least x) w t) (suc (bound z s)) o g
 
   pub expr-binds : (z : Place) (s : Point) → All Still (pending s.known) → Operand k least z s (run l (code_expr false least) z s)
@@ -207,4 +171,4 @@ module _ (k : CharClasses) where
   limit-binds d least z s still =
       let l = level_at k 0 in
       operand-after k least z s s true [] true (run l (too_deep anywhere >> gives (tt {0})) z s) refl
-      (record { binds = level-binds k 0 d (too_deep anywhere >> gives (tt {0})) (plain-deep anywhere, λ _. tt) z s still; last = λ sane. absurd (too-wrong z s sane) })
+      (record { binds = level-binds k 0 d (too_deep anywhere >> gives (tt {0})) (proper-deep _ anywhere, λ _. tt) z s still; last = λ sane. absurd (too-wrong z s sane) })

@@ -1,5 +1,5 @@
 -- Trees that bind where they have no errors.
-use Rattle.std.proofs.Common.{◌≡◌, ℕ, zero, suc, Bool, true, false, ◌&&◌, ◌||◌, if◌then◌else◌, List, [], ◌∷◌, ◌++◌, take, drop, None, refl, ap, sym, subst, ◌⊎◌, inl, inr}
+use Rattle.std.proofs.Common.{◌≡◌, ℕ, zero, suc, Bool, true, false, ◌&&◌, ◌||◌, if◌then◌else◌, List, [], ◌∷◌, ◌++◌, take, drop, None, refl, sym, subst, ◌⊎◌, inl, inr}
 use Rattle.std.proofs.lemmas.Bool.{and_parts}
 use Rattle.typst_kinds.specs.Kinds.{same, is_error}
 use Rattle.typst_kinds.specs.Names.{name_of}
@@ -8,7 +8,6 @@ use Rattle.typst_kinds.specs.declared.kind.SyntaxKind.TheVariants as kind
 use Rattle.typst_tree.specs.Diagnostic.{hint_with}
 use Rattle.typst_tree.specs.Messages.{made_unexpected, made_expected, expected_error, expected_message, unexpected_message, is_lost_name, keyword_hint}
 use Rattle.typst_tree.specs.Tree.{Tree, Forest, forest, trees, text_of, leaf_of, inner_of, error_of, topped, with_kind, made_error, advised, all_advised}
-use Rattle.typst_tree.specs.Tree.Forest.{none, more}
 use Rattle.typst_tree.proofs.SpansAside.{forest_trees}
 use Rattle.typst_language.specs.Shape.{Making, made, hinted_last, hinted, NodeChange, is_delimited, in_parens, renamed_last, parens_renamed, without_parens, on_first, first_changed, Shape, shaped}
 use Rattle.typst_language.specs.Shape.Making.{itself, of_kind, surprise, wanted}

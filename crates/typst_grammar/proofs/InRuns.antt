@@ -1,7 +1,6 @@
 -- The laws of what is read in a text's own run, and of what is read in a block, where no other block may be read but one level deeper.
 use Rattle.std.proofs.Common.{ℕ, false, refl}
 use Rattle.typst_lines.specs.Classes.{CharClasses}
-use Rattle.typst_language.specs.declared.calls.Block.{Block}
 use Rattle.typst_language.specs.Meaning.{blockless, plain, run}
 use Rattle.typst_language.specs.Sound.{Alike, Lawful}
 use Rattle.typst_language.specs.Steps.{peek}

@@ -6,7 +6,6 @@ use Rattle.typst_language.specs.Calls.{Call}
 use Rattle.typst_language.specs.Calls.Call.{MarkupExpr, CodeExpr, MathExpr, Pattern}
 use Rattle.typst_language.specs.Knot.{meaning_of}
 use Rattle.typst_language.specs.Meaning.{start_point, run}
-use Rattle.typst_language.specs.Syntax.{Parser}
 use Rattle.typst_code.specs.Markup.{markup_reading, markup_expr}
 use Rattle.typst_code.specs.Patterns.{pattern}
 use Rattle.typst_code.specs.Expressions.{code_expr}
@@ -15,47 +14,46 @@ use Rattle.typst_code.specs.Sequences.{code_reading}
 use Rattle.typst_code.specs.Equations.{math_reading}
 use Rattle.typst_grammar.specs.Binding.{BindingLaw, CodeBindingLaw, MathBindingLaw}
 use Rattle.typst_grammar.specs.Grammar.{production, level_at, max_depth, start_of, whole, whole_code, whole_math, parsed, parsed_code, parsed_math, tree, tree_code, tree_math}
-use Rattle.typst_grammar.proofs.Fine.{fine-over, is_ordinary, tame_kind, tame-ordinary}
+use Rattle.typst_grammar.proofs.Fine.{fine-over, is_ordinary}
 use Rattle.typst_grammar.proofs.BindingLevels.{CallsBind, DeeperOperands, level-binds}
 use Rattle.typst_grammar.proofs.Exprs.{ordinary-expr, expr-binds, deeper-binds, limit-binds}
-use Rattle.typst_grammar.proofs.FineRuns.{AllBind, PlainBy, Plain, plain-weaker}
-use Rattle.typst_grammar.proofs.PlainParts.{inside_content, plain-inside-content, plain-flush, plain-run, plain-exprs, plain-markup-expr, plain-pattern}
-use Rattle.typst_grammar.proofs.PlainCode.{inside_code, plain-inside-code, plain-code-exprs, plain-atomic, plain-math-expr}
+use Rattle.typst_grammar.proofs.FineRuns.{AllBind, PlainBy}
+use Rattle.typst_grammar.proofs.Proper.{free, Proper, ordinary, proper-flush}
+use Rattle.typst_grammar.proofs.PlainParts.{inside_content, proper-inside-content, proper-run, proper-exprs, proper-markup-expr, proper-pattern}
+use Rattle.typst_grammar.proofs.PlainCode.{inside_code, proper-inside-code, proper-code-exprs, proper-atomic}
+use Rattle.typst_grammar.proofs.PlainMath.{proper-math-expr}
 
 -- ---- whole texts
 
-plain-whole : Plain whole
+proper-whole : Proper free whole
 unfolding whole
-plain-whole = (plain-run _, λ _. plain-flush)
+proper-whole = (proper-run free _ (λ _ _. refl), λ _. proper-flush _)
 
-plain-whole-code : Plain whole_code
+proper-whole-code : Proper free whole_code
 unfolding whole_code
-plain-whole-code = ((refl, λ _. plain-code-exprs _), λ _. plain-flush)
+proper-whole-code = ((refl, λ _. proper-code-exprs _ _), λ _. proper-flush _)
 
-plain-whole-math : Plain whole_math
+proper-whole-math : Proper free whole_math
 unfolding whole_math
-plain-whole-math = ((refl, λ _. plain-exprs _), λ _. plain-flush)
+proper-whole-math = ((refl, λ _. proper-exprs _ _), λ _. proper-flush _)
 
 -- ---- no block's node but where a block is read
 
-ordinary : {A : Type 0} (p : Parser A) → Plain p → PlainBy is_ordinary p
-ordinary p w = plain-weaker tame_kind is_ordinary tame-ordinary p w
-
 pub ordinary-whole : PlainBy is_ordinary whole
-ordinary-whole = ordinary whole plain-whole
+ordinary-whole = ordinary whole proper-whole
 
 pub ordinary-production : (k : CharClasses) (c : Call) → PlainBy is_ordinary (production k c)
-ordinary-production k (MarkupExpr at_start nesting) = ordinary (markup_expr at_start nesting) (plain-markup-expr at_start nesting)
-ordinary-production k (CodeExpr true least) = ordinary (code_expr true least) (plain-atomic least)
+ordinary-production k (MarkupExpr at_start nesting) = ordinary (markup_expr at_start nesting) (proper-markup-expr _ at_start nesting)
+ordinary-production k (CodeExpr true least) = ordinary (code_expr true least) (proper-atomic _ least)
 ordinary-production k (CodeExpr false least) = ordinary-expr least
-ordinary-production k (MathExpr least stops) = ordinary (math_expr k least stops) (plain-math-expr k least stops)
-ordinary-production k (Pattern role names) = ordinary (pattern role names) (plain-pattern role names)
+ordinary-production k (MathExpr least stops) = ordinary (math_expr k least stops) (proper-math-expr _ k least stops)
+ordinary-production k (Pattern role names) = ordinary (pattern role names) (proper-pattern _ role names)
 
 pub ordinary-content : PlainBy is_ordinary inside_content
-ordinary-content = ordinary inside_content plain-inside-content
+ordinary-content = ordinary inside_content (proper-inside-content free (λ _ _. refl))
 
 pub ordinary-code : PlainBy is_ordinary inside_code
-ordinary-code = ordinary inside_code plain-inside-code
+ordinary-code = ordinary inside_code (proper-inside-code free)
 
 -- ---- each level
 
@@ -66,11 +64,11 @@ record Bound (k : CharClasses) (levels : ℕ) : Type 0 where
 
 module _ (k : CharClasses) where
   production-binds : (levels : ℕ) → Bound k levels → (c : Call) → AllBind (run (level_at k levels) (production k c))
-  production-binds levels d (MarkupExpr at_start nesting) = level-binds k levels d.calls _ (plain-markup-expr at_start nesting)
-  production-binds levels d (CodeExpr true least) = level-binds k levels d.calls _ (plain-atomic least)
+  production-binds levels d (MarkupExpr at_start nesting) = level-binds k levels d.calls _ (proper-markup-expr _ at_start nesting)
+  production-binds levels d (CodeExpr true least) = level-binds k levels d.calls _ (proper-atomic _ least)
   production-binds levels d (CodeExpr false least) = λ z s h. (expr-binds k levels d.calls d.operands least z s h).binds
-  production-binds levels d (MathExpr least stops) = level-binds k levels d.calls _ (plain-math-expr k least stops)
-  production-binds levels d (Pattern role names) = level-binds k levels d.calls _ (plain-pattern role names)
+  production-binds levels d (MathExpr least stops) = level-binds k levels d.calls _ (proper-math-expr _ k least stops)
+  production-binds levels d (Pattern role names) = level-binds k levels d.calls _ (proper-pattern _ role names)
 
   limit-calls : CallsBind k 0
   unfolding meaning_of
@@ -88,12 +86,12 @@ module _ (k : CharClasses) where
 
 pub binding-markup : BindingLaw
 unfolding tree
-binding-markup k text = fine-over kind.Markup (parsed k max_depth text).nodes refl (level-binds k max_depth (all-bound k max_depth).calls whole plain-whole (start_of text) (start_point markup_reading) tt).nodes
+binding-markup k text = fine-over kind.Markup (parsed k max_depth text).nodes refl (level-binds k max_depth (all-bound k max_depth).calls whole proper-whole (start_of text) (start_point markup_reading) tt).nodes
 
 pub binding-code : CodeBindingLaw
 unfolding tree_code
-binding-code k text = fine-over kind.Code (parsed_code k max_depth text).nodes refl (level-binds k max_depth (all-bound k max_depth).calls whole_code plain-whole-code (start_of text) (start_point code_reading) tt).nodes
+binding-code k text = fine-over kind.Code (parsed_code k max_depth text).nodes refl (level-binds k max_depth (all-bound k max_depth).calls whole_code proper-whole-code (start_of text) (start_point code_reading) tt).nodes
 
 pub binding-math : MathBindingLaw
 unfolding tree_math
-binding-math k text = fine-over kind.Math (parsed_math k max_depth text).nodes refl (level-binds k max_depth (all-bound k max_depth).calls whole_math plain-whole-math (start_of text) (start_point math_reading) tt).nodes
+binding-math k text = fine-over kind.Math (parsed_math k max_depth text).nodes refl (level-binds k max_depth (all-bound k max_depth).calls whole_math proper-whole-math (start_of text) (start_point math_reading) tt).nodes

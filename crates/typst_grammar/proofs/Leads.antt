@@ -5,23 +5,22 @@ use Rattle.typst_lines.specs.Place.{Place, moved}
 use Rattle.typst_tree.specs.Tree.{Tree, text_of}
 use Rattle.typst_language.specs.declared.calls.Block.{Block}
 use Rattle.typst_language.specs.Calls.{Call}
-use Rattle.typst_language.specs.Hand.{Hand, AtHand, as_at_hand}
+use Rattle.typst_language.specs.Hand.{Hand, as_at_hand}
 use Rattle.typst_language.specs.Point.{Point, pending}
-use Rattle.typst_language.specs.declared.reading.Reading.{Reading}
 use Rattle.typst_language.specs.Shape.{Making, hinted_last, hinted, Shape, shaped, count_empty, after_node}
-use Rattle.typst_language.specs.Shape.Making.{itself}
 use Rattle.typst_language.specs.Sound.{Tidy, Backs}
-use Rattle.typst_language.specs.Syntax.{Parser}
-use Rattle.typst_language.specs.Syntax.Begin.{at_token}
-use Rattle.typst_language.specs.Syntax.Op.{hand, takes}
-use Rattle.typst_language.specs.Syntax.Parser.{does, next, pick, scoped, either}
-use Rattle.typst_language.specs.Steps.{eat_making, eat, within, node, nest}
-use Rattle.typst_language.specs.Meaning.{Outcome, Level, plain, less, joined, as_last, bound, entered, inside, reshaped, nestings, nesting, given_up, taken_node, hand_of, hand_asks_of, asked, run}
+use Rattle.typst_language.specs.Syntax.{Begin, Op, Parser}
+use Rattle.typst_language.specs.Syntax.Begin.{at_token, at_trivia}
+use Rattle.typst_language.specs.Syntax.Op.{hand, column, takes}
+use Rattle.typst_language.specs.Syntax.Parser.{gives, does, next, pick, repeat, wraps, grows, nests, scoped, either, calls, block}
+use Rattle.typst_language.specs.Meaning.{Outcome, Level, plain, less, joined, as_last, before, bound, entered, inside, reshaped, wrapped, nestings, nesting, given_up, taken_node, hand_of, hand_asks_of, asked, run}
 use Rattle.typst_language.proofs.Backs.{backs-run, shape-counts, tidy-nestings, left-empties}
 use Rattle.typst_language.proofs.Ends.{hand-again}
 use Rattle.typst_language.proofs.HintedNodes.{length-hinted}
 use Rattle.typst_language.proofs.Places.{length-less}
 use Rattle.typst_language.proofs.Within.{on_both}
+use Rattle.std.proofs.lemmas.Bool.{and_parts}
+use Rattle.typst_grammar.proofs.EatsFirst.{EatsFirst, op_eats, is_at_token}
 use Rattle.typst_grammar.proofs.Fine.{All, Steady}
 use Rattle.typst_grammar.proofs.FineRuns.{Still, still-hand}
 use Rattle.typst_grammar.proofs.Heads.{Bare, bare-advised, standing-none}
@@ -126,8 +125,20 @@ module _ (l : Level) where
         first = all-front Bare x.trivia (t ∷ []) (all-bare x.trivia (still-hand l z s h));
       }
 
+  op-fills : {A : Type 0} (o : Op A) → op_eats o ≡ true → Fills (does o)
+  op-fills (takes false making) e = fills-takes making
+  op-fills (takes true making) e = absurd (cc)
+  op-fills _ e = absurd (cc)
+
+  -- if the token was looked at, the trivia before it are known
+  abbrev Known : Bool → Place → Point → Type 0
+  Known looked z s = looked ≡ true → length (pending s.known) ≡ length (hand_of l z s).trivia
+
+  abbrev FillsBy : {A : Type 0} → Bool → Parser A → Type 0
+  FillsBy looked p = (z : Place) (s : Point) → All Still (pending s.known) → Known looked z s → Leads (length (hand_of l z s).trivia) (run l p z s)
+
   -- after a look
-  pub leads-after : {A B : Type 0} (n : ℕ) (b : B) (t : Point) (asks : List _) (q : Outcome A) → Leads n q → Leads n (joined (record (plain b t) { asks = asks }) q)
+  leads-after : {A B : Type 0} (n : ℕ) (b : B) (t : Point) (asks : List _) (q : Outcome A) → Leads n q → Leads n (joined (record (plain b t) { asks = asks }) q)
   leads-after n b t asks q h =
       let e = standing-none q in
       let long = ap length e in
@@ -138,72 +149,61 @@ module _ (l : Level) where
         first = subst (λ (ts : List Tree). All Bare (take n ts)) (sym e) h.first;
       }
 
-  pub fills-peek : {A : Type 0} (f : AtHand → Parser A) → ((a : AtHand) → Fills (f a)) → Fills (next (does hand) f)
-  unfolding run
-  fills-peek f h z s k =
+  fills-look : {A B : Type 0} (b : B) (asks : List _) (f : B → Parser A) → FillsBy true (f b) → (z : Place) (s : Point) → All Still (pending s.known)
+      → Leads (length (hand_of l z s).trivia) (joined (record (plain b (asked (hand_of l z s) s)) { asks = asks }) (run l (f b) z (asked (hand_of l z s) s)))
+  fills-look b asks f h z s still =
       let t = asked (hand_of l z s) s in
-      let a = as_at_hand (hand_of l z s) in
-      let q = run l (f a) z t in
-      let first = h a z t (still-hand l z s k) in
-      leads-after (length (hand_of l z s).trivia) a t (hand_asks_of l z s) q (subst (λ (x : Hand). Leads (length x.trivia) q) (hand-again l.classes s.held s.known z) first)
+      let again = hand-again l.classes s.held s.known z in
+      let first = h z t (still-hand l z s still) (λ _. sym (ap (λ (x : Hand). length x.trivia) again)) in
+      leads-after (length (hand_of l z s).trivia) b t asks (run l (f b) z t) (subst (λ (x : Hand). Leads (length x.trivia) (run l (f b) z t)) again first)
 
-  pub fills-scoped : {A : Type 0} (f : Reading → Reading) (p : Parser A) → Fills p → Fills (scoped f p)
-  unfolding run
-  fills-scoped f p h z s k =
-      let o = run l p z (entered (f s.reading) s) in
-      let x = h z (entered (f s.reading) s) k in
-      let e = left-empties s.reading o.state in
-      let r = x.room in
-      record { none = x.none; room = omega (arith, e, r); first = x.first }
-
-  pub fills-either : {A : Type 0} (p : Parser A) (is_wrong : A → Bool) (q : Parser A) → Fills p → Fills q → Fills (either p is_wrong q)
-  unfolding run
-  fills-either p is_wrong q h i z s k =
-      let x = i z s k in
-      on_both (Leads (length (hand_of l z s).trivia)) (is_wrong (run l p z s).value) (given_up (run l p z s) (run l q z s)) (run l p z s) (record { none = x.none; room = x.room; first = x.first }) (h z s k)
-
-  pub fills-pick : {A : Type 0} (b : Bool) (p q : Parser A) → Fills p → Fills q → Fills (pick b p q)
-  unfolding run
-  fills-pick b p q h i z s k = on_both (Leads (length (hand_of l z s).trivia)) b (run l p z s) (run l q z s) (h z s k) (i z s k)
+  -- the trivia that are known come before a node that begins here
+  begins-at : (looked : Bool) (begin : Begin) (n : ℕ) (s : Point) → (looked && is_at_token begin) ≡ true → (looked ≡ true → length (pending s.known) ≡ n) → before begin s ≡ n
+  begins-at looked at_token n s e known = known (and_parts looked true e).0
+  begins-at looked at_trivia n s e known = let x = (and_parts looked false e).1 in absurd (cc)
 
   module _ (d : (c : Call) → Backs (l.deeper c)) (e : (b : Block) → Backs (l.blocks b)) where
-    pub fills-next : {A B : Type 0} (p : Parser B) (f : B → Parser A) → Fills p → Fills (next p f)
+    then-fills : {A B : Type 0} (blocks looked : Bool) (p : Parser B) (f : B → Parser A) → (EatsFirst blocks looked p → FillsBy looked p) → ((b : B) → EatsFirst blocks true (f b) → FillsBy true (f b)) → EatsFirst blocks looked (next p f) → FillsBy looked (next p f)
     unfolding run
-    fills-next p f h z s k = let o = run l p z s in leads-joined (length (hand_of l z s).trivia) o (run l (f o.value) (moved o.taken z) o.state) (h z s k) (backs-run l d e (f o.value) (moved o.taken z) o.state)
+    then-fills blocks looked (does hand) f first rest w z s still known = let a = as_at_hand (hand_of l z s) in fills-look a (hand_asks_of l z s) f (rest a (w a)) z s still
+    then-fills blocks looked (does column) f first rest w z s still known = let o = run l (does column) z s in fills-look o.value o.asks f (rest o.value (w o.value)) z s still
+    then-fills blocks looked p f first rest w z s still known =
+        let o = run l p z s in
+        leads-joined (length (hand_of l z s).trivia) o (run l (f o.value) (moved o.taken z) o.state) (first w z s still known) (backs-run l d e (f o.value) (moved o.taken z) o.state)
 
-    pub fills-making : (making : Making) → Fills (eat_making false making)
-    unfolding eat_making
-    fills-making making = fills-next (does (takes false making)) _ (fills-takes making)
-
-    pub fills-eat : Fills eat
-    unfolding eat
-    fills-eat = fills-making itself
-
-    pub fills-within : {A : Type 0} (f : Reading → Reading) (p : Parser A) → Fills p → Fills (within f p)
-    unfolding within
-    fills-within f p h = fills-next (scoped f p) _ (fills-scoped f p h)
-
-    pub fills-node : {A : Type 0} (shape : A → Shape) (p : Parser A) → Fills p → Fills (node shape p)
-    unfolding run node
-    fills-node shape p h z s k =
-        let t = asked (hand_of l z s) s in
+    -- what takes the token at hand first leads, where blocks do
+    pub eats-leads : {A : Type 0} (blocks looked : Bool) (p : Parser A) → (blocks ≡ true → (b : Block) → Fills (block b)) → EatsFirst blocks looked p → FillsBy looked p
+    unfolding run nesting
+    eats-leads blocks looked (gives a) i w z s still known = absurd w
+    eats-leads blocks looked (does o) i w z s still known = op-fills o w z s still
+    eats-leads blocks looked (next p f) i w z s still known = then-fills blocks looked p f (eats-leads blocks looked p i) (λ b. eats-leads blocks true (f b) i) w z s still known
+    eats-leads blocks looked (pick b p q) i w z s still known =
+        on_both (Leads (length (hand_of l z s).trivia)) b (run l p z s) (run l q z s) (eats-leads blocks looked p i w.0 z s still known) (eats-leads blocks looked q i w.1 z s still known)
+    eats-leads blocks looked (repeat p x) i w z s still known = absurd w
+    eats-leads blocks looked (wraps f begin p) i w z s still known =
         let n = length (hand_of l z s).trivia in
-        let o = run l p z t in
-        let first = subst (λ (x : Hand). Leads (length x.trivia) o) (hand-again l.classes s.held s.known z) (h z t (still-hand l z s k)) in
-        let r = leads-reshaped n (shape o.value) o first in
-        let w = reshaped (shape o.value) n o in
-        leads-after n (as_at_hand (hand_of l z s)) t (hand_asks_of l z s) (joined w (plain o.value w.state)) (leads-joined n w (plain o.value w.state) r (record { back = omega arith; left = omega arith }))
-
-    pub fills-nest : {A : Type 0} (shape : A → Shape) (turn : A → Parser (Bool × A)) (x : A) → Fills (turn x) → Fills (nest shape turn x)
-    unfolding run nest nesting
-    fills-nest shape turn x h z s k =
-        let t = asked (hand_of l z s) s in
+        let o = run l p z s in
+        let r = leads-reshaped n (f o.value) o (eats-leads blocks looked p i w.1 z s still known) in
+        subst (λ (m : ℕ). Leads n (wrapped f m o)) (sym (begins-at looked begin n s w.0 known)) (record { none = r.none; room = r.room; first = r.first })
+    eats-leads blocks looked (grows begin p f) i w z s still known = absurd w
+    eats-leads blocks looked (nests f begin p x) i w z s still known =
         let n = length (hand_of l z s).trivia in
-        let o = run l (turn x) z t in
-        let first = subst (λ (y : Hand). Leads (length y.trivia) o) (hand-again l.classes s.held s.known z) (h z t (still-hand l z s k)) in
-        let more = nestings shape at_token (λ y. run l (turn y)) (bound z t) o.value.1 (moved o.taken z) o.state in
+        let o = run l (p x) z s in
+        let first = eats-leads blocks looked (p x) i w.1 z s still known in
+        let more = nestings f begin (λ y. run l (p y)) (bound z s) o.value.1 (moved o.taken z) o.state in
         let b = o.value.0 && nat_lt 0 o.taken in
-        let p = if b then joined o more else as_last o in
+        let q = if b then joined o more else as_last o in
         let last : Leads n (as_last o) = record { none = first.none; room = first.room; first = first.first } in
-        let inner = on_both (Leads n) b (joined o more) (as_last o) (leads-joined n o more first (tidy-nestings shape at_token (λ y. run l (turn y)) (λ y. backs-run l d e (turn y)) (bound z t) o.value.1 (moved o.taken z) o.state)) last in
-        leads-after n (as_at_hand (hand_of l z s)) t (hand_asks_of l z s) (reshaped (shape p.value) n p) (leads-reshaped n (shape p.value) p inner)
+        let inner = on_both (Leads n) b (joined o more) (as_last o) (leads-joined n o more first (tidy-nestings f begin (λ y. run l (p y)) (λ y. backs-run l d e (p y)) (bound z s) o.value.1 (moved o.taken z) o.state)) last in
+        subst (λ (j : ℕ). Leads n (reshaped (f q.value) j q)) (sym (begins-at looked begin n s w.0 known)) (leads-reshaped n (f q.value) q inner)
+    eats-leads blocks looked (scoped f p) i w z s still known =
+        let o = run l p z (entered (f s.reading) s) in
+        let x = eats-leads blocks looked p i w z (entered (f s.reading) s) still known in
+        let few = left-empties s.reading o.state in
+        let r = x.room in
+        record { none = x.none; room = omega (arith, few, r); first = x.first }
+    eats-leads blocks looked (either p is_wrong q) i w z s still known =
+        let x = eats-leads blocks looked q i w.1 z s still known in
+        on_both (Leads (length (hand_of l z s).trivia)) (is_wrong (run l p z s).value) (given_up (run l p z s) (run l q z s)) (run l p z s) (record { none = x.none; room = x.room; first = x.first }) (eats-leads blocks looked p i w.0 z s still known)
+    eats-leads blocks looked (calls c) i w z s still known = absurd w
+    eats-leads blocks looked (block b) i w z s still known = i w b z s still

@@ -1,22 +1,20 @@
 -- Parsers that take something where something is left: the words of the language.
-use Rattle.std.proofs.Common.{◌≡◌, ℕ, zero, suc, ◌+◌, ◌<◌, ◌≤◌, Bool, true, false, ◌&&◌, ◌||◌, if◌then◌else◌, nat_lt, List, [], ◌∷◌, Option, Some, None, refl, ap, sym, subst, arith}
-use Rattle.typst_kinds.proofs.Sameness.{same-is}
-use Rattle.typst_kinds.specs.Kinds.{among, same}
-use Rattle.typst_kinds.specs.declared.kind.SyntaxKind.{SyntaxKind}
+use Rattle.std.proofs.Common.{◌≡◌, ℕ, zero, suc, ◌+◌, ◌<◌, ◌≤◌, Bool, true, false, ◌&&◌, if◌then◌else◌, nat_lt, List, Option, Some, None, refl, ap, arith}
 use Rattle.typst_lines.specs.Place.{Place, moved}
+use Rattle.typst_language.specs.declared.calls.Block.{Block}
 use Rattle.typst_language.specs.declared.reading.Reading.{Reading}
 use Rattle.typst_language.specs.Point.{Point}
 use Rattle.typst_language.specs.Hand.{Hand, AtHand, as_at_hand}
 use Rattle.typst_language.specs.Shape.{Making, Shape}
-use Rattle.typst_language.specs.Shape.Making.{itself, of_kind, surprise}
-use Rattle.typst_language.specs.Expected.{seeing}
-use Rattle.typst_language.specs.Syntax.{Begin, Parser}
+use Rattle.typst_language.specs.Shape.Making.{itself, surprise}
+use Rattle.typst_language.specs.Syntax.{Begin, Op, Parser}
 use Rattle.typst_language.specs.Syntax.Begin.{at_token}
-use Rattle.typst_language.specs.Syntax.Op.{hand, takes}
-use Rattle.typst_language.specs.Syntax.Parser.{does, either, next, pick, scoped, wraps}
-use Rattle.typst_language.specs.Steps.{eat, eat_making, convert_and_eat, unexpected, within, node, grow, nest}
+use Rattle.typst_language.specs.Syntax.Op.{hand, column, takes}
+use Rattle.typst_language.specs.Syntax.Parser.{gives, does, next, pick, repeat, wraps, grows, nests, scoped, either, calls, block}
+use Rattle.typst_language.specs.Steps.{eat, eat_making, unexpected, within, node, grow}
 use Rattle.typst_language.specs.Meaning.{Outcome, Meaning, Level, given_up, before, entered, hand_of, asked, answered, joined, followed, as_last, bound, grown, growths, growing, is_more, nestings, nesting, run}
 use Rattle.typst_language.proofs.Ends.{hand-again}
+use Rattle.typst_grammar.proofs.EatsFirst.{EatsFirst, op_eats}
 
 -- where something is left, trivia or a token, something is taken
 abbrev pub Moves : {A : Type 0} → Level → Parser A → Type 0
@@ -36,6 +34,13 @@ module _ (l : Level) where
   moves-peek f e z s h =
       let t = asked (hand_of l z s) s in
       let rest : 0 < (run l (f (as_at_hand (hand_of l z s))) (moved 0 z) t).taken = e (as_at_hand (hand_of l z s)) z t (omega (arith, left-again z s)) in omega arith
+
+  moves-column : {A : Type 0} (f : ℕ → Parser A) → ((c : ℕ) → Moves l (f c)) → Moves l (next (does column) f)
+  unfolding run
+  moves-column f e z s h =
+      let c = (run l (does column) z s).value in
+      let t = asked (hand_of l z s) s in
+      let rest : 0 < (run l (f c) (moved 0 z) t).taken = e c z t (omega (arith, left-again z s)) in omega arith
 
   pub moves-takes : (trims : Bool) (making : Making) → Moves l (does (takes trims making))
   unfolding run
@@ -85,10 +90,10 @@ grown-more m n (suc k) o z =
     either-more o.taken (is_more p.value.0 && nat_lt 0 p.taken) (growths m n k more z) more (omega (arith, here, rest)) here
 
 -- what nests takes no less than its first turn
-nested-more : {A : Type 0} (f : A → Shape) (m : A → Meaning (Bool × A)) (k : ℕ) (x : A) (z : Place) (s : Point) → (m x z s).taken ≤ (nestings f at_token m (suc k) x z s).taken
-nested-more f m k x z s =
+nested-more : {A : Type 0} (f : A → Shape) (begin : Begin) (m : A → Meaning (Bool × A)) (k : ℕ) (x : A) (z : Place) (s : Point) → (m x z s).taken ≤ (nestings f begin m (suc k) x z s).taken
+nested-more f begin m k x z s =
     let o = m x z s in
-    either-more o.taken (o.value.0 && nat_lt 0 o.taken) (followed o (λ v. nestings f at_token m k v.1) z) (as_last o) (omega arith) (omega arith)
+    either-more o.taken (o.value.0 && nat_lt 0 o.taken) (followed o (λ v. nestings f begin m k v.1) z) (as_last o) (omega arith) (omega arith)
 
 module _ (l : Level) where
   pub moves-grow : {A : Type 0} (p : Parser A) (turn : A → Parser (Option Shape × A)) (z : Place) (s : Point) → 0 < (run l p (moved 0 z) (asked (hand_of l z s) s)).taken → 0 < (run l (grow p turn) z s).taken
@@ -98,12 +103,11 @@ module _ (l : Level) where
       let more = grown-more (λ y. run l (turn y)) (before at_token t) (suc (bound (moved 0 z) t)) (run l p (moved 0 z) t) (moved 0 z) in
       omega (arith, h, more)
 
-  pub moves-nest : {A : Type 0} (shape : A → Shape) (turn : A → Parser (Bool × A)) (x : A) → Moves l (turn x) → Moves l (nest shape turn x)
-  unfolding run nest nesting
-  moves-nest shape turn x e z s h =
-      let t = asked (hand_of l z s) s in
-      let inside : 0 < (run l (turn x) (moved 0 z) t).taken = e z t (omega (arith, left-again l z s)) in
-      let more = nested-more shape (λ y. run l (turn y)) (bound (moved 0 z) t) x (moved 0 z) t in
+  moves-nests : {A : Type 0} (shape : A → Shape) (begin : Begin) (turn : A → Parser (Bool × A)) (x : A) → Moves l (turn x) → Moves l (nests shape begin turn x)
+  unfolding run nesting
+  moves-nests shape begin turn x e z s h =
+      let inside : 0 < (run l (turn x) z s).taken = e z s h in
+      let more = nested-more shape begin (λ y. run l (turn y)) (bound z s) x z s in
       omega (arith, inside, more)
 
 -- of two readings the one that stands takes something
@@ -112,11 +116,11 @@ taken-either true o p h i = i
 taken-either false o p h i = h
 
 module _ (l : Level) where
-  pub moves-either : {A : Type 0} (p : Parser A) (is_wrong : A → Bool) (q : Parser A) → Moves l p → Moves l q → Moves l (either p is_wrong q)
+  moves-either : {A : Type 0} (p : Parser A) (is_wrong : A → Bool) (q : Parser A) → Moves l p → Moves l q → Moves l (either p is_wrong q)
   unfolding run
   moves-either p is_wrong q e f z s h = taken-either (is_wrong (run l p z s).value) (run l p z s) (run l q z s) (e z s h) (f z s h)
 
-  pub moves-pick : {A : Type 0} (b : Bool) (p q : Parser A) → Moves l p → Moves l q → Moves l (pick b p q)
+  moves-pick : {A : Type 0} (b : Bool) (p q : Parser A) → Moves l p → Moves l q → Moves l (pick b p q)
   unfolding run
   moves-pick true p q e f z s h = e z s h
   moves-pick false p q e f z s h = f z s h
@@ -125,30 +129,29 @@ module _ (l : Level) where
   unfolding run
   moves-wraps shape begin p e z s h = e z s h
 
-  pub moves-seeing : {A : Type 0} (p : Parser A) → Moves l p → Moves l (seeing p)
-  unfolding seeing
-  moves-seeing p e = moves-peek l _ (λ a. moves-wraps _ _ p e)
+-- ---- what takes the token at hand first
 
-  pub moves-convert : (k : SyntaxKind) → Moves l (convert_and_eat k)
-  unfolding convert_and_eat
-  moves-convert k = moves-making l false (of_kind k)
+module _ (l : Level) where
+  op-moves : {A : Type 0} (o : Op A) → op_eats o ≡ true → Moves l (does o)
+  op-moves (takes trims making) e = moves-takes l trims making
+  op-moves _ e = absurd (cc)
 
--- ---- tables of kinds
+  then-moves : {A B : Type 0} (blocks looked : Bool) (p : Parser B) (f : B → Parser A) → (EatsFirst blocks looked p → Moves l p) → ((b : B) → EatsFirst blocks true (f b) → Moves l (f b)) → EatsFirst blocks looked (next p f) → Moves l (next p f)
+  then-moves blocks looked (does hand) f first rest w = moves-peek l f (λ a. rest a (w a))
+  then-moves blocks looked (does column) f first rest w = moves-column l f (λ a. rest a (w a))
+  then-moves blocks looked p f first rest w = moves-next l p f (first w)
 
--- what holds of each of some kinds holds of those among them
-abbrev pub Each : (SyntaxKind → Type 0) → List SyntaxKind → Type 0
-Each P [] = Unit {0}
-Each P (k ∷ ks) = P k × Each P ks
-
--- it holds of the first, and of the others
-infixr 10 ◌also◌
-pub ◌also◌ : {A B : Type 0} → A → B → A × B
-a also b = (a, b)
-
-pub of-each : (P : SyntaxKind → Type 0) (ks : List SyntaxKind) → Each P ks → (k : SyntaxKind) → among ks k ≡ true → P k
-of-each P [] h k e = absurd (cc)
-of-each P (j ∷ ks) h k e = of-first (same j k) refl (λ others. of-each P ks h.1 k others)
-  where
-    of-first : (b : Bool) → same j k ≡ b → (among ks k ≡ true → P k) → P k
-    of-first true f rest = subst P (sym (same-is j k f)) h.0
-    of-first false f rest = rest (subst (λ b. (b || among ks k) ≡ true) f e)
+  -- it moves, where blocks do
+  pub eats-moves : {A : Type 0} (blocks looked : Bool) (p : Parser A) → (blocks ≡ true → (b : Block) → Moves l (block b)) → EatsFirst blocks looked p → Moves l p
+  eats-moves blocks looked (gives a) i w = absurd w
+  eats-moves blocks looked (does o) i w = op-moves o w
+  eats-moves blocks looked (next p f) i w = then-moves blocks looked p f (eats-moves blocks looked p i) (λ b. eats-moves blocks true (f b) i) w
+  eats-moves blocks looked (pick b p q) i w = moves-pick l b p q (eats-moves blocks looked p i w.0) (eats-moves blocks looked q i w.1)
+  eats-moves blocks looked (repeat p x) i w = absurd w
+  eats-moves blocks looked (wraps f begin p) i w = moves-wraps l f begin p (eats-moves blocks looked p i w.1)
+  eats-moves blocks looked (grows begin p f) i w = absurd w
+  eats-moves blocks looked (nests f begin p x) i w = moves-nests l f begin p x (eats-moves blocks looked (p x) i w.1)
+  eats-moves blocks looked (scoped f p) i w = moves-scoped l f p (eats-moves blocks looked p i w)
+  eats-moves blocks looked (either p is_wrong q) i w = moves-either l p is_wrong q (eats-moves blocks looked p i w.0) (eats-moves blocks looked q i w.1)
+  eats-moves blocks looked (calls c) i w = absurd w
+  eats-moves blocks looked (block b) i w = i w b

@@ -2,7 +2,6 @@
 use Rattle.std.proofs.Common.{length-append, length-drop, None, ◌≡◌, ℕ, zero, suc, ◌+◌, ◌-◌, ◌<◌, Bool, true, false, List, [], ◌∷◌, ◌++◌, length, take, drop, refl, ap, sym, ◌∙◌, ◌⊎◌, inl, inr, subst, arith, codes}
 use Rattle.typst_kinds.specs.declared.kind.SyntaxKind.{SyntaxKind}
 use Rattle.typst_kinds.specs.declared.kind.SyntaxKind.TheVariants as kind
-use Rattle.typst_kinds.specs.declared.operator.UnOp.{UnOp}
 use Rattle.typst_lines.specs.Place.{Place, moved}
 use Rattle.typst_tree.specs.Tree.{Tree, text_of, error_of, advised}
 use Rattle.typst_language.specs.declared.calls.AfterName.{AfterName}
@@ -30,10 +29,7 @@ use Rattle.typst_code.specs.Sequences.{code_block}
 use Rattle.typst_code.specs.Closures.{after_name, after_underscore, name_shape, underscore_shape, named, placeholder, headed, closure_shape, right_side}
 use Rattle.typst_language.proofs.Within.{on_both}
 use Rattle.typst_code.specs.Equations.{equation}
-use Rattle.typst_code.specs.Bindings.{let_binding}
-use Rattle.typst_code.specs.Expressions.{unary_expr}
-use Rattle.typst_code.specs.Imports.{module_import}
-use Rattle.typst_code.specs.Statements.{set_rule, show_rule, show_shape, contextual, conditional, while_loop, for_loop, module_include, jump, func_return}
+use Rattle.typst_code.specs.Statements.{show_rule, show_shape, conditional}
 use Rattle.typst_language.specs.Meaning.{Outcome, Level, plain, less, closed, flushed_state, joined, inside, reshaped, hand_of, hand_asks_of, asked, run}
 use Rattle.typst_language.proofs.Ends.{hand-again}
 use Rattle.typst_grammar.proofs.Fine.{All, all-append, all-drop, all-take, all-hinted}
@@ -44,18 +40,6 @@ use Rattle.typst_grammar.proofs.Leads.{Leads, all-bare}
 use Rattle.typst_grammar.proofs.Firsts.{within_blocks, fills-inside}
 
 module _ (l : Level) (i : SyntaxKind) where
-  pub head-unary : (op : UnOp) → Heads l i (unary_expr op)
-  unfolding unary_expr
-  head-unary op = head-node l i _ _ (λ a ts. (refl, refl))
-
-  pub head-let : Heads l i let_binding
-  unfolding let_binding
-  head-let = head-node l i _ _ (λ a ts. (refl, refl))
-
-  pub head-set : Heads l i set_rule
-  unfolding set_rule
-  head-set = head-node l i _ _ (λ a ts. (refl, refl))
-
   single-show : (colon : Bool) (ts : List Tree) → Single (shaped (show_shape colon) ts)
   single-show true ts = (refl, refl)
   single-show false ts = (refl, refl)
@@ -64,41 +48,9 @@ module _ (l : Level) (i : SyntaxKind) where
   unfolding show_rule
   head-show = head-next l i (node show_shape _) _ (head-node l i show_shape _ single-show)
 
-  pub head-context : Heads l i (contextual false)
-  unfolding contextual
-  head-context = head-node l i _ _ (λ a ts. (refl, refl))
-
   pub head-conditional : Heads l i conditional
   unfolding conditional
   head-conditional = head-nest l i _ _ tt (λ a ts. (refl, refl))
-
-  pub head-while : Heads l i while_loop
-  unfolding while_loop
-  head-while = head-node l i _ _ (λ a ts. (refl, refl))
-
-  pub head-for : Heads l i for_loop
-  unfolding for_loop
-  head-for = head-node l i _ _ (λ a ts. (refl, refl))
-
-  pub head-import : Heads l i module_import
-  unfolding module_import
-  head-import = head-node l i _ _ (λ a ts. (refl, refl))
-
-  pub head-include : Heads l i module_include
-  unfolding module_include
-  head-include = head-node l i _ _ (λ a ts. (refl, refl))
-
-  pub head-break : Heads l i (jump kind.LoopBreak)
-  unfolding jump
-  head-break = head-node l i _ _ (λ a ts. (refl, refl))
-
-  pub head-continue : Heads l i (jump kind.LoopContinue)
-  unfolding jump
-  head-continue = head-node l i _ _ (λ a ts. (refl, refl))
-
-  pub head-return : Heads l i func_return
-  unfolding func_return
-  head-return = head-node l i _ _ (λ a ts. (refl, refl))
 
   single-dollars : (closed : Bool) (ts : List Tree) → Single (shaped (encloses kind.Equation closed) ts)
   single-dollars true ts = (refl, refl)

@@ -34,9 +34,9 @@ use Rattle.typst_language.proofs.Within.{on_both}
 use Rattle.typst_grammar.proofs.Signs.{sign_of}
 use Rattle.typst_grammar.proofs.Fine.{All, Steady, all-append, no-operator}
 use Rattle.typst_grammar.proofs.FineRuns.{Gives, gives-all, gives-run, Still, still-hand}
-use Rattle.typst_grammar.proofs.Firsts.{fills-readings}
+use Rattle.typst_grammar.proofs.PlainCode.{first-readings}
 use Rattle.typst_grammar.proofs.Heads.{Bare, bare-advised, bare-error, Unary, last-after, last-all, Single, Head, Heads, Silent, head-next, head-peek, head-wrapped, head-reshaped, head-stays, head-node, head-silent, silent-joined, silent-plain, standing-none, standing-silent}
-use Rattle.typst_grammar.proofs.Leads.{Leads, all-bare}
+use Rattle.typst_grammar.proofs.Leads.{Leads, all-bare, eats-leads}
 use Rattle.typst_grammar.proofs.Missing.{Missed, missed}
 
 -- ---- after what leads
@@ -260,7 +260,7 @@ module _ (l : Level) (d : (c : Call) → Backs (l.deeper c)) (e : (b : Block) �
       let again = hand-again l.classes s.held s.known z in
       let o = run l readings z t in
       let x = subst (λ (v : Hand). Head (length v.trivia) t o) again (head-readings l i z t known (ap (λ (v : Hand). v.kind) again ∙ f)) in
-      let lead = subst (λ (v : Hand). Leads (length v.trivia) o) again (fills-readings l d e z t known) in
+      let lead = subst (λ (v : Hand). Leads (length v.trivia) o) again (eats-leads l d e false false readings (λ x. absurd (cc)) (first-readings false false) z t known (λ x. absurd (cc))) in
       head-wrapped l s closure_shape inner z s (after-readings l n s z o lead (record { inside = x.inside; last = x.last }) (binds z t known)
       (λ v. backs-run l d e (sign v >>= λ came. expression_if came >>= λ rest. gives (after_if came v)) (moved o.taken z) o.state) o.value)
 

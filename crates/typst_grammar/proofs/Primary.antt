@@ -9,7 +9,10 @@ use Rattle.typst_lines.specs.Classes.{CharClasses}
 use Rattle.typst_language.specs.declared.calls.Block.TheVariants as block
 use Rattle.typst_code.specs.declared.heads.CodeHead.{CodeHead}
 use Rattle.typst_code.specs.declared.heads.CodeHead.TheVariants as head
-use Rattle.typst_code.specs.Expressions.{code_by, code_head, code_primary}
+use Rattle.typst_code.specs.Bindings.{let_binding}
+use Rattle.typst_code.specs.Imports.{module_import}
+use Rattle.typst_code.specs.Statements.{set_rule, contextual, while_loop, for_loop, module_include, jump, func_return}
+use Rattle.typst_code.specs.Expressions.{code_by, code_head, code_primary, unary_expr}
 use Rattle.typst_language.specs.Hand.{Hand, AtHand, as_at_hand}
 use Rattle.typst_code.specs.Parens.{readings}
 use Rattle.typst_language.specs.Point.{Point, pending}
@@ -20,16 +23,17 @@ use Rattle.typst_language.proofs.Ends.{hand-again}
 use Rattle.typst_grammar.specs.Grammar.{level_at}
 use Rattle.typst_grammar.proofs.Fine.{All, all-append, all-drop, all-map}
 use Rattle.typst_grammar.proofs.FineRuns.{Binds, Still, still-hand}
-use Rattle.typst_grammar.proofs.PlainCode.{plain-primary, plain-readings}
-use Rattle.typst_grammar.proofs.Heads.{Bare, Unary, LastIs, last-map, last-one, bare-error, Head, Heads, head-peek, head-eat, head-raw, standing-none}
+use Rattle.typst_grammar.proofs.Proper.{free}
+use Rattle.typst_grammar.proofs.PlainCode.{proper-primary, proper-readings, opens, first-code}
+use Rattle.typst_grammar.proofs.Heads.{Bare, Unary, LastIs, last-map, last-one, bare-error, Head, Heads, head-peek, head-node, head-eat, head-raw, standing-none}
 use Rattle.typst_grammar.proofs.BindingTurns.{Sane, BindsBy, bare-binds}
-use Rattle.typst_grammar.proofs.Leads.{Leads, Fills, all-bare, fills-peek, fills-eat}
-use Rattle.typst_grammar.proofs.Firsts.{calls-back, blocks-back, fills-read, fills-parens, fills-named, fills-placeholder, fills-let, fills-for, fills-equation, fills-set, fills-show, fills-context, fills-conditional, fills-while, fills-import, fills-include, fills-jump, fills-return, fills-unary}
+use Rattle.typst_grammar.proofs.Leads.{Leads, all-bare}
+use Rattle.typst_grammar.proofs.Firsts.{calls-back, blocks-back, fills-first}
 use Rattle.typst_grammar.proofs.Grown.{kind_at, Grown, Leftward, tight-none}
 use Rattle.typst_grammar.proofs.BindingLevels.{CallsBind, level-binds}
 use Rattle.typst_grammar.proofs.Lost.{Lost, Stuck}
 use Rattle.typst_grammar.proofs.Missing.{Missed, missed}
-use Rattle.typst_grammar.proofs.Openers.{head-unary, head-let, head-set, head-show, head-context, head-conditional, head-while, head-for, head-import, head-include, head-break, head-continue, head-return, head-equation, head-read, head-named, head-placeholder}
+use Rattle.typst_grammar.proofs.Openers.{head-show, head-conditional, head-equation, head-read, head-named, head-placeholder}
 use Rattle.typst_grammar.proofs.Parens.{head-parens}
 
 stuck-after : (m : ℕ) (ts : List Tree) (t : Tree) → is_error t.head.kind ≡ true → length ts < m → Stuck m (ts ++ t ∷ [])
@@ -43,44 +47,45 @@ module _ (k : CharClasses) (levels : ℕ) (d : CallsBind k levels) (least : ℕ)
 
   -- ---- by the token at hand
 
-  -- where a token of this kind is at hand, this is no operator and has none, after the trivia
+  -- where a token of this kind is at hand, this takes it first, and is no operator and has none, after the trivia
   abbrev Opens : SyntaxKind → CodeHead → Type 0
-  Opens i h = Heads l i (code_by false h) × Fills l (code_by false h)
+  Opens i h = Heads l i (code_by false h) × (opens h ≡ true)
 
   abbrev Table : SyntaxKind → Type 0
   Table i = Opens i (code_head false i) ⊎ (code_head false i ≡ head.Missing)
 
   table : (i : SyntaxKind) → Table i
-  table kind.Plus = inl (head-unary l kind.Plus _, fills-unary l (calls-back k levels) (blocks-back k levels) _)
-  table kind.Minus = inl (head-unary l kind.Minus _, fills-unary l (calls-back k levels) (blocks-back k levels) _)
-  table kind.Not = inl (head-unary l kind.Not _, fills-unary l (calls-back k levels) (blocks-back k levels) _)
-  table kind.Ident = inl (head-named l, fills-named l (calls-back k levels) (blocks-back k levels))
-  table kind.Raw = inl (head-raw l, fills-eat l (calls-back k levels) (blocks-back k levels))
-  table kind.None = inl (head-eat l kind.None refl refl refl refl, fills-eat l (calls-back k levels) (blocks-back k levels))
-  table kind.Auto = inl (head-eat l kind.Auto refl refl refl refl, fills-eat l (calls-back k levels) (blocks-back k levels))
-  table kind.Int = inl (head-eat l kind.Int refl refl refl refl, fills-eat l (calls-back k levels) (blocks-back k levels))
-  table kind.Float = inl (head-eat l kind.Float refl refl refl refl, fills-eat l (calls-back k levels) (blocks-back k levels))
-  table kind.Bool = inl (head-eat l kind.Bool refl refl refl refl, fills-eat l (calls-back k levels) (blocks-back k levels))
-  table kind.Numeric = inl (head-eat l kind.Numeric refl refl refl refl, fills-eat l (calls-back k levels) (blocks-back k levels))
-  table kind.Str = inl (head-eat l kind.Str refl refl refl refl, fills-eat l (calls-back k levels) (blocks-back k levels))
-  table kind.Label = inl (head-eat l kind.Label refl refl refl refl, fills-eat l (calls-back k levels) (blocks-back k levels))
-  table kind.LeftBrace = inl (head-read k levels kind.LeftBrace block.Code, fills-read k levels block.Code)
-  table kind.LeftBracket = inl (head-read k levels kind.LeftBracket block.Content, fills-read k levels block.Content)
-  table kind.Dollar = inl (head-equation l kind.Dollar, fills-equation l (calls-back k levels) (blocks-back k levels))
-  table kind.LeftParen = inl (head-parens l (calls-back k levels) (blocks-back k levels) (λ z s still. (level-binds k levels d readings plain-readings z s still).known) kind.LeftParen, fills-parens l (calls-back k levels) (blocks-back k levels))
-  table kind.Let = inl (head-let l kind.Let, fills-let l (calls-back k levels) (blocks-back k levels))
-  table kind.Set = inl (head-set l kind.Set, fills-set l (calls-back k levels) (blocks-back k levels))
-  table kind.Show = inl (head-show l kind.Show, fills-show l (calls-back k levels) (blocks-back k levels))
-  table kind.Context = inl (head-context l kind.Context, fills-context l (calls-back k levels) (blocks-back k levels) false)
-  table kind.If = inl (head-conditional l kind.If, fills-conditional l (calls-back k levels) (blocks-back k levels))
-  table kind.While = inl (head-while l kind.While, fills-while l (calls-back k levels) (blocks-back k levels))
-  table kind.For = inl (head-for l kind.For, fills-for l (calls-back k levels) (blocks-back k levels))
-  table kind.Import = inl (head-import l kind.Import, fills-import l (calls-back k levels) (blocks-back k levels))
-  table kind.Include = inl (head-include l kind.Include, fills-include l (calls-back k levels) (blocks-back k levels))
-  table kind.Break = inl (head-break l kind.Break, fills-jump l (calls-back k levels) (blocks-back k levels) kind.LoopBreak)
-  table kind.Continue = inl (head-continue l kind.Continue, fills-jump l (calls-back k levels) (blocks-back k levels) kind.LoopContinue)
-  table kind.Return = inl (head-return l kind.Return, fills-return l (calls-back k levels) (blocks-back k levels))
-  table kind.Underscore = inl (head-placeholder l, fills-placeholder l (calls-back k levels) (blocks-back k levels))
+  unfolding unary_expr let_binding set_rule contextual while_loop for_loop module_import module_include jump func_return
+  table kind.Plus = inl (head-node l kind.Plus _ _ (λ a ts. (refl, refl)), refl)
+  table kind.Minus = inl (head-node l kind.Minus _ _ (λ a ts. (refl, refl)), refl)
+  table kind.Not = inl (head-node l kind.Not _ _ (λ a ts. (refl, refl)), refl)
+  table kind.Ident = inl (head-named l, refl)
+  table kind.Raw = inl (head-raw l, refl)
+  table kind.None = inl (head-eat l kind.None refl refl refl refl, refl)
+  table kind.Auto = inl (head-eat l kind.Auto refl refl refl refl, refl)
+  table kind.Int = inl (head-eat l kind.Int refl refl refl refl, refl)
+  table kind.Float = inl (head-eat l kind.Float refl refl refl refl, refl)
+  table kind.Bool = inl (head-eat l kind.Bool refl refl refl refl, refl)
+  table kind.Numeric = inl (head-eat l kind.Numeric refl refl refl refl, refl)
+  table kind.Str = inl (head-eat l kind.Str refl refl refl refl, refl)
+  table kind.Label = inl (head-eat l kind.Label refl refl refl refl, refl)
+  table kind.LeftBrace = inl (head-read k levels kind.LeftBrace block.Code, refl)
+  table kind.LeftBracket = inl (head-read k levels kind.LeftBracket block.Content, refl)
+  table kind.Dollar = inl (head-equation l kind.Dollar, refl)
+  table kind.LeftParen = inl (head-parens l (calls-back k levels) (blocks-back k levels) (λ z s still. (level-binds k levels d readings (proper-readings _) z s still).known) kind.LeftParen, refl)
+  table kind.Let = inl (head-node l kind.Let _ _ (λ a ts. (refl, refl)), refl)
+  table kind.Set = inl (head-node l kind.Set _ _ (λ a ts. (refl, refl)), refl)
+  table kind.Show = inl (head-show l kind.Show, refl)
+  table kind.Context = inl (head-node l kind.Context _ _ (λ a ts. (refl, refl)), refl)
+  table kind.If = inl (head-conditional l kind.If, refl)
+  table kind.While = inl (head-node l kind.While _ _ (λ a ts. (refl, refl)), refl)
+  table kind.For = inl (head-node l kind.For _ _ (λ a ts. (refl, refl)), refl)
+  table kind.Import = inl (head-node l kind.Import _ _ (λ a ts. (refl, refl)), refl)
+  table kind.Include = inl (head-node l kind.Include _ _ (λ a ts. (refl, refl)), refl)
+  table kind.Break = inl (head-node l kind.Break _ _ (λ a ts. (refl, refl)), refl)
+  table kind.Continue = inl (head-node l kind.Continue _ _ (λ a ts. (refl, refl)), refl)
+  table kind.Return = inl (head-node l kind.Return _ _ (λ a ts. (refl, refl)), refl)
+  table kind.Underscore = inl (head-placeholder l, refl)
   table _ = inr refl
 
   -- ---- what is given
@@ -119,7 +124,7 @@ module _ (k : CharClasses) (levels : ℕ) (d : CallsBind k levels) (least : ℕ)
 
     opened : (i : SyntaxKind) → h.kind ≡ i → (c : CodeHead) → Opens i c → Binds (by_head c) → Grown k least n z s (by_head c)
     opened i e c x b =
-        grown-head (by_head c) b (head-peek l i (λ _. code_by false c) (λ a f. x.0) z s still e) (fills-peek l (λ _. code_by false c) (λ a. x.1) z s still)
+        grown-head (by_head c) b (head-peek l i (λ _. code_by false c) (λ a f. x.0) z s still e) (fills-first k levels (next peek (λ _. code_by false c)) (λ _. first-code c x.1) z s still)
 
     -- none begins there
     grown-bare : (o : Outcome (Unit {0})) → Binds o → All Bare o.nodes → LastIs (s.is_after_error ≡ true) Unary o.nodes → n + o.back ≤ length o.nodes + length (hand_of l (moved o.taken z) o.state).trivia → Grown k least n z s o
@@ -190,4 +195,4 @@ module _ (k : CharClasses) (levels : ℕ) (d : CallsBind k levels) (least : ℕ)
 
   pub primary-begins : (z : Place) (s : Point) → All Still (pending s.known) → let n = length (hand_of (level_at k levels) z s).trivia in let o = run (level_at k levels) (code_primary false) z s in Grown k least n z s o ⊎ Lost k least n z s o
   unfolding run code_primary
-  primary-begins z s still = by-table z s still (table (hand_of (level_at k levels) z s).kind) (level-binds k levels d (code_primary false) (plain-primary false) z s still)
+  primary-begins z s still = by-table z s still (table (hand_of (level_at k levels) z s).kind) (level-binds k levels d (code_primary false) (proper-primary free false) z s still)

@@ -26,19 +26,19 @@ use Rattle.typst_language.proofs.Ends.{hand-again, hand-takes}
 use Rattle.typst_language.proofs.Knot.{sane-at}
 use Rattle.typst_language.proofs.Places.{moved-sum, no-end}
 use Rattle.typst_grammar.specs.Grammar.{rules, level_at}
-use Rattle.typst_grammar.proofs.Moves.{Moves, moves-next, moves-peek, moves-eat}
+use Rattle.typst_grammar.proofs.Moves.{moves-eat}
+use Rattle.typst_grammar.proofs.CodeMoves.{moves-first}
 use Rattle.typst_grammar.specs.Binding.{any_errors, has_errors, first_sign, right_least}
 use Rattle.typst_grammar.proofs.Signs.{sign_of, NoSign, reads-sign, reads-not}
 use Rattle.typst_grammar.proofs.Fine.{All, all-map, or-left}
-use Rattle.typst_grammar.proofs.FineRuns.{Binds, binds-joined, Plain, Still, still-hand, after-shape-known}
-use Rattle.typst_grammar.proofs.PlainParts.{plain-eat, plain-expected, plain-deeper}
+use Rattle.typst_grammar.proofs.FineRuns.{Binds, binds-joined, Still, still-hand, after-shape-known}
+use Rattle.typst_grammar.proofs.Proper.{free, Proper, proper-eat}
 use Rattle.typst_grammar.proofs.Heads.{standing-none, silent-joined, silent-plain, Leafy, LastIs, last-map, is_plain, leafy-token, hand-kind}
 use Rattle.typst_grammar.proofs.BindingTurns.{Sane, all-sane, below, nothing-below, sign-comes, not-comes, call-comes, dot-comes, no-direct}
 use Rattle.typst_grammar.proofs.Operands.{Exact, exact-plain, exact-gives, exact-joined, taken_sign, exact-eat, eat-empties, eat-error, last_hinted, leafy-last, last-kind, operation-exact}
 use Rattle.typst_grammar.proofs.Grown.{grown-other, errors-second, errors-after, kind_at, Grown, Ended, Stopped, WentOn, turned, grown-binary, stopped-silent}
-use Rattle.typst_grammar.proofs.PlainCode.{plain-field, plain-call}
-use Rattle.typst_grammar.proofs.Leads.{fills-peek}
-use Rattle.typst_grammar.proofs.Firsts.{calls-back, blocks-back, fills-field}
+use Rattle.typst_grammar.proofs.PlainCode.{proper-tail, first-field, first-binary}
+use Rattle.typst_grammar.proofs.Firsts.{fills-first}
 use Rattle.typst_grammar.proofs.Called.{called-back}
 use Rattle.typst_grammar.proofs.Missing.{Missed, missed, error-kind}
 use Rattle.typst_grammar.proofs.BindingLevels.{CallsBind, DeeperOperands, level-binds}
@@ -140,7 +140,7 @@ module _ (k : CharClasses) (levels : ℕ) (d : CallsBind k levels) (ops : Deeper
 
     pub whole-right : any_errors (forest operands) ≡ false → LastIs (has_errors sgn ≡ true) (Ended k (right_least op) (kind_at k 0 (moved whole.taken v) whole.state)) operands
     whole-right n =
-        let o = ops (operand_least op) after eaten.state (level-binds k levels d eat plain-eat v y still).known in
+        let o = ops (operand_least op) after eaten.state (level-binds k levels d eat (proper-eat _) v y still).known in
         last-map (eaten.state.is_after_error ≡ true) (has_errors sgn ≡ true) (Ended k (right_least op) (kind_at k 0 (moved operand.taken after) operand.state)) (Ended k (right_least op) (kind_at k 0 (moved whole.taken v) whole.state))
         wrong-sign (λ t h x. ((h x).0, ap (below (right_least op)) whole-kind ∙ (h x).1)) operands (o.last n)
 
@@ -149,6 +149,9 @@ module _ (k : CharClasses) (levels : ℕ) (d : CallsBind k levels) (ops : Deeper
   module _ (least : ℕ) where
     abbrev turn_by : CodeTail → Parser (Option Shape × Unit {0})
     turn_by t = next peek (λ _. tail_by t)
+
+    proper-turn : (t : CodeTail) → Proper free (turn_by t)
+    proper-turn t = (refl, λ _. proper-tail _ t)
 
     module _ (n : ℕ) (z : Place) (s : Point) (o : Outcome (Unit {0})) (g : Grown k least n z s o) where
       abbrev w : Place
@@ -200,19 +203,11 @@ module _ (k : CharClasses) (levels : ℕ) (d : CallsBind k levels) (ops : Deeper
           let p = p_of tail.Nothing in
           let first = record (plain (as_at_hand h) t) { asks = hand_asks_of l w o.state } in
           inl (stopped-silent k least n z s o p g (silent-joined first (plain nothing t) (record { nodes = refl; back = refl; hints = refl }) (silent-plain nothing t)) refl
-          (level-binds k levels d (turn_by tail.Nothing) (refl, λ _. tt) w o.state g.binds.known) (ap (λ (x : Hand). x.kind) again) (nothing-below least h.kind has_trivia e))
+          (level-binds k levels d (turn_by tail.Nothing) (proper-turn tail.Nothing) w o.state g.binds.known) (ap (λ (x : Hand). x.kind) again) (nothing-below least h.kind has_trivia e))
 
       -- the token at hand takes something
       comes : is_end h.kind ≡ false → 0 < h.gap + h.len
       comes e = let x = hand-takes k o.state.held o.state.known w e in omega (arith, x)
-
-      plain-binary : (op : BinOp) → Plain (binary_expr op)
-      unfolding binary_expr
-      plain-binary op = (plain-eat, λ _. (plain-deeper _ _, λ _. tt))
-
-      moves-binary : (op : BinOp) → Moves l (binary_expr op)
-      unfolding binary_expr
-      moves-binary op = moves-next l eat _ (moves-eat l)
 
       turn-binary : (op : BinOp) (has_trivia : Bool) → code_tail false least h.kind has_trivia ≡ tail.Binary op → Turned (p_of (tail.Binary op))
       unfolding run binary_expr
@@ -225,12 +220,12 @@ module _ (k : CharClasses) (levels : ℕ) (d : CallsBind k levels) (ops : Deeper
           let x = exact-joined first q [] ((hand_of l w t).trivia ++ sgn op w t still there ∷ operands op w t still there) (exact-plain (as_at_hand h) t (hand_asks_of l w o.state)) (whole-exact op w t still there) in
           let same_taken : 0 + q.taken ≡ q.taken = omega arith in
           let same_kind : kind_at k 0 (moved p.taken w) p.state ≡ kind_at k 0 (moved q.taken w) q.state = ap (λ (m : ℕ). kind_at k 0 (moved m w) q.state) same_taken in
-          went p (fits (tail.Binary op)) refl (moves-peek l (λ _. binary_expr op) (λ a. moves-binary op) w o.state (comes (first-false (is_end h.kind) (is_plain h.kind) (sign-leaf h.kind op c.0))))
+          went p (fits (tail.Binary op)) refl (moves-first k levels (turn_by (tail.Binary op)) (λ _. first-binary true true op) w o.state (comes (first-false (is_end h.kind) (is_plain h.kind) (sign-leaf h.kind op c.0))))
           (grown-binary k least n z s o p (tt {0}) g op (text op w t still there) (sgn op w t still there) (operands op w t still there) c.0
           (λ sane is ls no_signs. ap (λ (u : Tree). first_sign false (ls ++ u ∷ operands op w t still there)) is ∙ reads-sign op h.kind c.1.0 (text op w t still there) ls no_signs (operands op w t still there)) c.1.1
           (subst (λ (v : SyntaxKind). Leafy v (text op w t still there) (sgn op w t still there)) (ap (λ (v : Hand). v.kind) again) (whole-leafy op w t still there)) still
           (x.nodes ∙ ap (λ (v : Hand). v.trivia ++ sgn op w t still there ∷ operands op w t still there) again) x.back x.hints
-          (level-binds k levels d (turn_by (tail.Binary op)) (refl, λ _. plain-binary op) w o.state g.binds.known)
+          (level-binds k levels d (turn_by (tail.Binary op)) (proper-turn (tail.Binary op)) w o.state g.binds.known)
           (λ sane. subst (λ (v : SyntaxKind). LastIs (has_errors (sgn op w t still there) ≡ true) (Ended k (right_least op) v) (operands op w t still there)) (sym same_kind) (whole-right op w t still there sane)))
 
       -- ---- `not in`
@@ -271,7 +266,7 @@ module _ (k : CharClasses) (levels : ℕ) (d : CallsBind k levels) (ops : Deeper
         not_sign = taken_sign l w t
 
         still1 : All Still (pending e1.state.known)
-        still1 = (level-binds k levels d eat plain-eat w t still).known
+        still1 = (level-binds k levels d eat (proper-eat _) w t still).known
 
         still2 : All Still (pending t2.known)
         still2 = still-hand l w2 e1.state still1
@@ -381,13 +376,9 @@ module _ (k : CharClasses) (levels : ℕ) (d : CallsBind k levels) (ops : Deeper
         by-in true is less b = went-in is less b
         by-in false is less b = stopped-in b
 
-        plain-not : Plain not_in
-        unfolding not_in
-        plain-not = (plain-eat, λ _. (refl, λ _. (plain-binary binary.NotIn, (plain-expected _, λ _. tt))))
-
         turn-not : Turned (p_of tail.NotIn)
         unfolding run not_in
-        turn-not = by-in (same kind.In h2.kind) refl (fits tail.NotIn) (level-binds k levels d (turn_by tail.NotIn) (refl, λ _. plain-not) w o.state g.binds.known)
+        turn-not = by-in (same kind.In h2.kind) refl (fits tail.NotIn) (level-binds k levels d (turn_by tail.NotIn) (proper-turn tail.NotIn) w o.state g.binds.known)
 
       -- ---- calls and fields
 
@@ -395,18 +386,14 @@ module _ (k : CharClasses) (levels : ℕ) (d : CallsBind k levels) (ops : Deeper
       same-dot kind.End x = absurd (cc)
       same-dot _ x = refl
 
-      moves-field : Moves l field
-      unfolding field
-      moves-field = moves-next l eat _ (moves-eat l)
-
       turn-field : (has_trivia : Bool) → code_tail false least h.kind has_trivia ≡ tail.Field → Turned (p_of tail.Field)
       unfolding run field
       turn-field has_trivia e =
           let p = p_of tail.Field in
-          let lead = fills-peek l (λ _. field) (λ a. fills-field l (calls-back k levels) (blocks-back k levels)) w o.state g.binds.known in
+          let lead = fills-first k levels (turn_by tail.Field) (λ _. first-field true true) w o.state g.binds.known in
           let room = lead.room in
-          went p (fits tail.Field) refl (moves-peek l (λ _. field) (λ a. moves-field) w o.state (comes (same-dot h.kind (dot-comes least h.kind has_trivia e))))
-          (grown-other k least n z s o p (tt {0}) g kind.FieldAccess refl refl lead.none (omega (arith, room)) (level-binds k levels d (turn_by tail.Field) (refl, λ _. plain-field) w o.state g.binds.known))
+          went p (fits tail.Field) refl (moves-first k levels (turn_by tail.Field) (λ _. first-field true true) w o.state (comes (same-dot h.kind (dot-comes least h.kind has_trivia e))))
+          (grown-other k least n z s o p (tt {0}) g kind.FieldAccess refl refl lead.none (omega (arith, room)) (level-binds k levels d (turn_by tail.Field) (proper-turn tail.Field) w o.state g.binds.known))
 
       turn-call : (has_trivia : Bool) → has_trivia ≡ not (is_nil h.trivia) → code_tail false least h.kind has_trivia ≡ tail.Call → Turned (p_of tail.Call)
       unfolding run call_tail
@@ -415,7 +402,7 @@ module _ (k : CharClasses) (levels : ℕ) (d : CallsBind k levels) (ops : Deeper
           let c = called-back k levels w o.state g.binds.known (ap (calls_directly h.kind) (sym f) ∙ call-comes least h.kind has_trivia e) in
           let back = c.none in let room = c.room in
           went p (fits tail.Call) refl c.taken
-          (grown-other k least n z s o p (tt {0}) g kind.FuncCall refl refl back (omega (arith, room)) (level-binds k levels d (turn_by tail.Call) (refl, λ _. plain-call) w o.state g.binds.known))
+          (grown-other k least n z s o p (tt {0}) g kind.FuncCall refl refl back (omega (arith, room)) (level-binds k levels d (turn_by tail.Call) (proper-turn tail.Call) w o.state g.binds.known))
 
       by-tail : (t : CodeTail) → code_tail false least h.kind (not (is_nil h.trivia)) ≡ t → Turned (p_of t)
       by-tail tail.Call e = turn-call (not (is_nil h.trivia)) refl e

@@ -1,4 +1,3 @@
-use Rattle.std.proofs.Common.{refl}
 use Rattle.typst_language.proofs.Steps.{does-next, does-look}
 use Rattle.typst_grammar.specs.Grammar.{whole, whole_code, whole_math}
 use Rattle.typst_grammar.proofs.grammar.read_all.Goals as goal

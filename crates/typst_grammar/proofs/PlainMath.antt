@@ -1,0 +1,159 @@
+-- The facts of formulas: each part is proper, and what a token begins takes it first.
+use Rattle.std.proofs.Common.{◌≡◌, ℕ, Bool, true, false, ◌||◌, ◌==◌, List, [], ◌∷◌, ◌++◌, refl}
+use Rattle.std.specs.Prelude.{codes}
+use Rattle.std.specs.Str.{bytes_eq}
+use Rattle.typst_lines.specs.Classes.{CharClasses}
+use Rattle.typst_kinds.specs.Kinds.{same, among}
+use Rattle.typst_kinds.specs.declared.kind.SyntaxKind.{SyntaxKind}
+use Rattle.typst_kinds.specs.declared.kind.SyntaxKind.TheVariants as kind
+use Rattle.typst_kinds.specs.SeenNames.{has_name}
+use Rattle.typst_language.specs.declared.calls.ChainSet.{ChainSet}
+use Rattle.typst_code.specs.keys.Key.{Key}
+use Rattle.typst_code.specs.keys.Key.TheVariants as key
+use Rattle.typst_language.specs.Expected.{seeing}
+use Rattle.typst_language.specs.Shape.{Seen, becomes}
+use Rattle.typst_language.specs.Shape.NodeChange.{stays, turns_wrong}
+use Rattle.typst_language.specs.Shape.Making.{itself, wanted}
+use Rattle.typst_language.specs.Shape.Seen.{leaf_seen, inner_seen}
+use Rattle.typst_language.specs.Shape.Shape.{keeps, holds}
+use Rattle.typst_language.specs.Steps.{within, eat, convert_and_eat, eat_making, node}
+use Rattle.typst_language.proofs.Within.{on_both}
+use Rattle.typst_code.specs.Attachments.{operand, attachment_turn, attachments, primes}
+use Rattle.typst_code.specs.Delimited.{sign_kind, delimiter_kind, delimiter_sign, delimiter, body_shape, delimited_body, delimiter_if, delimited_shape, delimited}
+use Rattle.typst_code.specs.MathArguments.{value_shape, argument_exprs, argument_value, name_making, eat_name, argument_name, name_change as math_change, named_argument, spread_argument, math_argument, argument_end, math_argument_turn, math_arguments}
+use Rattle.typst_code.specs.MathExpressions.{math_head, math_text, root, math_by, math_primary, math_tail, fraction, tail_by as math_tail_by, math_tail_turn, math_grown, math_expr}
+use Rattle.typst_code.specs.math_heads.MathHead.{MathHead}
+use Rattle.typst_code.specs.math_heads.MathHead.TheVariants as math_heads
+use Rattle.typst_code.specs.math_heads.MathTail.{MathTail}
+use Rattle.typst_code.specs.math_heads.MathTail.TheVariants as math_tails
+use Rattle.typst_kinds.specs.Sets.{math_expr as math_kinds}
+use Rattle.typst_code.specs.Embedded.{embedded}
+use Rattle.typst_grammar.proofs.EatsFirst.{EatsFirst, every-among}
+use Rattle.typst_grammar.proofs.Fine.{tame, tame_kind, tame_making}
+use Rattle.typst_grammar.proofs.FineRuns.{tame_if, Gives, gives-all}
+use Rattle.typst_grammar.proofs.Proper.{Scope, Proper, proper-eat, proper-convert, proper-so, proper-if, proper-expected, proper-shaped, proper-node, proper-grow, proper-seeing, tame-closed, tame-both, proper-deeper}
+use Rattle.typst_grammar.proofs.PlainParts.{proper-embedded, proper-exprs}
+
+tame-sign : (text : List ℕ) → tame_kind (sign_kind text) ≡ true
+tame-sign text = on_both (λ k. tame_kind k ≡ true) (bytes_eq text (codes "[|") || bytes_eq text (codes "|]")) kind.MathShorthand kind.MathText refl refl
+
+tame-delimiter : (seen : List Seen) → tame_kind (delimiter_kind seen) ≡ true
+tame-delimiter [] = refl
+tame-delimiter (leaf_seen k text ∷ more) = tame-sign text
+tame-delimiter (inner_seen k ∷ more) = refl
+
+proper-delimiter : (c : Scope) → Proper c delimiter
+unfolding delimiter delimiter_sign
+proper-delimiter c = (proper-shaped _ _ _ (gives-all {A = Unit {0} × List Seen} _ (λ sign. tame-delimiter sign.1) (seeing eat)) (proper-seeing _ _ (proper-eat _), λ _. tt), λ _. tt)
+
+proper-delimited : (c : Scope) → Proper c delimited
+unfolding delimited delimited_body delimiter_if
+proper-delimited c =
+    (proper-node _ _ _ (tame-both delimited_shape refl refl) (proper-delimiter _, λ _. (proper-node _ _ _ (tame-both body_shape refl refl) (proper-exprs _ _, λ _. (refl, λ _. tt)), λ _. ((proper-delimiter _, tt), λ _. tt))), λ _. tt)
+
+proper-operand : (c : Scope) (least : ℕ) (signs : ChainSet) → Proper c (operand least signs)
+unfolding operand
+proper-operand c least signs = proper-node _ _ _ (λ _. refl) (proper-deeper _ _ _)
+
+proper-attachments : (c : Scope) → Proper c attachments
+unfolding attachments attachment_turn
+proper-attachments c = (λ signs. (refl, λ _. ((proper-eat _, λ _. (proper-operand _ _ _, λ _. tt)), tt)), λ _. tt)
+
+tame-value : (count : ℕ) → tame (value_shape count) ≡ true
+tame-value count = on_both (λ shape. tame shape ≡ true) (count == 1) (keeps stays) (becomes kind.Math) refl refl
+
+proper-value : (c : Scope) (is_named : Bool) → Proper c (argument_value is_named)
+unfolding argument_value argument_exprs
+proper-value c is_named = (proper-node _ _ _ tame-value (proper-exprs _ _, λ _. ((proper-expected _ _, tt), λ _. tt)), λ _. tt)
+
+tame-making : (k : SyntaxKind) → tame_making (name_making k) ≡ true
+tame-making k = on_both (λ m. tame_making m ≡ true) (same kind.Underscore k) (wanted (codes "identifier")) itself refl refl
+
+tame-math : (names : List (List ℕ)) (k : Key) → tame (holds (math_change names k) kind.Named) ≡ true
+tame-math names (key.Name name) = on_both (λ change. tame (holds change kind.Named) ≡ true) (has_name names name) (turns_wrong (codes "duplicate argument: " ++ name)) stays refl refl
+tame-math names (key.Str text) = refl
+tame-math names key.Other = refl
+
+proper-named-argument : (c : Scope) (k : SyntaxKind) (names : List (List ℕ)) → Proper c (named_argument k names)
+unfolding named_argument argument_name eat_name
+proper-named-argument c k names =
+    proper-node _ _ _ (tame-math names) ((proper-seeing _ _ (proper-so _ _ (name_making k) (tame-making k)), λ _. tt), λ _. (proper-convert _ kind.Colon refl, λ _. (proper-value _ true, λ _. tt)))
+
+proper-math-argument : (c : Scope) (names : List (List ℕ)) → Proper c (math_argument names)
+unfolding math_argument spread_argument
+proper-math-argument c names = (
+  refl,
+  λ _. (
+    refl,
+    λ _. (
+      (proper-node _ _ _ (λ _. refl) (proper-so _ _ itself refl, λ _. proper-value _ false), λ _. tt),
+      (refl, λ _. ((proper-named-argument _ _ _, λ _. tt), (proper-value _ false, λ _. tt))),
+    ),
+  ),
+)
+
+proper-math-arguments : (c : Scope) → Proper c math_arguments
+unfolding math_arguments math_argument_turn argument_end
+proper-math-arguments c = (
+  proper-node _ _ _ (tame-closed kind.MathArgs refl)
+      (proper-eat _, λ _. (λ names. (refl, λ _. (tt, (proper-math-argument _ names, λ _. ((refl, λ _. (proper-eat _, (tt, proper-expected _ _))), λ _. tt)))), λ _. proper-if _ _)),
+  λ _. tt,
+)
+
+proper-math-by : (c : Scope) (k : CharClasses) (h : MathHead) → Proper c (math_by k h)
+unfolding math_text root
+proper-math-by c k math_heads.Embedded = (proper-embedded _, λ _. tt)
+proper-math-by c k math_heads.Name = (proper-eat _, λ _. tt)
+proper-math-by c k math_heads.Delimited = (proper-delimited _, λ _. tt)
+proper-math-by c k math_heads.Closer = (proper-delimiter _, λ _. tt)
+proper-math-by c k math_heads.Plain = (proper-convert _ kind.MathText refl, λ _. tt)
+proper-math-by c k math_heads.Text = (proper-seeing _ _ (proper-eat _), λ _. tt)
+proper-math-by c k math_heads.Itself = (proper-eat _, λ _. tt)
+proper-math-by c k math_heads.Symbol = (proper-eat _, λ _. tt)
+proper-math-by c k math_heads.Root = (proper-node _ _ _ (λ _. refl) (proper-eat _, λ _. proper-operand _ _ _), λ _. tt)
+proper-math-by c k math_heads.Missing = (proper-expected _ _, λ _. tt)
+
+-- what stands after an expression
+proper-math-tail : (c : Scope) (stops : ChainSet) (t : MathTail) → Proper c (math_tail_by stops t)
+unfolding fraction primes
+proper-math-tail c stops math_tails.Call = (proper-math-arguments _, λ _. tt)
+proper-math-tail c stops math_tails.Delimited = (proper-delimited _, λ _. tt)
+proper-math-tail c stops math_tails.Fraction = ((proper-eat _, λ _. proper-operand _ _ _), λ _. tt)
+proper-math-tail c stops math_tails.Attachments = (proper-attachments _, λ _. tt)
+proper-math-tail c stops math_tails.Primes = ((proper-eat _, λ _. (refl, λ _. (tt, proper-attachments _))), λ _. tt)
+proper-math-tail c stops math_tails.Factorial = (proper-convert _ kind.MathText refl, λ _. tt)
+proper-math-tail c stops math_tails.Nothing = tt
+
+gives-math-tail : (stops : ChainSet) (t : MathTail) → Gives (λ v. tame_if v.0 ≡ true) (math_tail_by stops t)
+gives-math-tail stops math_tails.Call = gives-all _ (λ _. refl) math_arguments
+gives-math-tail stops math_tails.Delimited = gives-all _ (λ _. refl) delimited
+gives-math-tail stops math_tails.Fraction = gives-all _ (λ _. refl) fraction
+gives-math-tail stops math_tails.Attachments = gives-all _ (λ _. refl) attachments
+gives-math-tail stops math_tails.Primes = gives-all _ (λ _. refl) (primes stops)
+gives-math-tail stops math_tails.Factorial = gives-all _ (λ _. refl) (convert_and_eat kind.MathText)
+gives-math-tail stops math_tails.Nothing = refl
+
+pub proper-math-expr : (c : Scope) (k : CharClasses) (least : ℕ) (stops : ChainSet) → Proper c (math_expr k least stops)
+unfolding math_expr math_grown math_primary math_tail_turn
+proper-math-expr c k least stops = (
+  proper-grow _ _ _ (refl, λ a. proper-math-by _ k (math_head a.kind))
+      (λ callee. (λ a. gives-math-tail stops (math_tail callee least stops a.kind a.has_trivia), (refl, λ a. proper-math-tail _ stops (math_tail callee least stops a.kind a.has_trivia)))),
+  λ _. tt,
+)
+
+-- a token begins it
+abbrev pub opens_math : MathHead → Bool
+opens_math math_heads.Missing = false
+opens_math _ = true
+
+pub first-math : (k : CharClasses) (h : MathHead) → opens_math h ≡ true → EatsFirst false true (math_by k h)
+unfolding eat eat_making convert_and_eat node within seeing embedded delimiter_sign delimiter delimited math_text root
+first-math k math_heads.Missing e = absurd (cc)
+first-math k math_heads.Delimited e = λ _. (refl, λ _. (refl, λ _. (refl, refl)))
+first-math k math_heads.Closer e = λ _. (refl, λ _. (refl, refl))
+first-math k math_heads.Text e = λ _. (refl, refl)
+first-math k math_heads.Root e = λ _. (refl, refl)
+first-math k _ e = refl
+
+pub math-opens : (i : SyntaxKind) → among math_kinds i ≡ true → opens_math (math_head i) ≡ true
+math-opens i e = every-among (λ j. opens_math (math_head j)) math_kinds refl i e
