@@ -1,6 +1,6 @@
 -- From what a contract promises to the lemma behind it:
 --   block_law: edit              Text: of a whole text; Law: for every parser; Inside, Spots, Grows, Wrap, Outcomes: word by word; Blocks: each block's node; Edit: looks
---     that the block fits        Fitting; Content: a content block; Enclosed: what stands between brackets; Clear: a block begins at no trivia; Reached: what is known of trivia is all of them; Known: what stays true of what is known
+--     that the block fits        Fitting; Content: a content block; Enclosed: what stands between brackets; Clear: a block begins at no trivia; Reached: what is known of trivia is all of them; Known: what stays true of what is known; Traversal: what holds of whatever the language can say, word by word
 --   block_law: names             Names: each block is the one of its name, between its marks; SpotWalk: what holds of each block of a reading, word by word
 --   complete_law                 Complete: word by word, by the notes of the log
 --   standing_law: blocks         StandingLevels: of a whole text; Standing: word by word; Seats: a spot at a position, and in what nodes become; Positions: what holds at each position; CleanTokens: what holds of each token's node
@@ -41,6 +41,7 @@
 --   joints_of_texts              computed (laws); Begins: the test of looks
 --   answers_of_texts, blocks_of_texts, origins_of_texts, runs_of_texts, splices_of_texts, inner_splices_of_texts, conditions_of_texts, rare_conditions_of_texts      computed (laws)
 pub mod Every
+pub mod Traversal
 pub mod SpotWalk
 pub mod Outcomes
 pub mod Wrap

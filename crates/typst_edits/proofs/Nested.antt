@@ -36,7 +36,8 @@ use Rattle.typst_edits.specs.Spot.{ended}
 use Rattle.typst_edits.proofs.Bytes.{logged-append, noted-more}
 use Rattle.typst_edits.proofs.Marks.{AllMarks}
 use Rattle.typst_edits.proofs.Rising.{pieces}
-use Rattle.typst_edits.proofs.Upward.{Joins, from-joined, from-turns, from-growths, from-nestings, from-looks, from-hand, from-done}
+use Rattle.typst_edits.proofs.Traversal.{all-turns, all-growths, all-nestings}
+use Rattle.typst_edits.proofs.Upward.{Joins, Spans, from-joined, from-parts, from-looks, from-hand, from-done}
 
 -- ---- marks in a list of asks
 
@@ -139,10 +140,10 @@ module _ (end lo : ℕ) where
         from-joined Nest nest 0 o (run l (f o.value) (moved o.taken z) o.state) (nest-run p q.0 z s) (nest-run (f o.value) (q.1 o.value) (moved o.taken z) o.state)
     nest-run (pick true p r) q z s = nest-run p (q.0 refl) z s
     nest-run (pick false p r) q z s = nest-run r (q.1 refl) z s
-    nest-run (repeat p x) q z s = from-turns Nest nest (λ y. run l (p y)) (λ y. nest-run (p y) (q y)) (suc (bound z s)) x z s
+    nest-run (repeat p x) q z s = all-turns (Spans Nest nest) (from-parts Nest nest) (λ y. run l (p y)) (λ y. nest-run (p y) (q y)) (suc (bound z s)) x z s
     nest-run (wraps f begin p) q z s = nest-run p q z s
-    nest-run (grows begin p f) q z s = from-growths Nest nest (λ y. run l (f y)) (λ y. nest-run (f y) (q.1 y)) (before begin s) (suc (bound z s)) (run l p z s) z (nest-run p q.0 z s)
-    nest-run (nests f begin p x) q z s = from-nestings Nest nest f begin (λ y. run l (p y)) (λ y. nest-run (p y) (q y)) (suc (bound z s)) x z s
+    nest-run (grows begin p f) q z s = all-growths (Spans Nest nest) (from-parts Nest nest) (λ y. run l (f y)) (λ y. nest-run (f y) (q.1 y)) (before begin s) (suc (bound z s)) (run l p z s) z s (nest-run p q.0 z s)
+    nest-run (nests f begin p x) q z s = all-nestings (Spans Nest nest) (from-parts Nest nest) f begin (λ y. run l (p y)) (λ y. nest-run (p y) (q y)) (suc (bound z s)) x z s
     nest-run (scoped f p) q z s = nest-run p q z (entered (f s.reading) s)
     nest-run (either p is_wrong r) q z s =
         let o = run l p z s in
