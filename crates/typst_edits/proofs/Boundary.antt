@@ -257,7 +257,7 @@ pub record Begins (ls asks : List Ask) : Type 0 where
 pub begins-append : (ls asks ks : List Ask) → Begins ls asks → Begins ls (asks ++ ks)
 begins-append ls asks ks b = record { more = b.more ++ ks; is = ap (λ u. u ++ ks) b.is ∙ append_assoc ls b.more ks }
 
-begins-shift : (n : ℕ) (ls asks : List Ask) → Begins ls asks → Begins (shift n ls) (shift n asks)
+pub begins-shift : (n : ℕ) (ls asks : List Ask) → Begins ls asks → Begins (shift n ls) (shift n asks)
 begins-shift n ls asks b = record { more = shift n b.more; is = ap (shift n) b.is ∙ map-append (shift_one n) ls b.more }
 
 -- Pieces begin by asking for the token at hand.
@@ -347,70 +347,6 @@ module _ (lv : ℕ) (z : Place) (ls ks : List Ask) (at gap fewer : ℕ) (m : Mar
         reached_too = λ b f. one.back b (omega arith) f;
         all = λ b l. two.all b (subst (λ (u : Log). b < lowest two.more u.least) is l);
         back = λ b big f. subst (λ (u : Log). b < lowest two.more u.least) (sym is) (two.back b big (newly b log_before.notes one.more log_before.least one.is big) f);
-      }
-
--- ---- the note where pieces of a run end
-
--- by the point before the look at its first token, and that look
-module _ (r : Sequence) (first : Point) (same : state_of first ≡ state_of r.point) (ls : List Ask) where
-  -- what is asked in the run, where this is asked after j pieces
-  abbrev pub asks_in : ℕ → List Ask → List Ask
-  asks_in j behind = piece_mark 0 (true, 0) first ∷ ((ls ++ asks_of (first_of j r)) ++ shift (first_end j r).taken behind)
-
-  -- what was asked before the note and after it, counted from a given number of characters before
-  pub record Boundary (j : ℕ) (behind : List Ask) : Type 0 where
-    pub early : List Ask
-    pub gap : ℕ
-    pub late : List Ask
-    pub is : (let e = first_end j r in asks_in j behind ≡ early ++ marked e.taken gap 0 (mark.Piece e.value.0 e.value.1) (state_of e.state) ∷ (late ++ shift e.taken behind))
-    pub gap_is : 0 < j → gap ≡ gap_of (first_end j r).state.known
-    pub gap_first : j ≡ 0 → gap ≡ gap_of first.known
-    pub late_bare : AllMarks (λ at fewer m s. ⊥) ls → AllMarks (λ at fewer m s. ⊥) late
-    pub ended : (n d : ℕ) → 0 < j → AllEndBy n (shift d early) → AllEndBy n (shift d (ls ++ asks_of (first_of j r)))
-    pub ends_too : (n d : ℕ) → (0 < j → AllEndBy n (shift d (ls ++ asks_of (first_of j r)))) → AllEndBy n (shift d early)
-    pub late_from : (b d : ℕ) (z : Place) → 0 < j → AllFrom b z (shift d (shift (first_end j r).taken behind)) → AllFrom b z (shift d late)
-
-  pub boundary : (j : ℕ) (behind : List Ask) → AllGo (first_of j r) → Begins (looks_in r (moved (first_end j r).taken r.place) (first_end j r).state) behind → Boundary j behind
-  boundary zero behind g begins = record {
-    early = [];
-    gap = gap_of first.known;
-    late = ls ++ [];
-    is = ap (λ s. marked 0 (gap_of first.known) 0 (mark.Piece true 0) s ∷ ((ls ++ []) ++ shift 0 behind)) same;
-    gap_is = λ l. absurd (omega (arith, l));
-    gap_first = λ none. refl;
-    late_bare = λ bare. marks-append (λ at fewer m s. ⊥) ls [] bare tt;
-    ended = λ n d l. absurd (omega (arith, l));
-    ends_too = λ n d h. tt;
-    late_from = λ b d z l. absurd (omega (arith, l));
-  }
-  boundary (suc j) behind g begins =
-      let os = first_of (suc j) r in
-      let e = first_end (suc j) r in
-      let b = made-ends (turn_of r) (looks_in r) (each-ends r) j (true, 0) r.place r.point g in
-      let ahead = looks_in r (moved e.taken r.place) e.state in
-      let looks = shift e.taken ahead in
-      let next = begins-shift e.taken ahead behind begins in
-      let m = piece_mark e.taken e.value e.state in
-      let rest = shift e.taken behind in
-      let start = piece_mark 0 (true, 0) first in
-      record {
-        early = start ∷ (ls ++ (b.early ++ looks));
-        gap = gap_of e.state.known;
-        late = looks;
-        is = ap (λ u. start ∷ ((ls ++ u) ++ rest)) (b.is ∙ sym (append_assoc b.early looks (m ∷ looks)))
-            ∙ ap (λ u. start ∷ u) (ap (λ u. u ++ rest) (sym (append_assoc ls (b.early ++ looks) (m ∷ looks))) ∙ append_assoc (ls ++ (b.early ++ looks)) (m ∷ looks) rest);
-        gap_is = λ l. refl;
-        gap_first = λ none. absurd (omega (arith, none));
-        late_bare = λ bare. marks-shift (λ at fewer m s. ⊥) e.taken ahead (none-hand (λ at fewer m s. ⊥) r.level.classes e.state.held e.state.known (moved e.taken r.place));
-        ended = λ n d l h.
-            (let one = end-split n d ls (b.early ++ looks) h in
-            let two = end-split n d b.early looks one.1 in
-            end-both n d ls (asks_of os) one.0 (subst (λ u. AllEndBy n (shift d u)) (sym b.is) (end-both n d b.early (looks ++ m ∷ looks) two.0 (end-both n d looks (m ∷ looks) two.1 two.1))));
-        ends_too = λ n d h.
-            (let one = end-split n d ls (asks_of os) (h (omega arith)) in
-            let two = end-split n d b.early (looks ++ m ∷ looks) (subst (λ u. AllEndBy n (shift d u)) b.is one.1) in
-            end-both n d ls (b.early ++ looks) one.0 (end-both n d b.early looks two.0 (end-split n d looks (m ∷ looks) two.1).0));
-        late_from = λ n d z l h. from-first n d z looks next.more (subst (λ u. AllFrom n z (shift d u)) next.is h);
       }
 
 -- ---- a note of a text, and what its numbers say of what was asked before it and after it

@@ -34,7 +34,7 @@ use Rattle.typst_edits.proofs.Edit.{before-same}
 use Rattle.typst_edits.proofs.Inside.{same_in-at}
 use Rattle.typst_edits.proofs.EmptyRuns.{hand-asks, token_look}
 use Rattle.typst_edits.proofs.EmptyRuns.{Never}
-use Rattle.typst_edits.proofs.InnerBytes.{asks_before, content-asks, lead-bare, before-marks}
+use Rattle.typst_edits.proofs.InnerBytes.{asks_before, content-asks, lead-bare, before-marks, past-both}
 use Rattle.typst_edits.proofs.InnerJoint.{block-read, inner-fronted, inner-joint-law}
 use Rattle.typst_edits.proofs.InTurn.{logged-lowered}
 use Rattle.typst_edits.proofs.Joint.{known-is}
@@ -167,15 +167,6 @@ late-is a f n gap end left seen hand behind asks after hand_is behind_is sum =
     ap (λ u. lifted a f (shift n u) ++ (lifted a f (shift n behind) ++ shift (end + left) after)) hand_is
     ∙ ap (λ d. looked d seen ∷ (lifted a f (shift n behind) ++ shift (end + left) after)) at
     ∙ ap (λ u. looked (end + 0) seen ∷ u) (ap (λ u. u ++ shift (end + left) after) rest ∙ ap (λ u. shift end (lowered f asks) ++ u) (sym (shift-twice end left after)) ∙ sym (map-append (shift_one end) (lowered f asks) (shift left after)))
-
--- what is asked after known trivia, with what is after it
-past-both : (q : Outcome (Bool × ℕ)) (tail : Outcome (Unit {0})) (close asks : List Ask) (gap more : ℕ) → q.asks ++ shift q.taken tail.asks ≡ shift gap asks → q.taken + tail.taken ≡ gap + more
-    → q.asks ++ shift q.taken (tail.asks ++ shift tail.taken close) ≡ shift gap (asks ++ shift more close)
-past-both q tail close asks gap more is took =
-    ap (λ ls. q.asks ++ ls) (map-append (shift_one q.taken) tail.asks (shift tail.taken close) ∙ ap (λ ls. shift q.taken tail.asks ++ ls) (shift-twice q.taken tail.taken close))
-    ∙ sym (append_assoc q.asks (shift q.taken tail.asks) (shift (q.taken + tail.taken) close))
-    ∙ ap (λ ls. ls ++ shift (q.taken + tail.taken) close) is ∙ ap (λ j. shift gap asks ++ shift j close) took
-    ∙ ap (λ ls. shift gap asks ++ ls) (sym (shift-twice gap more close)) ∙ sym (map-append (shift_one gap) asks (shift more close))
 
 -- a run at its start, where no piece is read
 start-known : (r : Sequence) (i n : ℕ) (t : Trivia) → (then_end i n r).state.known ≡ Some t → i + n ≡ 0 → r.point.known ≡ Some t

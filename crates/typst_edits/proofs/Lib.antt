@@ -9,7 +9,7 @@
 --   joint_law                    Joint: of a whole text; InnerJoint: of a content block; Meeting: any run; Turns: each head of markup, and how a run is read; Led: each word before a token is taken
 --   children_law                 Children: of a whole text; InnerChildren: of a content block; LeadingTrivia: without the trivia before the pieces
 --   head_law                     Heads: any run; NoneBack: in both texts
---   decision_law                 Bytes: the log; Boundary: where pieces of any run end; RunBytes: of a whole text; InnerBytes: of a content block; Widths: characters and bytes; Within: looks are at places of the text
+--   decision_law                 Bytes: the log; Boundary: where pieces of any run end; RunNotes: the note there, in the log of its text; RunBytes: of a whole text; InnerBytes: of a content block; Widths: characters and bytes; Within: looks are at places of the text
 --   replaced_law                 Replaced
 --   empty_run_law                EmptyRuns: of a whole text; EmptyBlocks: of a content block
 --   candidates_law               BareCandidates, CandidatePlaces
@@ -86,6 +86,7 @@ pub mod BlockSplice
 pub mod BlockWorth
 pub mod Marks
 pub mod Boundary
+pub mod RunNotes
 pub mod RunBytes
 pub mod InnerBytes
 pub mod RunTrees
