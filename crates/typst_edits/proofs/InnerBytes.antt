@@ -32,9 +32,9 @@ use Rattle.typst_edits.specs.Splice.{notes_in}
 use Rattle.typst_edits.proofs.EmptyRuns.{Never}
 use Rattle.typst_edits.proofs.Marks.{AllMarks, marks-append, none-hand}
 use Rattle.typst_edits.proofs.PieceAsks.{lifted, lifted-append, lifted-count, lifted-ends, lifted-shift, asks_in}
-use Rattle.typst_edits.proofs.RunNotes.{NoteIn, ends-lowered, note-in, note-both as note-both-in}
+use Rattle.typst_edits.proofs.RunNotes.{NoteIn, ends-lowered, nothing-more, note-in, note-both as note-both-in}
 use Rattle.typst_edits.proofs.RunTrees.{chain-last}
-use Rattle.typst_edits.proofs.Sides.{count-append, count-shift, count-none}
+use Rattle.typst_edits.proofs.Sides.{count-append, count-none, count-made}
 use Rattle.typst_edits.proofs.Bytes.{AllFrom, begin-by, begin-to, both-end}
 use Rattle.typst_edits.proofs.Edit.{among}
 use Rattle.typst_edits.proofs.Inside.{Lawful}
@@ -141,25 +141,6 @@ module _ (k : CharClasses) (levels : ℕ) where
       let s2 = (look_again k levels z s).state in
       marks-append P (look_first k levels z s).asks _ (none-hand P k s.held s.known z)
       (marks-append P (look_again k levels z s).asks (bracket k levels z s).asks (none-hand P k s1.held s1.known z) (none-hand P k s2.held s2.known z))
-
--- As many notes are made in several turns as in the first and in those after it.
-made-count : {A : Type 0} (f : A → Meaning (Bool × A)) (i n : ℕ) (x : A) (z : Place) (s : Point)
-    → (let e = end_of x s (made f i x z s) in notes_in (asks_of (made f (i + n) x z s)) ≡ notes_in (asks_of (made f i x z s)) + notes_in (asks_of (made f n e.value (moved e.taken z) e.state)))
-made-count f zero n x z s = let same : zero + n ≡ n = omega arith in let is = ap (λ j. notes_in (asks_of (made f j x z s))) same in omega (arith, is)
-made-count f (suc i) n x z s =
-    let o = f x z s in
-    let y = moved o.taken z in
-    let same : suc i + n ≡ suc (i + n) = omega arith in
-    let is = ap (λ j. notes_in (asks_of (made f j x z s))) same in
-    let os = made f i o.value.1 y o.state in
-    let e = end_of o.value.1 o.state os in
-    let all = asks_of (made f (i + n) o.value.1 y o.state) in
-    let c = count-append o.asks (shift o.taken (asks_of os)) in
-    let place = ap (λ v. notes_in (asks_of (made f n e.value v e.state))) (moved-sum o.taken e.taken z) in
-    omega (arith, is, made-count f i n o.value.1 y o.state, count-append o.asks (shift o.taken all), count-shift o.taken all, c, count-shift o.taken (asks_of os), place)
-
-nothing-more : (n : ℕ) → n + 0 ≡ n
-nothing-more n = omega arith
 
 -- ---- the note where pieces of a block's run end
 
@@ -297,7 +278,7 @@ inner-decision-law k levels front old rest c i n chosen name level g h =
       begins = one.told;
       ends = two.told;
       number = one.count ∙ ap (λ m. m + notes_in (asks_of (first_of i (run_at k levels c z)))) (until-count k levels text c l.old reads level);
-      number_end = (let r = run_at k levels c z in let a = two.count in let d = until-count k levels text c l.old reads level in let b = made-count (turn_of r) i n (true, 0) r.place r.point in omega (arith, a, b, d));
+      number_end = (let r = run_at k levels c z in let a = two.count in let d = until-count k levels text c l.old reads level in omega (arith, a, count-made r i n, d));
       token = one.start;
       token_first = λ m. one.start_first m ∙ ap (λ n. width (take n text)) (first-at k levels text c l.old reads level (first_end i (run_at k levels c z)));
       trivia_end = two.start;

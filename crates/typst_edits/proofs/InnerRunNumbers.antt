@@ -44,6 +44,7 @@ use Rattle.typst_edits.proofs.NoteNumbers.{neither, go-fewer}
 use Rattle.typst_edits.proofs.NumberedNotes.{NestedNumbers, nested-numbers}
 use Rattle.typst_edits.proofs.OpensApart.{opens-apart-law}
 use Rattle.typst_edits.proofs.RunNumbers.{over-at}
+use Rattle.typst_edits.proofs.RunNotes.{cut-here}
 use Rattle.typst_edits.proofs.Sides.{count-append, count-shift}
 
 -- ---- a note by the number of those before it
@@ -131,7 +132,7 @@ module _ (ordered : InOrderLaw) (k : CharClasses) (levels : ℕ) (text : List �
       let j = length (of_level lv h.earlier) in
       let says = says-by lv n.inner text (λ m. inner_end k levels m s z0) h.earlier p.note h.later j n.each h.is p.levels refl in
       let fits : j ≤ n.count = omega (arith, ap (λ us. length (of_level lv us)) h.is, level-long lv h.earlier p.note h.later p.levels, n.all) in
-      let here = cut-here i (inner_end k levels i s z0) p.note d.token d.token_first in
+      let here = cut-here text i (inner_end k levels i s z0) p.note.start d.token d.token_first in
       record {
         earlier = h.earlier;
         note = p.note;
@@ -143,10 +144,6 @@ module _ (ordered : InOrderLaw) (k : CharClasses) (levels : ℕ) (text : List �
             (λ less. (let rise = inner-cuts-law k levels text s i j less (goes-up-to j fits) in omega (arith, rise, here, says.start)));
         all = omega (arith, h.long, before, long);
       }
-    where
-      cut-here : (i : ℕ) (e : End (Bool × ℕ)) (note : Note) → (0 < i → note.start ≡ width (take (e.taken + gap_of e.state.known) text)) → (i ≡ 0 → note.start ≡ width (take e.taken text)) → note.start ≡ width (take (cut_after i e) text)
-      cut-here zero e note some none = none refl
-      cut-here (suc i) e note some none = some (omega arith)
 
   among : RunAmong (suc levels) pre n.inner (n.closes ∷ n.later) text (λ i. inner_end k levels i s z0) n.count (number_in k levels text s)
   among = record {

@@ -10,6 +10,7 @@ use Rattle.typst_grammar.specs.Grammar.{max_depth, start_of, parsed, log}
 use Rattle.typst_edits.specs.Bytes.{highest, lowest}
 use Rattle.typst_edits.specs.Edit.{AllEndBy}
 use Rattle.typst_edits.specs.InnerSplice.{noted_at, note_at, looks_next}
+use Rattle.typst_edits.specs.NumberedNotes.{cut_after}
 use Rattle.typst_edits.specs.RunBytes.{PieceNote}
 use Rattle.typst_edits.specs.Runs.{AllGo, End, asks_of}
 use Rattle.typst_edits.specs.Sequence.{Sequence, turn_of, first_of, first_end, then_of, then_end}
@@ -53,6 +54,14 @@ split-from b z (looked at look ∷ ls) ks h = let i = split-from b z ls ks h.1 i
 split-from b z (marked at gap fewer m s ∷ ls) ks h = split-from b z ls ks h
 
 -- ---- the note
+
+pub nothing-more : (n : ℕ) → n + 0 ≡ n
+nothing-more n = omega arith
+
+-- where the token after i pieces begins, or without any the run
+pub cut-here : (text : List ℕ) (i : ℕ) (e : End (Bool × ℕ)) (at : ℕ) → (0 < i → at ≡ width (take (e.taken + gap_of e.state.known) text)) → (i ≡ 0 → at ≡ width (take e.taken text)) → at ≡ width (take (cut_after i e) text)
+cut-here text zero e at some none = none refl
+cut-here text (suc i) e at some none = some (omega arith)
 
 -- by the point before the look at the run's first token, and that look; by where the run begins, how many levels are left in it, what is asked before it and after it, and after pieces
 -- that end so, and where these end in the text

@@ -1,5 +1,5 @@
 -- The units of a text by what is asked after one note: those of some asks of its own, and those of what follows these.
-use Rattle.std.proofs.Common.{◌≡◌, ℕ, suc, ◌+◌, ◌-◌, ◌<◌, ◌≤◌, ◌^◌, max, min, List, [], ◌∷◌, ◌++◌, length, take, length-append, append_assoc, Option, Some, None, refl, ap, sym, ◌∙◌, subst, arith}
+use Rattle.std.proofs.Common.{◌≡◌, ℕ, suc, ◌+◌, ◌-◌, ◌<◌, ◌≤◌, ◌^◌, max, min, Bool, true, List, [], ◌∷◌, ◌++◌, length, take, length-append, append_assoc, Option, Some, None, refl, ap, sym, ◌∙◌, subst, arith}
 use Rattle.typst_candidates.specs.Entries.{Units, back_of, entries_by, last_start, units_by, units_of, spliced}
 use Rattle.typst_candidates.specs.declared.entry.Entry.{Entry}
 use Rattle.typst_lines.specs.Place.{Place, moved}
@@ -9,8 +9,12 @@ use Rattle.typst_language.specs.declared.calls.Note.{Note}
 use Rattle.typst_language.specs.Ask.{Ask, shift}
 use Rattle.typst_language.specs.Ask.Ask.{looked, marked}
 use Rattle.typst_language.specs.Log.{no_log, logged}
+use Rattle.typst_language.specs.Meaning.{Outcome}
+use Rattle.typst_grammar.proofs.Pieces.{made-sum}
 use Rattle.typst_edits.specs.Edit.{text_with, AllEndBy, AllBeginIn}
 use Rattle.typst_edits.specs.Looks.{AllFrom}
+use Rattle.typst_edits.specs.Runs.{asks_of}
+use Rattle.typst_edits.specs.Sequence.{Sequence, turn_of, first_of, then_of}
 use Rattle.typst_edits.specs.Splice.{Noting, noting, notes_in, AllNotedBy, token_start, entries_from}
 use Rattle.typst_edits.proofs.Edit.{onto}
 use Rattle.typst_edits.proofs.EmptyRuns.{Never}
@@ -57,6 +61,16 @@ pub count-none : (ls : List Ask) → AllMarks Never ls → notes_in ls ≡ 0
 count-none [] h = refl
 count-none (looked at look ∷ ls) h = count-none ls h
 count-none (marked at gap fewer m s ∷ ls) h = absurd h.0
+
+count-pieces : (os ps : List (Outcome (Bool × (Bool × ℕ)))) → notes_in (asks_of (os ++ ps)) ≡ notes_in (asks_of os) + notes_in (asks_of ps)
+count-pieces [] ps = omega arith
+count-pieces (o ∷ os) ps =
+    let own = count-append o.asks (shift o.taken (asks_of os)) in
+    omega (arith, count-pieces os ps, count-append o.asks (shift o.taken (asks_of (os ++ ps))), own, count-shift o.taken (asks_of (os ++ ps)), count-shift o.taken (asks_of os))
+
+-- As many notes are made in pieces of a run as in the first and in those after them.
+pub count-made : (r : Sequence) (i n : ℕ) → notes_in (asks_of (first_of (i + n) r)) ≡ notes_in (asks_of (first_of i r)) + notes_in (asks_of (then_of i n r))
+count-made r i n = ap (λ os. notes_in (asks_of os)) (made-sum (turn_of r) i n (true, 0) r.place r.point) ∙ count-pieces (first_of i r) (then_of i n r)
 
 -- looks that begin after a byte
 pub least-over : (lv b : ℕ) (z : Place) (asks : List Ask) (least : ℕ) → b < least → b < none_yet → AllFrom b z asks → b < least_from lv z least asks
