@@ -29,7 +29,7 @@
 --   run_numbers_law              RunNumbers: of a whole text; InnerRunNumbers: of a content block; FoundPieces: of any run; NestedPieces: of nested notes
 --   path_law                     Walk: the steps; SpotPlaces: where a block stands; Placed: what stands before it
 --   root_worth_law               RootWorth
---   root_pieces_law              RootPieces; RootCandidates: its candidates begin well; CandidateEnds: of any run; QuietTrivia: what is known of trivia clings; MarkupCandidates: where candidates come from; InnerCuts: the cuts of a run
+--   root_pieces_law              RootPieces; RootCandidates: its candidates begin well; RunCandidates, CandidateEnds: of any run; QuietTrivia: what is known of trivia clings; MarkupCandidates: where candidates come from; InnerCuts: the cuts of a run
 --   inner_candidate_law          InnerCandidates; MarkupCandidates: from which run a candidate comes; InnerCuts: the cuts of a block's run; CandidateEnds: where a stretch of children ends
 --   pieces_worth_law             RootPieces: at the root; InnerPieces: in a content block; RootCandidates: candidates at the root begin well; CandidateEnds: of any run; QuietTrivia: what is known of trivia clings; MarkupCandidates: where candidates come from; InnerCuts: the cuts of a run
 --   inner_worth_law              InnerWorth
@@ -138,6 +138,7 @@ pub mod QuietTrivia
 pub mod MarkupCandidates
 pub mod Deepest
 pub mod InnerCuts
+pub mod RunCandidates
 pub mod RootCandidates
 pub mod InnerCandidates
 pub mod CandidateRuns
