@@ -40,10 +40,10 @@ use Rattle.typst_edits.proofs.Joint.{text-read, onwards-is, onwards-fronted, joi
 use Rattle.typst_edits.proofs.Marks.{AllMarks, marks-append, none-hand}
 use Rattle.typst_edits.proofs.Outcomes.{shift-zero, shift-twice}
 use Rattle.typst_edits.proofs.Root.{whole-is, split-at, split-taken}
+use Rattle.typst_edits.proofs.RunBytes.{lead-bare}
 use Rattle.typst_edits.proofs.RunTrees.{whole-asks, chained-asks}
 use Rattle.typst_edits.proofs.Runs.{chain-state}
-use Rattle.typst_edits.proofs.Seen.{AllSeen, seen-first, sees-level}
-use Rattle.typst_edits.proofs.Sides.{Side, Last, entries_at, back_at, count-append, count-shift, each-bare, each-from, from-zero, bare-shift, side-none, side-by, same-at, last-at, splice-sides}
+use Rattle.typst_edits.proofs.Sides.{Side, Last, entries_at, back_at, count-append, count-shift, each-bare, each-from, from-zero, bare-shift, side-none, side-by, same-at, last-at, splice-texts}
 use Rattle.typst_edits.proofs.Splice.{take-width}
 use Rattle.typst_edits.proofs.Widths.{width-moved}
 use Rattle.typst_edits.proofs.PieceAsks.{lifted, lifted_note, lifted-none, Cut as AnyCut, cut as cut-any, next-none as next-none-any, side-in, again}
@@ -74,19 +74,6 @@ back-shift d (marked at gap fewer m s ∷ asks) = let e : (d + at) - d ≡ at = 
 -- Lists that are the same after a given number of characters.
 pub unshifted : (d : ℕ) (xs ys : List Ask) → shift d xs ≡ shift d ys → xs ≡ ys
 unshifted d xs ys e = sym (back-shift d xs) ∙ ap (map (back_one d)) e ∙ back-shift d ys
-
-pub noted-last : (n : ℕ) (ls : List Ask) (p : Noting) → AllNotedBy n (ls ++ noting p ∷ []) → p.at + p.gap ≤ n
-noted-last n [] p h = h.0
-noted-last n (looked at seen ∷ ls) p h = noted-last n ls p h
-noted-last n (marked at gap fewer m s ∷ ls) p h = noted-last n ls p h.1
-
-pub noted-first : (n : ℕ) (ls ks : List Ask) → AllNotedBy n (ls ++ ks) → AllNotedBy n ls
-noted-first n [] ks h = tt
-noted-first n (looked at seen ∷ ls) ks h = noted-first n ls ks h
-noted-first n (marked at gap fewer m s ∷ ls) ks h = (h.0, noted-first n ls ks h.1)
-
-pub end-marked : (n : ℕ) (ls : List Ask) (p : Noting) → AllEndBy n ls → AllEndBy n (ls ++ noting p ∷ [])
-end-marked n ls p h = both-end n ls (noting p ∷ []) h tt
 
 bare-second : (ls ks : List Ask) → AllMarks Never (ls ++ ks) → AllMarks Never ks
 bare-second [] ks h = h
@@ -133,12 +120,8 @@ module _ (k : CharClasses) where
     pub count : notes_in first ≡ notes_in (asks_of (pieces k i z))
     early : (n : ℕ) → (0 < i → AllEndBy n ((lead k z).asks ++ asks_of (pieces k i z))) → AllEndBy n first
 
-  lead-bare : (z : Place) → AllMarks Never (lead k z).asks
-  unfolding run
-  lead-bare z = none-hand Never k start.held start.known z
-
   next-none : (i : ℕ) (z : Place) → notes_in (next_looks k i z) ≡ 0
-  next-none i z = ap notes_in (sym (looks-are i z)) ∙ next-none-any (text_run k z) start (lead k z).asks i (lead-bare z)
+  next-none i z = ap notes_in (sym (looks-are i z)) ∙ next-none-any (text_run k z) start (lead k z).asks i (lead-bare k z)
 
   abbrev cut_by : (i : ℕ) (z : Place) → AnyCut (text_run k z) start (lead k z).asks i → Cut i z
   cut_by i z c =
@@ -150,7 +133,7 @@ module _ (k : CharClasses) where
       }
 
   pub cut : (i : ℕ) (z : Place) → AllGo (pieces k i z) → Cut i z
-  cut i z g = cut_by i z (cut-any (text_run k z) start (lead k z).asks i (lead-bare z) g)
+  cut i z g = cut_by i z (cut-any (text_run k z) start (lead k z).asks i (lead-bare k z) g)
 
   -- all that is asked of a text, cut there
   pub cut-asks : (text : List ℕ) (i n : ℕ) → (let z = start_of text in (first : List Ask) (p : Noting) → AllGo (pieces k i z) → AllGo (pieces_from k i n z)
@@ -204,8 +187,8 @@ module _ (k : CharClasses) where
       let behind : AllMarks Never on = bare-second hand on (subst (λ u. AllMarks Never u) (sym all_last) (bare-shift end last none)) in
       let behind_too : AllFrom 0 z on = from-second 0 z hand on (subst (λ u. AllFrom 0 z u) (sym all_last) begun_last) in
       let still : shift 0 (shift 0 on) ≡ on = shift-zero (shift 0 on) ∙ shift-zero on in
-      side-none max_depth z (end_note k 0 z) (own_asks k 0 0 z) (all_asks 0 0 z) (marks-append Never ls [] (lead-bare z) tt)
-      (subst (λ u. AllMarks Never (ls ++ u)) (sym still) (marks-append Never ls on (lead-bare z) behind))
+      side-none max_depth z (end_note k 0 z) (own_asks k 0 0 z) (all_asks 0 0 z) (marks-append Never ls [] (lead-bare k z) tt)
+      (subst (λ u. AllMarks Never (ls ++ u)) (sym still) (marks-append Never ls on (lead-bare k z) behind))
       (subst (λ u. AllFrom 0 z (ls ++ u)) (sym still) (from-both 0 z ls on begun behind_too)) refl
 
   -- None follows the last pieces of a text either.
@@ -337,21 +320,7 @@ run-splice-law k front old new rest i n m past t u h over over_new big big_new =
     let note_same : end_note k i w ≡ p = sym (note-is k i w) ∙ more.note ∙ note-is k i z in
     let was = cut-asks k (front ++ (old ++ rest)) i n cuts.first p h.first_go h.old_go cuts.is in
     let now = cut-asks k (front ++ (new ++ rest)) i m cuts.first p new_first h.new_go (more.is ∙ (λ v. any.early ++ noting (note-is k i z v) ∷ looks-are k i w v)) in
-    let early = cuts.early (length front) h.before in
-    let upto = cuts.first ++ noting p ∷ [] in
-    let all_seen = (sees-level (rules k) k max_depth whole z (start_point markup_reading) (length front) (omega arith)).noted in
-    let noted_all = seen-first (length front) upto (all_asks k i n z) (subst (AllSeen (length front)) (was ∙ sym (append_assoc cuts.first (noting p ∷ []) (all_asks k i n z))) all_seen) (end-marked (length front) cuts.first p early) in
-    let law = splice-sides max_depth front (old ++ rest) (new ++ rest) cuts.first p (own_asks k i n z) (all_asks k i n z) (own_asks k i m w) (all_asks k i m w) both.behind both.back early
-    (noted-first (length front) cuts.first (noting p ∷ []) noted_all) (noted-last (length front) cuts.first p noted_all) both.one
-    (subst (λ a. Side max_depth w a (own_asks k i m w) (all_asks k i m w) both.behind both.back) note_same both.two) in
-    let from = notes_in (asks_of (pieces k i z)) in
-    let count = notes_in (own_asks k i n z) in
-    let part = entries_from (token_start w p) (pieces_log k i m w).notes in
-    let units_was = units_of (logged max_depth z no_log (cuts.first ++ noting p ∷ all_asks k i n z)) in
-    let own_count : count ≡ notes_in (asks_of (pieces_from k i n z)) =
+    let own_count : notes_in (own_asks k i n z) ≡ notes_in (asks_of (pieces_from k i n z)) =
     count-append (next_looks k i z) _ ∙ ap (λ a. a + notes_in (shift (end_at k i z).taken (asks_of (pieces_from k i n z)))) (next-none k i z) ∙ omega (arith, count-shift (end_at k i z).taken (asks_of (pieces_from k i n z))) in
-    ap (λ ls. units_of (logged max_depth w no_log ls)) now ∙ law
-    ∙ ap (λ a. spliced a (a + count) part units_was) cuts.count
-    ∙ ap (λ a. spliced from (from + a) part units_was) own_count
-    ∙ ap (λ (a : Noting). spliced from (from + notes_in (asks_of (pieces_from k i n z))) (entries_from (token_start w a) (pieces_log k i m w).notes) units_was) (sym note_same)
-    ∙ ap (λ ls. spliced from (from + notes_in (asks_of (pieces_from k i n z))) (entries_from (token_start w (end_note k i w)) (pieces_log k i m w).notes) (units_of (logged max_depth z no_log ls))) (sym was)
+    splice-texts k front old new rest cuts.first p (end_note k i w) (own_asks k i n z) (all_asks k i n z) (own_asks k i m w) (all_asks k i m w) both.behind both.back (notes_in (asks_of (pieces k i z))) (notes_in (asks_of (pieces_from k i n z)))
+    was now note_same (cuts.early (length front) h.before) both.one both.two cuts.count own_count

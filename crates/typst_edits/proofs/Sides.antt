@@ -9,7 +9,10 @@ use Rattle.typst_language.specs.declared.calls.Note.{Note}
 use Rattle.typst_language.specs.Ask.{Ask, shift}
 use Rattle.typst_language.specs.Ask.Ask.{looked, marked}
 use Rattle.typst_language.specs.Log.{no_log, logged}
-use Rattle.typst_language.specs.Meaning.{Outcome}
+use Rattle.typst_language.specs.Meaning.{Outcome, start_point}
+use Rattle.typst_lines.specs.Classes.{CharClasses}
+use Rattle.typst_grammar.specs.Markup.{markup_reading}
+use Rattle.typst_grammar.specs.Grammar.{rules, max_depth, whole, parsed, log}
 use Rattle.typst_grammar.proofs.Pieces.{made-sum}
 use Rattle.typst_edits.specs.Edit.{text_with, AllEndBy, AllBeginIn}
 use Rattle.typst_edits.specs.Looks.{AllFrom}
@@ -19,7 +22,9 @@ use Rattle.typst_edits.specs.Splice.{Noting, noting, notes_in, AllNotedBy, token
 use Rattle.typst_edits.proofs.Edit.{onto}
 use Rattle.typst_edits.proofs.EmptyRuns.{Never}
 use Rattle.typst_edits.proofs.Every.{Every}
+use Rattle.typst_edits.proofs.Bytes.{both-end}
 use Rattle.typst_edits.proofs.Marks.{AllMarks}
+use Rattle.typst_edits.proofs.Seen.{AllSeen, seen-first, sees-level}
 use Rattle.typst_edits.proofs.Splice.{note_by, notes_from, least_from, logged-notes, logged-least, notes-split, least-split, notes-length, last-is, entries-append, last-append, entries-length, front-same, take-width, reach-none, least-none, rear, position-old, position-new, spliced-is, whole-width}
 
 abbrev pub none_yet : ℕ
@@ -83,6 +88,19 @@ from-zero b z [] h = tt
 from-zero b z (looked at look ∷ asks) h = (omega (arith, h.0), from-zero b z asks h.1)
 from-zero b z (marked at gap fewer m s ∷ asks) h = from-zero b z asks h
 
+pub noted-last : (n : ℕ) (ls : List Ask) (p : Noting) → AllNotedBy n (ls ++ noting p ∷ []) → p.at + p.gap ≤ n
+noted-last n [] p h = h.0
+noted-last n (looked at seen ∷ ls) p h = noted-last n ls p h
+noted-last n (marked at gap fewer m s ∷ ls) p h = noted-last n ls p h.1
+
+pub noted-first : (n : ℕ) (ls ks : List Ask) → AllNotedBy n (ls ++ ks) → AllNotedBy n ls
+noted-first n [] ks h = tt
+noted-first n (looked at seen ∷ ls) ks h = noted-first n ls ks h
+noted-first n (marked at gap fewer m s ∷ ls) ks h = (h.0, noted-first n ls ks h.1)
+
+pub end-marked : (n : ℕ) (ls : List Ask) (p : Noting) → AllEndBy n ls → AllEndBy n (ls ++ noting p ∷ [])
+end-marked n ls p h = both-end n ls (noting p ∷ []) h tt
+
 -- ---- after a note
 
 -- What is asked after a note gives the entries of some asks of its own and then of others, and the looks since the last note begin a given number of bytes back.
@@ -143,6 +161,29 @@ splice-sides lv front xs ys first p own all own_new all_new behind back ends not
     ∙ sym (spliced-is from to es fs behind ps back long whole)
     ∙ ap (λ part. spliced from to part (record { entries = es ++ (fs ++ behind); back = back })) (sym part_is)
     ∙ ap (spliced from to (entries_from (token_start w p) (logged lv w no_log own_new).notes)) (sym was)
+
+-- The same for the readings of both texts.
+pub splice-texts : (k : CharClasses) (front old new rest : List ℕ) (first : List Ask) (p q : Noting) (own all own_new all_new : List Ask) (behind : List Entry) (back from count : ℕ)
+    → (parsed k max_depth (front ++ (old ++ rest))).asks ≡ first ++ noting p ∷ all → (parsed k max_depth (front ++ (new ++ rest))).asks ≡ first ++ noting p ∷ all_new → q ≡ p → AllEndBy (length front) first
+    → Side max_depth (text_with front old rest) p own all behind back → Side max_depth (text_with front new rest) q own_new all_new behind back → notes_in first ≡ from → notes_in own ≡ count
+    → units_of (log k (front ++ (new ++ rest))) ≡ spliced from (from + count) (entries_from (token_start (text_with front new rest) q) (logged max_depth (text_with front new rest) no_log own_new).notes) (units_of (log k (front ++ (old ++ rest))))
+unfolding log
+splice-texts k front old new rest first p q own all own_new all_new behind back from count was now same early one two from_is count_is =
+    let z = text_with front old rest in
+    let w = text_with front new rest in
+    let n = length front in
+    let upto = first ++ noting p ∷ [] in
+    let all_seen = (sees-level (rules k) k max_depth whole z (start_point markup_reading) n (omega arith)).noted in
+    let noted_all = seen-first n upto all (subst (AllSeen n) (was ∙ sym (append_assoc first (noting p ∷ []) all)) all_seen) (end-marked n first p early) in
+    let law = splice-sides max_depth front (old ++ rest) (new ++ rest) first p own all own_new all_new behind back early
+    (noted-first n first (noting p ∷ []) noted_all) (noted-last n first p noted_all) one (subst (λ a. Side max_depth w a own_new all_new behind back) same two) in
+    let part = λ (a : Noting). entries_from (token_start w a) (logged max_depth w no_log own_new).notes in
+    let units = λ (asks : List Ask). units_of (logged max_depth z no_log asks) in
+    ap (λ ls. units_of (logged max_depth w no_log ls)) now ∙ law
+    ∙ ap (λ a. spliced a (a + notes_in own) (part p) (units (first ++ noting p ∷ all))) from_is
+    ∙ ap (λ a. spliced from (from + a) (part p) (units (first ++ noting p ∷ all))) count_is
+    ∙ ap (λ a. spliced from (from + count) (part a) (units (first ++ noting p ∷ all))) (sym same)
+    ∙ ap (λ ls. spliced from (from + count) (part q) (units ls)) (sym was)
 
 -- ---- after a token
 
