@@ -73,8 +73,8 @@ module _ (l : Level) (stops : SyntaxKind → Bool) (taking : Taking l stops) whe
       let one : Led t t.nodes trims o c = turn-led l stops taking x z r h e a t (going-on l stops x z s (first-of o.value.0 (nat_lt 0 o.taken) g.0)) in
       let tidy = tidy-together turn (λ v. (sane-run l taking.calls_sane taking.blocks_sane (markup_turn true stops v)).backs) n o.value.1 y o.state in
       let all = led-joined t t.nodes trims o c q one (subst (λ p. Tidy p q) one.state tidy) in
-      let long : length (joined o q).nodes ≡ length (t.nodes ++ all.rest) = ap length all.nodes in
-      record { hints = all.hints; few = omega (arith, all.few, long, length-append t.nodes all.rest) }
+      let long : length (joined o q).nodes ≡ length (t.nodes ++ all.front.rest) = ap length all.front.nodes in
+      record { hints = all.front.hints; few = omega (arith, all.few, long, length-append t.nodes all.front.rest) }
 
   -- some pieces that begin where trivia are known
   pub gives-pieces : (n : ℕ) (x : Bool × ℕ) (z : Place) (s : Point) → 0 < n → KnownAt s → (let os = made turn n x z s in AllGo os → Gives (together (end_of x s os).state os))

@@ -42,7 +42,7 @@ module _ (r : Sequence) (leads : Leads r) where
       let led = (turn-fronts r leads e.value w e.state there.trivia there.is not_stopped).led in
       let one : suc i ≡ i + 1 = omega arith in
       let next = ap (λ n. (first_end n r).taken) one in
-      omega (arith, led.some, led.taken, ap gap_of there.is, next, ap (λ (u : End (Bool × ℕ)). u.taken) (made-add turn (looks_in r) (each-ends r) i 1 (true, 0) r.place r.point))
+      omega (arith, led.some, led.front.taken, ap gap_of there.is, next, ap (λ (u : End (Bool × ℕ)). u.taken) (made-add turn (looks_in r) (each-ends r) i 1 (true, 0) r.place r.point))
 
   cut-least : (i : ℕ) (e : End (Bool × ℕ)) → e.taken ≤ cut_after i e
   cut-least zero e = omega arith

@@ -190,8 +190,8 @@ module _ (l : Level) (deep : (call : Call) → AllInOrder (l.deeper call)) (held
           let far = c.taken + gap_of c.state.known in
           let hi = o.taken + gap_of o.state.known in
           let from = up-shift gaps any t.gap 0 far c.asks (turn-order x w p) in
-          subst (λ ls. Orders t.gap hi ls) (sym led.asks)
-          (up-low gaps any t.gap (t.gap + 0) hi (shift t.gap c.asks) (omega arith) (orders-high (t.gap + 0) (t.gap + far) hi (shift t.gap c.asks) (omega (arith, led.taken, gap)) from))
+          subst (λ ls. Orders t.gap hi ls) (sym led.front.asks)
+          (up-low gaps any t.gap (t.gap + 0) hi (shift t.gap c.asks) (omega arith) (orders-high (t.gap + 0) (t.gap + far) hi (shift t.gap c.asks) (omega (arith, led.front.taken, gap)) from))
 
       piece-order : (x : Bool × ℕ) (z : Place) (s : Point) → KnownAt s → ToToken (gap_of s.known) (run l (markup_turn true stops x) z s)
       piece-order x z s known = by-end (ends stops x.1 (hand_of l z s).kind) refl

@@ -164,7 +164,7 @@ module _ (r : Sequence) (leads : Leads r) where
   turn-goes-on x z s t is go =
       let o = turn x z s in
       let led = (turn-fronts x z s t is go).led in
-      let some : 0 < o.taken = omega (arith, led.some, led.taken) in
+      let some : 0 < o.taken = omega (arith, led.some, led.front.taken) in
       ap (λ b. b && nat_lt 0 o.taken) (turn-goes r.level r.stops x z s go) ∙ lt-ltb 0 o.taken some
 
   -- Where none goes on, the run ends.
@@ -291,13 +291,13 @@ module _ (r : Sequence) (leads : Leads r) where
         let us_is : us ≡ there_known.trivia.nodes = ap pending there_known.is in
         let o = pieces-front n e.value w e.state there_known.trivia there_known.is some h in
         let empties = ap (λ (s : Point). s.empties) p-state in
-        let short : back < length o.led.rest = omega (arith, few, o.led.few, ap (λ (s : Point). s.empties) o.led.state, empties) in
-        let kept = less back o.led.rest in
+        let short : back < length o.led.front.rest = omega (arith, few, o.led.few, ap (λ (s : Point). s.empties) o.led.state, empties) in
+        let kept = less back o.led.front.rest in
         let right = (kept ++ ts) ++ rest in
-        let mine : less back p.nodes ≡ us ++ kept = ap (less back) o.led.nodes ∙ less-behind back there_known.trivia.nodes o.led.rest (omega (arith, short)) ∙ ap (λ xs. xs ++ kept) (sym us_is) in
+        let mine : less back p.nodes ≡ us ++ kept = ap (less back) o.led.front.nodes ∙ less-behind back there_known.trivia.nodes o.led.front.rest (omega (arith, short)) ∙ ap (λ xs. xs ++ kept) (sym us_is) in
         let all : kids ≡ (before ++ us) ++ right =
         is ∙ ap (λ xs. before ++ ((xs ++ ts) ++ rest)) mine ∙ ap (λ xs. before ++ (xs ++ rest)) (append_assoc us kept ts) ∙ ap (λ xs. before ++ xs) (append_assoc us (kept ++ ts) rest) ∙ sym (append_assoc before us right) in
-        let full = full-append (kept ++ ts) rest (full-append kept ts (full-less back o.led.rest short o.led.full)) in
+        let full = full-append (kept ++ ts) rest (full-append kept ts (full-less back o.led.front.rest short o.led.full)) in
         let text_is : texts (before ++ us) ≡ utf8_ahead (e.taken + gap_of e.state.known) r.place =
         texts-append before us ∙ ap (λ xs. xs ++ texts us) before-text ∙ ap (λ xs. utf8_ahead e.taken r.place ++ xs) (pending-text w e.state.known stands-e) ∙ text-add e.taken (gap_of e.state.known) r.place in
         let begins : from + bytes_of (before ++ us) ≡ at = omega (arith, ap length text_is, from-start (e.taken + gap_of e.state.known), from_is, at_is) in
@@ -323,7 +323,7 @@ module _ (r : Sequence) (leads : Leads r) where
     next-leads from at kids rest t last known_there from_is at_is tidy go few nodes is =
         let o = joined (rest_of i n r) last in
         let front = rest-front f.value (then_place i n r) f.state t last known_there tidy go in
-        let rest_is : front.led.rest ≡ rest = sym (ap (drop (length t.nodes)) front.led.nodes ∙ drop-front t.nodes front.led.rest (length t.nodes) refl) ∙ ap (drop (length t.nodes)) nodes ∙ drop-front t.nodes rest (length t.nodes) refl in
+        let rest_is : front.led.front.rest ≡ rest = sym (ap (drop (length t.nodes)) front.led.front.nodes ∙ drop-front t.nodes front.led.front.rest (length t.nodes) refl) ∙ ap (drop (length t.nodes)) nodes ∙ drop-front t.nodes rest (length t.nodes) refl in
         let olds = less o.back p.nodes ++ t.nodes in
         let all : kids ≡ (before ++ olds) ++ rest = is ∙ sym (append_assoc before olds rest) in
         subst (λ d. LeadsAt from kids at d) (length-append before olds) (leads-at from kids (before ++ olds) rest at all (subst (λ xs. Full xs) rest_is front.led.full) (ends-at from at o.back t known_there from_is at_is few))

@@ -87,8 +87,8 @@ module _ (l : Level) (stops : SyntaxKind → Bool) (taking : Taking l stops) whe
       let all = led-joined t t.nodes _ o _ q led (subst (λ p. Tidy p q) led.state tidy) in
       let there = ap (λ (p : Point). p.empties) (chain-state os (plain (tt {0}) end.state)) in
       record {
-        rest = less back all.rest ++ us;
-        is = ap (λ ts. less back ts ++ us) all.nodes ∙ ap (λ ts. ts ++ us) (less-behind back t.nodes all.rest (omega (arith, all.few, few, there))) ∙ append_assoc t.nodes (less back all.rest) us;
+        rest = less back all.front.rest ++ us;
+        is = ap (λ ts. less back ts ++ us) all.front.nodes ∙ ap (λ ts. ts ++ us) (less-behind back t.nodes all.front.rest (omega (arith, all.few, few, there))) ∙ append_assoc t.nodes (less back all.front.rest) us;
       }
 
   -- The nodes of some pieces without the last, with the trivia after them, begin with the trivia before them.

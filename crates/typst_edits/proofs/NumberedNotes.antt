@@ -81,7 +81,7 @@ module _ (l : Level) (stops : SyntaxKind → Bool) (taking : Taking l stops) whe
       let is = known-is l.classes s t known.is in
       let led = turn-led l stops taking x z s.reading s.held s.empties s.is_after_error t (subst (λ p. ends stops x.1 (as_at_hand (hand_of l z p)).kind ≡ false) is go) in
       let same : turn x z s ≡ turn x z _ = ap (turn x z) is in
-      ap (λ b. b && nat_lt 0 (turn x z s).taken) (turn-goes l stops x z s go) ∙ lt-ltb 0 (turn x z s).taken (omega (arith, led.some, led.taken, ap (λ (o : Outcome (Bool × (Bool × ℕ))). o.taken) same))
+      ap (λ b. b && nat_lt 0 (turn x z s).taken) (turn-goes l stops x z s go) ∙ lt-ltb 0 (turn x z s).taken (omega (arith, led.some, led.front.taken, ap (λ (o : Outcome (Bool × (Bool × ℕ))). o.taken) same))
 
   -- A turn that isn't stopped notes only its end.
   one-mark : (x : Bool × ℕ) (z : Place) (s : Point) → ends stops x.1 (as_at_hand (hand_of l z s)).kind ≡ false → InTurn (EndsNth turn x z s) 1 2 (turn x z s).asks
