@@ -9,6 +9,7 @@ use Rattle.typst_tree.specs.Tree.{Tree, text_of}
 use Rattle.typst_tokens.specs.Sight.{width, position, hull_of}
 use Rattle.typst_language.specs.declared.calls.Block.{Block}
 use Rattle.typst_language.specs.declared.calls.Mark.{Mark}
+use Rattle.typst_language.specs.declared.calls.Mark.TheVariants as mark
 use Rattle.typst_language.specs.declared.calls.Note.{Note}
 use Rattle.typst_language.specs.declared.reading.AtNewline.TheVariants as newline
 use Rattle.typst_language.specs.declared.reading.Reading.{Reading}
@@ -437,7 +438,21 @@ units-listed h = by-notes h.notes
 
 -- ---- the law
 
--- Where a block within a reading that was given up begins, no entry begins one.
+-- Where a block within a reading that was given up begins, no note begins one.
+pub never-second : (k : CharClasses) (front more : List ℕ) (s : Spot (Unit {0})) → Among s (seconds_of_text k (front ++ more)) → (earlier : List Note) (note : Note) (later : List Note) (b : Block) → listed (log k (front ++ more)).notes ≡ earlier ++ note ∷ later
+    → note.mark ≡ mark.Opens b → width (take s.at (front ++ more)) ≡ note.start → note.start < width front → ⊥
+never-second k front more s there earlier note later b is m spot starts =
+    let text = front ++ more in
+    let asked = among (Asked (start_of text) (parsed k max_depth text).asks) note _ (subst (Among note) (sym is) (among-here earlier note later)) (asked-of k text) in
+    let a = asked (ap is_opening m) in
+    let ask_byte : width (take (place_of a.ask) text) ≡ note.start = omega (arith, byte-at (place_of a.ask) text, a.before, opens-directly k text earlier note later b is m) in
+    let one = early-by s.at front more (omega (arith, spot, starts)) in
+    let two = early-by (place_of a.ask) front more (omega (arith, ask_byte, starts)) in
+    let long = length-append front more in
+    let meet = take-same (place_of a.ask) s.at text (omega (arith, two, long)) (omega (arith, one, long)) (ask_byte ∙ sym spot) in
+    omega (arith, unnoted-law k text s a.ask there a.among_all meet, one, long)
+
+-- So no entry does.
 none-second : InOrderLaw → (k : CharClasses) (front old rest : List ℕ) (c : Candidate) (b : BlockAt [] 0 (width front) (width (front ++ old)) (parsed k max_depth (front ++ (old ++ rest))).nodes c) (s : Spot (Unit {0}))
     → Among s (seconds_of_text k (front ++ (old ++ rest))) → IsOf b.hole b.node s → (from : ℕ) → opening_of c.start 0 0 (entries_in k (front ++ (old ++ rest))) ≡ Some from → ⊥
 none-second in_order k front old rest c b s there of from opens =
@@ -446,15 +461,7 @@ none-second in_order k front old rest c b s there of from opens =
     let same = hole-same s.hole b.hole s.node b.node of.path of.nodes in
     let some : 0 < length (text_of s.node) = subst (λ (t : Tree). 0 < length (text_of t)) (sym same.1) (some-node (width front) (width (front ++ old)) _ c b order) in
     let o = opening-found c.start 0 0 (listed (log k text).notes) from (in_order k text) (sym (ap (opening_of c.start 0 0) (units-listed (log k text))) ∙ opens) in
-    let asked = among (Asked (start_of text) (parsed k max_depth text).asks) o.note _ (subst (Among o.note) (sym o.is) (among-here o.earlier o.note o.later)) (asked-of k text) in
-    let a = asked (ap is_opening o.mark) in
-    let spot_byte : width (take s.at text) ≡ c.start = omega (arith, second-place k text s there some, ap length same.0, b.start) in
-    let ask_byte : width (take (place_of a.ask) text) ≡ c.start = omega (arith, byte-at (place_of a.ask) text, a.before, opens-directly k text o.earlier o.note o.later o.block o.is o.mark, o.start) in
-    let one = early-by s.at front (old ++ rest) (omega (arith, spot_byte, b.starts)) in
-    let two = early-by (place_of a.ask) front (old ++ rest) (omega (arith, ask_byte, b.starts)) in
-    let long = length-append front (old ++ rest) in
-    let meet = take-same (place_of a.ask) s.at text (omega (arith, two, long)) (omega (arith, one, long)) (ask_byte ∙ sym spot_byte) in
-    omega (arith, unnoted-law k text s a.ask there a.among_all meet, one, long)
+    never-second k front (old ++ rest) s there o.earlier o.note o.later o.block o.is o.mark (omega (arith, second-place k text s there some, ap length same.0, b.start, o.start)) (omega (arith, b.starts, o.start))
 
 pub block-test-law : InOrderLaw → BlockTestLaw
 block-test-law in_order k front old new rest root c same chosen is big more = (first, second)
