@@ -1,12 +1,12 @@
 -- What the records find of a block candidate.
-use Rattle.std.proofs.Common.{◌≡◌, ◌↔◌, ℕ, zero, suc, ◌+◌, ◌-◌, ◌^◌, ◌<◌, ◌≤◌, Bool, true, false, if◌then◌else◌, max, List, [], ◌∷◌, ◌++◌, length, take, drop, length-append, append_assoc, Option, Some, None, refl, ap, sym, ◌∙◌, subst, arith}
+use Rattle.std.proofs.Common.{◌≡◌, ◌↔◌, ℕ, zero, suc, ◌+◌, ◌-◌, ◌^◌, ◌<◌, ◌≤◌, Bool, true, false, if◌then◌else◌, max, min, List, [], ◌∷◌, ◌++◌, length, take, drop, length-append, append_assoc, Option, Some, None, refl, ap, sym, ◌∙◌, subst, arith}
 use Rattle.std.proofs.Math.Seq.{take-append_seam}
 use Rattle.std.specs.List.{slice_get}
 use Rattle.typst_kinds.specs.declared.mode.SyntaxMode.{SyntaxMode}
 use Rattle.typst_lines.specs.Place.{Place, moved}
 use Rattle.typst_lines.specs.Classes.{CharClasses}
 use Rattle.typst_tree.specs.Tree.{Tree, text_of}
-use Rattle.typst_tokens.specs.Sight.{width, position, hull_of}
+use Rattle.typst_tokens.specs.Sight.{width, position, far, near}
 use Rattle.typst_language.specs.declared.calls.Block.{Block}
 use Rattle.typst_language.specs.declared.calls.Mark.{Mark}
 use Rattle.typst_language.specs.declared.calls.Mark.TheVariants as mark
@@ -16,7 +16,7 @@ use Rattle.typst_language.specs.declared.reading.Reading.{Reading}
 use Rattle.typst_language.specs.declared.reading.State.{State}
 use Rattle.typst_language.specs.Ask.{Ask}
 use Rattle.typst_language.specs.Ask.Ask.{looked, marked}
-use Rattle.typst_language.specs.Log.{Log, no_log, with_hull, with_note, logged}
+use Rattle.typst_language.specs.Log.{Log, no_log, logged}
 use Rattle.typst_language.specs.Meaning.{Outcome, start_point}
 use Rattle.typst_language.specs.Point.{point_of}
 use Rattle.typst_language.proofs.Places.{moved-sum, ahead-left}
@@ -53,12 +53,13 @@ use Rattle.typst_edits.proofs.BlockModes.{mode-law}
 use Rattle.typst_edits.proofs.BlockPart.{block-part-law}
 use Rattle.typst_edits.proofs.BlockPlaces.{Meets, candidate-at, early-by, hole-same, late-by, meets, some-node, take-same}
 use Rattle.typst_edits.proofs.BlockSplice.{block-splice-law}
-use Rattle.typst_edits.proofs.Bytes.{decision-law, noted-by, noted-more}
+use Rattle.typst_edits.proofs.Bytes.{decision-law}
 use Rattle.typst_edits.proofs.CandidateBlocks.{BlockAt}
 use Rattle.typst_edits.proofs.Clear.{Clear, clear-level}
 use Rattle.typst_edits.proofs.Edit.{among, before-same}
 use Rattle.typst_edits.proofs.EntryNumbers.{NoneAt, opening-some, opening-found, some-number, got-entry, past-entry, past-note, all-end, end-all, all-begin, begin-all}
 use Rattle.typst_edits.proofs.Every.{every-append, some_or}
+use Rattle.typst_edits.proofs.LogNotes.{none_yet, notes_from, logged-notes, logged-listed}
 use Rattle.typst_edits.proofs.Names.{named-level}
 use Rattle.typst_edits.proofs.NestedInner.{nested-block-law}
 use Rattle.typst_edits.proofs.OpensApart.{opens-apart-law, opens-directly}
@@ -232,8 +233,8 @@ module _ (k : CharClasses) (front old new rest : List ℕ) where
       let u = unit_at s w in
       let lv = max_depth - s.fewer in
       let at = position y in
-      let noted = noted-by lv y u.asks no_log [] refl in
-      let all : (logged lv y no_log u.asks).notes ≡ Some (listed (logged lv y no_log u.asks).notes) = noted.is ∙ ap Some (sym (ap listed noted.is)) in
+      let noted = logged-notes lv y u.asks in
+      let all : (logged lv y no_log u.asks).notes ≡ Some (listed (logged lv y no_log u.asks).notes) = noted ∙ ap Some (sym (ap listed noted)) in
       block-part-law (front ++ (new ++ rest)) s u (listed (logged lv y no_log u.asks).notes) all
       ∙ (λ i. (let h = logged lv y no_log (same.asks i) in entries_by at (listed h.notes) ++ block_end (last_start at (listed h.notes)) (position (moved (same.taken i) y)) h.reach h.least ∷ []))
 
@@ -412,22 +413,20 @@ opened-first at gap fewer m t asks e = by-test (is_opening m) e
     by-test true e = this (opened asks)
     by-test false e = absurd (cc)
 
-asked-by : (lv : ℕ) (z : Place) (all asks : List Ask) (h : Log) (ns ms : List Note) → h.notes ≡ Some ns → Every (Asked z all) ns → ((ask : Ask) → Among ask (opened asks) → Among ask (opened all)) → (logged lv z h asks).notes ≡ Some ms → Every (Asked z all) ms
-asked-by lv z all [] h ns ms e q more f = subst (Every (Asked z all)) (ap listed (sym e ∙ f)) q
-asked-by lv z all (looked at look ∷ asks) h ns ms e q more f = asked-by lv z all asks (with_hull (hull_of look (moved at z)) h) ns ms e q more f
-asked-by lv z all (marked at gap fewer m t ∷ asks) h ns ms e q more f =
-    let note : Note = record { mark = m; before = position (moved at z); start = position (moved gap (moved at z)); levels = lv - fewer; state = t; reach = h.reach; least = h.least } in
-    let here : Asked z all note = λ o. record { ask = marked at gap fewer m t; among_all = more _ (opened-first at gap fewer m t asks o); before = refl } in
-    asked-by lv z all asks (with_note gap (lv - fewer) m t (moved at z) h) (ns ++ note ∷ []) ms (noted-more note h.notes ns e) (every-append (Asked z all) ns (note ∷ []) q (here, tt))
-    (λ ask a. more ask (among-behind ask (if is_opening m then marked at gap fewer m t ∷ [] else []) (opened asks) a)) f
+asked-notes : (lv : ℕ) (z : Place) (all asks : List Ask) (reach least : ℕ) → ((ask : Ask) → Among ask (opened asks) → Among ask (opened all)) → Every (Asked z all) (notes_from lv z reach least asks)
+asked-notes lv z all [] reach least more = tt
+asked-notes lv z all (looked at look ∷ asks) reach least more = asked-notes lv z all asks (max reach (far look.front (moved at z))) (min least (near look.back (moved at z))) more
+asked-notes lv z all (marked at gap fewer m t ∷ asks) reach least more = (
+  λ o. record { ask = marked at gap fewer m t; among_all = more _ (opened-first at gap fewer m t asks o); before = refl },
+  asked-notes lv z all asks 0 none_yet (λ ask a. more ask (among-behind ask (if is_opening m then marked at gap fewer m t ∷ [] else []) (opened asks) a)),
+)
 
 pub asked-of : (k : CharClasses) (text : List ℕ) → Every (Asked (start_of text) (parsed k max_depth text).asks) (listed (log k text).notes)
 unfolding log
 asked-of k text =
     let z = start_of text in
     let asks = (parsed k max_depth text).asks in
-    let n = noted-by max_depth z asks no_log [] refl in
-    asked-by max_depth z asks asks no_log [] (listed (logged max_depth z no_log asks).notes) refl tt (λ ask a. a) (n.is ∙ ap Some (sym (ap listed n.is)))
+    subst (λ ns. Every (Asked z asks) ns) (sym (logged-listed max_depth z asks)) (asked-notes max_depth z asks asks 0 none_yet (λ ask a. a))
 
 pub units-listed : (h : Log) → (units_of h).entries ≡ entries_by 0 (listed h.notes)
 units-listed h = by-notes h.notes

@@ -1,5 +1,5 @@
 -- Content blocks without an expression have one note between their two, and look only at the token after their trivia.
-use Rattle.std.proofs.Common.{◌≡◌, ℕ, suc, ◌+◌, ◌-◌, Bool, true, false, ◌&&◌, ◌==◌, if◌then◌else◌, List, [], ◌∷◌, ◌++◌, length, length-append, Some, refl, ap, sym, ◌∙◌, subst, arith}
+use Rattle.std.proofs.Common.{◌≡◌, ℕ, suc, ◌+◌, ◌-◌, Bool, true, false, ◌&&◌, ◌==◌, if◌then◌else◌, List, [], ◌∷◌, ◌++◌, length, Some, refl, ap, sym, ◌∙◌, subst, arith}
 use Rattle.typst_kinds.specs.declared.kind.SyntaxKind.{SyntaxKind}
 use Rattle.typst_kinds.specs.declared.kind.SyntaxKind.TheVariants as kind
 use Rattle.typst_kinds.specs.declared.mode.SyntaxMode.{SyntaxMode}
@@ -35,12 +35,12 @@ use Rattle.typst_edits.specs.Sequence.{Sequence, turn_of}
 use Rattle.typst_edits.specs.Spot.{lowered, unit_at}
 use Rattle.typst_edits.proofs.BlockRuns.{content-is}
 use Rattle.typst_edits.proofs.BlockLog.{block-log}
-use Rattle.typst_edits.proofs.Bytes.{counted}
 use Rattle.typst_edits.proofs.EmptyRuns.{Knows, hand-gap, asked-knows, flushed-knows, passed-kind, Looks, begin-each, begin-one, token_look, looks-hand, looks-append, unmoved, run-stopped, onwards-looks, Never, none-flush, end-any}
 use Rattle.typst_edits.proofs.Every.{every-append}
 use Rattle.typst_edits.proofs.Forward.{token-still}
 use Rattle.typst_edits.proofs.InnerBytes.{asks_before, content-asks, before-marks}
-use Rattle.typst_edits.proofs.Marks.{AllMarks, marks-append, marks-by, marks-shift, marks-lowered, none-hand, NoteOf, noted-each, none-close}
+use Rattle.typst_edits.proofs.LogNotes.{none_yet, fresh_notes, noted-length}
+use Rattle.typst_edits.proofs.Marks.{AllMarks, marks-append, marks-by, marks-shift, marks-lowered, none-hand, NoteOf, every-note, none-close}
 use Rattle.typst_edits.proofs.Text.{content-reads}
 use Rattle.typst_edits.proofs.Sides.{count-append, count-shift, count-none}
 use Rattle.typst_edits.proofs.PieceAsks.{lifted-count}
@@ -223,13 +223,11 @@ empty-block-law k levels front old rest c past t chosen name left empty known =
     let own = shift c.at (lowered f u.asks) in
     let single = single-lowered f c.at u.asks in_unit in
     -- its notes
-    let begun = d.earlier ++ d.opens ∷ [] in
-    let two = noted-each (Begins f) max_depth z own d.begun begun d.begun_is single.each in
-    let size : length two.more ≡ 1 = omega (arith, counted max_depth z own d.begun begun (begun ++ two.more) d.begun_is two.is, length-append begun two.more, single.size) in
-    let only = one-of two.more size in
-    let of_it = (subst (λ ns. Every (NoteOf (Begins f) max_depth z) ns) only.is two.each).0 in
+    let inner = fresh_notes max_depth z own in
+    let size : length inner ≡ 1 = noted-length max_depth z own 0 none_yet ∙ single.size in
+    let only = one-of inner size in
+    let of_it = (subst (λ ns. Every (NoteOf (Begins f) max_depth z) ns) only.is (every-note (Begins f) max_depth z own 0 none_yet single.each)).0 in
     let fewer : of_it.fewer ≡ f = of_it.holds.0 in
-    let more = d.rest two.more two.is in
     let looks = past-looks k levels y s t known empty in
     let place = (run_at k levels c z).place in
     record {
@@ -237,8 +235,8 @@ empty-block-law k levels front old rest c past t chosen name left empty known =
       opens = d.opens;
       note = only.only;
       closes = d.closes;
-      later = more.0;
-      notes = more.1 ∙ ap (λ ns. Some (d.earlier ++ d.opens ∷ (ns ++ d.closes ∷ more.0))) only.is;
+      later = d.later;
+      notes = d.notes ∙ ap (λ ns. Some (d.earlier ++ d.opens ∷ (ns ++ d.closes ∷ d.later))) only.is;
       name = d.name;
       start = d.start;
       says = of_it.mark ∙ of_it.holds.1;

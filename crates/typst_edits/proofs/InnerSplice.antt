@@ -36,7 +36,7 @@ use Rattle.typst_edits.proofs.EmptyRuns.{hand-asks, token_look}
 use Rattle.typst_edits.proofs.EmptyRuns.{Never}
 use Rattle.typst_edits.proofs.InnerBytes.{asks_before, content-asks, lead-bare, before-marks, past-both}
 use Rattle.typst_edits.proofs.InnerJoint.{block-read, inner-fronted, inner-joint-law}
-use Rattle.typst_edits.proofs.InTurn.{logged-lowered}
+use Rattle.typst_edits.proofs.LogNotes.{logged-lowered}
 use Rattle.typst_edits.proofs.Joint.{known-is}
 use Rattle.typst_edits.proofs.Led.{before_trivia}
 use Rattle.typst_edits.proofs.Outcomes.{shift-twice}

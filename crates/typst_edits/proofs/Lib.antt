@@ -9,7 +9,7 @@
 --   joint_law                    Joint: of a whole text; InnerJoint: of a content block; Meeting: any run; Turns: each head of markup, and how a run is read; Led: each word before a token is taken
 --   children_law                 Children: of a whole text; InnerChildren: of a content block; LeadingTrivia: without the trivia before the pieces
 --   head_law                     Heads: any run; NoneBack: in both texts
---   decision_law                 Bytes: the log; Boundary: where pieces of any run end; RunNotes: the note there, in the log of its text; RunBytes: of a whole text; InnerBytes: of a content block; Widths: characters and bytes; Within: looks are at places of the text
+--   decision_law                 Bytes: where looks end and begin; LogNotes: the notes of a log, and what their numbers say; Boundary: where pieces of any run end; RunNotes: the note there, in the log of its text; RunBytes: of a whole text; InnerBytes: of a content block; Widths: characters and bytes; Within: looks are at places of the text
 --   replaced_law                 Replaced
 --   empty_run_law                EmptyRuns: of a whole text; EmptyBlocks: of a content block
 --   candidates_law               BareCandidates, CandidatePlaces
@@ -79,6 +79,7 @@ pub mod Joint
 pub mod InnerJoint
 pub mod Within
 pub mod Widths
+pub mod LogNotes
 pub mod Bytes
 pub mod Seen
 pub mod Splice

@@ -20,37 +20,21 @@ use Rattle.typst_edits.specs.Runs.{asks_of}
 use Rattle.typst_edits.specs.Sequence.{Sequence, turn_of, first_of, then_of}
 use Rattle.typst_edits.specs.Splice.{Noting, noting, notes_in, AllNotedBy, token_start, entries_from}
 use Rattle.typst_edits.proofs.Edit.{onto}
-use Rattle.typst_edits.proofs.EmptyRuns.{Never}
+use Rattle.typst_edits.proofs.EmptyRuns.{Never, notes-none}
 use Rattle.typst_edits.proofs.Every.{Every}
 use Rattle.typst_edits.proofs.Bytes.{both-end}
 use Rattle.typst_edits.proofs.Marks.{AllMarks}
 use Rattle.typst_edits.proofs.Seen.{AllSeen, seen-first, sees-level}
-use Rattle.typst_edits.proofs.Splice.{note_by, notes_from, least_from, logged-notes, logged-least, notes-split, least-split, notes-length, last-is, entries-append, last-append, entries-length, front-same, take-width, reach-none, least-none, rear, position-old, position-new, spliced-is, whole-width}
-
-abbrev pub none_yet : ℕ
-none_yet = 2 ^ 64 - 1
-
--- the notes after a note
-abbrev pub fresh_notes : ℕ → Place → List Ask → List Note
-fresh_notes lv z asks = notes_from lv z 0 none_yet asks
+use Rattle.typst_edits.proofs.LogNotes.{none_yet, fresh_notes, note_by, notes_from, least_from, logged-notes, logged-least, least-around, noted-length}
+use Rattle.typst_edits.proofs.Splice.{notes-split, notes-length, last-is, entries-append, last-append, entries-length, front-same, take-width, reach-none, least-none, rear, position-old, position-new, spliced-is, whole-width}
 
 -- ---- looks alone
-
-pub notes-none : (lv : ℕ) (z : Place) (asks : List Ask) (reach least : ℕ) → AllMarks Never asks → notes_from lv z reach least asks ≡ []
-notes-none lv z [] reach least h = refl
-notes-none lv z (looked at look ∷ asks) reach least h = notes-none lv z asks (max reach (far look.front (moved at z))) (min least (near look.back (moved at z))) h
-notes-none lv z (marked at gap fewer m s ∷ asks) reach least h = absurd h.0
 
 -- looks after notes
 pub notes-bare : (lv : ℕ) (z : Place) (asks looks : List Ask) (reach least : ℕ) → AllMarks Never looks → notes_from lv z reach least (asks ++ looks) ≡ notes_from lv z reach least asks
 notes-bare lv z [] looks reach least h = notes-none lv z looks reach least h
 notes-bare lv z (looked at look ∷ asks) looks reach least h = notes-bare lv z asks looks (max reach (far look.front (moved at z))) (min least (near look.back (moved at z))) h
 notes-bare lv z (marked at gap fewer m s ∷ asks) looks reach least h = ap (λ ns. note_by lv z reach least at gap fewer m s ∷ ns) (notes-bare lv z asks looks 0 none_yet h)
-
-pub noted-length : (lv : ℕ) (z : Place) (asks : List Ask) (reach least : ℕ) → length (notes_from lv z reach least asks) ≡ notes_in asks
-noted-length lv z [] reach least = refl
-noted-length lv z (looked at look ∷ asks) reach least = noted-length lv z asks (max reach (far look.front (moved at z))) (min least (near look.back (moved at z)))
-noted-length lv z (marked at gap fewer m s ∷ asks) reach least = ap suc (noted-length lv z asks 0 none_yet)
 
 pub count-append : (ls ks : List Ask) → notes_in (ls ++ ks) ≡ notes_in ls + notes_in ks
 count-append [] ks = omega arith
@@ -121,8 +105,8 @@ units-side lv z first p all =
     let ns = fresh_notes lv z (first ++ noting p ∷ []) in
     let ms = fresh_notes lv z all in
     let h = logged lv z no_log asks in
-    let notes : h.notes ≡ Some (ns ++ ms) = logged-notes lv z asks 0 none_yet [] ∙ ap Some (notes-split lv z first all p 0 none_yet) in
-    let least : h.least ≡ least_from lv z none_yet all = logged-least lv z asks 0 none_yet [] ∙ least-split lv z first all p none_yet in
+    let notes : h.notes ≡ Some (ns ++ ms) = logged-notes lv z asks ∙ ap Some (notes-split lv z first all p 0 none_yet) in
+    let least : h.least ≡ least_from lv z none_yet all = logged-least lv z asks ∙ least-around lv z first p all in
     let ends = last-is lv z first p 0 none_yet 0 in
     let entries : entries_by 0 (ns ++ ms) ≡ entries_by 0 ns ++ entries_by tp ms = entries-append 0 ns ms ∙ ap (λ n. entries_by 0 ns ++ entries_by n ms) ends in
     let ending : last_start 0 (ns ++ ms) ≡ last_start tp ms = last-append 0 ns ms ∙ ap (λ n. last_start n ms) ends in
@@ -150,7 +134,7 @@ splice-sides lv front xs ys first p own all own_new all_new behind back ends not
     let long : length es ≡ suc from = entries-length 0 _ ∙ notes-length lv z first p 0 none_yet in
     let longer : length fs ≡ notes_in own = entries-length (token_start z p) _ ∙ noted-length lv z own 0 none_yet in
     let whole : length (es ++ fs) ≡ suc to = omega (arith, length-append es fs, long, longer) in
-    let part_is : entries_from (token_start w p) (logged lv w no_log own_new).notes ≡ ps = ap (entries_from (token_start w p)) (logged-notes lv w own_new 0 none_yet []) in
+    let part_is : entries_from (token_start w p) (logged lv w no_log own_new).notes ≡ ps = ap (entries_from (token_start w p)) (logged-notes lv w own_new) in
     let was : units_of (logged lv z no_log (first ++ noting p ∷ all)) ≡ record { entries = es ++ (fs ++ behind); back = back } =
     units-side lv z first p all ∙ ap (λ u. record { entries = es ++ u; back = back_of (last_start (token_start z p) (fresh_notes lv z all)) (least_from lv z none_yet all) }) a.entries
     ∙ ap (λ n. record { entries = es ++ (fs ++ behind); back = n }) a.ends in
@@ -205,7 +189,7 @@ side-closed lv z p q own all second looks at last own_is none all_is begins =
     ap (fresh_notes lv z) own_is ∙ ap (fresh_notes lv z) (sym (append_assoc second (noting q ∷ []) looks)) ∙ notes-bare lv z (second ++ noting q ∷ []) looks 0 none_yet none in
     let all_notes : fresh_notes lv z all ≡ ns ++ ms = ap (fresh_notes lv z) all_is ∙ notes-split lv z second (shift at last) q 0 none_yet in
     let ends : last_start tp ns ≡ position (moved at z) = last-is lv z second q 0 none_yet tp ∙ begins in
-    let least : least_from lv z none_yet all ≡ least_from lv z none_yet (shift at last) = ap (least_from lv z none_yet) all_is ∙ least-split lv z second (shift at last) q none_yet in
+    let least : least_from lv z none_yet all ≡ least_from lv z none_yet (shift at last) = ap (least_from lv z none_yet) all_is ∙ least-around lv z second q (shift at last) in
     record {
       entries = ap (entries_by tp) all_notes ∙ entries-append tp ns ms ∙ ap (λ n. entries_by tp ns ++ entries_by n ms) ends ∙ ap (λ u. entries_by tp u ++ entries_at lv z at last) (sym own_notes);
       ends = ap (λ u. back_of (last_start tp u) (least_from lv z none_yet all)) all_notes ∙ ap (λ n. back_of n (least_from lv z none_yet all)) (last-append tp ns ms ∙ ap (λ n. last_start n ms) ends)

@@ -16,48 +16,16 @@ use Rattle.typst_language.proofs.Places.{moved-sum, moved-ahead}
 use Rattle.typst_edits.specs.Edit.{text_with, AllEndBy, AllBeginIn}
 use Rattle.typst_edits.specs.Splice.{Noting, noting, notes_in, AllNotedBy, token_start, entries_from, SpliceLaw}
 use Rattle.typst_edits.proofs.Edit.{onto, past-is}
+use Rattle.typst_edits.proofs.LogNotes.{none_yet, note_with, note_by, notes_from, least_from, logged-notes, logged-least, least-around}
 use Rattle.typst_edits.proofs.Widths.{width-append, width-none, width-onto, stretch-to, moved-width}
 
--- ---- the notes of what is asked, from where the looks since the last note end and begin
-
-abbrev pub note_with : ℕ → ℕ → ℕ → ℕ → Mark → State → ℕ → ℕ → Note
-note_with lv reach least fewer m s before start = record { mark = m; before = before; start = start; levels = lv - fewer; state = s; reach = reach; least = least }
-
-abbrev pub note_by : ℕ → Place → ℕ → ℕ → ℕ → ℕ → ℕ → Mark → State → Note
-note_by lv z reach least at gap fewer m s = note_with lv reach least fewer m s (position (moved at z)) (position (moved gap (moved at z)))
-
-abbrev pub notes_from : ℕ → Place → ℕ → ℕ → List Ask → List Note
-notes_from lv z reach least [] = []
-notes_from lv z reach least (looked at look ∷ asks) = notes_from lv z (max reach (far look.front (moved at z))) (min least (near look.back (moved at z))) asks
-notes_from lv z reach least (marked at gap fewer m s ∷ asks) = note_by lv z reach least at gap fewer m s ∷ notes_from lv z 0 (2 ^ 64 - 1) asks
-
-abbrev pub least_from : ℕ → Place → ℕ → List Ask → ℕ
-least_from lv z least [] = least
-least_from lv z least (looked at look ∷ asks) = least_from lv z (min least (near look.back (moved at z))) asks
-least_from lv z least (marked at gap fewer m s ∷ asks) = least_from lv z (2 ^ 64 - 1) asks
-
-pub logged-notes : (lv : ℕ) (z : Place) (asks : List Ask) (reach least : ℕ) (ns : List Note) → (logged lv z (record { reach = reach; least = least; notes = Some ns }) asks).notes ≡ Some (ns ++ notes_from lv z reach least asks)
-logged-notes lv z [] reach least ns = ap Some (sym (append-nil ns))
-logged-notes lv z (looked at look ∷ asks) reach least ns = logged-notes lv z asks (max reach (far look.front (moved at z))) (min least (near look.back (moved at z))) ns
-logged-notes lv z (marked at gap fewer m s ∷ asks) reach least ns =
-    let note = note_by lv z reach least at gap fewer m s in
-    logged-notes lv z asks 0 (2 ^ 64 - 1) (ns ++ note ∷ []) ∙ ap Some (append_assoc ns (note ∷ []) (notes_from lv z 0 (2 ^ 64 - 1) asks))
-
-pub logged-least : (lv : ℕ) (z : Place) (asks : List Ask) (reach least : ℕ) (ns : List Note) → (logged lv z (record { reach = reach; least = least; notes = Some ns }) asks).least ≡ least_from lv z least asks
-logged-least lv z [] reach least ns = refl
-logged-least lv z (looked at look ∷ asks) reach least ns = logged-least lv z asks (max reach (far look.front (moved at z))) (min least (near look.back (moved at z))) ns
-logged-least lv z (marked at gap fewer m s ∷ asks) reach least ns = logged-least lv z asks 0 (2 ^ 64 - 1) (ns ++ note_by lv z reach least at gap fewer m s ∷ [])
+-- ---- the notes of what is asked
 
 -- A note separates them.
 pub notes-split : (lv : ℕ) (z : Place) (asks more : List Ask) (p : Noting) (reach least : ℕ) → notes_from lv z reach least (asks ++ noting p ∷ more) ≡ notes_from lv z reach least (asks ++ noting p ∷ []) ++ notes_from lv z 0 (2 ^ 64 - 1) more
 notes-split lv z [] more p reach least = refl
 notes-split lv z (looked at look ∷ asks) more p reach least = notes-split lv z asks more p (max reach (far look.front (moved at z))) (min least (near look.back (moved at z)))
 notes-split lv z (marked at gap fewer m s ∷ asks) more p reach least = ap (λ ns. note_by lv z reach least at gap fewer m s ∷ ns) (notes-split lv z asks more p 0 (2 ^ 64 - 1))
-
-pub least-split : (lv : ℕ) (z : Place) (asks more : List Ask) (p : Noting) (least : ℕ) → least_from lv z least (asks ++ noting p ∷ more) ≡ least_from lv z (2 ^ 64 - 1) more
-least-split lv z [] more p least = refl
-least-split lv z (looked at look ∷ asks) more p least = least-split lv z asks more p (min least (near look.back (moved at z)))
-least-split lv z (marked at gap fewer m s ∷ asks) more p least = least-split lv z asks more p (2 ^ 64 - 1)
 
 pub notes-length : (lv : ℕ) (z : Place) (asks : List Ask) (p : Noting) (reach least : ℕ) → length (notes_from lv z reach least (asks ++ noting p ∷ [])) ≡ suc (notes_in asks)
 notes-length lv z [] p reach least = refl
@@ -292,9 +260,6 @@ module _ (lv : ℕ) (front old new rest : List ℕ) (past end stop : ℕ) (e : e
 
 -- the units of what is asked up to a note, up to another one, and after it
 module _ (lv : ℕ) (z : Place) (first second last : List Ask) (p q : Noting) where
-  abbrev none_yet : ℕ
-  none_yet = 2 ^ 64 - 1
-
   abbrev notes_first : List Note
   notes_first = notes_from lv z 0 none_yet (first ++ noting p ∷ [])
 
@@ -317,9 +282,9 @@ module _ (lv : ℕ) (z : Place) (first second last : List Ask) (p q : Noting) wh
       let tq = token_start z q in
       let h = logged lv z no_log asks in
       let notes : h.notes ≡ Some (notes_first ++ (notes_second ++ notes_last)) =
-      logged-notes lv z asks 0 none_yet [] ∙ ap Some (notes-split lv z first (second ++ noting q ∷ last) p 0 none_yet ∙ ap (λ ns. notes_first ++ ns) (notes-split lv z second last q 0 none_yet)) in
+      logged-notes lv z asks ∙ ap Some (notes-split lv z first (second ++ noting q ∷ last) p 0 none_yet ∙ ap (λ ns. notes_first ++ ns) (notes-split lv z second last q 0 none_yet)) in
       let least : h.least ≡ least_from lv z none_yet last =
-      logged-least lv z asks 0 none_yet [] ∙ least-split lv z first (second ++ noting q ∷ last) p none_yet ∙ least-split lv z second last q none_yet in
+      logged-least lv z asks ∙ least-around lv z first p (second ++ noting q ∷ last) ∙ least-around lv z second q last in
       let first_end = last-is lv z first p 0 none_yet 0 in
       let second_end = last-is lv z second q 0 none_yet tp in
       let entries : entries_by 0 (notes_first ++ (notes_second ++ notes_last)) ≡ entries_by 0 notes_first ++ (entries_by tp notes_second ++ entries_by tq notes_last) =
@@ -356,7 +321,6 @@ splice-law lv front old new rest past gap first second third last p q r big big_
     let b = width (onto old (onto front [])) in
     let c = width (onto new (onto front [])) in
     let x = width (take (past + gap) rest) in
-    let none_yet = 2 ^ 64 - 1 in
     let fits : b + width rest < none_yet = subst (λ n. n < none_yet) (sym (whole-width front old rest)) big in
     let fits_new : c + width rest < none_yet = subst (λ n. n < none_yet) (sym (whole-width front new rest)) big_new in
     let behind = rear lv front old new rest past end stop refl refl last x 0 none_yet 0 none_yet (take-width (past + gap) rest) fits fits_new (reach-none b c) (least-none (width rest) b c none_yet fits fits_new) begins in
@@ -378,7 +342,7 @@ splice-law lv front old new rest past gap first second third last p q r big big_
     let long : length es ≡ suc from = entries-length 0 _ ∙ notes-length lv z first p 0 none_yet in
     let longer : length fs ≡ suc (notes_in second) = entries-length (token_start z p) _ ∙ notes-length lv z second q 0 none_yet in
     let all : length (es ++ fs) ≡ suc to = omega (arith, length-append es fs, long, longer) in
-    let part_is : entries_from (token_start w p) (logged lv w no_log (third ++ noting r ∷ [])).notes ≡ ps = ap (entries_from (token_start w p)) (logged-notes lv w (third ++ noting r ∷ []) 0 none_yet []) in
+    let part_is : entries_from (token_start w p) (logged lv w no_log (third ++ noting r ∷ [])).notes ≡ ps = ap (entries_from (token_start w p)) (logged-notes lv w (third ++ noting r ∷ [])) in
     units-split lv w first third (shift stop last) p r
     ∙ ap (λ u. record { entries = u ++ (ps ++ entries_by (token_start w r) ms); back = back_of (last_start (token_start w r) ms) (least_from lv w none_yet (shift stop last)) }) front_is
     ∙ ap (λ u. record { entries = es ++ (ps ++ u); back = back_of (last_start (token_start w r) ms) (least_from lv w none_yet (shift stop last)) }) rest_is
