@@ -41,6 +41,9 @@ pub record Joins (Q : ℕ → ℕ → List Ask → Type 0) : Type 0 where
   pub shifted : (d hi : ℕ) (ls : List Ask) → Q 0 hi ls → Q d (d + hi) (shift d ls)
   pub none : (lo hi : ℕ) (ls : List Ask) → lo ≤ hi → Unmarked ls → Q lo hi ls
 
+pub unmarked : Joins (λ lo hi ls. Unmarked ls)
+unmarked = record { append = λ lo mid hi ls ks h k. marks-append (λ at fewer m s. ⊥) ls ks h k; shifted = λ d hi ls h. unmarked-shift d ls h; none = λ lo hi ls e h. h }
+
 module _ (step : ℕ → Mark → ℕ) (P : ℕ → Mark → Type 0) where
   -- The marks stand in order, from one place up to another, each at a given distance after the one before, and a property holds of each.
   abbrev pub Upward : ℕ → ℕ → List Ask → Type 0
