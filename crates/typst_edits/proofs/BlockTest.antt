@@ -61,7 +61,7 @@ use Rattle.typst_edits.proofs.EntryNumbers.{NoneAt, opening-some, opening-found,
 use Rattle.typst_edits.proofs.Every.{every-append, some_or}
 use Rattle.typst_edits.proofs.LogNotes.{none_yet, notes_from, logged-notes, logged-listed}
 use Rattle.typst_edits.proofs.Names.{named-level}
-use Rattle.typst_edits.proofs.NestedInner.{nested-block-law}
+use Rattle.typst_edits.proofs.BlockLog.{nested-block-law}
 use Rattle.typst_edits.proofs.OpensApart.{opens-apart-law, opens-directly}
 use Rattle.typst_edits.proofs.SecondPlaces.{second-place}
 use Rattle.typst_edits.proofs.SpotPlaces.{SpotPlace, spot-place, within-is}

@@ -35,7 +35,7 @@ use Rattle.typst_edits.proofs.EmptyRuns.{Never, none-flush}
 use Rattle.typst_edits.proofs.InnerCuts.{opens_at, cuts-past, opens-before, both-on}
 use Rattle.typst_edits.proofs.Marks.{AllMarks, marks-append, marks-shift, none-hand, none-close}
 use Rattle.typst_edits.proofs.Names.{named-level}
-use Rattle.typst_edits.proofs.NestedInner.{nested-block-law}
+use Rattle.typst_edits.proofs.BlockLog.{nested-block-law}
 use Rattle.typst_edits.proofs.Sides.{count-none}
 use Rattle.typst_edits.proofs.Spots.{if-true}
 use Rattle.typst_edits.proofs.Upward.{Unmarked, unmarked, from-run}

@@ -15,7 +15,7 @@
 --   candidates_law               BareCandidates, CandidatePlaces
 --   notes_law                    PieceNotes: of a whole text and of a content block; BlockLog: a block's two notes in the log; Marks: in any list of asks
 --   numbered_notes_law           NumberedNotes: of a whole text and of a content block; InTurn: the marks of a run in turn; NoteNumbers, InnerNumbers: the number of a note; Cuts: where the tokens after pieces begin
---   rising_law                   Upward: marks in order, in whatever the language can say; Rising: by where they stand; InOrder: by their tokens; OpensApart: those where blocks begin; Nested: how they stand in each other; NestedInner: between the two notes of a block
+--   rising_law                   Upward: marks in order, in whatever the language can say; Rising: by where they stand; InOrder: by their tokens; OpensApart: those where blocks begin; Nested: how they stand in each other; BlockLog: of any block; NestedInner: between the two notes of a block
 --   leading_law                  Leading: of a whole text and of a content block; Fronts: nodes of which the first isn't empty
 --   block_worth_law              BlockWorth
 --   part_law                     BlockPart

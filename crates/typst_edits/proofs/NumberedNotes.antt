@@ -38,13 +38,12 @@ use Rattle.typst_edits.specs.Splice.{notes_in}
 use Rattle.typst_edits.specs.Spot.{Spot, unit_at}
 use Rattle.typst_edits.proofs.BlockRuns.{content-is}
 use Rattle.typst_edits.proofs.Boundary.{KnownAt, stopped-is, stopped-asks, turn-asks, early-marks, turn-goes, turn-known, piece_mark}
-use Rattle.typst_edits.proofs.BlockLog.{own_asks, block-log}
+use Rattle.typst_edits.proofs.BlockLog.{block-log}
 use Rattle.typst_edits.proofs.InnerBytes.{asks_before, run_mark, content-asks, before-marks}
 use Rattle.typst_edits.proofs.InTurn.{InTurn, turn-append, turn-next, turn-by, turn-shift, Deeper, turn-none, NoteNth, noted-nth, numbered-by}
 use Rattle.typst_edits.proofs.Joint.{known-is, text-taking}
 use Rattle.typst_edits.proofs.Marks.{marks-append, marks-shift, none-hand, none-close}
-use Rattle.typst_edits.proofs.LogNotes.{none_yet, fresh_notes, noted-length, logged-listed, notes-lowered}
-use Rattle.typst_edits.proofs.Nested.{Nests, unit-nests, notes-nested}
+use Rattle.typst_edits.proofs.LogNotes.{none_yet, fresh_notes, logged-listed}
 use Rattle.typst_edits.proofs.Root.{whole-is}
 use Rattle.typst_edits.proofs.RunTrees.{whole-asks}
 use Rattle.typst_edits.proofs.Spots.{if-true, if-false}
@@ -275,6 +274,7 @@ unfolding blocks_of_text log position
 nested-numbers k levels text c chosen name left =
     let z = start_of text in
     let d = block-log k text c chosen in
+    let b0 = d.notes in
     let s = point_of c.start in
     let y = moved c.at z in
     let u = unit_at c z in
@@ -285,25 +285,23 @@ nested-numbers k levels text c chosen name left =
     let P = λ (i at gap : ℕ) (m : Mark) (p : State). Cut k levels y s b i at gap m p in
     let marks = subst (λ (v : Outcome (Unit {0})). InTurn P 0 n v.asks) (sym reads) (block-cuts k levels y s) in
     let inner = fresh_notes (suc levels) y u.asks in
-    let inner_is : fresh_notes max_depth z (own_asks k text c) ≡ inner = notes-lowered max_depth c.fewer c.at z u.asks ∙ ap (λ v. fresh_notes v y u.asks) left in
+    let inner_is : b0.inner ≡ inner = d.inner_is ∙ ap (λ v. fresh_notes v y u.asks) left in
     let two = noted-nth P levels y u.asks 0 none_yet 0 n marks in
-    let own_nested = subst (λ (v : Outcome (Unit {0})). Nests (suc (suc levels)) 1 v.asks) (sym reads) (unit-nests k (suc levels) block.Content y s) in
-    let all_left : suc levels - 0 ≡ suc levels = omega arith in
     record {
       numbers = record {
-        earlier = d.earlier;
-        opens = d.opens;
+        earlier = b0.earlier;
+        opens = b0.opens;
         inner = inner;
-        closes = d.closes;
-        later = d.later;
-        notes = d.notes ∙ ap (λ ns. Some (d.earlier ++ d.opens ∷ (ns ++ d.closes ∷ d.later))) inner_is;
-        name = d.name;
-        start = d.start;
-        levels_there = d.levels ∙ left;
+        closes = b0.closes;
+        later = b0.later;
+        notes = b0.notes ∙ ap (λ ns. Some (b0.earlier ++ b0.opens ∷ (ns ++ b0.closes ∷ b0.later))) inner_is;
+        name = b0.name;
+        start = b0.start;
+        levels_there = b0.levels_there ∙ left;
         state = d.state;
-        name_end = d.name_end;
-        end = d.end;
-        levels_end = d.levels_end ∙ left;
+        name_end = b0.name_end;
+        end = b0.end;
+        levels_end = b0.levels_end ∙ left;
         count = turns_are.count;
         go = turns_are.go;
         over = turns_are.over;
@@ -312,9 +310,9 @@ nested-numbers k levels text c chosen name left =
             (λ i note h. says-of (turn_of (run_at k levels c z)) (true, 0) (run_at k levels c z).place (run_at k levels c z).point (opened_at k levels c z) text (λ j. inner_end k levels j c z) i note refl
             (nth-moved (turn_of (run_at k levels c z)) (true, 0) (run_at k levels c z).place (run_at k levels c z).point c.at b i z note h)) 0 (of_level (suc levels) inner) two.each;
       };
-      nested = subst (λ v. Nested v inner) all_left (notes-nested (suc levels) 0 y u.asks 0 none_yet (omega arith) own_nested);
-      number = d.number;
-      long = noted-length (suc levels) y u.asks 0 none_yet;
+      nested = subst (λ ns. Nested (suc levels) ns) inner_is (subst (λ v. Nested v b0.inner) left b0.nested);
+      number = b0.number;
+      long = ap length (sym inner_is) ∙ b0.long;
       asks = ap (λ (v : Outcome (Unit {0})). v.asks) reads;
     }
 
