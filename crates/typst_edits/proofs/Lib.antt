@@ -19,7 +19,7 @@
 --   leading_law                  Leading: of a whole text and of a content block; Fronts: nodes of which the first isn't empty
 --   block_worth_law              BlockWorth
 --   part_law                     BlockPart
---   splice_law                   Splice: of any asks; BlockSplice: of a block; RunSplice: of pieces of a text's run; InnerSplice: of pieces of a block's; PieceAsks: what is asked of them; Sides: what stands after a note; Seen: what is noted was looked at; Forward: trivia look ahead alone
+--   splice_law                   Splice: notes before a stretch and after it; BlockSplice: of a block; RunSplice: of pieces of a text's run; InnerSplice: of pieces of a block's; PieceAsks: what is asked of them; Sides: what stands after a note, and of any asks; Seen: what is noted was looked at; Forward: trivia look ahead alone
 --   one_reading_law              OneReading; KeptNodes: in the old tree
 --   block_test_law               BlockTest: entries and the block by itself; EntryNumbers: a block's two notes among the entries; CandidateBlocks: the candidate's node in a hole; BlockPlaces: the block there, by bytes; SecondPlaces: one that a reading that was given up covers
 --   pieces_test_law              ReadAlone: pieces read by themselves, of any run; PiecesTest: of a whole text

@@ -18,15 +18,15 @@ use Rattle.typst_edits.specs.Edit.{text_with, AllEndBy, AllBeginIn}
 use Rattle.typst_edits.specs.Looks.{AllFrom}
 use Rattle.typst_edits.specs.Runs.{asks_of}
 use Rattle.typst_edits.specs.Sequence.{Sequence, turn_of, first_of, then_of}
-use Rattle.typst_edits.specs.Splice.{Noting, noting, notes_in, AllNotedBy, token_start, entries_from}
+use Rattle.typst_edits.specs.Splice.{Noting, noting, notes_in, AllNotedBy, token_start, entries_from, SpliceLaw}
 use Rattle.typst_edits.proofs.Edit.{onto}
 use Rattle.typst_edits.proofs.EmptyRuns.{Never, notes-none}
 use Rattle.typst_edits.proofs.Every.{Every}
-use Rattle.typst_edits.proofs.Bytes.{both-end}
+use Rattle.typst_edits.proofs.Bytes.{both-end, notes-one}
 use Rattle.typst_edits.proofs.Marks.{AllMarks}
 use Rattle.typst_edits.proofs.Seen.{AllSeen, seen-first, sees-level}
 use Rattle.typst_edits.proofs.LogNotes.{none_yet, fresh_notes, note_by, notes_from, least_from, logged-notes, logged-least, least-around, noted-length}
-use Rattle.typst_edits.proofs.Splice.{notes-split, notes-length, last-is, entries-append, last-append, entries-length, front-same, take-width, reach-none, least-none, rear, position-old, position-new, spliced-is, whole-width}
+use Rattle.typst_edits.proofs.Splice.{notes-split, last-is, entries-append, last-append, entries-length, front-same, take-width, reach-none, least-none, rear, position-old, position-new, spliced-is, whole-width, token-at}
 
 -- ---- looks alone
 
@@ -92,6 +92,9 @@ pub record Side (lv : ℕ) (z : Place) (p : Noting) (own all : List Ask) (behind
   pub entries : entries_by (token_start z p) (fresh_notes lv z all) ≡ entries_by (token_start z p) (fresh_notes lv z own) ++ behind
   pub ends : back_of (last_start (token_start z p) (fresh_notes lv z all)) (least_from lv z none_yet all) ≡ back
 
+pub side-by : (lv : ℕ) (z : Place) (p : Noting) (own all : List Ask) (es fs : List Entry) (a b : ℕ) → es ≡ fs → a ≡ b → Side lv z p own all es a → Side lv z p own all fs b
+side-by lv z p own all es fs a b e f s = record { entries = s.entries ∙ ap (λ u. entries_by (token_start z p) (fresh_notes lv z own) ++ u) e; ends = s.ends ∙ f }
+
 abbrev pub units_behind : ℕ → Place → List Ask → Noting → List Ask → Units
 units_behind lv z first p all = record {
   entries = entries_by 0 (fresh_notes lv z (first ++ noting p ∷ [])) ++ entries_by (token_start z p) (fresh_notes lv z all);
@@ -131,7 +134,7 @@ splice-sides lv front xs ys first p own all own_new all_new behind back ends not
     let ps = entries_by (token_start w p) (fresh_notes lv w own_new) in
     let from = notes_in first in
     let to = from + notes_in own in
-    let long : length es ≡ suc from = entries-length 0 _ ∙ notes-length lv z first p 0 none_yet in
+    let long : length es ≡ suc from = entries-length 0 _ ∙ noted-length lv z (first ++ noting p ∷ []) 0 none_yet ∙ notes-one first p.at p.gap p.fewer p.mark p.state in
     let longer : length fs ≡ notes_in own = entries-length (token_start z p) _ ∙ noted-length lv z own 0 none_yet in
     let whole : length (es ++ fs) ≡ suc to = omega (arith, length-append es fs, long, longer) in
     let part_is : entries_from (token_start w p) (logged lv w no_log own_new).notes ≡ ps = ap (entries_from (token_start w p)) (logged-notes lv w own_new) in
@@ -178,23 +181,31 @@ entries_at lv z at asks = entries_by (position (moved at z)) (fresh_notes lv z (
 abbrev pub back_at : ℕ → Place → ℕ → List Ask → ℕ
 back_at lv z at asks = back_of (last_start (position (moved at z)) (fresh_notes lv z (shift at asks))) (least_from lv z none_yet (shift at asks))
 
--- own asks that end with a note, whose token begins there, and looks after it
+-- own asks that end with a note, and looks after it
+side-ended : (lv : ℕ) (z : Place) (p q : Noting) (own all second looks rest : List Ask) → own ≡ second ++ noting q ∷ looks → AllMarks Never looks → all ≡ second ++ noting q ∷ rest
+    → Side lv z p own all (entries_by (token_start z q) (fresh_notes lv z rest)) (back_of (last_start (token_start z q) (fresh_notes lv z rest)) (least_from lv z none_yet rest))
+side-ended lv z p q own all second looks rest own_is none all_is =
+    let tp = token_start z p in
+    let tq = token_start z q in
+    let ns = fresh_notes lv z (second ++ noting q ∷ []) in
+    let ms = fresh_notes lv z rest in
+    let own_notes : fresh_notes lv z own ≡ ns =
+    ap (fresh_notes lv z) own_is ∙ ap (fresh_notes lv z) (sym (append_assoc second (noting q ∷ []) looks)) ∙ notes-bare lv z (second ++ noting q ∷ []) looks 0 none_yet none in
+    let all_notes : fresh_notes lv z all ≡ ns ++ ms = ap (fresh_notes lv z) all_is ∙ notes-split lv z second rest q 0 none_yet in
+    let ends : last_start tp ns ≡ tq = last-is lv z second q 0 none_yet tp in
+    let least : least_from lv z none_yet all ≡ least_from lv z none_yet rest = ap (least_from lv z none_yet) all_is ∙ least-around lv z second q rest in
+    record {
+      entries = ap (entries_by tp) all_notes ∙ entries-append tp ns ms ∙ ap (λ n. entries_by tp ns ++ entries_by n ms) ends ∙ ap (λ u. entries_by tp u ++ entries_by tq ms) (sym own_notes);
+      ends = ap (λ u. back_of (last_start tp u) (least_from lv z none_yet all)) all_notes ∙ ap (λ n. back_of n (least_from lv z none_yet all)) (last-append tp ns ms ∙ ap (λ n. last_start n ms) ends)
+          ∙ ap (back_of (last_start tq ms)) least;
+    }
+
+-- where the note's token begins there
 pub side-closed : (lv : ℕ) (z : Place) (p q : Noting) (own all second looks : List Ask) (at : ℕ) (last : List Ask) → own ≡ second ++ noting q ∷ looks → AllMarks Never looks → all ≡ second ++ noting q ∷ shift at last
     → token_start z q ≡ position (moved at z) → Side lv z p own all (entries_at lv z at last) (back_at lv z at last)
 side-closed lv z p q own all second looks at last own_is none all_is begins =
-    let tp = token_start z p in
-    let ns = fresh_notes lv z (second ++ noting q ∷ []) in
     let ms = fresh_notes lv z (shift at last) in
-    let own_notes : fresh_notes lv z own ≡ ns =
-    ap (fresh_notes lv z) own_is ∙ ap (fresh_notes lv z) (sym (append_assoc second (noting q ∷ []) looks)) ∙ notes-bare lv z (second ++ noting q ∷ []) looks 0 none_yet none in
-    let all_notes : fresh_notes lv z all ≡ ns ++ ms = ap (fresh_notes lv z) all_is ∙ notes-split lv z second (shift at last) q 0 none_yet in
-    let ends : last_start tp ns ≡ position (moved at z) = last-is lv z second q 0 none_yet tp ∙ begins in
-    let least : least_from lv z none_yet all ≡ least_from lv z none_yet (shift at last) = ap (least_from lv z none_yet) all_is ∙ least-around lv z second q (shift at last) in
-    record {
-      entries = ap (entries_by tp) all_notes ∙ entries-append tp ns ms ∙ ap (λ n. entries_by tp ns ++ entries_by n ms) ends ∙ ap (λ u. entries_by tp u ++ entries_at lv z at last) (sym own_notes);
-      ends = ap (λ u. back_of (last_start tp u) (least_from lv z none_yet all)) all_notes ∙ ap (λ n. back_of n (least_from lv z none_yet all)) (last-append tp ns ms ∙ ap (λ n. last_start n ms) ends)
-          ∙ ap (back_of (last_start (position (moved at z)) ms)) least;
-    }
+    side-by lv z p own all _ _ _ _ (ap (λ n. entries_by n ms) begins) (ap (λ n. back_of (last_start n ms) (least_from lv z none_yet (shift at last))) begins) (side-ended lv z p q own all second looks (shift at last) own_is none all_is)
 
 -- No note of its own is made, where the note's token begins there.
 pub side-open : (lv : ℕ) (z : Place) (p : Noting) (own all : List Ask) (at : ℕ) (last : List Ask) → AllMarks Never own → all ≡ shift at last → token_start z p ≡ position (moved at z)
@@ -219,7 +230,35 @@ side-none lv z p own all bare none begun begins =
       ends = ap (λ u. back_of (last_start tp u) (least_from lv z none_yet all)) all_notes ∙ ap (λ n. back_of n (least_from lv z none_yet all)) begins ∙ back;
     }
 
--- the same after two stretches
+-- the same after two stretches, where the tokens begin a given number of characters after them
+record SameAfter (lv : ℕ) (z w : Place) (end stop gap : ℕ) (last : List Ask) : Type 0 where
+  entries : entries_by (position (moved (stop + gap) w)) (fresh_notes lv w (shift stop last)) ≡ entries_by (position (moved (end + gap) z)) (fresh_notes lv z (shift end last))
+  back : back_of (last_start (position (moved (stop + gap) w)) (fresh_notes lv w (shift stop last))) (least_from lv w none_yet (shift stop last))
+      ≡ back_of (last_start (position (moved (end + gap) z)) (fresh_notes lv z (shift end last))) (least_from lv z none_yet (shift end last))
+
+same-after : (lv : ℕ) (front old new rest : List ℕ) (past gap : ℕ) (last : List Ask) → width (front ++ (old ++ rest)) < 2 ^ 64 - 1 → width (front ++ (new ++ rest)) < 2 ^ 64 - 1 → AllBeginIn past rest last
+    → SameAfter lv (text_with front old rest) (text_with front new rest) ((length front + length old) + past) ((length front + length new) + past) gap last
+same-after lv front old new rest past gap last big big_new begins =
+    let z = text_with front old rest in
+    let w = text_with front new rest in
+    let end = (length front + length old) + past in
+    let stop = (length front + length new) + past in
+    let b = width (onto old (onto front [])) in
+    let c = width (onto new (onto front [])) in
+    let x = width (take (past + gap) rest) in
+    let fits : b + width rest < none_yet = subst (λ n. n < none_yet) (sym (whole-width front old rest)) big in
+    let fits_new : c + width rest < none_yet = subst (λ n. n < none_yet) (sym (whole-width front new rest)) big_new in
+    let behind = rear lv front old new rest past end stop refl refl last x 0 none_yet 0 none_yet (take-width (past + gap) rest) fits fits_new (reach-none b c) (least-none (width rest) b c none_yet fits fits_new) begins in
+    let q_is : position (moved (end + gap) z) ≡ b + x = position-old lv front old new rest past end stop refl refl gap in
+    let r_is : position (moved (stop + gap) w) ≡ c + x = position-new lv front old new rest past end stop refl refl gap in
+    let ns = fresh_notes lv z (shift end last) in
+    let ms = fresh_notes lv w (shift stop last) in
+    record {
+      entries = ap (λ n. entries_by n ms) r_is ∙ sym behind.entries ∙ ap (λ n. entries_by n ns) (sym q_is);
+      back = ap (λ n. back_of (last_start n ms) (least_from lv w none_yet (shift stop last))) r_is ∙ sym behind.back ∙ ap (λ n. back_of (last_start n ns) (least_from lv z none_yet (shift end last))) (sym q_is);
+    }
+
+-- directly after them
 pub record SameAt (lv : ℕ) (z w : Place) (end stop : ℕ) (last : List Ask) : Type 0 where
   pub entries : entries_at lv w stop last ≡ entries_at lv z end last
   pub back : back_at lv w stop last ≡ back_at lv z end last
@@ -231,22 +270,40 @@ same-at lv front old new rest past last big big_new begins =
     let w = text_with front new rest in
     let end = (length front + length old) + past in
     let stop = (length front + length new) + past in
-    let b = width (onto old (onto front [])) in
-    let c = width (onto new (onto front [])) in
-    let x = width (take (past + 0) rest) in
-    let fits : b + width rest < none_yet = subst (λ n. n < none_yet) (sym (whole-width front old rest)) big in
-    let fits_new : c + width rest < none_yet = subst (λ n. n < none_yet) (sym (whole-width front new rest)) big_new in
-    let behind = rear lv front old new rest past end stop refl refl last x 0 none_yet 0 none_yet (take-width (past + 0) rest) fits fits_new (reach-none b c) (least-none (width rest) b c none_yet fits fits_new) begins in
     let same : end + 0 ≡ end = omega arith in
     let same_new : stop + 0 ≡ stop = omega arith in
-    let q_is : position (moved end z) ≡ b + x = ap (λ n. position (moved n z)) (sym same) ∙ position-old lv front old new rest past end stop refl refl 0 in
-    let r_is : position (moved stop w) ≡ c + x = ap (λ n. position (moved n w)) (sym same_new) ∙ position-new lv front old new rest past end stop refl refl 0 in
+    let s = same-after lv front old new rest past 0 last big big_new begins in
     let ns = fresh_notes lv z (shift end last) in
     let ms = fresh_notes lv w (shift stop last) in
     record {
-      entries = ap (λ n. entries_by n ms) r_is ∙ sym behind.entries ∙ ap (λ n. entries_by n ns) (sym q_is);
-      back = ap (λ n. back_of (last_start n ms) (least_from lv w none_yet (shift stop last))) r_is ∙ sym behind.back ∙ ap (λ n. back_of (last_start n ns) (least_from lv z none_yet (shift end last))) (sym q_is);
+      entries = ap (λ n. entries_by (position (moved n w)) ms) (sym same_new) ∙ s.entries ∙ ap (λ n. entries_by (position (moved n z)) ns) same;
+      back = ap (λ n. back_of (last_start (position (moved n w)) ms) (least_from lv w none_yet (shift stop last))) (sym same_new) ∙ s.back
+          ∙ ap (λ n. back_of (last_start (position (moved n z)) ns) (least_from lv z none_yet (shift end last))) same;
     }
+
+-- ---- the law
+
+pub splice-law : SpliceLaw
+splice-law lv front old new rest past gap first second third last p q r big big_new ends noted within at_end at_stop begins =
+    let z = text_with front old rest in
+    let w = text_with front new rest in
+    let end = (length front + length old) + past in
+    let stop = (length front + length new) + past in
+    let own = second ++ noting q ∷ [] in
+    let own_new = third ++ noting r ∷ [] in
+    let all = second ++ noting q ∷ shift end last in
+    let all_new = third ++ noting r ∷ shift stop last in
+    let s = same-after lv front old new rest past gap last big big_new begins in
+    let ns = fresh_notes lv z (shift end last) in
+    let ms = fresh_notes lv w (shift stop last) in
+    let q_is = token-at z q (end + gap) at_end in
+    let r_is = token-at w r (stop + gap) at_stop in
+    let one = side-by lv z p own all _ _ _ _ (ap (λ n. entries_by n ns) q_is) (ap (λ n. back_of (last_start n ns) (least_from lv z none_yet (shift end last))) q_is) (side-ended lv z p q own all second [] (shift end last) refl tt refl) in
+    let two = side-by lv w p own_new all_new _ _ _ _ (ap (λ n. entries_by n ms) r_is ∙ s.entries) (ap (λ n. back_of (last_start n ms) (least_from lv w none_yet (shift stop last))) r_is ∙ s.back)
+    (side-ended lv w p r own_new all_new third [] (shift stop last) refl tt refl) in
+    let count : notes_in first + notes_in own ≡ suc (notes_in first + notes_in second) = omega (arith, notes-one second q.at q.gap q.fewer q.mark q.state) in
+    splice-sides lv front (old ++ rest) (new ++ rest) first p own all own_new all_new _ _ ends noted within one two
+    ∙ ap (λ n. spliced (notes_in first) n (entries_from (token_start w p) (logged lv w no_log own_new).notes) (units_of (logged lv z no_log (first ++ noting p ∷ all)))) count
 
 -- ---- after the last token
 
@@ -290,6 +347,3 @@ last-at lv z at look last none each fits =
       entries = ap (entries_by here) notes;
       back = ap (λ ns. back_of (last_start here ns) (least_from lv z none_yet (shift at last))) notes ∙ back;
     }
-
-pub side-by : (lv : ℕ) (z : Place) (p : Noting) (own all : List Ask) (es fs : List Entry) (a b : ℕ) → es ≡ fs → a ≡ b → Side lv z p own all es a → Side lv z p own all fs b
-side-by lv z p own all es fs a b e f s = record { entries = s.entries ∙ ap (λ u. entries_by (token_start z p) (fresh_notes lv z own) ++ u) e; ends = s.ends ∙ f }
