@@ -58,7 +58,7 @@ use Rattle.typst_edits.proofs.CandidateBlocks.{BlockAt}
 use Rattle.typst_edits.proofs.Clear.{Clear, clear-level}
 use Rattle.typst_edits.proofs.Edit.{among, before-same}
 use Rattle.typst_edits.proofs.EntryNumbers.{NoneAt, opening-some, opening-found, some-number, got-entry, past-entry, past-note, all-end, end-all, all-begin, begin-all}
-use Rattle.typst_edits.proofs.Every.{every-append, some_or}
+use Rattle.typst_edits.proofs.Every.{some_or}
 use Rattle.typst_edits.proofs.LogNotes.{none_yet, notes_from, logged-notes, logged-listed}
 use Rattle.typst_edits.proofs.Names.{named-level}
 use Rattle.typst_edits.proofs.BlockLog.{nested-block-law}

@@ -27,7 +27,7 @@ use Rattle.typst_edits.specs.Bytes.{highest, lowest}
 use Rattle.typst_edits.specs.Edit.{AllEndBy}
 use Rattle.typst_edits.specs.Runs.{made, AllGo, end_of, asks_of, chain}
 use Rattle.typst_edits.specs.Splice.{Noting, noting as as_ask, notes_in}
-use Rattle.typst_edits.specs.Sequence.{Sequence, turn_of, first_of, first_end}
+use Rattle.typst_edits.specs.Sequence.{Sequence, turn_of}
 use Rattle.typst_edits.proofs.Bytes.{AllReach, end-by, end-to, AllFrom}
 use Rattle.typst_edits.proofs.LogNotes.{none_yet, fresh_notes, next_note, noted-length, logged-notes, logged-least, notes-around, least-around, reach-by, reach-to, least-by, least-to}
 use Rattle.typst_edits.proofs.Marks.{AllMarks, marks-append, marks-shift, marks-sunk, none-hand}

@@ -1,6 +1,6 @@
 -- The test of an edit in bytes, by the notes of a reading.
 use Rattle.std.proofs.Common.{◌≡◌, ℕ, suc, ◌+◌, ◌<◌, ◌≤◌, max, List, [], ◌∷◌, ◌++◌, length, take, length-append, append_assoc, Some, refl, ap, sym, ◌∙◌, subst, arith}
-use Rattle.typst_lines.specs.Place.{Place, moved}
+use Rattle.typst_lines.specs.Place.{moved}
 use Rattle.typst_lines.specs.Classes.{CharClasses}
 use Rattle.typst_tokens.specs.Sight.{width, position, near}
 use Rattle.typst_language.specs.declared.calls.Mark.{Mark}

@@ -1,5 +1,5 @@
 -- Marks stand in order by their tokens: each at the token of the one before it, or after that.
-use Rattle.std.proofs.Common.{◌≡◌, ℕ, zero, suc, ◌+◌, ◌≤◌, ◌==◌, max, min, Bool, true, false, ◌&&◌, nat_lt, List, [], ◌∷◌, ◌++◌, take, Option, Some, None, refl, ap, sym, ◌∙◌, subst, arith}
+use Rattle.std.proofs.Common.{◌≡◌, ℕ, zero, suc, ◌+◌, ◌≤◌, ◌==◌, max, min, Bool, true, false, ◌&&◌, nat_lt, List, [], ◌∷◌, take, Option, Some, None, refl, ap, sym, ◌∙◌, subst, arith}
 use Rattle.typst_kinds.specs.Kinds.{same}
 use Rattle.typst_kinds.specs.declared.kind.SyntaxKind.{SyntaxKind}
 use Rattle.typst_kinds.specs.declared.kind.SyntaxKind.TheVariants as kind
@@ -13,7 +13,6 @@ use Rattle.typst_language.specs.Calls.{Call}
 use Rattle.typst_language.specs.Calls.Call.{MarkupExpr}
 use Rattle.typst_language.specs.declared.calls.Mark.{Mark}
 use Rattle.typst_language.specs.declared.calls.Mark.TheVariants as mark
-use Rattle.typst_language.specs.declared.calls.Note.{Note}
 use Rattle.typst_language.specs.declared.reading.Reading.{Reading}
 use Rattle.typst_language.specs.Ask.{Ask, shift}
 use Rattle.typst_language.specs.Ask.Ask.{looked, marked}
@@ -27,8 +26,8 @@ use Rattle.typst_language.specs.Steps.{peek, node, node_with_trivia, note, flush
 use Rattle.typst_language.specs.Syntax.{Parser, ◌>>◌}
 use Rattle.typst_language.specs.Syntax.Begin.{at_token, at_trivia}
 use Rattle.typst_language.specs.Syntax.Op.{takes, flushes, marks, is_deepest}
-use Rattle.typst_language.specs.Syntax.Parser.{gives, does, next, repeat, wraps, scoped, block}
-use Rattle.typst_language.specs.Meaning.{Outcome, Meaning, Level, plain, joined, turns, as_last, bound, repeated, before, bounded, blockless, entered, hand_of, hand_asks_of, start_point, done, run}
+use Rattle.typst_language.specs.Syntax.Parser.{gives, does, next, repeat, wraps, scoped}
+use Rattle.typst_language.specs.Meaning.{Outcome, Meaning, Level, plain, joined, turns, as_last, bound, repeated, bounded, blockless, entered, hand_of, hand_asks_of, start_point, done, run}
 use Rattle.typst_language.proofs.Places.{moved-sum}
 use Rattle.typst_language.proofs.Within.{on_both, on_if}
 use Rattle.typst_grammar.specs.Grammar.{rules, production, max_depth, start_of, whole, parsed, log, block_production, level_at}
@@ -37,7 +36,6 @@ use Rattle.typst_grammar.specs.Sequences.{code_block}
 use Rattle.typst_grammar.proofs.Guarded.{Guarded, guarded-close, guarded-deep, guarded-deeper, guarded-node}
 use Rattle.typst_grammar.proofs.GuardedCode.{guarded-production, guarded-inside-code}
 use Rattle.typst_edits.specs.InOrder.{InOrderLaw}
-use Rattle.typst_edits.specs.PieceNotes.{listed}
 use Rattle.typst_edits.proofs.Boundary.{KnownAt}
 use Rattle.typst_edits.proofs.InnerJoint.{block-taking}
 use Rattle.typst_edits.proofs.Joint.{known-is, text-taking}

@@ -1,30 +1,27 @@
 -- The test of an edit inside some pieces of a content block's run in bytes, by the notes of a reading.
-use Rattle.std.proofs.Common.{◌≡◌, ℕ, zero, suc, ◌+◌, ◌-◌, ◌<◌, ◌≤◌, ◌^◌, Bool, true, List, [], ◌∷◌, ◌++◌, length, take, append_assoc, append-nil, Some, refl, ap, sym, ◌∙◌, subst, arith}
+use Rattle.std.proofs.Common.{◌≡◌, ℕ, suc, ◌+◌, ◌-◌, ◌<◌, ◌^◌, Bool, true, List, [], ◌∷◌, ◌++◌, length, take, append_assoc, append-nil, Some, refl, ap, sym, ◌∙◌, subst, arith}
 use Rattle.std.proofs.lemmas.List.{map-append}
 use Rattle.typst_lines.specs.Place.{Place, moved}
 use Rattle.typst_lines.specs.Classes.{CharClasses}
 use Rattle.typst_tokens.specs.Sight.{width}
 use Rattle.typst_language.specs.declared.calls.Block.TheVariants as block
 use Rattle.typst_language.specs.declared.calls.Mark.{Mark}
-use Rattle.typst_language.specs.declared.calls.Mark.TheVariants as mark
 use Rattle.typst_language.specs.declared.reading.State.{State}
 use Rattle.typst_language.specs.Ask.{Ask, shift, shift_one}
-use Rattle.typst_language.specs.Ask.Ask.{looked, marked}
-use Rattle.typst_language.specs.Meaning.{Outcome, Meaning, repeated, start_point, run}
-use Rattle.typst_language.specs.Point.{Trivia, Point, point_of, state_of, gap_of}
+use Rattle.typst_language.specs.Meaning.{Outcome, repeated, start_point, run}
+use Rattle.typst_language.specs.Point.{Trivia, Point, point_of, gap_of}
 use Rattle.typst_language.proofs.Places.{moved-sum}
 use Rattle.typst_grammar.specs.Markup.{ends_block, markup_turn, markup_reading}
 use Rattle.typst_grammar.specs.Grammar.{rules, max_depth, start_of, whole, parsed, log}
 use Rattle.typst_edits.specs.BlockRuns.{look_first, look_again, bracket, inner_lead, inner_run, inner_tail, inner_close, run_at, opened_at, tail_at, close_at, left_at}
-use Rattle.typst_edits.specs.Bytes.{highest, lowest}
-use Rattle.typst_edits.specs.Edit.{text_with, AllEndBy}
+use Rattle.typst_edits.specs.Bytes.{lowest}
+use Rattle.typst_edits.specs.Edit.{text_with}
 use Rattle.typst_edits.specs.InnerBytes.{inner_both, InnerDecisionLaw}
 use Rattle.typst_edits.specs.InnerJoint.{onwards_past, left_past}
 use Rattle.typst_edits.specs.Laws.{blocks_of_text, block_at}
-use Rattle.typst_edits.specs.RunBytes.{PieceNote}
-use Rattle.typst_edits.specs.Runs.{made, AllGo, End, end_of, asks_of, chain}
+use Rattle.typst_edits.specs.Runs.{AllGo, End, asks_of, chain}
 use Rattle.typst_edits.specs.Sequence.{Sequence, turn_of, first_of, first_end, then_of, then_end, rest_of}
-use Rattle.typst_edits.specs.Spot.{Spot, unit_at, around, lowered, ended}
+use Rattle.typst_edits.specs.Spot.{Spot, unit_at, around, ended}
 use Rattle.typst_edits.proofs.Blocks.{ends}
 use Rattle.typst_edits.proofs.BlockRuns.{sane, content_by, by_run, content-is, content-split, content-taken, split-taken}
 use Rattle.typst_edits.proofs.Boundary.{Begins, piece_mark, begins-append, looks_in, pieces-begin}

@@ -13,14 +13,12 @@ use Rattle.typst_language.specs.Meaning.{Outcome, run}
 use Rattle.typst_language.specs.Point.{Trivia, point_of, gap_of, pending}
 use Rattle.typst_language.proofs.Leaves.{texts}
 use Rattle.typst_candidates.specs.Units.{cuts_in, top_cuts}
-use Rattle.typst_candidates.specs.Candidates.{Child, laid, child_at, is_among, begins, Candidate, of_run, run_in}
-use Rattle.typst_grammar.specs.Markup.{ends_block}
+use Rattle.typst_candidates.specs.Candidates.{Child, laid, child_at, is_among, Candidate, of_run, run_in}
 use Rattle.typst_grammar.specs.Grammar.{max_depth, start_of, log, tree}
 use Rattle.typst_edits.specs.Answer.{candidates}
-use Rattle.typst_edits.specs.BlockRuns.{inner, run_at, opened_at}
+use Rattle.typst_edits.specs.BlockRuns.{run_at, opened_at}
 use Rattle.typst_edits.specs.Children.{Settles}
 use Rattle.typst_edits.specs.Edit.{Among, text_with}
-use Rattle.typst_edits.specs.Every.{Every}
 use Rattle.typst_edits.specs.Frame.{cut_at}
 use Rattle.typst_edits.specs.Hole.{fill, path_of}
 use Rattle.typst_edits.specs.Hole.Deep.{under}
@@ -32,10 +30,9 @@ use Rattle.typst_edits.specs.Laws.{blocks_of_text}
 use Rattle.typst_edits.specs.Leading.{LeadsAt, bytes_of, token_byte, opening_child, LeadingInner}
 use Rattle.typst_edits.specs.OpensApart.{OpensApartLaw}
 use Rattle.typst_edits.specs.PieceNotes.{listed}
-use Rattle.typst_edits.specs.Sequence.{Sequence, turn_of, first_of, first_end, then_of, then_end}
+use Rattle.typst_edits.specs.Sequence.{Sequence, first_of, first_end, then_of, then_end}
 use Rattle.typst_edits.specs.Runs.{AllGo, End}
 use Rattle.typst_edits.specs.Spot.{Spot, unit_at}
-use Rattle.typst_edits.specs.RootPieces.{StandsAt}
 use Rattle.typst_edits.specs.InnerCandidates.{InnerCandidateLaw}
 use Rattle.typst_edits.proofs.BareCandidates.{bare-candidates-law}
 use Rattle.typst_edits.proofs.Blocks.{ends}

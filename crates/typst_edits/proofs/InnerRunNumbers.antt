@@ -1,5 +1,5 @@
 -- The entries of a content block's run, by their numbers.
-use Rattle.std.proofs.Common.{◌≡◌, ℕ, zero, suc, ◌+◌, ◌-◌, ◌<◌, ◌≤◌, ◌==◌, Bool, true, nat_lt, List, [], ◌∷◌, ◌++◌, length, take, drop, length-append, append_assoc, Some, refl, ap, sym, ◌∙◌, subst, arith}
+use Rattle.std.proofs.Common.{◌≡◌, ℕ, suc, ◌+◌, ◌-◌, ◌<◌, ◌≤◌, ◌==◌, true, nat_lt, List, [], ◌∷◌, ◌++◌, length, take, drop, length-append, append_assoc, Some, refl, ap, sym, ◌∙◌, subst, arith}
 use Rattle.typst_lines.specs.Place.{Place, moved}
 use Rattle.typst_lines.specs.Classes.{CharClasses}
 use Rattle.typst_tokens.specs.Sight.{width}
@@ -7,7 +7,7 @@ use Rattle.typst_language.specs.declared.calls.Block.{Block}
 use Rattle.typst_language.specs.declared.calls.Block.TheVariants as block
 use Rattle.typst_language.specs.declared.calls.Note.{Note}
 use Rattle.typst_language.specs.Ask.{shift}
-use Rattle.typst_language.specs.Point.{gap_of, point_of}
+use Rattle.typst_language.specs.Point.{point_of}
 use Rattle.typst_language.specs.Meaning.{run}
 use Rattle.typst_candidates.specs.declared.entry.EntryKind.TheVariants as entry_kind
 use Rattle.typst_candidates.specs.Cursors.{closing_of}
@@ -23,11 +23,11 @@ use Rattle.typst_edits.specs.Frame.{is_over}
 use Rattle.typst_edits.specs.InnerBytes.{inner_end}
 use Rattle.typst_edits.specs.InOrder.{InOrderLaw}
 use Rattle.typst_edits.specs.Laws.{blocks_of_text}
-use Rattle.typst_edits.specs.NumberedNotes.{of_level, cut_after, NumberedInner}
+use Rattle.typst_edits.specs.NumberedNotes.{of_level, NumberedInner}
 use Rattle.typst_edits.specs.PieceNotes.{listed}
 use Rattle.typst_edits.specs.RunNumbers.{cut_in, number_in, InnerNumbersLaw}
 use Rattle.typst_edits.specs.RunTest.{BeginsAt}
-use Rattle.typst_edits.specs.Runs.{AllGo, End, asks_of}
+use Rattle.typst_edits.specs.Runs.{AllGo, asks_of}
 use Rattle.typst_edits.specs.Sequence.{turn_of, first_of, first_end}
 use Rattle.typst_edits.specs.Splice.{notes_in}
 use Rattle.typst_edits.specs.Spot.{Spot}

@@ -52,7 +52,6 @@ use Rattle.typst_edits.proofs.InnerPieces.{block-taken, joint-of}
 use Rattle.typst_edits.proofs.InnerPiecesTest.{rereads, first-part, inner-entries-law, inner-part-law}
 use Rattle.typst_edits.proofs.InnerSplice.{around-splice-law, inner-splice-law}
 use Rattle.typst_edits.proofs.NoteNumbers.{take-longer}
-use Rattle.typst_edits.proofs.OneReading.{first-split}
 use Rattle.typst_edits.proofs.Sides.{count-made}
 use Rattle.typst_edits.proofs.ReadAlone.{first-goes, alike, goes-there}
 use Rattle.typst_edits.proofs.Resumed.{block-known, inner-count-law, alone-further}

@@ -11,13 +11,13 @@ use Rattle.typst_language.specs.Ask.{Ask, SameIn, shift, shift_one}
 use Rattle.typst_language.specs.Ask.Ask.{looked}
 use Rattle.typst_language.specs.Hand.{AtHand, len_at, at_trivia, column_look, column_asks, ahead, asks_by, ahead_asks, hand_asks}
 use Rattle.typst_language.specs.Log.{no_log, logged}
-use Rattle.typst_language.specs.Meaning.{Outcome, hand_asks_of, start_point, run}
+use Rattle.typst_language.specs.Meaning.{Outcome, hand_asks_of, run}
 use Rattle.typst_language.specs.Point.{Trivia, Point, point_of, gap_of}
 use Rattle.typst_language.specs.Steps.{peek}
 use Rattle.typst_language.proofs.Looks.{same_in-shift, same_in-first, same_in-second}
 use Rattle.typst_language.proofs.Places.{moved-sum}
 use Rattle.typst_grammar.specs.Markup.{markup_reading}
-use Rattle.typst_grammar.specs.Grammar.{rules, max_depth, whole, parsed, log}
+use Rattle.typst_grammar.specs.Grammar.{max_depth, parsed, log}
 use Rattle.typst_edits.specs.BlockRuns.{inner, look_first, look_again, bracket, inner_lead, inner_run, content_with, run_at, tail_at, close_at}
 use Rattle.typst_edits.specs.Edit.{text_with, AllEndBy, AllBeginIn}
 use Rattle.typst_edits.specs.InnerJoint.{onwards_past, left_past}
@@ -45,7 +45,7 @@ use Rattle.typst_edits.proofs.Reached.{Reached}
 use Rattle.typst_edits.proofs.Resumed.{block-reached}
 use Rattle.typst_edits.proofs.RunSplice.{first_look, first-shift, unshifted, onwards-begin}
 use Rattle.typst_edits.proofs.RunTrees.{chained-asks}
-use Rattle.typst_edits.proofs.Sides.{Side, entries_at, back_at, count-append, count-shift, count-none, side-by, same-at, splice-texts}
+use Rattle.typst_edits.proofs.Sides.{entries_at, back_at, count-append, count-shift, count-none, side-by, same-at, splice-texts}
 use Rattle.typst_edits.proofs.Bytes.{both-end}
 
 -- ---- the look at a first token without trivia before it

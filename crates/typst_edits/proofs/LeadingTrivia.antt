@@ -11,7 +11,7 @@ use Rattle.typst_language.specs.Point.{Trivia, Point, pending}
 use Rattle.typst_language.specs.Meaning.{Meaning, Level, plain, less, run}
 use Rattle.typst_language.specs.Sound.{Tidy}
 use Rattle.typst_language.proofs.Knot.{sane-run}
-use Rattle.typst_grammar.specs.Markup.{ends, ends_block, markup_turn}
+use Rattle.typst_grammar.specs.Markup.{ends_block, markup_turn}
 use Rattle.typst_grammar.specs.Grammar.{level_at, max_depth, tree}
 use Rattle.typst_edits.specs.BlockRuns.{inner, run_at}
 use Rattle.typst_edits.specs.Children.{exchanged, together, with_children, standing_before, nodes_with}

@@ -1,5 +1,5 @@
 -- Marks are nested: pieces of a run say its level, and blocks, with the marks in them, a deeper one.
-use Rattle.std.proofs.Common.{◌≡◌, ℕ, zero, suc, ◌+◌, ◌-◌, ◌≤◌, ◌<◌, max, min, Bool, true, false, List, [], ◌∷◌, ◌++◌, append_assoc, append-nil, refl, ap, sym, ◌∙◌, subst, arith}
+use Rattle.std.proofs.Common.{◌≡◌, ℕ, zero, suc, ◌+◌, ◌-◌, ◌≤◌, ◌<◌, max, min, Bool, true, false, List, [], ◌∷◌, ◌++◌, append_assoc, refl, ap, sym, subst, arith}
 use Rattle.std.proofs.lemmas.List.{map-append}
 use Rattle.typst_kinds.specs.declared.kind.SyntaxKind.{SyntaxKind}
 use Rattle.typst_lines.specs.Place.{Place, moved}
@@ -29,7 +29,6 @@ use Rattle.typst_grammar.proofs.Guarded.{Guarded, op_notes}
 use Rattle.typst_grammar.proofs.GuardedCode.{guarded-production, guarded-blocks}
 use Rattle.typst_edits.specs.Nested.{NestedLaw}
 use Rattle.typst_edits.specs.Laws.{block_at}
-use Rattle.typst_edits.specs.PieceNotes.{listed}
 use Rattle.typst_edits.specs.Splice.{Noting}
 use Rattle.typst_edits.specs.Spot.{ended}
 use Rattle.typst_edits.proofs.LogNotes.{none_yet, note_by, notes_from, fresh_notes, next_note, logged-listed, notes-around}

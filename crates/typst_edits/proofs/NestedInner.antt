@@ -1,8 +1,8 @@
 -- The notes between the two of a content block are nested, so no other note ends it.
-use Rattle.std.proofs.Common.{◌≡◌, ℕ, suc, ◌<◌, ◌==◌, eq-eqb, Bool, true, nat_lt, List, [], ◌∷◌, ◌++◌, length, drop, length-append, refl, ap, sym, ◌∙◌, subst, arith, ◌-◌}
+use Rattle.std.proofs.Common.{◌≡◌, ℕ, suc, ◌<◌, ◌==◌, eq-eqb, Bool, true, nat_lt, List, [], ◌∷◌, ◌++◌, length, drop, length-append, refl, ap, sym, ◌∙◌, subst, arith}
 use Rattle.typst_language.specs.declared.calls.Note.{Note}
 use Rattle.typst_candidates.specs.Nested.{Nested}
-use Rattle.typst_grammar.specs.Grammar.{start_of, max_depth}
+use Rattle.typst_grammar.specs.Grammar.{start_of}
 use Rattle.typst_grammar.specs.Markup.{ends_block, markup_turn}
 use Rattle.typst_edits.specs.BlockRuns.{run_at}
 use Rattle.typst_edits.specs.Nested.{NestedInnerLaw}

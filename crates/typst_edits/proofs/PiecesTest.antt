@@ -1,27 +1,23 @@
 -- What code finds of a candidate that is pieces of a text's own run, by the numbers of its entries and a reading from its first token on.
-use Rattle.std.proofs.Common.{◌≡◌, ℕ, zero, suc, ◌+◌, ◌<◌, ◌≤◌, ◌==◌, if◌then◌else◌, Bool, true, false, List, [], ◌∷◌, ◌++◌, length, take, refl, ap, sym, ◌∙◌, subst, arith}
+use Rattle.std.proofs.Common.{◌≡◌, ℕ, zero, suc, ◌+◌, ◌<◌, ◌≤◌, Bool, true, false, List, ◌++◌, length, take, refl, ap, sym, ◌∙◌, subst, arith}
 use Rattle.typst_lines.specs.Place.{Place}
 use Rattle.typst_lines.specs.Classes.{CharClasses}
 use Rattle.typst_tokens.specs.Sight.{width}
-use Rattle.typst_language.specs.Meaning.{Outcome, run}
-use Rattle.typst_language.specs.Point.{gap_of, state_of}
-use Rattle.typst_language.specs.Ask.{shift}
-use Rattle.typst_language.specs.declared.calls.Note.{Note}
+use Rattle.typst_language.specs.Meaning.{run}
 use Rattle.typst_candidates.specs.Entries.{units_of, spliced}
-use Rattle.typst_grammar.specs.Grammar.{max_depth, start_of, log}
+use Rattle.typst_grammar.specs.Grammar.{max_depth, log}
 use Rattle.typst_edits.specs.Edit.{text_with}
 use Rattle.typst_edits.specs.Frame.{top, inner, Gives, of_block, of_pieces, Before}
 use Rattle.typst_edits.specs.Hole.{path_of}
 use Rattle.typst_edits.specs.InOrder.{InOrderLaw}
 use Rattle.typst_edits.specs.NumberedNotes.{of_level, cut_after}
-use Rattle.typst_edits.specs.PieceNotes.{listed}
 use Rattle.typst_edits.specs.PiecesTest.{CutOnceLaw, RunEntriesLaw, RunReadLaw, RunGives, RunGivesLaw, RunPartLaw}
 use Rattle.typst_edits.specs.RootPieces.{root_run}
 use Rattle.typst_edits.specs.RunBytes.{PieceNote, both_end}
 use Rattle.typst_edits.specs.Runs.{AllGo, End, asks_of, pieces, end_at, pieces_from, piece_at, lead}
 use Rattle.typst_edits.specs.Sequence.{Sequence, first_of, first_end, then_of, then_end}
 use Rattle.typst_edits.specs.Joint.{text_run}
-use Rattle.typst_edits.specs.RunSplice.{noted_point, end_note, pieces_log}
+use Rattle.typst_edits.specs.RunSplice.{end_note, pieces_log}
 use Rattle.typst_edits.specs.Splice.{notes_in, token_start, entries_from}
 use Rattle.typst_edits.proofs.Fitting.{tail-none}
 use Rattle.typst_edits.proofs.Boundary.{KnownAt, looks_in, each-ends, made-add, go-add}

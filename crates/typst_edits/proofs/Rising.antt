@@ -1,5 +1,5 @@
 -- Marks don't go back and lie within what is taken, and after one where a block begins the next lies further on.
-use Rattle.std.proofs.Common.{◌≡◌, ℕ, zero, suc, ◌+◌, ◌-◌, ◌≤◌, max, min, Bool, true, false, List, [], ◌∷◌, ◌++◌, length, take, Option, Some, None, refl, ap, sym, ◌∙◌, subst, arith}
+use Rattle.std.proofs.Common.{◌≡◌, ℕ, zero, suc, ◌+◌, ◌-◌, ◌≤◌, max, min, Bool, true, false, List, [], ◌∷◌, length, take, Option, Some, None, refl, ap, sym, ◌∙◌, subst, arith}
 use Rattle.typst_lines.specs.Place.{Place, moved}
 use Rattle.typst_lines.specs.Classes.{CharClasses}
 use Rattle.typst_tokens.specs.Sight.{width, position, far, near}
@@ -18,7 +18,7 @@ use Rattle.typst_language.specs.Shape.{Shape}
 use Rattle.typst_language.specs.Steps.{peek, node, eat, eat_making}
 use Rattle.typst_language.specs.Syntax.{Parser, ◌>>◌, ◌>>=◌}
 use Rattle.typst_language.specs.Syntax.Op.{hand, takes, flushes}
-use Rattle.typst_language.specs.Syntax.Parser.{gives, does, next, scoped, block}
+use Rattle.typst_language.specs.Syntax.Parser.{gives, does, next, scoped}
 use Rattle.typst_language.specs.Meaning.{wrapped, Outcome, Meaning, Level, plain, joined, before, bounded, blockless, entered, start_point, done, run, hand_of, asked}
 use Rattle.typst_language.proofs.Places.{ahead-left, moved-sum}
 use Rattle.typst_grammar.specs.Grammar.{rules, production, max_depth, start_of, whole, parsed, log, block_production}

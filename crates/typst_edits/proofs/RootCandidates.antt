@@ -1,26 +1,23 @@
 -- A candidate among the children at the top of a text's tree begins well.
-use Rattle.std.proofs.Common.{◌≡◌, inl, inr, ℕ, zero, suc, ◌+◌, ◌<◌, ◌≤◌, ◌==◌, ne_eqb, Bool, true, false, nat_lt, List, [], ◌++◌, length, take, Some, refl, ap, sym, ◌∙◌, subst, arith}
+use Rattle.std.proofs.Common.{◌≡◌, inl, inr, ℕ, zero, suc, ◌+◌, ◌<◌, ◌==◌, ne_eqb, Bool, true, false, nat_lt, List, [], ◌++◌, length, take, Some, refl, ap, sym, ◌∙◌, subst, arith}
 use Rattle.typst_lines.specs.Place.{Place, moved}
 use Rattle.typst_lines.specs.Classes.{CharClasses}
 use Rattle.typst_tree.specs.Tree.{Tree, none, trees, bare}
 use Rattle.typst_tokens.specs.Sight.{width}
-use Rattle.typst_language.specs.Depth.{is_end}
 use Rattle.typst_language.specs.Meaning.{Outcome}
-use Rattle.typst_language.specs.Point.{Trivia, gap_of, pending}
-use Rattle.typst_candidates.specs.Units.{starts, after_first, top_cuts}
+use Rattle.typst_language.specs.Point.{Trivia, gap_of}
+use Rattle.typst_candidates.specs.Units.{after_first, top_cuts}
 use Rattle.typst_candidates.specs.Candidates as candidate
 use Rattle.typst_candidates.specs.Candidates.{is_among, Candidate, begins, of_run}
-use Rattle.typst_grammar.specs.Grammar.{max_depth, level_at, start_of, tree, log}
+use Rattle.typst_grammar.specs.Grammar.{max_depth, start_of, tree, log}
 use Rattle.typst_edits.specs.CandidateEnds.{RootCandidateLaw}
 use Rattle.typst_edits.specs.Children.{Settles, standing_before}
 use Rattle.typst_edits.specs.Edit.{Among, text_with}
-use Rattle.typst_edits.specs.Every.{Every}
 use Rattle.typst_edits.specs.Joint.{text_run, onwards_from}
 use Rattle.typst_edits.specs.Leading.{both, token_byte}
 use Rattle.typst_edits.specs.NumberedNotes.{of_level, cut_after}
 use Rattle.typst_edits.specs.Occurrences.{goes}
 use Rattle.typst_edits.specs.PieceNotes.{listed}
-use Rattle.typst_edits.specs.RootPieces.{StandsAt}
 use Rattle.typst_edits.specs.Runs.{AllGo, End, piece_at, lead, pieces, end_at, pieces_from, end_from}
 use Rattle.typst_edits.specs.Sequence.{Sequence}
 use Rattle.typst_edits.proofs.BareCandidates.{bare-candidates-law}

@@ -1,5 +1,5 @@
 -- A candidate among the nodes of a run begins well, by what the run's pieces give.
-use Rattle.std.proofs.Common.{◌≡◌, ◌↔◌, ℕ, suc, ◌+◌, ◌<◌, ◌≤◌, Bool, true, false, List, length, Option, Some, refl, ap, sym, ◌∙◌, subst, arith}
+use Rattle.std.proofs.Common.{◌≡◌, ◌↔◌, ℕ, suc, ◌+◌, ◌<◌, ◌≤◌, true, false, List, length, Option, Some, ap, sym, ◌∙◌, subst, arith}
 use Rattle.typst_lines.specs.Place.{moved}
 use Rattle.typst_tree.specs.Tree.{Tree}
 use Rattle.typst_language.specs.Point.{Trivia, pending}
@@ -8,7 +8,7 @@ use Rattle.typst_edits.specs.Every.{Every}
 use Rattle.typst_edits.specs.Frame.{is_over}
 use Rattle.typst_edits.specs.Heads.{minds_at, first_place, StartsWell, GoesOnWell}
 use Rattle.typst_edits.specs.RootPieces.{StandsAt}
-use Rattle.typst_edits.specs.Runs.{AllGo, End}
+use Rattle.typst_edits.specs.Runs.{AllGo}
 use Rattle.typst_edits.specs.Sequence.{Sequence, turn_of, first_of, first_end, then_of, then_end}
 use Rattle.typst_edits.proofs.Boundary.{KnownAt, looks_in, each-ends, made-add, go-add, known-made}
 use Rattle.typst_edits.proofs.CandidateEnds.{Quiet, stretch, GivesAt, GivesOne, Parted, begun, parted}

@@ -1,10 +1,9 @@
 -- The units of a text with an edit inside some pieces of its run.
-use Rattle.std.proofs.Common.{◌≡◌, ◌==◌, inl, inr, ◌⊎◌, ℕ, zero, suc, ◌+◌, ◌-◌, ◌<◌, ◌≤◌, ◌^◌, Bool, true, List, [], ◌∷◌, ◌++◌, length, map, append_assoc, Some, refl, ap, sym, ◌∙◌, subst, arith}
+use Rattle.std.proofs.Common.{◌≡◌, ◌==◌, inl, inr, ◌⊎◌, ℕ, zero, suc, ◌+◌, ◌-◌, ◌<◌, ◌^◌, Bool, true, List, [], ◌∷◌, ◌++◌, length, map, append_assoc, Some, refl, ap, sym, ◌∙◌, subst, arith}
 use Rattle.std.proofs.lemmas.List.{map-append}
 use Rattle.typst_kinds.specs.Kinds.{same}
 use Rattle.typst_kinds.specs.declared.kind.SyntaxKind.TheVariants as kind
 use Rattle.typst_kinds.specs.declared.mode.SyntaxMode.TheVariants as mode
-use Rattle.typst_candidates.specs.Entries.{units_of, spliced}
 use Rattle.typst_candidates.specs.declared.entry.Entry.{Entry}
 use Rattle.typst_lines.specs.Place.{Place, moved}
 use Rattle.typst_lines.specs.Classes.{CharClasses}
@@ -14,30 +13,29 @@ use Rattle.typst_language.specs.Ask.{Ask, SameIn, shift, shift_one}
 use Rattle.typst_language.specs.Ask.Ask.{looked, marked}
 use Rattle.typst_language.specs.Depth.{is_end}
 use Rattle.typst_language.specs.Hand.{AtHand, Hand, as_at_hand, hand_at}
-use Rattle.typst_language.specs.Log.{no_log, logged}
-use Rattle.typst_language.specs.Meaning.{Outcome, hand_of, hand_asks_of, repeated, start_point, run}
+use Rattle.typst_language.specs.Meaning.{Outcome, hand_of, hand_asks_of, repeated, run}
 use Rattle.typst_language.specs.Point.{Trivia, Point, gap_of}
 use Rattle.typst_language.specs.Steps.{peek}
 use Rattle.typst_language.proofs.Ends.{hand-ends}
 use Rattle.typst_language.proofs.Knot.{sane-at}
 use Rattle.typst_grammar.specs.Markup.{ends, markup_reading}
-use Rattle.typst_grammar.specs.Grammar.{rules, level_at, max_depth, start_of, whole, parsed, log}
+use Rattle.typst_grammar.specs.Grammar.{rules, level_at, max_depth, start_of, parsed, log}
 use Rattle.typst_edits.specs.Edit.{text_with, AllEndBy, AllBeginIn}
 use Rattle.typst_edits.specs.Looks.{AllFrom}
 use Rattle.typst_edits.specs.Joint.{passed, onwards, text_run, place_from, onwards_from}
 use Rattle.typst_edits.specs.JointBytes.{asked_past}
-use Rattle.typst_edits.specs.RunSplice.{end_note, next_looks, own_asks, pieces_log, OverAt, RunSpliceLaw}
+use Rattle.typst_edits.specs.RunSplice.{end_note, next_looks, own_asks, OverAt, RunSpliceLaw}
 use Rattle.typst_edits.specs.RunTrees.{run_mark}
 use Rattle.typst_edits.specs.Runs.{start, AllGo, asks_of, chain, lead, pieces, end_at, pieces_from, end_from, rest_from, tail, whole_of}
 use Rattle.typst_edits.specs.Sequence.{Sequence, turn_of}
-use Rattle.typst_edits.specs.Splice.{Noting, noting, notes_in, AllNotedBy, token_start, entries_from}
+use Rattle.typst_edits.specs.Splice.{Noting, noting, notes_in}
 use Rattle.typst_edits.proofs.Boundary.{Begins, begins-append, looks_in, pieces-begin, from-both, from-second}
 use Rattle.typst_edits.proofs.Edit.{before-same}
 use Rattle.typst_edits.proofs.EmptyRuns.{Knows, Never, hand-asks, hand-gap, passed-kind, onwards-looks, end-look, token_look, end-any}
 use Rattle.typst_edits.proofs.Every.{Every}
 use Rattle.typst_edits.proofs.Forward.{ahead-from, lead-ahead}
 use Rattle.typst_edits.proofs.Joint.{text-read, onwards-is, onwards-fronted, joint-law}
-use Rattle.typst_edits.proofs.Marks.{AllMarks, marks-append, none-hand}
+use Rattle.typst_edits.proofs.Marks.{AllMarks, marks-append}
 use Rattle.typst_edits.proofs.Outcomes.{shift-zero, shift-twice}
 use Rattle.typst_edits.proofs.Root.{whole-is, split-at, split-taken}
 use Rattle.typst_edits.proofs.RunBytes.{lead-bare}
@@ -48,7 +46,6 @@ use Rattle.typst_edits.proofs.Splice.{take-width}
 use Rattle.typst_edits.proofs.Widths.{width-moved}
 use Rattle.typst_edits.proofs.PieceAsks.{lifted, lifted_note, lifted-none, Cut as AnyCut, cut as cut-any, next-none as next-none-any, side-in, again}
 use Rattle.typst_edits.specs.InnerSplice.{note_at, looks_next, own_of}
-use Rattle.typst_edits.proofs.Bytes.{both-end}
 
 -- ---- lists of asks
 

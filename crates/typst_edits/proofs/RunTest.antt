@@ -47,7 +47,6 @@ use Rattle.typst_edits.proofs.Children.{top-known}
 use Rattle.typst_edits.proofs.Cuts.{cuts-law}
 use Rattle.typst_edits.proofs.EmptyRuns.{empty-text-law}
 use Rattle.typst_edits.proofs.NoteNumbers.{turns-within}
-use Rattle.typst_edits.proofs.OneReading.{first-split}
 use Rattle.typst_edits.proofs.Outcomes.{shift-zero}
 use Rattle.typst_edits.proofs.PiecesLog.{pieces-log-law}
 use Rattle.typst_edits.proofs.Sides.{count-made}

@@ -1,5 +1,5 @@
 -- Where a block within a reading that was given up begins, no run of a content block is noted.
-use Rattle.std.proofs.Common.{◌≡◌, ℕ, ◌<◌, ◌==◌, Bool, true, false, ◌&&◌, if◌then◌else◌, List, [], ◌∷◌, ◌++◌, length, length-append, take, Some, refl, ap, sym, ◌∙◌, subst, arith}
+use Rattle.std.proofs.Common.{◌≡◌, ℕ, ◌<◌, ◌==◌, Bool, true, false, ◌&&◌, if◌then◌else◌, List, [], ◌∷◌, ◌++◌, length, Some, refl, ap, sym, subst, arith}
 use Rattle.std.proofs.lemmas.Bool.{eqb-true}
 use Rattle.typst_lines.specs.Classes.{CharClasses}
 use Rattle.typst_tree.specs.Tree.{Tree, text_of}
@@ -9,20 +9,16 @@ use Rattle.typst_language.specs.declared.calls.Mark.{Mark}
 use Rattle.typst_language.specs.declared.calls.Mark.TheVariants as mark
 use Rattle.typst_language.specs.declared.calls.Note.{Note}
 use Rattle.typst_candidates.specs.Units.{opens_content, starts, up_to_end, after_first, cuts_in}
-use Rattle.typst_grammar.specs.Grammar.{max_depth, start_of, parsed, log}
+use Rattle.typst_grammar.specs.Grammar.{log}
 use Rattle.typst_edits.specs.Edit.{Among}
 use Rattle.typst_edits.specs.Hole.{Hole}
-use Rattle.typst_edits.specs.Lost.{is_opening}
 use Rattle.typst_edits.specs.PieceNotes.{listed}
 use Rattle.typst_edits.specs.Spot.{Spot}
-use Rattle.typst_edits.specs.Standing.{seconds_of_text, IsOf, place_of}
-use Rattle.typst_edits.proofs.BlockPlaces.{early-by, hole-same, take-same}
+use Rattle.typst_edits.specs.Standing.{seconds_of_text, IsOf}
+use Rattle.typst_edits.proofs.BlockPlaces.{hole-same}
 use Rattle.typst_edits.proofs.BlockTest.{never-second}
-use Rattle.typst_edits.proofs.Edit.{among}
-use Rattle.typst_edits.proofs.OpensApart.{opens-directly}
 use Rattle.typst_edits.proofs.Placed.{left_text}
 use Rattle.typst_edits.proofs.SecondPlaces.{second-place}
-use Rattle.typst_edits.proofs.UnnotedLevels.{unnoted-law}
 
 -- ---- the note of a run
 

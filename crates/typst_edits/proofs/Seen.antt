@@ -1,5 +1,5 @@
 -- Whatever is taken was looked at, and the token of each note before the note: they end where the looks end, or before.
-use Rattle.std.proofs.Common.{◌≡◌, ℕ, zero, suc, ◌+◌, ◌-◌, ◌≤◌, Bool, true, false, ◌&&◌, if◌then◌else◌, nat_lt, List, [], ◌∷◌, ◌++◌, length, Option, Some, None, ap, arith}
+use Rattle.std.proofs.Common.{◌≡◌, ℕ, zero, suc, ◌+◌, ◌-◌, ◌≤◌, Bool, true, false, if◌then◌else◌, List, [], ◌∷◌, ◌++◌, length, Option, Some, None, ap, arith}
 use Rattle.typst_kinds.specs.declared.mode.SyntaxMode.{SyntaxMode}
 use Rattle.typst_lines.specs.Place.{Place, moved}
 use Rattle.typst_lines.specs.Classes.{CharClasses}
@@ -17,7 +17,7 @@ use Rattle.typst_language.specs.Steps.{peek}
 use Rattle.typst_language.specs.Tokens.{token}
 use Rattle.typst_language.specs.Syntax.{Op, Parser, ◌>>◌}
 use Rattle.typst_language.specs.Syntax.Op.{hand, so, further, column, erred, takes, takes_so, flushes, complains, advises, marks, is_deepest}
-use Rattle.typst_language.specs.Meaning.{Outcome, Meaning, Level, plain, joined, answered, turns, as_last, bound, repeated, before, inside, reshaped, grown, is_more, growths, growing, nestings, nesting, deeper_by_one, given_up, bounded, blockless, entered, left_to, same_mode, hand_of, hand_asks_of, reader_so, done, run}
+use Rattle.typst_language.specs.Meaning.{Outcome, Meaning, Level, plain, joined, answered, inside, reshaped, deeper_by_one, given_up, bounded, blockless, left_to, same_mode, hand_of, hand_asks_of, reader_so, done, run}
 use Rattle.typst_language.proofs.Looks.{len-covers}
 use Rattle.typst_language.proofs.Within.{on_both}
 use Rattle.typst_language.proofs.Runs.{shape-known}

@@ -1,5 +1,5 @@
 -- The units of two texts that are asked the same before a stretch and after it.
-use Rattle.std.proofs.Common.{◌≡◌, ℕ, zero, suc, ◌+◌, ◌-◌, ◌<◌, ◌≤◌, ◌^◌, max, min, List, [], ◌∷◌, ◌++◌, length, take, drop, length-append, append_assoc, append-nil, Option, Some, None, refl, ap, sym, ◌∙◌, subst, arith}
+use Rattle.std.proofs.Common.{◌≡◌, ℕ, zero, suc, ◌+◌, ◌-◌, ◌<◌, ◌≤◌, ◌^◌, max, min, List, [], ◌∷◌, ◌++◌, length, take, drop, append_assoc, append-nil, refl, ap, sym, ◌∙◌, subst, arith}
 use Rattle.std.proofs.Math.Seq.{take-append_seam, drop-append_seam}
 use Rattle.typst_candidates.specs.Entries.{entry_kind_of, count_of, back_of, entry_of, entries_by, last_start, spliced}
 use Rattle.typst_candidates.specs.declared.entry.Entry.{Entry}
@@ -13,7 +13,7 @@ use Rattle.typst_language.specs.Ask.{Ask, shift}
 use Rattle.typst_language.specs.Ask.Ask.{looked, marked}
 use Rattle.typst_language.proofs.Places.{moved-sum, moved-ahead}
 use Rattle.typst_edits.specs.Edit.{text_with, AllEndBy, AllBeginIn}
-use Rattle.typst_edits.specs.Splice.{Noting, noting, notes_in, AllNotedBy, token_start}
+use Rattle.typst_edits.specs.Splice.{Noting, noting, AllNotedBy, token_start}
 use Rattle.typst_edits.proofs.Edit.{onto, past-is}
 use Rattle.typst_edits.proofs.LogNotes.{note_with, note_by, notes_from, least_from}
 use Rattle.typst_edits.proofs.Widths.{width-append, width-none, width-onto, stretch-to, moved-width}

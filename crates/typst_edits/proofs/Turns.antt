@@ -10,12 +10,12 @@ use Rattle.typst_language.specs.Calls.{Call}
 use Rattle.typst_language.specs.Calls.Call.{MarkupExpr}
 use Rattle.typst_language.specs.declared.reading.Newlines.{Newlines}
 use Rattle.typst_language.specs.declared.reading.Reading.{Reading}
-use Rattle.typst_language.specs.Ask.{Ask, SameIn, shift, shift_one}
+use Rattle.typst_language.specs.Ask.{SameIn, shift, shift_one}
 use Rattle.typst_language.specs.Depth.{anywhere, too_deep, deeper, is_end}
 use Rattle.typst_tree.specs.Tree.{Tree}
 use Rattle.typst_language.specs.Hand.{AtHand, as_at_hand, len_at, hand_at, hand_asks}
 use Rattle.typst_language.specs.Point.{Trivia, Point}
-use Rattle.typst_language.specs.Shape.{Making, hinted, Shape, encloses}
+use Rattle.typst_language.specs.Shape.{Making, Shape, encloses}
 use Rattle.typst_language.specs.Shape.Making.{itself, of_kind, surprise}
 use Rattle.typst_language.specs.Steps.{peek, eat_making, eat, convert_and_eat, unexpected, flush_trivia, node, within}
 use Rattle.typst_language.specs.Syntax.{Parser, ◌>>=◌, ◌>>◌}
@@ -34,7 +34,7 @@ use Rattle.typst_grammar.specs.Embedded.{embedded}
 use Rattle.typst_grammar.specs.Equations.{between_dollars, equation}
 use Rattle.typst_edits.specs.Joint.{minds}
 use Rattle.typst_edits.specs.Occurrences.{goes}
-use Rattle.typst_edits.proofs.Led.{after_trivia, SameJudged, before_trivia, none-less, none-of, Led, led-then, led-asked, Takes, asks-behind, takes-token, takes-next, takes-peek, takes-column, takes-scoped, takes-wraps, takes-calls, kind-behind, same-judged, led-like, Fronted, fronted-asked}
+use Rattle.typst_edits.proofs.Led.{after_trivia, SameJudged, before_trivia, none-of, Led, led-then, led-asked, Takes, asks-behind, takes-token, takes-next, takes-peek, takes-column, takes-scoped, takes-wraps, takes-calls, kind-behind, same-judged, led-like, Fronted, fronted-asked}
 use Rattle.typst_edits.proofs.Runs.{repeated-chain}
 use Rattle.typst_edits.proofs.Outcomes.{shift-zero}
 use Rattle.typst_edits.proofs.Reached.{flushed-held}

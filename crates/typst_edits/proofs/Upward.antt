@@ -1,5 +1,5 @@
 -- Marks that stand in order, from one place up to another, in whatever the language can say.
-use Rattle.std.proofs.Common.{◌≡◌, ℕ, zero, suc, ◌+◌, ◌≤◌, Bool, true, false, ◌&&◌, nat_lt, List, [], ◌∷◌, ◌++◌, Option, Some, None, refl, arith}
+use Rattle.std.proofs.Common.{◌≡◌, ℕ, suc, ◌+◌, ◌≤◌, Bool, true, false, List, [], ◌∷◌, ◌++◌, refl, arith}
 use Rattle.typst_lines.specs.Place.{Place, moved}
 use Rattle.typst_language.specs.declared.calls.Block.{Block}
 use Rattle.typst_language.specs.Calls.{Call}
@@ -8,11 +8,10 @@ use Rattle.typst_language.specs.declared.reading.State.{State}
 use Rattle.typst_language.specs.Ask.{Ask, shift, sunk, only_looks}
 use Rattle.typst_language.specs.Ask.Ask.{looked, marked}
 use Rattle.typst_language.specs.Point.{Point, state_of, gap_of}
-use Rattle.typst_language.specs.Shape.{Shape}
-use Rattle.typst_language.specs.Syntax.{Op, Begin, Parser}
+use Rattle.typst_language.specs.Syntax.{Op, Parser}
 use Rattle.typst_language.specs.Syntax.Op.{hand, so, further, column, erred, takes, takes_so, flushes, complains, advises, marks, is_deepest}
 use Rattle.typst_language.specs.Syntax.Parser.{gives, does, next, pick, repeat, wraps, grows, nests, scoped, either, calls, block}
-use Rattle.typst_language.specs.Meaning.{Outcome, Meaning, Level, plain, joined, answered, turns, as_last, bound, repeated, before, grown, is_more, growths, growing, nestings, nesting, given_up, bounded, entered, hand_asks_of, done, run}
+use Rattle.typst_language.specs.Meaning.{Outcome, Meaning, Level, plain, joined, bound, repeated, before, growing, nesting, given_up, bounded, entered, hand_asks_of, done, run}
 use Rattle.typst_language.proofs.Within.{on_both, on_if}
 use Rattle.typst_grammar.proofs.Guarded.{op_notes, sees, Guarded}
 use Rattle.typst_edits.proofs.Marks.{AllMarks, marks-append, marks-shift, none-hand}

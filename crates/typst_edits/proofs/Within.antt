@@ -1,5 +1,5 @@
 -- Each look is at a place of the text, or at its end.
-use Rattle.std.proofs.Common.{ℕ, zero, suc, ◌+◌, ◌≤◌, max, Bool, false, List, [], ◌∷◌, ◌++◌, length, Option, Some, None, ap, arith}
+use Rattle.std.proofs.Common.{ℕ, zero, suc, ◌+◌, ◌≤◌, max, false, List, [], ◌∷◌, ◌++◌, length, Option, Some, None, ap, arith}
 use Rattle.typst_kinds.specs.declared.mode.SyntaxMode.{SyntaxMode}
 use Rattle.typst_lines.specs.Place.{Place, moved}
 use Rattle.typst_lines.specs.Classes.{CharClasses}
@@ -12,7 +12,6 @@ use Rattle.typst_language.specs.Ask.Ask.{looked, marked}
 use Rattle.typst_language.specs.Hand.{len_at, at_trivia, asks_by, ahead_asks, ahead_of, ahead_asks_of, asks_column, column_look, hand_at, hand_asks}
 use Rattle.typst_language.specs.Knot.{Rules, meaning_of, level_of, blocks_of}
 use Rattle.typst_language.specs.Point.{Trivia, Point, gap_of, forgot}
-use Rattle.typst_language.specs.Shape.{Shape}
 use Rattle.typst_language.specs.Shape.Making.{itself}
 use Rattle.typst_language.specs.Steps.{peek}
 use Rattle.typst_language.specs.Syntax.{Op, Parser, ◌>>◌}
