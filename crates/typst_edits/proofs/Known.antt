@@ -27,9 +27,6 @@ flushed-as s (t ∷ ts) = (refl, refl)
 pub flushed-held : (h : Hand) (s : Point) → (flushed_state h s).held ≡ s.held
 flushed-held h s = (flushed-as s h.trivia).0
 
-pub flushed-reading : (h : Hand) (s : Point) → (flushed_state h s).reading ≡ s.reading
-flushed-reading h s = (flushed-as s h.trivia).1
-
 -- ---- a property of what is known, by how the token at hand is read and the place
 
 abbrev pub Saying : Type 1

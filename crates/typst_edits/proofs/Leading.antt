@@ -41,7 +41,7 @@ use Rattle.typst_edits.specs.Spot.{Spot, last_node, unit_at, ended}
 use Rattle.typst_edits.proofs.BlockRuns.{sane as in-sane, content-split}
 use Rattle.typst_edits.proofs.Blocks.{ends as block-ends, last-is}
 use Rattle.typst_edits.proofs.Boundary.{KnownAt, first-of, turn-goes, going-on, known-made}
-use Rattle.typst_edits.proofs.Children.{given-together, tidy-together, stretch-is, back-law, run-apart, text-known}
+use Rattle.typst_edits.proofs.Children.{Fronts, fronts-joined, turn-fronts, pieces-front, given-together, tidy-together, stretch-is, back-law, run-apart, text-known}
 use Rattle.typst_edits.proofs.Edit.{among, trees-of}
 use Rattle.typst_edits.proofs.Fitting.{same-here}
 use Rattle.typst_edits.proofs.Fronts.{Full, full-append, full-less}
@@ -136,15 +136,6 @@ block-leads k levels z s = record {
   known = record { trivia = _; is = refl };
 }
 
--- It gives the trivia and then a node that isn't empty, as it does after them.
-pub record Fronts {A : Type 0} (t : Trivia) (o : Outcome A) : Type 0 where
-  pub trims : Bool
-  pub behind : Outcome A
-  pub led : Led t t.nodes trims o behind
-
-fronts-joined : {A B : Type 0} (t : Trivia) (o : Outcome B) (q : Outcome A) → Fronts t o → Tidy o.state q → Fronts t (joined o q)
-fronts-joined t o q f tidy = record { trims = f.trims; behind = joined f.behind q; led = led-joined t t.nodes f.trims o f.behind q f.led (subst (λ s. Tidy s q) f.led.state tidy) }
-
 module _ (r : Sequence) (leads : Leads r) where
   abbrev pub turn : Bool × ℕ → Meaning (Bool × (Bool × ℕ))
   turn x = turn_of r x
@@ -152,18 +143,10 @@ module _ (r : Sequence) (leads : Leads r) where
   pub sane : (x : Bool × ℕ) → Sane (turn x)
   sane x = sane-run r.level leads.taking.calls_sane leads.taking.blocks_sane (markup_turn true r.stops x)
 
-  -- a turn that isn't stopped
-  pub turn-fronts : (x : Bool × ℕ) (z : Place) (s : Point) (t : Trivia) → s.known ≡ Some t → ends r.stops x.1 (as_at_hand (hand_of r.level z s)).kind ≡ false → Fronts t (turn x z s)
-  turn-fronts x z s t is go =
-      let b = before_trivia s.reading s.held s.empties s.is_after_error t in
-      let same : s ≡ b = ap (λ u. record s { known = u }) is in
-      let go_there : ends r.stops x.1 (as_at_hand (hand_of r.level z b)).kind ≡ false = subst (λ p. ends r.stops x.1 (as_at_hand (hand_of r.level z p)).kind ≡ false) same go in
-      subst (λ p. Fronts t (turn x z p)) (sym same) (record { trims = _; behind = _; led = turn-led r.level r.stops leads.taking x z s.reading s.held s.empties s.is_after_error t go_there })
-
   turn-goes-on : (x : Bool × ℕ) (z : Place) (s : Point) (t : Trivia) → s.known ≡ Some t → ends r.stops x.1 (as_at_hand (hand_of r.level z s)).kind ≡ false → goes (turn x z s) ≡ true
   turn-goes-on x z s t is go =
       let o = turn x z s in
-      let led = (turn-fronts x z s t is go).led in
+      let led = (turn-fronts r.level r.stops leads.taking x z s t is go).led in
       let some : 0 < o.taken = omega (arith, led.some, led.front.taken) in
       ap (λ b. b && nat_lt 0 o.taken) (turn-goes r.level r.stops x z s go) ∙ lt-ltb 0 o.taken some
 
@@ -175,17 +158,6 @@ module _ (r : Sequence) (leads : Leads r) where
       by-end true e = refl
       by-end false e = let d : true ≡ false = sym (turn-goes-on x z s there.trivia there.is e) ∙ stopped in cc
 
-  -- some pieces
-  pieces-front : (n : ℕ) (x : Bool × ℕ) (z : Place) (s : Point) (t : Trivia) → s.known ≡ Some t → 0 < n → AllGo (made turn n x z s)
-      → Fronts t (together (end_of x s (made turn n x z s)).state (made turn n x z s))
-  pieces-front zero x z s t is some g = absurd (omega (arith, some))
-  pieces-front (suc n) x z s t is some g =
-      let o = turn x z s in
-      let y = moved o.taken z in
-      let os = made turn n o.value.1 y o.state in
-      fronts-joined t o (together (end_of o.value.1 o.state os).state os) (turn-fronts x z s t is (going-on r.level r.stops x z s (first-of o.value.0 (nat_lt 0 o.taken) g.0)))
-      (tidy-together turn (λ v. (sane v).backs) n o.value.1 y o.state)
-
   -- all after some pieces, where another follows
   rest-front : (x : Bool × ℕ) (z : Place) (s : Point) (t : Trivia) (last : Outcome (Unit {0})) → s.known ≡ Some t → Tidy (repeated turn x z s).state last → ends r.stops x.1 (as_at_hand (hand_of r.level z s)).kind ≡ false
       → Fronts t (joined (repeated turn x z s) last)
@@ -196,7 +168,7 @@ module _ (r : Sequence) (leads : Leads r) where
       let w = moved (o.taken + 0) z in
       let q = repeated turn o.value.1 w o.state in
       let parts : p ≡ joined o q = repeated-chain turn (λ v. (sane v).within) 1 x z s (turn-goes-on x z s t is go, tt) in
-      let one = fronts-joined t o q (turn-fronts x z s t is go) ((sane-run r.level leads.taking.calls_sane leads.taking.blocks_sane (repeat (markup_turn true r.stops) o.value.1)).backs w o.state) in
+      let one = fronts-joined t o q (turn-fronts r.level r.stops leads.taking x z s t is go) ((sane-run r.level leads.taking.calls_sane leads.taking.blocks_sane (repeat (markup_turn true r.stops) o.value.1)).backs w o.state) in
       fronts-joined t p last (subst (λ u. Fronts t u) (sym parts) one) tidy
 
   flush-nodes : (z : Place) (s : Point) (t : Trivia) → s.known ≡ Some t → (run r.level flush_trivia z s).nodes ≡ t.nodes
@@ -289,7 +261,7 @@ module _ (r : Sequence) (leads : Leads r) where
         let there_known = known-made r.level r.stops i (true, 0) r.place r.point leads.known g in
         let us = pending e.state.known in
         let us_is : us ≡ there_known.trivia.nodes = ap pending there_known.is in
-        let o = pieces-front n e.value w e.state there_known.trivia there_known.is some h in
+        let o = pieces-front r.level r.stops leads.taking n e.value w e.state there_known.trivia there_known.is some h in
         let empties = ap (λ (s : Point). s.empties) p-state in
         let short : back < length o.led.front.rest = omega (arith, few, o.led.few, ap (λ (s : Point). s.empties) o.led.state, empties) in
         let kept = less back o.led.front.rest in
