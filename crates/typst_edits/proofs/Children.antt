@@ -5,7 +5,6 @@ use Rattle.typst_kinds.specs.declared.kind.SyntaxKind.TheVariants as kind
 use Rattle.typst_lines.specs.Place.{Place, moved}
 use Rattle.typst_tree.specs.Tree.{Tree, forest, trees, inner_of}
 use Rattle.typst_lines.specs.Classes.{CharClasses}
-use Rattle.typst_language.specs.declared.reading.Reading.{Reading}
 use Rattle.typst_language.specs.Depth.{is_end}
 use Rattle.typst_language.specs.Hand.{as_at_hand}
 use Rattle.typst_language.specs.Point.{Trivia, Point}
@@ -21,13 +20,13 @@ use Rattle.typst_grammar.specs.Markup.{ends, markup_turn}
 use Rattle.typst_grammar.specs.Grammar.{rules, max_depth, level_at, start_of, tree}
 use Rattle.typst_edits.specs.Children.{exchanged, Settles, with_children, together, read_from, standing_before, nodes_with, ChildrenLaw, BackLaw}
 use Rattle.typst_edits.specs.Edit.{text_with}
-use Rattle.typst_edits.specs.Joint.{minds, place_from, onwards_from, text_run}
+use Rattle.typst_edits.specs.Joint.{place_from, onwards_from, text_run}
 use Rattle.typst_edits.specs.RunTrees.{given}
 use Rattle.typst_edits.specs.Runs.{made, piece_at, AllGo, end_of, lead, pieces, end_at, pieces_from, end_from}
 use Rattle.typst_edits.proofs.Boundary.{KnownAt, first-of, going-on, known-made}
 use Rattle.typst_edits.proofs.Edit.{trees-of}
-use Rattle.typst_edits.proofs.Joint.{joint-law, onwards-is, known-is, text-taking}
-use Rattle.typst_edits.proofs.Led.{after_trivia, before_trivia, Led, led-joined, drop-front, take-front, less-behind}
+use Rattle.typst_edits.proofs.Joint.{joint-law, onwards-is, text-taking}
+use Rattle.typst_edits.proofs.Led.{before_trivia, Led, led-joined, drop-front, take-front, less-behind}
 use Rattle.typst_edits.proofs.RunTrees.{standing-chain, standing-still, tree-is}
 use Rattle.typst_edits.proofs.Runs.{chain-state}
 use Rattle.typst_edits.proofs.Turns.{Taking, turn-led}

@@ -1,6 +1,5 @@
 -- What the entries of notes say of the pieces of a run, whose notes stand among others, nested in each other.
-use Rattle.std.proofs.Common.{◌≡◌, ℕ, zero, suc, ◌+◌, ◌<◌, ◌≤◌, ◌==◌, ne_eqb, eq-eqb, Bool, true, false, if◌then◌else◌, List, [], ◌∷◌, ◌++◌, length, take, drop, length-append, append_assoc, Some, None, refl, ap, sym, ◌∙◌, subst, arith}
-use Rattle.std.proofs.lemmas.Bool.{eqb-true}
+use Rattle.std.proofs.Common.{◌≡◌, ℕ, suc, ◌+◌, ◌<◌, ◌≤◌, ◌==◌, ne_eqb, eq-eqb, Bool, true, false, if◌then◌else◌, List, [], ◌∷◌, ◌++◌, length, take, drop, length-append, append_assoc, Some, None, refl, ap, sym, ◌∙◌, subst, arith}
 use Rattle.typst_tokens.specs.Sight.{width}
 use Rattle.typst_language.specs.declared.calls.Mark.{Mark}
 use Rattle.typst_language.specs.declared.calls.Mark.TheVariants as mark
@@ -18,7 +17,7 @@ use Rattle.typst_edits.specs.RunTest.{SaysPiece, IsLast, BeginsAt}
 use Rattle.typst_edits.proofs.EntryNumbers.{got-entry, past-entry}
 use Rattle.typst_edits.proofs.NestedPieces.{first_own, piece-found, first-found, past-nested, own-here, some-own, head-same, tail-same, apart, rising-behind, entries-behind, entries-end}
 use Rattle.typst_edits.proofs.NoteNumbers.{level-append, numbered-at}
-use Rattle.typst_edits.proofs.Spots.{if-true, if-false}
+use Rattle.typst_edits.proofs.Spots.{if-true}
 use Rattle.typst_language.proofs.Within.{on_both}
 
 -- ---- notes by numbers

@@ -40,7 +40,7 @@ use Rattle.typst_edits.specs.Sequence.{Sequence, turn_of, first_of, first_end, t
 use Rattle.typst_edits.specs.Spot.{Spot, last_node, unit_at, ended}
 use Rattle.typst_edits.proofs.BlockRuns.{sane as in-sane, content-split}
 use Rattle.typst_edits.proofs.Blocks.{ends as block-ends, last-is}
-use Rattle.typst_edits.proofs.Boundary.{KnownAt, first-of, turn-goes, going-on, known-made}
+use Rattle.typst_edits.proofs.Boundary.{KnownAt, turn-goes, known-made}
 use Rattle.typst_edits.proofs.Children.{Fronts, fronts-joined, turn-fronts, pieces-front, given-together, tidy-together, stretch-is, back-law, run-apart, text-known}
 use Rattle.typst_edits.proofs.Edit.{among, trees-of}
 use Rattle.typst_edits.proofs.Fitting.{same-here}
@@ -50,13 +50,13 @@ use Rattle.typst_edits.proofs.InnerJoint.{inner-fronted, block-taking}
 use Rattle.typst_edits.proofs.Inside.{Lawful}
 use Rattle.typst_edits.proofs.Joint.{onwards-fronted, text-taking}
 use Rattle.typst_edits.proofs.Law.{inside-level}
-use Rattle.typst_edits.proofs.Led.{before_trivia, drop-front, less-behind, Led, led-joined}
+use Rattle.typst_edits.proofs.Led.{before_trivia, drop-front, less-behind}
 use Rattle.typst_edits.proofs.Runs.{repeated-chain, chain-state, chain-taken, moved-three}
 use Rattle.typst_edits.proofs.RunTrees.{standing-none, tree-is}
 use Rattle.typst_edits.proofs.SpotPlaces.{width-encodes}
 use Rattle.typst_edits.proofs.Text.{content-reads}
 use Rattle.typst_edits.proofs.TokenNodes.{NoMarkup, bracket-plain, close-plain}
-use Rattle.typst_edits.proofs.Turns.{Taking, turn-led, stopped}
+use Rattle.typst_edits.proofs.Turns.{Taking, stopped}
 use Rattle.typst_edits.proofs.Widths.{width-none}
 use Rattle.typst_edits.proofs.Every.{first_or}
 

@@ -1,16 +1,13 @@
 -- Pieces give the trivia before them first, so the exchange of children is the same without these.
-use Rattle.std.proofs.Common.{◌≡◌, ℕ, zero, suc, ◌+◌, ◌<◌, ◌≤◌, Bool, true, nat_lt, List, [], ◌∷◌, ◌++◌, length, drop, length-append, append_assoc, append-nil, Some, refl, ap, sym, ◌∙◌, subst, arith}
+use Rattle.std.proofs.Common.{◌≡◌, ℕ, zero, suc, ◌+◌, ◌<◌, ◌≤◌, Bool, true, List, [], ◌∷◌, ◌++◌, length, drop, length-append, append_assoc, append-nil, Some, refl, ap, sym, ◌∙◌, subst, arith}
 use Rattle.typst_kinds.specs.declared.kind.SyntaxKind.{SyntaxKind}
 use Rattle.typst_kinds.specs.declared.kind.SyntaxKind.TheVariants as kind
 use Rattle.typst_lines.specs.Place.{Place, moved}
 use Rattle.typst_lines.specs.Classes.{CharClasses}
 use Rattle.typst_tree.specs.Tree.{Tree, forest, trees, inner_of}
-use Rattle.typst_language.specs.declared.reading.Reading.{Reading}
 use Rattle.typst_language.specs.Depth.{is_end}
 use Rattle.typst_language.specs.Point.{Trivia, Point, pending}
 use Rattle.typst_language.specs.Meaning.{Meaning, Level, plain, less, run}
-use Rattle.typst_language.specs.Sound.{Tidy}
-use Rattle.typst_language.proofs.Knot.{sane-run}
 use Rattle.typst_grammar.specs.Markup.{ends_block, markup_turn}
 use Rattle.typst_grammar.specs.Grammar.{level_at, max_depth, tree}
 use Rattle.typst_edits.specs.BlockRuns.{inner, run_at}
@@ -24,14 +21,14 @@ use Rattle.typst_edits.specs.LeadingTrivia.{LeadingTriviaLaw, InnerLeadingTrivia
 use Rattle.typst_edits.specs.Runs.{made, AllGo, End, end_of, lead, pieces, end_at, pieces_from, end_from}
 use Rattle.typst_edits.specs.Sequence.{first_of, first_end, then_of, then_end}
 use Rattle.typst_edits.specs.Spot.{Spot}
-use Rattle.typst_edits.proofs.Boundary.{KnownAt, first-of, going-on, known-made}
+use Rattle.typst_edits.proofs.Boundary.{KnownAt, known-made}
 use Rattle.typst_edits.proofs.Children.{exchanged-is, pieces-front, top-known, behind-back, children-law}
 use Rattle.typst_edits.proofs.InnerChildren.{in-behind, inner-children-law, with-run, tree-by-block}
 use Rattle.typst_edits.proofs.InnerJoint.{block-taking}
-use Rattle.typst_edits.proofs.Joint.{joint-law, known-is, text-taking}
-use Rattle.typst_edits.proofs.Led.{none-less, less-behind, drop-front, before_trivia, led-joined}
+use Rattle.typst_edits.proofs.Joint.{joint-law, text-taking}
+use Rattle.typst_edits.proofs.Led.{none-less, less-behind, drop-front}
 use Rattle.typst_edits.proofs.Runs.{chain-state}
-use Rattle.typst_edits.proofs.Turns.{Taking, turn-led}
+use Rattle.typst_edits.proofs.Turns.{Taking}
 use Rattle.typst_edits.proofs.BlockRuns.{first-same}
 
 -- ---- stretches of nodes

@@ -10,22 +10,19 @@ use Rattle.typst_language.specs.Point.{Point, point_of}
 use Rattle.typst_language.specs.Steps.{flush_trivia}
 use Rattle.typst_language.specs.Meaning.{Outcome, Meaning, Level, joined, hand_of, hand_asks_of, run}
 use Rattle.typst_language.proofs.Frame.{hand-frame}
-use Rattle.typst_language.proofs.Knot.{sane-at}
 use Rattle.typst_language.proofs.Looks.{same_in-shift, same_in-first, same_in-second}
 use Rattle.typst_language.proofs.Places.{moved-sum}
 use Rattle.typst_grammar.specs.Markup.{ends_block, markup_turn, markup_head}
-use Rattle.typst_grammar.specs.Grammar.{rules, max_depth, level_at}
+use Rattle.typst_grammar.specs.Grammar.{max_depth, level_at}
 use Rattle.typst_edits.specs.BlockRuns.{inner, bracket, inner_lead, run_at, EndsBefore}
-use Rattle.typst_edits.specs.Children.{read_from}
 use Rattle.typst_edits.specs.Edit.{text_with, AllEndBy}
 use Rattle.typst_edits.specs.Heads.{first_place, onwards_by, NoneBackLaw, InnerNoneBackLaw, NoneAfterLaw, InnerNoneAfterLaw, minds_at}
-use Rattle.typst_edits.specs.InnerChildren.{read_in}
 use Rattle.typst_edits.specs.InnerJoint.{onwards_in}
 use Rattle.typst_edits.specs.Joint.{minds, onwards_from, text_run}
-use Rattle.typst_edits.specs.Runs.{made, AllGo, End, end_of, asks_of, lead, pieces, end_at, piece_at}
-use Rattle.typst_edits.specs.Sequence.{turn_of, first_of, first_end, then_end, rest_of, Sequence}
+use Rattle.typst_edits.specs.Runs.{made, AllGo, End, end_of, asks_of, lead, pieces, end_at}
+use Rattle.typst_edits.specs.Sequence.{first_of, first_end, then_end, rest_of, Sequence}
 use Rattle.typst_edits.specs.Spot.{Spot}
-use Rattle.typst_edits.proofs.BlockRuns.{sane, first-same}
+use Rattle.typst_edits.proofs.BlockRuns.{first-same}
 use Rattle.typst_edits.proofs.Boundary.{made-ends, turn-ends}
 use Rattle.typst_edits.proofs.Children.{back-law}
 use Rattle.typst_edits.proofs.Edit.{before-same}
