@@ -1,13 +1,12 @@
 -- What is noted of a block: a note where it begins, what is noted in it, and a note where it ends.
-use Rattle.std.proofs.Common.{◌≡◌, ℕ, suc, ◌+◌, ◌-◌, List, [], ◌∷◌, ◌++◌, append_assoc, length, take, Some, refl, ap, ◌∙◌, arith}
-use Rattle.typst_lines.specs.Place.{moved}
+use Rattle.std.proofs.Common.{◌≡◌, ℕ, suc, ◌+◌, ◌-◌, List, ◌∷◌, ◌++◌, take, Some, refl, ap, sym, ◌∙◌, subst, arith}
+use Rattle.typst_lines.specs.Place.{Place, moved}
 use Rattle.typst_lines.specs.Classes.{CharClasses}
 use Rattle.typst_tokens.specs.Sight.{width, position}
 use Rattle.typst_language.specs.declared.calls.Mark.TheVariants as mark
-use Rattle.typst_language.specs.declared.calls.Note.{Note}
-use Rattle.typst_language.specs.Ask.{Ask, shift}
-use Rattle.typst_language.specs.Ask.Ask.{marked}
-use Rattle.typst_language.specs.Log.{Log, no_log, logged, with_note}
+use Rattle.typst_candidates.specs.Nested.{Nested}
+use Rattle.typst_language.specs.Ask.{shift}
+use Rattle.typst_language.specs.Log.{no_log, logged}
 use Rattle.typst_language.specs.Meaning.{Outcome, start_point}
 use Rattle.typst_language.specs.Point.{point_of, state_of}
 use Rattle.typst_grammar.specs.Markup.{markup_reading}
@@ -15,85 +14,76 @@ use Rattle.typst_grammar.specs.Grammar.{rules, max_depth, start_of, whole, parse
 use Rattle.typst_edits.specs.Edit.{Among}
 use Rattle.typst_edits.specs.Laws.{blocks_of_text, block_at}
 use Rattle.typst_edits.specs.Named.{Named}
-use Rattle.typst_edits.specs.Splice.{notes_in}
+use Rattle.typst_edits.specs.Nested.{NestedBlock, NestedBlockLaw}
+use Rattle.typst_edits.specs.Splice.{Noting, noting, notes_in}
 use Rattle.typst_edits.specs.Spot.{Spot, unit_at, ended, lowered}
 use Rattle.typst_edits.proofs.Blocks.{ends as block-ends}
-use Rattle.typst_edits.proofs.Bytes.{logged-append, noted-by, noted-more, asks-are, counted, notes-one}
+use Rattle.typst_edits.proofs.Bytes.{asks-are, notes-one}
 use Rattle.typst_edits.proofs.Edit.{among}
 use Rattle.typst_edits.proofs.Inside.{Lawful}
 use Rattle.typst_edits.proofs.Law.{inside-level}
+use Rattle.typst_edits.proofs.LogNotes.{none_yet, fresh_notes, next_note, noted-length, logged-notes, notes-around, notes-lowered}
 use Rattle.typst_edits.proofs.Names.{named-level}
+use Rattle.typst_edits.proofs.Nested.{Nests, unit-nests, notes-nested}
 use Rattle.typst_edits.proofs.Widths.{width-moved}
 
 module _ (k : CharClasses) (text : List ℕ) (c : Spot (Unit {0})) where
-  -- what is asked in it
-  abbrev pub own_asks : List Ask
-  own_asks = shift c.at (lowered c.fewer (unit_at c (start_of text)).asks)
+  abbrev z0 : Place
+  z0 = start_of text
 
-  -- The log up to where the block begins; whatever is noted of what is asked in it stands between its two notes.
+  -- Between its two notes stand those of what is asked in it.
   pub record BlockLog : Type 0 where
-    pub earlier : List Note
-    pub opens : Note
-    pub begun : Log
-    pub begun_is : begun.notes ≡ Some (earlier ++ opens ∷ [])
-    pub closes : Note
-    pub rest : (inner : List Note) → (logged max_depth (start_of text) begun own_asks).notes ≡ Some ((earlier ++ opens ∷ []) ++ inner) → ((later : List Note) × ((log k text).notes ≡ Some (earlier ++ opens ∷ (inner ++ closes ∷ later))))
-    pub name : opens.mark ≡ mark.Opens c.name
-    pub start : opens.start ≡ width (take c.at text)
-    pub levels : opens.levels ≡ max_depth - c.fewer
-    pub state : opens.state ≡ c.start
-    pub name_end : closes.mark ≡ mark.Closes
-    pub end : closes.before ≡ width (take (c.at + (unit_at c (start_of text)).taken) text)
-    pub levels_end : closes.levels ≡ max_depth - c.fewer
-    -- As many notes stand before its own as are noted before it.
-    pub number : notes_in c.before ≡ suc (length earlier)
-    pub reads : unit_at c (start_of text) ≡ ended (block_at k (max_depth - c.fewer) c.name (moved c.at (start_of text)) (point_of c.start))
+    pub notes : NestedBlock k text c
+    pub inner_is : notes.inner ≡ fresh_notes (max_depth - c.fewer) (moved c.at z0) (unit_at c z0).asks
+    pub state : notes.opens.state ≡ c.start
 
   pub block-log : Among c (blocks_of_text k text) → BlockLog
   unfolding blocks_of_text log position
   block-log chosen =
-      let z = start_of text in
       let o = parsed k max_depth text in
-      let l = among (Lawful z z o o) c _ chosen (inside-level (rules k) k (block-ends k) max_depth whole z z (start_point markup_reading)) in
-      let named = among (Named (block_at k) max_depth) c _ chosen (named-level (rules k) k max_depth whole z (start_point markup_reading)) in
+      let l = among (Lawful z0 z0 o o) c _ chosen (inside-level (rules k) k (block-ends k) max_depth whole z0 z0 (start_point markup_reading)) in
+      let named = among (Named (block_at k) max_depth) c _ chosen (named-level (rules k) k max_depth whole z0 (start_point markup_reading)) in
       let f = c.fewer in
-      let end = c.at + (unit_at c z).taken in
+      let lv = max_depth - f in
+      let y = moved c.at z0 in
+      let u = unit_at c z0 in
+      let end = c.at + u.taken in
+      let own = shift c.at (lowered f u.asks) in
       let late = shift end named.later in
-      let opens_mark = marked c.at 0 f (mark.Opens c.name) c.start in
-      let closes_state = state_of c.reached in
-      let closes_mark = marked (end + 0) 0 f mark.Closes closes_state in
-      let asks = asks-are o.asks c.before named.earlier own_asks (shift end c.after) late opens_mark closes_mark (ap (λ (v : Outcome (Unit {0})). v.asks) l.old) named.opened (ap (shift end) named.closed) in
-      let log_one = logged max_depth z no_log named.earlier in
-      let h1 = with_note 0 (max_depth - f) (mark.Opens c.name) c.start (moved c.at z) log_one in
-      let log_two = logged max_depth z h1 own_asks in
-      let h2 = with_note 0 (max_depth - f) mark.Closes closes_state (moved (end + 0) z) log_two in
-      let is : logged max_depth z no_log o.asks ≡ logged max_depth z h2 late =
-      ap (logged max_depth z no_log) asks ∙ logged-append max_depth z no_log named.earlier _ ∙ logged-append max_depth z h1 own_asks _ in
-      let note_one : Note = record { mark = mark.Opens c.name; before = position (moved c.at z); start = position (moved 0 (moved c.at z)); levels = max_depth - f; state = c.start; reach = log_one.reach; least = log_one.least } in
-      let note_two : Note = record { mark = mark.Closes; before = position (moved (end + 0) z); start = position (moved 0 (moved (end + 0) z)); levels = max_depth - f; state = closes_state; reach = log_two.reach; least = log_two.least } in
-      let one = noted-by max_depth z named.earlier no_log [] refl in
-      let front = one.more ++ note_one ∷ [] in
+      let opening : Noting = record { at = c.at; gap = 0; fewer = f; mark = mark.Opens c.name; state = c.start } in
+      let closing : Noting = record { at = end + 0; gap = 0; fewer = f; mark = mark.Closes; state = state_of c.reached } in
+      let asks = asks-are o.asks c.before named.earlier own (shift end c.after) late (noting opening) (noting closing) (ap (λ (v : Outcome (Unit {0})). v.asks) l.old) named.opened (ap (shift end) named.closed) in
+      let behind = own ++ noting closing ∷ late in
+      let front = fresh_notes max_depth z0 named.earlier in
+      let first = next_note max_depth z0 named.earlier opening in
+      let last = next_note max_depth z0 own closing in
+      let rest = fresh_notes max_depth z0 late in
+      let all_left : lv - 0 ≡ lv = omega arith in
+      let reads : u ≡ ended (block_at k lv c.name y (point_of c.start)) = ap (λ m. m y (point_of c.start)) named.reads in
       record {
-        earlier = one.more;
-        opens = note_one;
-        begun = h1;
-        begun_is = noted-more note_one log_one.notes one.more one.is;
-        closes = note_two;
-        rest = λ inner e. (let three = noted-by max_depth z late h2 ((front ++ inner) ++ note_two ∷ []) (noted-more note_two log_two.notes (front ++ inner) e) in (
-          three.more,
-          ap (λ (v : Log). v.notes) is ∙ three.is ∙ ap Some (append_assoc (front ++ inner) (note_two ∷ []) three.more ∙ append_assoc front inner (note_two ∷ three.more) ∙ append_assoc one.more (note_one ∷ []) (inner ++ note_two ∷ three.more)),
-        ));
-        name = refl;
-        start = width-moved c.at text;
-        levels = refl;
+        notes = record {
+          earlier = front;
+          opens = first;
+          inner = fresh_notes lv y u.asks;
+          closes = last;
+          later = rest;
+          notes = ap (λ ls. (logged max_depth z0 no_log ls).notes) asks ∙ logged-notes max_depth z0 (named.earlier ++ noting opening ∷ behind)
+              ∙ ap Some (notes-around max_depth z0 named.earlier opening behind ∙ ap (λ ns. front ++ first ∷ ns) (notes-around max_depth z0 own closing late))
+              ∙ ap (λ ns. Some (front ++ first ∷ (ns ++ last ∷ rest))) (notes-lowered max_depth f c.at z0 u.asks);
+          name = refl;
+          start = width-moved c.at text;
+          levels_there = refl;
+          name_end = refl;
+          end = width-moved (end + 0) text ∙ ap (λ a. width (take a text)) (omega arith);
+          levels_end = refl;
+          nested = subst (λ v. Nested v (fresh_notes lv y u.asks)) all_left (notes-nested lv 0 y u.asks 0 none_yet (omega arith)
+              (subst (λ (v : Outcome (Unit {0})). Nests (suc lv) 1 v.asks) (sym reads) (unit-nests k lv c.name y (point_of c.start))));
+          number = ap notes_in named.opened ∙ notes-one named.earlier c.at 0 f (mark.Opens c.name) c.start ∙ ap suc (sym (noted-length max_depth z0 named.earlier 0 none_yet));
+          long = noted-length lv y u.asks 0 none_yet;
+        };
+        inner_is = refl;
         state = refl;
-        name_end = refl;
-        end = width-moved (end + 0) text ∙ ap (λ a. width (take a text)) (omega arith);
-        levels_end = refl;
-        number = (let n = counted max_depth z named.earlier no_log [] one.more refl one.is in
-            let nothing : List Note = [] in
-            let none : length nothing ≡ 0 = omega arith in
-            let few : notes_in named.earlier ≡ length one.more = omega (arith, n, none) in
-            ap notes_in named.opened ∙ notes-one named.earlier c.at 0 f (mark.Opens c.name) c.start ∙ ap suc few);
-        reads = ap (λ m. m (moved c.at z) (point_of c.start)) named.reads;
       }
+
+pub nested-block-law : NestedBlockLaw
+nested-block-law k text c chosen = (block-log k text c chosen).notes

@@ -17,7 +17,7 @@ use Rattle.typst_edits.specs.BlockSplice.{closing, block_log, BlockSpliceLaw}
 use Rattle.typst_edits.specs.Spot.{Spot, unit_at, lowered}
 use Rattle.typst_edits.proofs.Bytes.{asks-are, notes-one, notes-own}
 use Rattle.typst_edits.proofs.Seen.{AllSeen, end-first, seen-first, sees-level}
-use Rattle.typst_edits.proofs.Splice.{splice-law}
+use Rattle.typst_edits.proofs.Sides.{splice-law}
 use Rattle.typst_edits.proofs.Text.{block-law, names-law}
 
 -- the note where a block begins

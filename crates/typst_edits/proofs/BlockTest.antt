@@ -1,21 +1,22 @@
 -- What the records find of a block candidate.
-use Rattle.std.proofs.Common.{◌≡◌, ◌↔◌, ℕ, zero, suc, ◌+◌, ◌-◌, ◌^◌, ◌<◌, ◌≤◌, Bool, true, false, if◌then◌else◌, max, List, [], ◌∷◌, ◌++◌, length, take, drop, length-append, append_assoc, Option, Some, None, refl, ap, sym, ◌∙◌, subst, arith}
+use Rattle.std.proofs.Common.{◌≡◌, ◌↔◌, ℕ, zero, suc, ◌+◌, ◌-◌, ◌^◌, ◌<◌, ◌≤◌, Bool, true, false, if◌then◌else◌, max, min, List, [], ◌∷◌, ◌++◌, length, take, drop, length-append, append_assoc, Option, Some, None, refl, ap, sym, ◌∙◌, subst, arith}
 use Rattle.std.proofs.Math.Seq.{take-append_seam}
 use Rattle.std.specs.List.{slice_get}
 use Rattle.typst_kinds.specs.declared.mode.SyntaxMode.{SyntaxMode}
 use Rattle.typst_lines.specs.Place.{Place, moved}
 use Rattle.typst_lines.specs.Classes.{CharClasses}
 use Rattle.typst_tree.specs.Tree.{Tree, text_of}
-use Rattle.typst_tokens.specs.Sight.{width, position, hull_of}
+use Rattle.typst_tokens.specs.Sight.{width, position, far, near}
 use Rattle.typst_language.specs.declared.calls.Block.{Block}
 use Rattle.typst_language.specs.declared.calls.Mark.{Mark}
+use Rattle.typst_language.specs.declared.calls.Mark.TheVariants as mark
 use Rattle.typst_language.specs.declared.calls.Note.{Note}
 use Rattle.typst_language.specs.declared.reading.AtNewline.TheVariants as newline
 use Rattle.typst_language.specs.declared.reading.Reading.{Reading}
 use Rattle.typst_language.specs.declared.reading.State.{State}
 use Rattle.typst_language.specs.Ask.{Ask}
 use Rattle.typst_language.specs.Ask.Ask.{looked, marked}
-use Rattle.typst_language.specs.Log.{Log, no_log, with_hull, with_note, logged}
+use Rattle.typst_language.specs.Log.{Log, no_log, logged}
 use Rattle.typst_language.specs.Meaning.{Outcome, start_point}
 use Rattle.typst_language.specs.Point.{point_of}
 use Rattle.typst_language.proofs.Places.{moved-sum, ahead-left}
@@ -52,14 +53,15 @@ use Rattle.typst_edits.proofs.BlockModes.{mode-law}
 use Rattle.typst_edits.proofs.BlockPart.{block-part-law}
 use Rattle.typst_edits.proofs.BlockPlaces.{Meets, candidate-at, early-by, hole-same, late-by, meets, some-node, take-same}
 use Rattle.typst_edits.proofs.BlockSplice.{block-splice-law}
-use Rattle.typst_edits.proofs.Bytes.{decision-law, noted-by, noted-more}
+use Rattle.typst_edits.proofs.Bytes.{decision-law}
 use Rattle.typst_edits.proofs.CandidateBlocks.{BlockAt}
 use Rattle.typst_edits.proofs.Clear.{Clear, clear-level}
 use Rattle.typst_edits.proofs.Edit.{among, before-same}
 use Rattle.typst_edits.proofs.EntryNumbers.{NoneAt, opening-some, opening-found, some-number, got-entry, past-entry, past-note, all-end, end-all, all-begin, begin-all}
-use Rattle.typst_edits.proofs.Every.{every-append, some_or}
+use Rattle.typst_edits.proofs.Every.{some_or}
+use Rattle.typst_edits.proofs.LogNotes.{none_yet, notes_from, logged-notes, logged-listed}
 use Rattle.typst_edits.proofs.Names.{named-level}
-use Rattle.typst_edits.proofs.NestedInner.{nested-block-law}
+use Rattle.typst_edits.proofs.BlockLog.{nested-block-law}
 use Rattle.typst_edits.proofs.OpensApart.{opens-apart-law, opens-directly}
 use Rattle.typst_edits.proofs.SecondPlaces.{second-place}
 use Rattle.typst_edits.proofs.SpotPlaces.{SpotPlace, spot-place, within-is}
@@ -231,8 +233,8 @@ module _ (k : CharClasses) (front old new rest : List ℕ) where
       let u = unit_at s w in
       let lv = max_depth - s.fewer in
       let at = position y in
-      let noted = noted-by lv y u.asks no_log [] refl in
-      let all : (logged lv y no_log u.asks).notes ≡ Some (listed (logged lv y no_log u.asks).notes) = noted.is ∙ ap Some (sym (ap listed noted.is)) in
+      let noted = logged-notes lv y u.asks in
+      let all : (logged lv y no_log u.asks).notes ≡ Some (listed (logged lv y no_log u.asks).notes) = noted ∙ ap Some (sym (ap listed noted)) in
       block-part-law (front ++ (new ++ rest)) s u (listed (logged lv y no_log u.asks).notes) all
       ∙ (λ i. (let h = logged lv y no_log (same.asks i) in entries_by at (listed h.notes) ++ block_end (last_start at (listed h.notes)) (position (moved (same.taken i) y)) h.reach h.least ∷ []))
 
@@ -411,22 +413,20 @@ opened-first at gap fewer m t asks e = by-test (is_opening m) e
     by-test true e = this (opened asks)
     by-test false e = absurd (cc)
 
-asked-by : (lv : ℕ) (z : Place) (all asks : List Ask) (h : Log) (ns ms : List Note) → h.notes ≡ Some ns → Every (Asked z all) ns → ((ask : Ask) → Among ask (opened asks) → Among ask (opened all)) → (logged lv z h asks).notes ≡ Some ms → Every (Asked z all) ms
-asked-by lv z all [] h ns ms e q more f = subst (Every (Asked z all)) (ap listed (sym e ∙ f)) q
-asked-by lv z all (looked at look ∷ asks) h ns ms e q more f = asked-by lv z all asks (with_hull (hull_of look (moved at z)) h) ns ms e q more f
-asked-by lv z all (marked at gap fewer m t ∷ asks) h ns ms e q more f =
-    let note : Note = record { mark = m; before = position (moved at z); start = position (moved gap (moved at z)); levels = lv - fewer; state = t; reach = h.reach; least = h.least } in
-    let here : Asked z all note = λ o. record { ask = marked at gap fewer m t; among_all = more _ (opened-first at gap fewer m t asks o); before = refl } in
-    asked-by lv z all asks (with_note gap (lv - fewer) m t (moved at z) h) (ns ++ note ∷ []) ms (noted-more note h.notes ns e) (every-append (Asked z all) ns (note ∷ []) q (here, tt))
-    (λ ask a. more ask (among-behind ask (if is_opening m then marked at gap fewer m t ∷ [] else []) (opened asks) a)) f
+asked-notes : (lv : ℕ) (z : Place) (all asks : List Ask) (reach least : ℕ) → ((ask : Ask) → Among ask (opened asks) → Among ask (opened all)) → Every (Asked z all) (notes_from lv z reach least asks)
+asked-notes lv z all [] reach least more = tt
+asked-notes lv z all (looked at look ∷ asks) reach least more = asked-notes lv z all asks (max reach (far look.front (moved at z))) (min least (near look.back (moved at z))) more
+asked-notes lv z all (marked at gap fewer m t ∷ asks) reach least more = (
+  λ o. record { ask = marked at gap fewer m t; among_all = more _ (opened-first at gap fewer m t asks o); before = refl },
+  asked-notes lv z all asks 0 none_yet (λ ask a. more ask (among-behind ask (if is_opening m then marked at gap fewer m t ∷ [] else []) (opened asks) a)),
+)
 
 pub asked-of : (k : CharClasses) (text : List ℕ) → Every (Asked (start_of text) (parsed k max_depth text).asks) (listed (log k text).notes)
 unfolding log
 asked-of k text =
     let z = start_of text in
     let asks = (parsed k max_depth text).asks in
-    let n = noted-by max_depth z asks no_log [] refl in
-    asked-by max_depth z asks asks no_log [] (listed (logged max_depth z no_log asks).notes) refl tt (λ ask a. a) (n.is ∙ ap Some (sym (ap listed n.is)))
+    subst (λ ns. Every (Asked z asks) ns) (sym (logged-listed max_depth z asks)) (asked-notes max_depth z asks asks 0 none_yet (λ ask a. a))
 
 pub units-listed : (h : Log) → (units_of h).entries ≡ entries_by 0 (listed h.notes)
 units-listed h = by-notes h.notes
@@ -437,7 +437,21 @@ units-listed h = by-notes h.notes
 
 -- ---- the law
 
--- Where a block within a reading that was given up begins, no entry begins one.
+-- Where a block within a reading that was given up begins, no note begins one.
+pub never-second : (k : CharClasses) (front more : List ℕ) (s : Spot (Unit {0})) → Among s (seconds_of_text k (front ++ more)) → (earlier : List Note) (note : Note) (later : List Note) (b : Block) → listed (log k (front ++ more)).notes ≡ earlier ++ note ∷ later
+    → note.mark ≡ mark.Opens b → width (take s.at (front ++ more)) ≡ note.start → note.start < width front → ⊥
+never-second k front more s there earlier note later b is m spot starts =
+    let text = front ++ more in
+    let asked = among (Asked (start_of text) (parsed k max_depth text).asks) note _ (subst (Among note) (sym is) (among-here earlier note later)) (asked-of k text) in
+    let a = asked (ap is_opening m) in
+    let ask_byte : width (take (place_of a.ask) text) ≡ note.start = omega (arith, byte-at (place_of a.ask) text, a.before, opens-directly k text earlier note later b is m) in
+    let one = early-by s.at front more (omega (arith, spot, starts)) in
+    let two = early-by (place_of a.ask) front more (omega (arith, ask_byte, starts)) in
+    let long = length-append front more in
+    let meet = take-same (place_of a.ask) s.at text (omega (arith, two, long)) (omega (arith, one, long)) (ask_byte ∙ sym spot) in
+    omega (arith, unnoted-law k text s a.ask there a.among_all meet, one, long)
+
+-- So no entry does.
 none-second : InOrderLaw → (k : CharClasses) (front old rest : List ℕ) (c : Candidate) (b : BlockAt [] 0 (width front) (width (front ++ old)) (parsed k max_depth (front ++ (old ++ rest))).nodes c) (s : Spot (Unit {0}))
     → Among s (seconds_of_text k (front ++ (old ++ rest))) → IsOf b.hole b.node s → (from : ℕ) → opening_of c.start 0 0 (entries_in k (front ++ (old ++ rest))) ≡ Some from → ⊥
 none-second in_order k front old rest c b s there of from opens =
@@ -446,15 +460,7 @@ none-second in_order k front old rest c b s there of from opens =
     let same = hole-same s.hole b.hole s.node b.node of.path of.nodes in
     let some : 0 < length (text_of s.node) = subst (λ (t : Tree). 0 < length (text_of t)) (sym same.1) (some-node (width front) (width (front ++ old)) _ c b order) in
     let o = opening-found c.start 0 0 (listed (log k text).notes) from (in_order k text) (sym (ap (opening_of c.start 0 0) (units-listed (log k text))) ∙ opens) in
-    let asked = among (Asked (start_of text) (parsed k max_depth text).asks) o.note _ (subst (Among o.note) (sym o.is) (among-here o.earlier o.note o.later)) (asked-of k text) in
-    let a = asked (ap is_opening o.mark) in
-    let spot_byte : width (take s.at text) ≡ c.start = omega (arith, second-place k text s there some, ap length same.0, b.start) in
-    let ask_byte : width (take (place_of a.ask) text) ≡ c.start = omega (arith, byte-at (place_of a.ask) text, a.before, opens-directly k text o.earlier o.note o.later o.block o.is o.mark, o.start) in
-    let one = early-by s.at front (old ++ rest) (omega (arith, spot_byte, b.starts)) in
-    let two = early-by (place_of a.ask) front (old ++ rest) (omega (arith, ask_byte, b.starts)) in
-    let long = length-append front (old ++ rest) in
-    let meet = take-same (place_of a.ask) s.at text (omega (arith, two, long)) (omega (arith, one, long)) (ask_byte ∙ sym spot_byte) in
-    omega (arith, unnoted-law k text s a.ask there a.among_all meet, one, long)
+    never-second k front (old ++ rest) s there o.earlier o.note o.later o.block o.is o.mark (omega (arith, second-place k text s there some, ap length same.0, b.start, o.start)) (omega (arith, b.starts, o.start))
 
 pub block-test-law : InOrderLaw → BlockTestLaw
 block-test-law in_order k front old new rest root c same chosen is big more = (first, second)

@@ -15,7 +15,7 @@ use Rattle.typst_language.specs.Ask.{Ask, shift, shift_one, sunk}
 use Rattle.typst_language.specs.Ask.Ask.{looked, marked}
 use Rattle.typst_language.specs.Depth.{deeper}
 use Rattle.typst_language.specs.Hand.{AtHand, as_at_hand, known_by}
-use Rattle.typst_language.specs.Log.{Log, no_log, with_note, logged}
+use Rattle.typst_language.specs.Log.{no_log, logged}
 use Rattle.typst_language.specs.Meaning.{Outcome, Meaning, Level, plain, joined, as_last, repeated, hand_of, hand_asks_of, asked, start_point, run}
 use Rattle.typst_language.specs.Point.{Trivia, Point, gap_of, state_of}
 use Rattle.typst_language.specs.Steps.{note}
@@ -26,9 +26,10 @@ use Rattle.typst_grammar.specs.Grammar.{rules, max_depth, start_of, whole, parse
 use Rattle.typst_edits.specs.Bytes.{highest, lowest}
 use Rattle.typst_edits.specs.Edit.{AllEndBy}
 use Rattle.typst_edits.specs.Runs.{made, AllGo, end_of, asks_of, chain}
-use Rattle.typst_edits.specs.Splice.{notes_in}
-use Rattle.typst_edits.specs.Sequence.{Sequence, turn_of, first_of, first_end}
-use Rattle.typst_edits.proofs.Bytes.{logged-append, noted-more, AllReach, reached-by, end-by, end-to, AllFrom, least-by, newly}
+use Rattle.typst_edits.specs.Splice.{Noting, noting as as_ask, notes_in}
+use Rattle.typst_edits.specs.Sequence.{Sequence, turn_of}
+use Rattle.typst_edits.proofs.Bytes.{AllReach, end-by, end-to, AllFrom}
+use Rattle.typst_edits.proofs.LogNotes.{none_yet, fresh_notes, next_note, noted-length, logged-notes, logged-least, notes-around, least-around, reach-by, reach-to, least-by, least-to}
 use Rattle.typst_edits.proofs.Marks.{AllMarks, marks-append, marks-shift, marks-sunk, none-hand}
 use Rattle.typst_edits.proofs.Outcomes.{shift-zero, shift-twice}
 use Rattle.typst_edits.proofs.Spots.{if-true, if-false}
@@ -257,7 +258,7 @@ pub record Begins (ls asks : List Ask) : Type 0 where
 pub begins-append : (ls asks ks : List Ask) → Begins ls asks → Begins ls (asks ++ ks)
 begins-append ls asks ks b = record { more = b.more ++ ks; is = ap (λ u. u ++ ks) b.is ∙ append_assoc ls b.more ks }
 
-begins-shift : (n : ℕ) (ls asks : List Ask) → Begins ls asks → Begins (shift n ls) (shift n asks)
+pub begins-shift : (n : ℕ) (ls asks : List Ask) → Begins ls asks → Begins (shift n ls) (shift n asks)
 begins-shift n ls asks b = record { more = shift n b.more; is = ap (shift n) b.is ∙ map-append (shift_one n) ls b.more }
 
 -- Pieces begin by asking for the token at hand.
@@ -302,116 +303,10 @@ from-both b z [] ks h i = i
 from-both b z (looked at look ∷ ls) ks h i = (h.0, from-both b z ls ks h.1 i)
 from-both b z (marked at gap fewer m s ∷ ls) ks h i = from-both b z ls ks h i
 
-pub from-second : (b : ℕ) (z : Place) (ls ks : List Ask) → AllFrom b z (ls ++ ks) → AllFrom b z ks
-from-second b z [] ks h = h
-from-second b z (looked at look ∷ ls) ks h = from-second b z ls ks h.1
-from-second b z (marked at gap fewer m s ∷ ls) ks h = from-second b z ls ks h
-
--- ---- one note of a log
-
-module _ (lv : ℕ) (z : Place) (ls ks : List Ask) (at gap fewer : ℕ) (m : Mark) (s : State) where
-  abbrev log_before : Log
-  log_before = logged lv z no_log ls
-
-  abbrev the_note : Note
-  the_note = record { mark = m; before = position (moved at z); start = position (moved gap (moved at z)); levels = lv - fewer; state = s; reach = log_before.reach; least = log_before.least }
-
-  abbrev log_all : Log
-  log_all = logged lv z no_log (ls ++ marked at gap fewer m s ∷ ks)
-
-  record OneNote : Type 0 where
-    earlier : List Note
-    later : List Note
-    count : length earlier ≡ notes_in ls
-    notes : log_all.notes ≡ Some (earlier ++ the_note ∷ later)
-    reached : (b : ℕ) → highest earlier the_note.reach ≤ b → AllReach b z ls
-    reached_too : (b : ℕ) → AllReach b z ls → highest earlier the_note.reach ≤ b
-    all : (b : ℕ) → b < lowest later log_all.least → AllFrom b z ks
-    back : (b : ℕ) → b < 2 ^ 64 - 1 → AllFrom b z ks → b < lowest later log_all.least
-
-  -- the notes after it, whatever they are compared with
-  one-note : OneNote
-  one-note =
-      let h = with_note gap (lv - fewer) m s (moved at z) log_before in
-      let one = reached-by lv z ls no_log [] refl in
-      let ns = one.more ++ the_note ∷ [] in
-      let is : log_all ≡ logged lv z h ks = logged-append lv z no_log ls (marked at gap fewer m s ∷ ks) in
-      let kept : h.notes ≡ Some ns = noted-more the_note log_before.notes one.more one.is in
-      let two = least-by lv z ks h ns kept in
-      record {
-        earlier = one.more;
-        later = two.more;
-        count = one.count;
-        notes = ap (λ (u : Log). u.notes) is ∙ two.is ∙ ap Some (append_assoc one.more (the_note ∷ []) two.more);
-        reached = one.all;
-        reached_too = λ b f. one.back b (omega arith) f;
-        all = λ b l. two.all b (subst (λ (u : Log). b < lowest two.more u.least) is l);
-        back = λ b big f. subst (λ (u : Log). b < lowest two.more u.least) (sym is) (two.back b big (newly b log_before.notes one.more log_before.least one.is big) f);
-      }
-
--- ---- the note where pieces of a run end
-
--- by the point before the look at its first token, and that look
-module _ (r : Sequence) (first : Point) (same : state_of first ≡ state_of r.point) (ls : List Ask) where
-  -- what is asked in the run, where this is asked after j pieces
-  abbrev pub asks_in : ℕ → List Ask → List Ask
-  asks_in j behind = piece_mark 0 (true, 0) first ∷ ((ls ++ asks_of (first_of j r)) ++ shift (first_end j r).taken behind)
-
-  -- what was asked before the note and after it, counted from a given number of characters before
-  pub record Boundary (j : ℕ) (behind : List Ask) : Type 0 where
-    pub early : List Ask
-    pub gap : ℕ
-    pub late : List Ask
-    pub is : (let e = first_end j r in asks_in j behind ≡ early ++ marked e.taken gap 0 (mark.Piece e.value.0 e.value.1) (state_of e.state) ∷ (late ++ shift e.taken behind))
-    pub gap_is : 0 < j → gap ≡ gap_of (first_end j r).state.known
-    pub gap_first : j ≡ 0 → gap ≡ gap_of first.known
-    pub late_bare : AllMarks (λ at fewer m s. ⊥) ls → AllMarks (λ at fewer m s. ⊥) late
-    pub ended : (n d : ℕ) → 0 < j → AllEndBy n (shift d early) → AllEndBy n (shift d (ls ++ asks_of (first_of j r)))
-    pub ends_too : (n d : ℕ) → (0 < j → AllEndBy n (shift d (ls ++ asks_of (first_of j r)))) → AllEndBy n (shift d early)
-    pub late_from : (b d : ℕ) (z : Place) → 0 < j → AllFrom b z (shift d (shift (first_end j r).taken behind)) → AllFrom b z (shift d late)
-
-  pub boundary : (j : ℕ) (behind : List Ask) → AllGo (first_of j r) → Begins (looks_in r (moved (first_end j r).taken r.place) (first_end j r).state) behind → Boundary j behind
-  boundary zero behind g begins = record {
-    early = [];
-    gap = gap_of first.known;
-    late = ls ++ [];
-    is = ap (λ s. marked 0 (gap_of first.known) 0 (mark.Piece true 0) s ∷ ((ls ++ []) ++ shift 0 behind)) same;
-    gap_is = λ l. absurd (omega (arith, l));
-    gap_first = λ none. refl;
-    late_bare = λ bare. marks-append (λ at fewer m s. ⊥) ls [] bare tt;
-    ended = λ n d l. absurd (omega (arith, l));
-    ends_too = λ n d h. tt;
-    late_from = λ b d z l. absurd (omega (arith, l));
-  }
-  boundary (suc j) behind g begins =
-      let os = first_of (suc j) r in
-      let e = first_end (suc j) r in
-      let b = made-ends (turn_of r) (looks_in r) (each-ends r) j (true, 0) r.place r.point g in
-      let ahead = looks_in r (moved e.taken r.place) e.state in
-      let looks = shift e.taken ahead in
-      let next = begins-shift e.taken ahead behind begins in
-      let m = piece_mark e.taken e.value e.state in
-      let rest = shift e.taken behind in
-      let start = piece_mark 0 (true, 0) first in
-      record {
-        early = start ∷ (ls ++ (b.early ++ looks));
-        gap = gap_of e.state.known;
-        late = looks;
-        is = ap (λ u. start ∷ ((ls ++ u) ++ rest)) (b.is ∙ sym (append_assoc b.early looks (m ∷ looks)))
-            ∙ ap (λ u. start ∷ u) (ap (λ u. u ++ rest) (sym (append_assoc ls (b.early ++ looks) (m ∷ looks))) ∙ append_assoc (ls ++ (b.early ++ looks)) (m ∷ looks) rest);
-        gap_is = λ l. refl;
-        gap_first = λ none. absurd (omega (arith, none));
-        late_bare = λ bare. marks-shift (λ at fewer m s. ⊥) e.taken ahead (none-hand (λ at fewer m s. ⊥) r.level.classes e.state.held e.state.known (moved e.taken r.place));
-        ended = λ n d l h.
-            (let one = end-split n d ls (b.early ++ looks) h in
-            let two = end-split n d b.early looks one.1 in
-            end-both n d ls (asks_of os) one.0 (subst (λ u. AllEndBy n (shift d u)) (sym b.is) (end-both n d b.early (looks ++ m ∷ looks) two.0 (end-both n d looks (m ∷ looks) two.1 two.1))));
-        ends_too = λ n d h.
-            (let one = end-split n d ls (asks_of os) (h (omega arith)) in
-            let two = end-split n d b.early (looks ++ m ∷ looks) (subst (λ u. AllEndBy n (shift d u)) b.is one.1) in
-            end-both n d ls (b.early ++ looks) one.0 (end-both n d b.early looks two.0 (end-split n d looks (m ∷ looks) two.1).0));
-        late_from = λ n d z l h. from-first n d z looks next.more (subst (λ u. AllFrom n z (shift d u)) next.is h);
-      }
+pub split-from : (b : ℕ) (z : Place) (ls ks : List Ask) → AllFrom b z (ls ++ ks) → AllFrom b z ls × AllFrom b z ks
+split-from b z [] ks h = (tt, h)
+split-from b z (looked at look ∷ ls) ks h = let i = split-from b z ls ks h.1 in ((h.0, i.0), i.1)
+split-from b z (marked at gap fewer m s ∷ ls) ks h = split-from b z ls ks h
 
 -- ---- a note of a text, and what its numbers say of what was asked before it and after it
 
@@ -441,25 +336,27 @@ module _ (k : CharClasses) (text : List ℕ) where
   unfolding log position
   noted-at early behind at gap fewer m s is =
       let z = start_of text in
-      let b = one-note max_depth z early behind at gap fewer m s in
-      let log_is : logged max_depth z no_log (parsed k max_depth text).asks ≡ log_all max_depth z early behind at gap fewer m s = ap (logged max_depth z no_log) is in
+      let p : Noting = record { at = at; gap = gap; fewer = fewer; mark = m; state = s } in
+      let later = fresh_notes max_depth z behind in
+      let noted = ap (λ ls. (logged max_depth z no_log ls).notes) is ∙ logged-notes max_depth z (early ++ as_ask p ∷ behind) ∙ ap Some (notes-around max_depth z early p behind) in
+      let least = ap (λ ls. (logged max_depth z no_log ls).least) is ∙ logged-least max_depth z (early ++ as_ask p ∷ behind) ∙ least-around max_depth z early p behind in
       let long : max 0 (length text) ≡ length text = omega arith in
       let inside = subst (λ n. AllAt n (parsed k max_depth text).asks) long (in-level (rules k) k max_depth whole z (start_point markup_reading)) in
       let all = subst (λ ls. AllAt (length text) ls) is inside in
       record {
-        earlier = b.earlier;
-        note = the_note max_depth z early behind at gap fewer m s;
-        later = b.later;
-        count = b.count;
-        notes = ap (λ (h : Log). h.notes) log_is ∙ b.notes;
+        earlier = fresh_notes max_depth z early;
+        note = next_note max_depth z early p;
+        later = later;
+        count = noted-length max_depth z early 0 none_yet;
+        notes = noted;
         mark = refl;
         before = width-moved at text;
         start = ap position (sym (moved-sum at gap z)) ∙ width-moved (at + gap) text;
         levels = refl;
         state = refl;
-        reached = λ front more same h. early-ends front more early text same (at-first (length text) early _ all) (b.reached (width front) h);
-        reached_too = λ front more same h. b.reached_too (width front) (subst (λ u. AllReach (width front) (start_of u) early) (sym same) (end-to front more early h));
-        begun = λ n l. b.all n (subst (λ (h : Log). n < lowest b.later h.least) log_is l);
-        begun_too = λ n big f. subst (λ (h : Log). n < lowest b.later h.least) (sym log_is) (b.back n big f);
+        reached = λ front more same h. early-ends front more early text same (at-first (length text) early _ all) (reach-by max_depth (width front) z early 0 none_yet h).1;
+        reached_too = λ front more same h. reach-to max_depth (width front) z early 0 none_yet (omega arith) (subst (λ u. AllReach (width front) (start_of u) early) (sym same) (end-to front more early h));
+        begun = λ n l. (least-by max_depth n z behind 0 none_yet (subst (λ m. n < lowest later m) least l)).1;
+        begun_too = λ n big f. subst (λ m. n < lowest later m) (sym least) (least-to max_depth n z behind 0 none_yet big big f);
         placed = at-second (length text) early _ all;
       }

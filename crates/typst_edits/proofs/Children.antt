@@ -1,33 +1,32 @@
 -- A tree where some pieces of its run are read again: one stretch of its children exchanged.
-use Rattle.std.proofs.Common.{◌≡◌, inl, inr, ℕ, zero, suc, ◌+◌, ◌<◌, ◌≤◌, Bool, true, nat_lt, List, [], ◌++◌, length, drop, length-append, append_assoc, Some, refl, ap, sym, ◌∙◌, subst, arith}
+use Rattle.std.proofs.Common.{◌≡◌, inl, inr, ℕ, zero, suc, ◌+◌, ◌<◌, ◌≤◌, Bool, true, false, nat_lt, List, [], ◌++◌, length, drop, length-append, append_assoc, Some, refl, ap, sym, ◌∙◌, subst, arith}
 use Rattle.typst_kinds.specs.declared.kind.SyntaxKind.{SyntaxKind}
 use Rattle.typst_kinds.specs.declared.kind.SyntaxKind.TheVariants as kind
 use Rattle.typst_lines.specs.Place.{Place, moved}
 use Rattle.typst_tree.specs.Tree.{Tree, forest, trees, inner_of}
 use Rattle.typst_lines.specs.Classes.{CharClasses}
-use Rattle.typst_language.specs.declared.reading.Reading.{Reading}
 use Rattle.typst_language.specs.Depth.{is_end}
-use Rattle.typst_language.specs.Hand.{hand_at}
+use Rattle.typst_language.specs.Hand.{as_at_hand}
 use Rattle.typst_language.specs.Point.{Trivia, Point}
 use Rattle.typst_language.specs.Shape.{hinted}
 use Rattle.typst_language.specs.Steps.{flush_trivia}
 use Rattle.typst_language.specs.Syntax.{◌>>=◌}
 use Rattle.typst_language.specs.Syntax.Parser.{repeat}
-use Rattle.typst_language.specs.Meaning.{Outcome, Meaning, Level, plain, less, standing, joined, run}
+use Rattle.typst_language.specs.Meaning.{Outcome, Meaning, Level, plain, less, standing, joined, hand_of, run}
 use Rattle.typst_language.specs.Sound.{Tidy, Backs}
 use Rattle.typst_language.proofs.Backs.{backs-joined}
 use Rattle.typst_language.proofs.Knot.{sane-at, sane-run}
-use Rattle.typst_grammar.specs.Markup.{markup_turn, markup_head}
+use Rattle.typst_grammar.specs.Markup.{ends, markup_turn}
 use Rattle.typst_grammar.specs.Grammar.{rules, max_depth, level_at, start_of, tree}
 use Rattle.typst_edits.specs.Children.{exchanged, Settles, with_children, together, read_from, standing_before, nodes_with, ChildrenLaw, BackLaw}
 use Rattle.typst_edits.specs.Edit.{text_with}
-use Rattle.typst_edits.specs.Joint.{minds, place_from, onwards_from, text_run}
+use Rattle.typst_edits.specs.Joint.{place_from, onwards_from, text_run}
 use Rattle.typst_edits.specs.RunTrees.{given}
 use Rattle.typst_edits.specs.Runs.{made, piece_at, AllGo, end_of, lead, pieces, end_at, pieces_from, end_from}
 use Rattle.typst_edits.proofs.Boundary.{KnownAt, first-of, going-on, known-made}
 use Rattle.typst_edits.proofs.Edit.{trees-of}
-use Rattle.typst_edits.proofs.Joint.{joint-law, onwards-is, known-is, text-taking}
-use Rattle.typst_edits.proofs.Led.{after_trivia, before_trivia, Led, led-joined, drop-front, take-front, less-behind}
+use Rattle.typst_edits.proofs.Joint.{joint-law, onwards-is, text-taking}
+use Rattle.typst_edits.proofs.Led.{before_trivia, Led, led-joined, drop-front, take-front, less-behind}
 use Rattle.typst_edits.proofs.RunTrees.{standing-chain, standing-still, tree-is}
 use Rattle.typst_edits.proofs.Runs.{chain-state}
 use Rattle.typst_edits.proofs.Turns.{Taking, turn-led}
@@ -56,33 +55,44 @@ pub record Gives (o : Outcome (Unit {0})) : Type 0 where
   pub hints : o.hints ≡ []
   pub few : o.state.empties < length o.nodes
 
+-- It gives the trivia and then a node that isn't empty, as it does after them.
+pub record Fronts {A : Type 0} (t : Trivia) (o : Outcome A) : Type 0 where
+  pub trims : Bool
+  pub behind : Outcome A
+  pub led : Led t t.nodes trims o behind
+
+pub fronts-joined : {A B : Type 0} (t : Trivia) (o : Outcome B) (q : Outcome A) → Fronts t o → Tidy o.state q → Fronts t (joined o q)
+fronts-joined t o q f tidy = record { trims = f.trims; behind = joined f.behind q; led = led-joined t t.nodes f.trims o f.behind q f.led (subst (λ s. Tidy s q) f.led.state tidy) }
+
 -- A run on a level where each expression takes the token at hand.
 module _ (l : Level) (stops : SyntaxKind → Bool) (taking : Taking l stops) where
   abbrev turn : Bool × ℕ → Meaning (Bool × (Bool × ℕ))
   turn x = run l (markup_turn true stops x)
 
-  gives-before : (n : ℕ) (x : Bool × ℕ) (z : Place) (r h : Reading) (e : ℕ) (a : Bool) (t : Trivia) → (let s = before_trivia r h e a t in let os = made turn (suc n) x z s in AllGo os → Gives (together (end_of x s os).state os))
-  gives-before n x z r h e a t g =
-      let s = before_trivia r h e a t in
+  -- a turn that isn't stopped
+  pub turn-fronts : (x : Bool × ℕ) (z : Place) (s : Point) (t : Trivia) → s.known ≡ Some t → ends stops x.1 (as_at_hand (hand_of l z s)).kind ≡ false → Fronts t (turn x z s)
+  turn-fronts x z s t is go =
+      let b = before_trivia s.reading s.held s.empties s.is_after_error t in
+      let same : s ≡ b = ap (λ u. record s { known = u }) is in
+      let go_there : ends stops x.1 (as_at_hand (hand_of l z b)).kind ≡ false = subst (λ p. ends stops x.1 (as_at_hand (hand_of l z p)).kind ≡ false) same go in
+      subst (λ p. Fronts t (turn x z p)) (sym same) (record { trims = _; behind = _; led = turn-led l stops taking x z s.reading s.held s.empties s.is_after_error t go_there })
+
+  -- some pieces
+  pub pieces-front : (n : ℕ) (x : Bool × ℕ) (z : Place) (s : Point) (t : Trivia) → s.known ≡ Some t → 0 < n → AllGo (made turn n x z s)
+      → Fronts t (together (end_of x s (made turn n x z s)).state (made turn n x z s))
+  pieces-front zero x z s t is some g = absurd (omega (arith, some))
+  pieces-front (suc n) x z s t is some g =
       let o = turn x z s in
       let y = moved o.taken z in
       let os = made turn n o.value.1 y o.state in
-      let q = together (end_of o.value.1 o.state os).state os in
-      let trims = minds (markup_head x.0 x.1 (hand_at l.classes h (Some t) z).kind) in
-      let c = turn x (moved t.gap z) (before_trivia r h e a (after_trivia t)) in
-      let one : Led t t.nodes trims o c = turn-led l stops taking x z r h e a t (going-on l stops x z s (first-of o.value.0 (nat_lt 0 o.taken) g.0)) in
-      let tidy = tidy-together turn (λ v. (sane-run l taking.calls_sane taking.blocks_sane (markup_turn true stops v)).backs) n o.value.1 y o.state in
-      let all = led-joined t t.nodes trims o c q one (subst (λ p. Tidy p q) one.state tidy) in
-      let long : length (joined o q).nodes ≡ length (t.nodes ++ all.rest) = ap length all.nodes in
-      record { hints = all.hints; few = omega (arith, all.few, long, length-append t.nodes all.rest) }
+      fronts-joined t o (together (end_of o.value.1 o.state os).state os) (turn-fronts x z s t is (going-on l stops x z s (first-of o.value.0 (nat_lt 0 o.taken) g.0)))
+      (tidy-together turn (λ v. (sane-run l taking.calls_sane taking.blocks_sane (markup_turn true stops v)).backs) n o.value.1 y o.state)
 
-  -- some pieces that begin where trivia are known
   pub gives-pieces : (n : ℕ) (x : Bool × ℕ) (z : Place) (s : Point) → 0 < n → KnownAt s → (let os = made turn n x z s in AllGo os → Gives (together (end_of x s os).state os))
-  gives-pieces zero x z s some known g = absurd (omega (arith, some))
-  gives-pieces (suc n) x z s some known g =
-      let is = known-is l.classes s known.trivia known.is in
-      subst (λ p. (let os = made turn (suc n) x z p in Gives (together (end_of x p os).state os))) (sym is)
-      (gives-before n x z s.reading s.held s.empties s.is_after_error known.trivia (subst (λ p. AllGo (made turn (suc n) x z p)) is g))
+  gives-pieces n x z s some known g =
+      let f = (pieces-front n x z s known.trivia known.is some g).led in
+      let long = ap length f.front.nodes in
+      record { hints = f.front.hints; few = omega (arith, f.few, ap (λ (p : Point). p.empties) f.state, long, length-append known.trivia.nodes f.front.rest) }
 
 -- some pieces as one outcome, and what follows them: it hints at nothing, and takes back nothing that stands before them
 pub record Apart (p o : Outcome (Unit {0})) : Type 0 where

@@ -20,7 +20,8 @@ use Rattle.typst_edits.specs.Sequence.{Sequence, turn_of, first_of, first_end}
 use Rattle.typst_edits.specs.Spot.{Spot}
 use Rattle.typst_edits.proofs.BlockRuns.{sane as in-sane}
 use Rattle.typst_edits.proofs.Boundary.{made-add, looks_in, each-ends, first-of, going-on, known-made}
-use Rattle.typst_edits.proofs.Leading.{Leads, text-leads, block-leads, turn-fronts}
+use Rattle.typst_edits.proofs.Children.{turn-fronts}
+use Rattle.typst_edits.proofs.Leading.{Leads, text-leads, block-leads}
 use Rattle.typst_edits.proofs.NumberedNotes.{cut-from}
 use Rattle.typst_edits.proofs.NoteNumbers.{go-fewer, go-next, turns-within, take-longer, least-taken}
 
@@ -39,10 +40,10 @@ module _ (r : Sequence) (leads : Leads r) where
       let o = turn e.value w e.state in
       let there = known-made r.level r.stops i (true, 0) r.place r.point leads.known (go-fewer turn i (suc i) (true, 0) r.place r.point (omega arith) g) in
       let not_stopped = going-on r.level r.stops e.value w e.state (first-of o.value.0 (nat_lt 0 o.taken) (go-next turn i (true, 0) r.place r.point g)) in
-      let led = (turn-fronts r leads e.value w e.state there.trivia there.is not_stopped).led in
+      let led = (turn-fronts r.level r.stops leads.taking e.value w e.state there.trivia there.is not_stopped).led in
       let one : suc i ≡ i + 1 = omega arith in
       let next = ap (λ n. (first_end n r).taken) one in
-      omega (arith, led.some, led.taken, ap gap_of there.is, next, ap (λ (u : End (Bool × ℕ)). u.taken) (made-add turn (looks_in r) (each-ends r) i 1 (true, 0) r.place r.point))
+      omega (arith, led.some, led.front.taken, ap gap_of there.is, next, ap (λ (u : End (Bool × ℕ)). u.taken) (made-add turn (looks_in r) (each-ends r) i 1 (true, 0) r.place r.point))
 
   cut-least : (i : ℕ) (e : End (Bool × ℕ)) → e.taken ≤ cut_after i e
   cut-least zero e = omega arith

@@ -1,28 +1,27 @@
 -- A content block in which no level is left notes nothing; so if notes say that pieces stand in a block, a level is left there.
-use Rattle.std.proofs.Common.{◌≡◌, ℕ, zero, suc, ◌-◌, ◌==◌, eq-eqb, Bool, true, false, ◌&&◌, List, [], ◌∷◌, ◌++◌, take, Some, None, refl, ap, sym, ◌∙◌, arith}
-use Rattle.std.specs.Prelude.{nat_lt}
+use Rattle.std.proofs.Common.{◌≡◌, ℕ, ◌-◌, ◌==◌, eq-eqb, Bool, true, false, ◌&&◌, List, [], ◌∷◌, ◌++◌, take, Some, None, refl, ap, sym, ◌∙◌, arith}
 use Rattle.std.proofs.lemmas.List.{nil_from_length}
-use Rattle.typst_kinds.specs.declared.kind.SyntaxKind.{SyntaxKind}
 use Rattle.typst_lines.specs.Place.{Place, moved}
 use Rattle.typst_lines.specs.Classes.{CharClasses}
 use Rattle.typst_tokens.specs.Sight.{width}
 use Rattle.typst_language.specs.declared.calls.Block.TheVariants as block
+use Rattle.typst_language.specs.declared.calls.Mark.{Mark}
 use Rattle.typst_language.specs.declared.calls.Mark.TheVariants as mark
 use Rattle.typst_language.specs.declared.reading.Reading.{Reading}
 use Rattle.typst_language.specs.Ask.{shift}
-use Rattle.typst_language.specs.Depth.{too_deep, skip_one}
+use Rattle.typst_language.specs.Depth.{too_deep}
 use Rattle.typst_language.specs.Knot.{meaning_of}
-use Rattle.typst_language.specs.Meaning.{Outcome, Meaning, Level, blockless, bound, joined, as_last, turns, repeated, start_point, run}
+use Rattle.typst_language.specs.Meaning.{Outcome, Level, blockless, start_point, run}
 use Rattle.typst_language.specs.Point.{Point, point_of}
 use Rattle.typst_language.specs.Shape.{Shape, Making}
-use Rattle.typst_language.specs.Steps.{peek, eat_making, eat, flush_trivia, within, node, node_with_trivia}
+use Rattle.typst_language.specs.Steps.{peek, flush_trivia, node, node_with_trivia}
 use Rattle.typst_language.specs.Syntax.{Parser, Begin, ◌>>◌}
 use Rattle.typst_language.specs.Syntax.Op.{takes}
-use Rattle.typst_language.specs.Syntax.Parser.{gives, does, next, repeat, wraps, scoped}
-use Rattle.typst_language.proofs.Within.{on_both}
+use Rattle.typst_language.specs.Syntax.Parser.{gives, does, next, wraps, scoped}
 use Rattle.typst_candidates.specs.Units.{opens_content, is_closing, starts, up_to_end, after_first, cuts_in}
 use Rattle.typst_grammar.specs.Markup.{ends_block, markup_is_empty, markup_run, content_block, markup_reading}
 use Rattle.typst_grammar.specs.Grammar.{rules, max_depth, start_of, whole, log}
+use Rattle.typst_grammar.proofs.Guarded.{Guarded, guarded-deep}
 use Rattle.typst_edits.specs.Edit.{Among}
 use Rattle.typst_edits.specs.Laws.{blocks_of_text, block_at}
 use Rattle.typst_edits.specs.Named.{Named}
@@ -35,9 +34,10 @@ use Rattle.typst_edits.proofs.EmptyRuns.{Never, none-flush}
 use Rattle.typst_edits.proofs.InnerCuts.{opens_at, cuts-past, opens-before, both-on}
 use Rattle.typst_edits.proofs.Marks.{AllMarks, marks-append, marks-shift, none-hand, none-close}
 use Rattle.typst_edits.proofs.Names.{named-level}
-use Rattle.typst_edits.proofs.NestedInner.{nested-block-law}
+use Rattle.typst_edits.proofs.BlockLog.{nested-block-law}
 use Rattle.typst_edits.proofs.Sides.{count-none}
 use Rattle.typst_edits.proofs.Spots.{if-true}
+use Rattle.typst_edits.proofs.Upward.{Unmarked, unmarked, from-run}
 use Rattle.std.proofs.lemmas.Option.{none-some}
 
 -- ---- what notes nothing
@@ -73,43 +73,12 @@ module _ (l : Level) where
   unfolding run
   silent-scoped f p h z s = h z _
 
-  silent-turns : {A : Type 0} (m : A → Meaning (Bool × A)) → ((x : A) (z : Place) (s : Point) → AllMarks Never (m x z s).asks) → (n : ℕ) (x : A) (z : Place) (s : Point) → AllMarks Never (turns m n x z s).asks
-  silent-turns m h zero x z s = tt
-  silent-turns {A} m h (suc n) x z s =
-      let o = m x z s in
-      let w = moved o.taken z in
-      let more = turns m n o.value.1 w o.state in
-      on_both (λ (u : Outcome A). AllMarks Never u.asks) (o.value.0 && nat_lt 0 o.taken) (joined o more) (as_last o)
-      (marks-append Never o.asks (shift o.taken more.asks) (h x z s) (marks-shift Never o.taken more.asks (silent-turns m h n o.value.1 w o.state))) (h x z s)
-
-  silent-repeat : {A : Type 0} (p : A → Parser (Bool × A)) (x : A) → ((y : A) → Silent l (p y)) → Silent l (repeat p x)
-  unfolding run repeated
-  silent-repeat p x h z s = silent-turns (λ y. run l (p y)) h (suc (bound z s)) x z s
-
-  -- ---- the steps
-
-  silent-eat : Silent l eat
-  unfolding eat eat_making
-  silent-eat = silent-next _ _ (silent-takes false _) (λ b. silent-next _ _ silent-peek (λ c. silent-gives tt))
-
   silent-flush : Silent l flush_trivia
   silent-flush = none-flush Never l
-
-  silent-skip : (stops : SyntaxKind → Bool) (n : ℕ) → Silent l (skip_one stops n)
-  unfolding skip_one
-  silent-skip stops n = silent-next _ _ silent-peek (λ a. silent-next _ _ silent-eat (λ b. silent-next _ _ silent-peek (λ c. silent-gives _)))
-
-  silent-within : {A : Type 0} (f : Reading → Reading) (p : Parser A) → Silent l p → Silent l (within f p)
-  unfolding within
-  silent-within f p h = silent-next _ _ (silent-scoped f p h) (λ a. silent-next _ _ silent-peek (λ b. silent-gives a))
 
   silent-node : {A : Type 0} (f : A → Shape) (p : Parser A) → Silent l p → Silent l (node f p)
   unfolding node
   silent-node f p h = silent-next _ _ silent-peek (λ a. silent-next _ _ (silent-wraps f _ p h) (λ b. silent-gives _))
-
-  silent-deep : (stops : SyntaxKind → Bool) → Silent l (too_deep stops)
-  unfolding too_deep
-  silent-deep stops = silent-next _ _ (silent-node _ _ (silent-within _ _ (silent-repeat (skip_one stops) 0 (silent-skip stops)))) (λ a. silent-gives tt)
 
   silent-empty : (p : Parser (Unit {0})) → Silent l p → Silent l (markup_is_empty p)
   unfolding markup_is_empty node_with_trivia
@@ -121,8 +90,14 @@ module _ (k : CharClasses) where
   abbrev last : Level
   last = blockless k 0 (meaning_of (rules k) k 0)
 
+  -- no deeper call notes anything
+  silent : {A : Type 0} (p : Parser A) → Guarded (λ (m : Mark). false) false p → Silent last p
+  unfolding meaning_of
+  silent p q z s =
+      from-run (λ lo hi ls. Unmarked ls) unmarked last (λ m. false) (λ m gap s e. absurd (cc)) (λ z s. Unit {0}) (λ B p z s e. tt) (λ call z s. tt) (λ b has z s t. (let no : false ≡ true = has in absurd (cc))) false p q z s (λ e. tt)
+
   silent-skipped : Silent last (peek >> too_deep ends_block)
-  silent-skipped = silent-next last peek (λ a. too_deep ends_block) (silent-peek last) (λ a. silent-deep last ends_block)
+  silent-skipped = silent (peek >> too_deep ends_block) (refl, λ _. guarded-deep (λ (m : Mark). false) _ ends_block)
 
   silent-run : Silent last (markup_run ends_block)
   unfolding markup_run run

@@ -1,5 +1,5 @@
 -- Content blocks without an expression have one note between their two, and look only at the token after their trivia.
-use Rattle.std.proofs.Common.{◌≡◌, ℕ, suc, ◌+◌, ◌-◌, Bool, true, false, ◌&&◌, ◌==◌, if◌then◌else◌, List, [], ◌∷◌, ◌++◌, length, length-append, Some, refl, ap, sym, ◌∙◌, subst, arith}
+use Rattle.std.proofs.Common.{◌≡◌, ℕ, suc, ◌+◌, ◌-◌, Bool, true, false, ◌&&◌, ◌==◌, if◌then◌else◌, List, [], ◌∷◌, ◌++◌, length, Some, refl, ap, sym, ◌∙◌, subst, arith}
 use Rattle.typst_kinds.specs.declared.kind.SyntaxKind.{SyntaxKind}
 use Rattle.typst_kinds.specs.declared.kind.SyntaxKind.TheVariants as kind
 use Rattle.typst_kinds.specs.declared.mode.SyntaxMode.{SyntaxMode}
@@ -35,12 +35,12 @@ use Rattle.typst_edits.specs.Sequence.{Sequence, turn_of}
 use Rattle.typst_edits.specs.Spot.{lowered, unit_at}
 use Rattle.typst_edits.proofs.BlockRuns.{content-is}
 use Rattle.typst_edits.proofs.BlockLog.{block-log}
-use Rattle.typst_edits.proofs.Bytes.{counted}
 use Rattle.typst_edits.proofs.EmptyRuns.{Knows, hand-gap, asked-knows, flushed-knows, passed-kind, Looks, begin-each, begin-one, token_look, looks-hand, looks-append, unmoved, run-stopped, onwards-looks, Never, none-flush, end-any}
 use Rattle.typst_edits.proofs.Every.{every-append}
 use Rattle.typst_edits.proofs.Forward.{token-still}
 use Rattle.typst_edits.proofs.InnerBytes.{asks_before, content-asks, before-marks}
-use Rattle.typst_edits.proofs.Marks.{AllMarks, marks-append, marks-by, marks-shift, marks-lowered, none-hand, NoteOf, noted-each, none-close}
+use Rattle.typst_edits.proofs.LogNotes.{none_yet, fresh_notes, noted-length, notes-lowered}
+use Rattle.typst_edits.proofs.Marks.{AllMarks, marks-append, marks-by, marks-shift, marks-lowered, none-hand, NoteOf, every-note, none-close}
 use Rattle.typst_edits.proofs.Text.{content-reads}
 use Rattle.typst_edits.proofs.Sides.{count-append, count-shift, count-none}
 use Rattle.typst_edits.proofs.PieceAsks.{lifted-count}
@@ -215,6 +215,7 @@ empty-block-law k levels front old rest c past t chosen name left empty known =
     let text = front ++ (old ++ rest) in
     let z = start_of text in
     let d = block-log k text c chosen in
+    let b = d.notes in
     let s = point_of c.start in
     let y = moved c.at z in
     let u = unit_at c z in
@@ -223,27 +224,25 @@ empty-block-law k levels front old rest c past t chosen name left empty known =
     let own = shift c.at (lowered f u.asks) in
     let single = single-lowered f c.at u.asks in_unit in
     -- its notes
-    let begun = d.earlier ++ d.opens ∷ [] in
-    let two = noted-each (Begins f) max_depth z own d.begun begun d.begun_is single.each in
-    let size : length two.more ≡ 1 = omega (arith, counted max_depth z own d.begun begun (begun ++ two.more) d.begun_is two.is, length-append begun two.more, single.size) in
-    let only = one-of two.more size in
-    let of_it = (subst (λ ns. Every (NoteOf (Begins f) max_depth z) ns) only.is two.each).0 in
+    let inside = fresh_notes max_depth z own in
+    let size : length inside ≡ 1 = noted-length max_depth z own 0 none_yet ∙ single.size in
+    let only = one-of inside size in
+    let of_it = (subst (λ ns. Every (NoteOf (Begins f) max_depth z) ns) only.is (every-note (Begins f) max_depth z own 0 none_yet single.each)).0 in
     let fewer : of_it.fewer ≡ f = of_it.holds.0 in
-    let more = d.rest two.more two.is in
     let looks = past-looks k levels y s t known empty in
     let place = (run_at k levels c z).place in
     record {
-      earlier = d.earlier;
-      opens = d.opens;
+      earlier = b.earlier;
+      opens = b.opens;
       note = only.only;
-      closes = d.closes;
-      later = more.0;
-      notes = more.1 ∙ ap (λ ns. Some (d.earlier ++ d.opens ∷ (ns ++ d.closes ∷ more.0))) only.is;
-      name = d.name;
-      start = d.start;
+      closes = b.closes;
+      later = b.later;
+      notes = b.notes ∙ ap (λ ns. Some (b.earlier ++ b.opens ∷ (ns ++ b.closes ∷ b.later))) (d.inner_is ∙ sym (notes-lowered max_depth f c.at z u.asks) ∙ only.is);
+      name = b.name;
+      start = b.start;
       says = of_it.mark ∙ of_it.holds.1;
       levels_there = of_it.levels ∙ ap (λ n. max_depth - n) fewer ∙ left;
-      name_end = d.name_end;
+      name_end = b.name_end;
       after = λ h behind. record { inside = begin-each past rest (token_look (inner k levels) (moved t.gap place)) _ looks.each h; behind = behind };
       after_too = λ h. begin-one past rest (token_look (inner k levels) (moved t.gap place)) _ looks h.inside;
     }

@@ -1,5 +1,5 @@
 -- Runs without an expression: after their trivia only the token at their end is asked for.
-use Rattle.std.proofs.Common.{◌≡◌, ℕ, ◌+◌, Bool, true, false, ◌&&◌, ◌==◌, if◌then◌else◌, nat_lt, List, [], ◌∷◌, ◌++◌, Some, refl, ap, sym, ◌∙◌, subst, arith}
+use Rattle.std.proofs.Common.{◌≡◌, ℕ, ◌+◌, max, min, Bool, true, false, ◌&&◌, ◌==◌, if◌then◌else◌, nat_lt, List, [], ◌∷◌, ◌++◌, Some, refl, ap, sym, ◌∙◌, subst, arith}
 use Rattle.typst_kinds.specs.declared.kind.SyntaxKind.{SyntaxKind}
 use Rattle.typst_kinds.specs.declared.kind.SyntaxKind.TheVariants as kind
 use Rattle.typst_kinds.specs.Kinds.{same}
@@ -7,7 +7,7 @@ use Rattle.typst_kinds.specs.declared.mode.SyntaxMode.TheVariants as mode
 use Rattle.typst_lines.specs.Place.{Place, moved}
 use Rattle.typst_lines.specs.Classes.{CharClasses}
 use Rattle.typst_tokens.specs.Reader.{Look, look}
-use Rattle.typst_tokens.specs.Sight.{position}
+use Rattle.typst_tokens.specs.Sight.{position, far, near}
 use Rattle.typst_language.specs.Tokens.{token}
 use Rattle.typst_language.specs.declared.calls.Mark.{Mark}
 use Rattle.typst_language.specs.declared.calls.Mark.TheVariants as mark
@@ -32,7 +32,8 @@ use Rattle.typst_edits.specs.JointBytes.{asked_past}
 use Rattle.typst_edits.specs.Runs.{lead, piece_at, tail, start}
 use Rattle.typst_edits.specs.Sequence.{Sequence}
 use Rattle.typst_edits.proofs.Every.{every-append}
-use Rattle.typst_edits.proofs.Marks.{AllMarks, marks-append, marks-shift, none-hand, NoteOf, noted-each}
+use Rattle.typst_edits.proofs.LogNotes.{none_yet, notes_from, logged-notes}
+use Rattle.typst_edits.proofs.Marks.{AllMarks, marks-append, marks-shift, none-hand}
 use Rattle.typst_edits.proofs.Outcomes.{shift-zero}
 use Rattle.typst_edits.proofs.Root.{whole-is}
 use Rattle.typst_edits.proofs.RunTrees.{whole-asks}
@@ -167,9 +168,10 @@ none-flush P l z s =
     marks-append P (hand_asks_of l z s) _ (none-hand P l.classes s.held s.known z)
     (marks-shift P h.gap (hand_asks_of l w p ++ []) (marks-append Q (hand_asks_of l w p) [] (none-hand Q l.classes p.held p.known w) tt))
 
-no-notes : (lv : ℕ) (z : Place) (ns : List Note) → Every (NoteOf Never lv z) ns → ns ≡ []
-no-notes lv z [] e = refl
-no-notes lv z (n ∷ ns) e = absurd e.0.holds
+pub notes-none : (lv : ℕ) (z : Place) (asks : List Ask) (reach least : ℕ) → AllMarks Never asks → notes_from lv z reach least asks ≡ []
+notes-none lv z [] reach least h = refl
+notes-none lv z (looked at look ∷ asks) reach least h = notes-none lv z asks (max reach (far look.front (moved at z))) (min least (near look.back (moved at z))) h
+notes-none lv z (marked at gap fewer m s ∷ asks) reach least h = absurd h.0
 
 module _ (k : CharClasses) (text : List ℕ) where
   abbrev z0 : Place
@@ -194,11 +196,10 @@ module _ (k : CharClasses) (text : List ℕ) where
       let in_run : AllMarks Never q.asks = subst (λ u. AllMarks Never u) (sym stop) (marks-append Never (hand_asks_of (level_at k max_depth) z0 s) [] (none-hand Never k s.held s.known z0) tt) in
       let last = marks-shift Never q.taken t.asks (none-flush (λ at fewer m p. ⊥) (level_at k max_depth) (moved q.taken z0) q.state) in
       let none : AllMarks Never behind = marks-append Never ((lead k z0).asks ++ q.asks) (shift q.taken t.asks) (marks-append Never (lead k z0).asks q.asks (none-hand Never k start.held start.known z0) in_run) last in
-      let n = noted-each Never max_depth z0 behind (logged max_depth z0 no_log (first ∷ [])) _ refl none in
       let note : Note = record { mark = mark.Piece true 0; before = position z0; start = position z0; levels = max_depth; state = state_of start; reach = no_log.reach; least = no_log.least } in
       record {
         note = note;
-        notes = ap (λ u. (logged max_depth z0 no_log u).notes) is ∙ n.is ∙ ap (λ ns. Some (note ∷ ns)) (no-notes max_depth z0 n.more n.each);
+        notes = ap (λ u. (logged max_depth z0 no_log u).notes) is ∙ logged-notes max_depth z0 (first ∷ behind) ∙ ap (λ ns. Some (note ∷ ns)) (notes-none max_depth z0 behind 0 none_yet none);
         mark = refl;
         levels = refl;
       }

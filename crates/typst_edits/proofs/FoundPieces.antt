@@ -1,6 +1,5 @@
 -- What the entries of notes say of the pieces of a run, whose notes stand among others, nested in each other.
-use Rattle.std.proofs.Common.{◌≡◌, ℕ, zero, suc, ◌+◌, ◌<◌, ◌≤◌, ◌==◌, ne_eqb, eq-eqb, Bool, true, false, if◌then◌else◌, List, [], ◌∷◌, ◌++◌, length, take, drop, length-append, append_assoc, Some, None, refl, ap, sym, ◌∙◌, subst, arith}
-use Rattle.std.proofs.lemmas.Bool.{eqb-true}
+use Rattle.std.proofs.Common.{◌≡◌, ℕ, suc, ◌+◌, ◌<◌, ◌≤◌, ◌==◌, ne_eqb, eq-eqb, Bool, true, false, if◌then◌else◌, List, [], ◌∷◌, ◌++◌, length, take, drop, length-append, append_assoc, Some, None, refl, ap, sym, ◌∙◌, subst, arith}
 use Rattle.typst_tokens.specs.Sight.{width}
 use Rattle.typst_language.specs.declared.calls.Mark.{Mark}
 use Rattle.typst_language.specs.declared.calls.Mark.TheVariants as mark
@@ -18,7 +17,7 @@ use Rattle.typst_edits.specs.RunTest.{SaysPiece, IsLast, BeginsAt}
 use Rattle.typst_edits.proofs.EntryNumbers.{got-entry, past-entry}
 use Rattle.typst_edits.proofs.NestedPieces.{first_own, piece-found, first-found, past-nested, own-here, some-own, head-same, tail-same, apart, rising-behind, entries-behind, entries-end}
 use Rattle.typst_edits.proofs.NoteNumbers.{level-append, numbered-at}
-use Rattle.typst_edits.proofs.Spots.{if-true, if-false}
+use Rattle.typst_edits.proofs.Spots.{if-true}
 use Rattle.typst_language.proofs.Within.{on_both}
 
 -- ---- notes by numbers
@@ -47,26 +46,6 @@ says-by lv ns text e ms n ls i each is own index =
     let there = numbered-at (SaysOf text e) 0 firsts n (of_level lv ls) (subst (λ us. Numbered (SaysOf text e) 0 us) (ap (of_level lv) is ∙ level-at lv ms n ls own) each) in
     let same : 0 + length firsts ≡ i = omega (arith, index) in
     subst (λ j. SaysOf text e j n) same there
-
-pub record Nth (lv : ℕ) (ns : List Note) (i : ℕ) : Type 0 where
-  pub earlier : List Note
-  pub note : Note
-  pub later : List Note
-  pub is : ns ≡ earlier ++ note ∷ later
-  pub own : note.levels ≡ lv
-  pub index : length (of_level lv earlier) ≡ i
-
-nth-behind : (lv : ℕ) (n : Note) (ns : List Note) (i j : ℕ) (h : Nth lv ns j) → length (of_level lv (n ∷ h.earlier)) ≡ i → Nth lv (n ∷ ns) i
-nth-behind lv n ns i j h index = record { earlier = n ∷ h.earlier; note = h.note; later = h.later; is = ap (λ us. n ∷ us) h.is; own = h.own; index = index }
-
-nth-by : (lv : ℕ) (n : Note) (ns : List Note) (b : Bool) → (n.levels == lv) ≡ b → (i : ℕ) → i < length (if b then n ∷ of_level lv ns else of_level lv ns) → ((j : ℕ) → j < length (of_level lv ns) → Nth lv ns j) → Nth lv (n ∷ ns) i
-nth-by lv n ns true t zero l rest = record { earlier = []; note = n; later = ns; is = refl; own = eqb-true n.levels lv t; index = refl }
-nth-by lv n ns true t (suc i) l rest = let h = rest i (omega (arith, l)) in nth-behind lv n ns (suc i) i h (ap length (if-true (n.levels == lv) _ _ t) ∙ ap suc h.index)
-nth-by lv n ns false t i l rest = let h = rest i l in nth-behind lv n ns i i h (ap length (if-false (n.levels == lv) _ _ t) ∙ h.index)
-
-pub nth-note : (lv : ℕ) (ns : List Note) (i : ℕ) → i < length (of_level lv ns) → Nth lv ns i
-nth-note lv [] i l = absurd (omega (arith, l))
-nth-note lv (n ∷ ns) i l = nth-by lv n ns (n.levels == lv) refl i l (λ j m. nth-note lv ns j m)
 
 numbered-first : (P : ℕ → Note → Type 0) (i : ℕ) (xs ys : List Note) → Numbered P i (xs ++ ys) → Numbered P i xs
 numbered-first P i [] ys h = tt

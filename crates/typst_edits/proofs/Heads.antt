@@ -3,7 +3,6 @@ use Rattle.std.proofs.Common.{◌≡◌, ℕ, zero, suc, ◌<◌, ◌==◌, Bool
 use borrow.Author.Tests.{lt-ltb}
 use Rattle.typst_kinds.specs.Kinds.{is_error}
 use Rattle.typst_kinds.specs.declared.kind.SyntaxKind.{SyntaxKind}
-use Rattle.typst_kinds.specs.declared.kind.SyntaxKind.TheVariants as kind
 use Rattle.typst_lines.specs.Place.{Place, moved}
 use Rattle.typst_lines.specs.Classes.{CharClasses}
 use Rattle.typst_tree.specs.Diagnostic.{hint_with}
@@ -227,9 +226,9 @@ module _ (l : Level) (stops : SyntaxKind → Bool) (taking : Taking l stops)
     no-empties : ends stops x.1 (as_at_hand (hand_of l z at)).kind ≡ false → Erring t one → one.state.empties ≡ 0
     no-empties go err =
         let led = turn-led l stops taking x z r h e a t go in
-        let both : t.nodes ++ led.rest ≡ t.nodes ++ err.error ∷ [] = sym led.nodes ∙ err.nodes in
-        let rest : led.rest ≡ err.error ∷ [] = sym (drop-front t.nodes led.rest (length t.nodes) refl) ∙ ap (drop (length t.nodes)) both ∙ drop-front t.nodes (err.error ∷ []) (length t.nodes) refl in
-        let long : length led.rest ≡ length (err.error ∷ []) = ap length rest in
+        let both : t.nodes ++ led.front.rest ≡ t.nodes ++ err.error ∷ [] = sym led.front.nodes ∙ err.nodes in
+        let rest : led.front.rest ≡ err.error ∷ [] = sym (drop-front t.nodes led.front.rest (length t.nodes) refl) ∙ ap (drop (length t.nodes)) both ∙ drop-front t.nodes (err.error ∷ []) (length t.nodes) refl in
+        let long : length led.front.rest ≡ length (err.error ∷ []) = ap length rest in
         omega (arith, led.few, ap (λ (s : Point). s.empties) led.state, long)
 
     -- some pieces that begin so
@@ -250,7 +249,7 @@ module _ (l : Level) (stops : SyntaxKind → Bool) (taking : Taking l stops)
       pieces-mild mild =
           let led = turn-led l stops taking x z r h e a t go in
           let all = led-joined t t.nodes trims one _ q led (subst (λ p. Tidy p q) led.state tidy) in
-          all.back ∙ all.none mild
+          all.front.back ∙ all.none mild
 
       pieces-wrong : trims ≡ true → WrongFirst t (joined one q).nodes
       pieces-wrong mind =
@@ -262,7 +261,7 @@ module _ (l : Level) (stops : SyntaxKind → Bool) (taking : Taking l stops)
     unfolding hand_at
     onward-mild go mild =
         let led = led-behind l stops taking h z t t (same-judged h t) x r e e a a (λ p. refl) go in
-        led.back ∙ led.none mild
+        led.front.back ∙ led.none mild
 
     flush-back : (w : Place) (p : Point) → (run l flush_trivia w p).back ≡ 0
     unfolding run flush_trivia
@@ -273,7 +272,7 @@ module _ (l : Level) (stops : SyntaxKind → Bool) (taking : Taking l stops)
     onward-wrong go mind =
         let err = erring-turn l r h e a z t taking.level_left stops x (wrong r h e a z t x mind) go in
         let led = turn-led l stops taking x z r h e a t go in
-        let g : goes one ≡ true = ap (λ b. b && nat_lt 0 one.taken) (turn-goes l stops x z at go) ∙ lt-ltb 0 one.taken (omega (arith, led.some, led.taken)) in
+        let g : goes one ≡ true = ap (λ b. b && nat_lt 0 one.taken) (turn-goes l stops x z at go) ∙ lt-ltb 0 one.taken (omega (arith, led.some, led.front.taken)) in
         let p = repeated turn one.value.1 (moved one.taken z) one.state in
         let tidy_rest = backs (repeat (markup_turn true stops) one.value.1) (moved one.taken z) one.state in
         let w = wrong-standing t one.nodes p (erring-wrong t one err) (omega (arith, no-empties go err, tidy_rest.back)) in

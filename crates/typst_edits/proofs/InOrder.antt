@@ -1,11 +1,11 @@
 -- Marks stand in order by their tokens: each at the token of the one before it, or after that.
-use Rattle.std.proofs.Common.{◌≡◌, ℕ, zero, suc, ◌+◌, ◌-◌, ◌≤◌, ◌==◌, Bool, true, false, ◌&&◌, nat_lt, List, [], ◌∷◌, ◌++◌, take, append_assoc, append-nil, Option, Some, None, refl, ap, sym, ◌∙◌, subst, arith}
+use Rattle.std.proofs.Common.{◌≡◌, ℕ, zero, suc, ◌+◌, ◌≤◌, ◌==◌, max, min, Bool, true, false, ◌&&◌, nat_lt, List, [], ◌∷◌, take, Option, Some, None, refl, ap, sym, ◌∙◌, subst, arith}
 use Rattle.typst_kinds.specs.Kinds.{same}
 use Rattle.typst_kinds.specs.declared.kind.SyntaxKind.{SyntaxKind}
 use Rattle.typst_kinds.specs.declared.kind.SyntaxKind.TheVariants as kind
 use Rattle.typst_lines.specs.Place.{Place, moved}
 use Rattle.typst_lines.specs.Classes.{CharClasses}
-use Rattle.typst_tokens.specs.Sight.{width, position, hull_of}
+use Rattle.typst_tokens.specs.Sight.{width, position, far, near}
 use Rattle.typst_candidates.specs.Records.{IsRising}
 use Rattle.typst_language.specs.declared.calls.Block.{Block}
 use Rattle.typst_language.specs.declared.calls.Block.TheVariants as block
@@ -13,14 +13,12 @@ use Rattle.typst_language.specs.Calls.{Call}
 use Rattle.typst_language.specs.Calls.Call.{MarkupExpr}
 use Rattle.typst_language.specs.declared.calls.Mark.{Mark}
 use Rattle.typst_language.specs.declared.calls.Mark.TheVariants as mark
-use Rattle.typst_language.specs.declared.calls.Note.{Note}
 use Rattle.typst_language.specs.declared.reading.Reading.{Reading}
 use Rattle.typst_language.specs.Ask.{Ask, shift}
 use Rattle.typst_language.specs.Ask.Ask.{looked, marked}
 use Rattle.typst_language.specs.Depth.{deeper, is_end, too_deep}
 use Rattle.typst_language.specs.Hand.{hand_at}
 use Rattle.typst_language.specs.Knot.{meaning_of, level_of, blocks_of}
-use Rattle.typst_language.specs.Log.{Log, no_log, with_hull, with_note, logged}
 use Rattle.typst_language.specs.Point.{Trivia, Point, forgot, gap_of}
 use Rattle.typst_language.specs.Shape.{Shape, becomes}
 use Rattle.typst_language.specs.Shape.Making.{itself}
@@ -28,8 +26,8 @@ use Rattle.typst_language.specs.Steps.{peek, node, node_with_trivia, note, flush
 use Rattle.typst_language.specs.Syntax.{Parser, ◌>>◌}
 use Rattle.typst_language.specs.Syntax.Begin.{at_token, at_trivia}
 use Rattle.typst_language.specs.Syntax.Op.{takes, flushes, marks, is_deepest}
-use Rattle.typst_language.specs.Syntax.Parser.{gives, does, next, repeat, wraps, scoped, block}
-use Rattle.typst_language.specs.Meaning.{Outcome, Meaning, Level, plain, joined, turns, as_last, bound, repeated, before, bounded, blockless, entered, hand_of, hand_asks_of, start_point, done, run}
+use Rattle.typst_language.specs.Syntax.Parser.{gives, does, next, repeat, wraps, scoped}
+use Rattle.typst_language.specs.Meaning.{Outcome, Meaning, Level, plain, joined, turns, as_last, bound, repeated, bounded, blockless, entered, hand_of, hand_asks_of, start_point, done, run}
 use Rattle.typst_language.proofs.Places.{moved-sum}
 use Rattle.typst_language.proofs.Within.{on_both, on_if}
 use Rattle.typst_grammar.specs.Grammar.{rules, production, max_depth, start_of, whole, parsed, log, block_production, level_at}
@@ -38,12 +36,11 @@ use Rattle.typst_grammar.specs.Sequences.{code_block}
 use Rattle.typst_grammar.proofs.Guarded.{Guarded, guarded-close, guarded-deep, guarded-deeper, guarded-node}
 use Rattle.typst_grammar.proofs.GuardedCode.{guarded-production, guarded-inside-code}
 use Rattle.typst_edits.specs.InOrder.{InOrderLaw}
-use Rattle.typst_edits.specs.PieceNotes.{listed}
 use Rattle.typst_edits.proofs.Boundary.{KnownAt}
-use Rattle.typst_edits.proofs.Bytes.{noted-more}
 use Rattle.typst_edits.proofs.InnerJoint.{block-taking}
 use Rattle.typst_edits.proofs.Joint.{known-is, text-taking}
 use Rattle.typst_edits.proofs.Led.{after_trivia, before_trivia}
+use Rattle.typst_edits.proofs.LogNotes.{none_yet, note_by, notes_from, fresh_notes, logged-listed}
 use Rattle.typst_edits.proofs.Rising.{take-more}
 use Rattle.typst_edits.proofs.Spots.{if-true}
 use Rattle.typst_edits.proofs.Turns.{turn_tail, Taking, turn-led}
@@ -190,8 +187,8 @@ module _ (l : Level) (deep : (call : Call) → AllInOrder (l.deeper call)) (held
           let far = c.taken + gap_of c.state.known in
           let hi = o.taken + gap_of o.state.known in
           let from = up-shift gaps any t.gap 0 far c.asks (turn-order x w p) in
-          subst (λ ls. Orders t.gap hi ls) (sym led.asks)
-          (up-low gaps any t.gap (t.gap + 0) hi (shift t.gap c.asks) (omega arith) (orders-high (t.gap + 0) (t.gap + far) hi (shift t.gap c.asks) (omega (arith, led.taken, gap)) from))
+          subst (λ ls. Orders t.gap hi ls) (sym led.front.asks)
+          (up-low gaps any t.gap (t.gap + 0) hi (shift t.gap c.asks) (omega arith) (orders-high (t.gap + 0) (t.gap + far) hi (shift t.gap c.asks) (omega (arith, led.front.taken, gap)) from))
 
       piece-order : (x : Bool × ℕ) (z : Place) (s : Point) → KnownAt s → ToToken (gap_of s.known) (run l (markup_turn true stops x) z s)
       piece-order x z s known = by-end (ends stops x.1 (hand_of l z s).kind) refl
@@ -298,31 +295,21 @@ module _ (k : CharClasses) where
 
 -- ---- in bytes
 
--- A given number of further notes come in order.
-record NotedOrder (from : ℕ) (ns : List Note) (h : Log) : Type 0 where
-  more : List Note
-  is : h.notes ≡ Some (ns ++ more)
-  rising : IsRising from more
-
-noted-order : (lv : ℕ) (text : List ℕ) (asks : List Ask) (h : Log) (ns : List Note) (lo hi : ℕ) → h.notes ≡ Some ns → Orders lo hi asks → NotedOrder (width (take lo text)) ns (logged lv (start_of text) h asks)
+notes-order : (lv : ℕ) (text : List ℕ) (asks : List Ask) (reach least lo hi : ℕ) → Orders lo hi asks → IsRising (width (take lo text)) (notes_from lv (start_of text) reach least asks)
 unfolding position
-noted-order lv text [] h ns lo hi e r = record { more = []; is = e ∙ ap Some (sym (append-nil ns)); rising = tt }
-noted-order lv text (looked at look ∷ asks) h ns lo hi e r = noted-order lv text asks (with_hull (hull_of look (moved at (start_of text))) h) ns lo hi e r
-noted-order lv text (marked at gap fewer m s ∷ asks) h ns lo hi e r =
+notes-order lv text [] reach least lo hi r = tt
+notes-order lv text (looked at look ∷ asks) reach least lo hi r = let y = moved at (start_of text) in notes-order lv text asks (max reach (far look.front y)) (min least (near look.back y)) lo hi r
+notes-order lv text (marked at gap fewer m s ∷ asks) reach least lo hi r =
     let z = start_of text in
-    let note : Note = record { mark = m; before = position (moved at z); start = position (moved gap (moved at z)); levels = lv - fewer; state = s; reach = h.reach; least = h.least } in
-    let i = noted-order lv text asks (with_note gap (lv - fewer) m s (moved at z) h) (ns ++ note ∷ []) (at + gap) hi (noted-more note h.notes ns e) r.2 in
+    let note = note_by lv z reach least at gap fewer m s in
     let before : note.before ≡ width (take at text) = width-moved at text in
     let start : note.start ≡ width (take (at + gap) text) = ap (λ (y : Place). width y.before) (sym (moved-sum at gap z)) ∙ width-moved (at + gap) text in
-    record {
-      more = note ∷ i.more;
-      is = i.is ∙ ap Some (append_assoc ns (note ∷ []) i.more);
-      rising = (omega (arith, take-more lo at text r.0, before), omega (arith, take-more at (at + gap) text (omega arith), before, start), subst (λ n. IsRising n i.more) (sym start) i.rising);
-    }
+    (omega (arith, take-more lo at text r.0, before), omega (arith, take-more at (at + gap) text (omega arith), before, start), subst (λ n. IsRising n (fresh_notes lv z asks)) (sym start) (notes-order lv text asks 0 none_yet (at + gap) hi r.2))
 
 pub in-order-law : InOrderLaw
 unfolding log
 in-order-law k text =
+    let z = start_of text in
     let o = parsed k max_depth text in
-    let n = noted-order max_depth text o.asks no_log [] 0 o.taken refl (whole-order k (start_of text) (start_point markup_reading)) in
-    subst (λ ns. IsRising 0 ns) (sym (ap listed n.is)) (subst (λ d. IsRising d n.more) width-none n.rising)
+    subst (λ ns. IsRising 0 ns) (sym (logged-listed max_depth z o.asks))
+    (subst (λ d. IsRising d (fresh_notes max_depth z o.asks)) width-none (notes-order max_depth text o.asks 0 none_yet 0 o.taken (whole-order k z (start_point markup_reading))))

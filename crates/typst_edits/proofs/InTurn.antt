@@ -1,17 +1,14 @@
 -- The marks of a run among those of all that is asked in it, in turn.
-use Rattle.std.proofs.Common.{◌≡◌, ℕ, zero, suc, ◌+◌, ◌-◌, ◌<◌, ◌==◌, eq-eqb, ne_eqb, List, [], ◌∷◌, ◌++◌, length, append_assoc, append-nil, Some, refl, ap, sym, ◌∙◌, subst, arith}
+use Rattle.std.proofs.Common.{◌≡◌, ℕ, zero, suc, ◌+◌, ◌-◌, ◌<◌, ◌==◌, eq-eqb, ne_eqb, max, min, List, [], ◌∷◌, ◌++◌, length, refl, ap, sym, subst, arith}
 use Rattle.typst_lines.specs.Place.{Place, moved}
-use Rattle.typst_tokens.specs.Sight.{position, hull_of}
+use Rattle.typst_tokens.specs.Sight.{position, far, near}
 use Rattle.typst_language.specs.declared.calls.Mark.{Mark}
 use Rattle.typst_language.specs.declared.calls.Note.{Note}
 use Rattle.typst_language.specs.declared.reading.State.{State}
 use Rattle.typst_language.specs.Ask.{Ask, shift}
 use Rattle.typst_language.specs.Ask.Ask.{looked, marked}
-use Rattle.typst_language.specs.Log.{Log, with_hull, with_note, logged}
-use Rattle.typst_language.proofs.Places.{moved-sum}
 use Rattle.typst_edits.specs.NumberedNotes.{of_level, Numbered}
-use Rattle.typst_edits.specs.Spot.{lowered}
-use Rattle.typst_edits.proofs.Bytes.{noted-more}
+use Rattle.typst_edits.proofs.LogNotes.{none_yet, note_by, notes_from, fresh_notes}
 use Rattle.typst_edits.proofs.Marks.{AllMarks}
 use Rattle.typst_edits.proofs.Spots.{if-true, if-false}
 
@@ -73,54 +70,33 @@ pub record NoteNth (P : ℕ → ℕ → ℕ → Mark → State → Type 0) (z : 
   pub start : n.start ≡ position (moved gap (moved at z))
   pub state : n.state ≡ told
 
--- a given number of further notes, of which those of the level have these numbers
-pub record NotedNth (P : ℕ → ℕ → ℕ → Mark → State → Type 0) (levels : ℕ) (z : Place) (i j : ℕ) (ns : List Note) (h : Log) : Type 0 where
-  pub more : List Note
-  pub is : h.notes ≡ Some (ns ++ more)
-  pub each : Numbered (NoteNth P z) i (of_level levels more)
-  pub all : i + length (of_level levels more) ≡ j
+-- Those of the level among some notes have these numbers.
+pub record NotedNth (P : ℕ → ℕ → ℕ → Mark → State → Type 0) (levels : ℕ) (z : Place) (i j : ℕ) (ns : List Note) : Type 0 where
+  pub each : Numbered (NoteNth P z) i (of_level levels ns)
+  pub all : i + length (of_level levels ns) ≡ j
 
-pub noted-nth : (P : ℕ → ℕ → ℕ → Mark → State → Type 0) (levels : ℕ) (z : Place) (asks : List Ask) (h : Log) (ns : List Note) (i j : ℕ) → h.notes ≡ Some ns → InTurn P i j asks
-    → NotedNth P (suc levels) z i j ns (logged (suc levels) z h asks)
-noted-nth P levels z [] h ns i j e a = record { more = []; is = e ∙ ap Some (sym (append-nil ns)); each = tt; all = omega (arith, a) }
-noted-nth P levels z (looked at look ∷ asks) h ns i j e a = noted-nth P levels z asks (with_hull (hull_of look (moved at z)) h) ns i j e a
-noted-nth P levels z (marked at gap zero m s ∷ asks) h ns i j e a =
+pub noted-nth : (P : ℕ → ℕ → ℕ → Mark → State → Type 0) (levels : ℕ) (z : Place) (asks : List Ask) (reach least i j : ℕ) → InTurn P i j asks → NotedNth P (suc levels) z i j (notes_from (suc levels) z reach least asks)
+noted-nth P levels z [] reach least i j a = record { each = tt; all = omega (arith, a) }
+noted-nth P levels z (looked at look ∷ asks) reach least i j a = noted-nth P levels z asks (max reach (far look.front (moved at z))) (min least (near look.back (moved at z))) i j a
+noted-nth P levels z (marked at gap zero m s ∷ asks) reach least i j a =
     let left = suc levels - 0 in
-    let note : Note = record { mark = m; before = position (moved at z); start = position (moved gap (moved at z)); levels = left; state = s; reach = h.reach; least = h.least } in
-    let r = noted-nth P levels z asks (with_note gap left m s (moved at z) h) (ns ++ note ∷ []) (suc i) j (noted-more note h.notes ns e) a.1 in
-    let own : of_level (suc levels) (note ∷ r.more) ≡ note ∷ of_level (suc levels) r.more = if-true (left == suc levels) _ _ (eq-eqb left (suc levels) (omega arith)) in
-    let long : length (of_level (suc levels) (note ∷ r.more)) ≡ suc (length (of_level (suc levels) r.more)) = ap length own in
+    let note = note_by (suc levels) z reach least at gap 0 m s in
+    let more = fresh_notes (suc levels) z asks in
+    let r = noted-nth P levels z asks 0 none_yet (suc i) j a.1 in
+    let own : of_level (suc levels) (note ∷ more) ≡ note ∷ of_level (suc levels) more = if-true (left == suc levels) _ _ (eq-eqb left (suc levels) (omega arith)) in
+    let long : length (of_level (suc levels) (note ∷ more)) ≡ suc (length (of_level (suc levels) more)) = ap length own in
     record {
-      more = note ∷ r.more;
-      is = r.is ∙ ap Some (append_assoc ns (note ∷ []) r.more);
       each = subst (λ xs. Numbered (NoteNth P z) i xs) (sym own) (record { at = at; gap = gap; says = m; told = s; holds = a.0; mark = refl; before = refl; start = refl; state = refl }, r.each);
       all = omega (arith, r.all, long);
     }
-noted-nth P levels z (marked at gap (suc fewer) m s ∷ asks) h ns i j e a =
+noted-nth P levels z (marked at gap (suc fewer) m s ∷ asks) reach least i j a =
     let left = suc levels - suc fewer in
-    let note : Note = record { mark = m; before = position (moved at z); start = position (moved gap (moved at z)); levels = left; state = s; reach = h.reach; least = h.least } in
-    let r = noted-nth P levels z asks (with_note gap left m s (moved at z) h) (ns ++ note ∷ []) i j (noted-more note h.notes ns e) a in
-    let other : of_level (suc levels) (note ∷ r.more) ≡ of_level (suc levels) r.more = if-false (left == suc levels) _ _ (ne_eqb left (suc levels) (omega arith)) in
-    record {
-      more = note ∷ r.more;
-      is = r.is ∙ ap Some (append_assoc ns (note ∷ []) r.more);
-      each = subst (λ xs. Numbered (NoteNth P z) i xs) (sym other) r.each;
-      all = omega (arith, r.all, ap length other);
-    }
+    let note = note_by (suc levels) z reach least at gap (suc fewer) m s in
+    let more = fresh_notes (suc levels) z asks in
+    let r = noted-nth P levels z asks 0 none_yet i j a in
+    let other : of_level (suc levels) (note ∷ more) ≡ of_level (suc levels) more = if-false (left == suc levels) _ _ (ne_eqb left (suc levels) (omega arith)) in
+    record { each = subst (λ xs. Numbered (NoteNth P z) i xs) (sym other) r.each; all = omega (arith, r.all, ap length other) }
 
 pub numbered-by : (P Q : ℕ → Note → Type 0) → ((i : ℕ) (n : Note) → P i n → Q i n) → (i : ℕ) (ns : List Note) → Numbered P i ns → Numbered Q i ns
 numbered-by P Q f i [] h = tt
 numbered-by P Q f i (n ∷ ns) h = (f i n h.0, numbered-by P Q f (suc i) ns h.1)
-
--- ---- in a larger whole
-
--- what is logged from further on, where fewer levels are left
-pub logged-lowered : (levels f d : ℕ) (z : Place) (h : Log) (asks : List Ask) → logged levels z h (shift d (lowered f asks)) ≡ logged (levels - f) (moved d z) h asks
-logged-lowered levels f d z h [] = refl
-logged-lowered levels f d z h (looked at look ∷ asks) =
-    ap (λ w. logged levels z (with_hull (hull_of look w) h) (shift d (lowered f asks))) (moved-sum d at z) ∙ logged-lowered levels f d z (with_hull (hull_of look (moved at (moved d z))) h) asks
-logged-lowered levels f d z h (marked at gap fewer m s ∷ asks) =
-    let left : levels - (f + fewer) ≡ (levels - f) - fewer = omega arith in
-    ap (λ w. logged levels z (with_note gap (levels - (f + fewer)) m s w h) (shift d (lowered f asks))) (moved-sum d at z)
-    ∙ ap (λ n. logged levels z (with_note gap n m s (moved at (moved d z)) h) (shift d (lowered f asks))) left
-    ∙ logged-lowered levels f d z (with_note gap ((levels - f) - fewer) m s (moved at (moved d z)) h) asks

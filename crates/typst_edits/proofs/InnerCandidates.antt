@@ -13,14 +13,12 @@ use Rattle.typst_language.specs.Meaning.{Outcome, run}
 use Rattle.typst_language.specs.Point.{Trivia, point_of, gap_of, pending}
 use Rattle.typst_language.proofs.Leaves.{texts}
 use Rattle.typst_candidates.specs.Units.{cuts_in, top_cuts}
-use Rattle.typst_candidates.specs.Candidates.{Child, laid, child_at, is_among, begins, Candidate, of_run, run_in}
-use Rattle.typst_grammar.specs.Markup.{ends_block}
+use Rattle.typst_candidates.specs.Candidates.{Child, laid, child_at, is_among, Candidate, of_run, run_in}
 use Rattle.typst_grammar.specs.Grammar.{max_depth, start_of, log, tree}
 use Rattle.typst_edits.specs.Answer.{candidates}
-use Rattle.typst_edits.specs.BlockRuns.{inner, run_at, opened_at}
+use Rattle.typst_edits.specs.BlockRuns.{run_at, opened_at}
 use Rattle.typst_edits.specs.Children.{Settles}
 use Rattle.typst_edits.specs.Edit.{Among, text_with}
-use Rattle.typst_edits.specs.Every.{Every}
 use Rattle.typst_edits.specs.Frame.{cut_at}
 use Rattle.typst_edits.specs.Hole.{fill, path_of}
 use Rattle.typst_edits.specs.Hole.Deep.{under}
@@ -32,23 +30,21 @@ use Rattle.typst_edits.specs.Laws.{blocks_of_text}
 use Rattle.typst_edits.specs.Leading.{LeadsAt, bytes_of, token_byte, opening_child, LeadingInner}
 use Rattle.typst_edits.specs.OpensApart.{OpensApartLaw}
 use Rattle.typst_edits.specs.PieceNotes.{listed}
-use Rattle.typst_edits.specs.Sequence.{Sequence, turn_of, first_of, first_end, then_of, then_end}
+use Rattle.typst_edits.specs.Sequence.{Sequence, first_of, first_end, then_of, then_end}
 use Rattle.typst_edits.specs.Runs.{AllGo, End}
 use Rattle.typst_edits.specs.Spot.{Spot, unit_at}
-use Rattle.typst_edits.specs.RootPieces.{StandsAt}
 use Rattle.typst_edits.specs.InnerCandidates.{InnerCandidateLaw}
 use Rattle.typst_edits.proofs.BareCandidates.{bare-candidates-law}
-use Rattle.typst_edits.proofs.Boundary.{looks_in, each-ends, made-add, go-add, known-made}
 use Rattle.typst_edits.proofs.Blocks.{ends}
-use Rattle.typst_edits.proofs.CandidateEnds.{stretch, Quiet, GivesAt, GivesOne, Parted, parted, begun}
+use Rattle.typst_edits.proofs.CandidateEnds.{GivesAt, Parted}
 use Rattle.typst_edits.proofs.Edit.{among, trees-of}
 use Rattle.typst_edits.proofs.Fitting.{same-here}
 use Rattle.typst_edits.proofs.Heads.{inner-lone}
-use Rattle.typst_edits.proofs.InnerChildren.{opens-by, inner-back-law, tree-by-block, begun-at}
+use Rattle.typst_edits.proofs.InnerChildren.{run-known, opens-by, inner-back-law, tree-by-block, begun-at}
 use Rattle.typst_edits.proofs.InnerCuts.{BlockCuts, cuts-of-block}
 use Rattle.typst_edits.proofs.Leading.{Plain, leading-inner-law, plain-block}
 use Rattle.typst_edits.proofs.NoneBack.{inner-onwards-is}
-use Rattle.typst_edits.proofs.NoteNumbers.{go-fewer}
+use Rattle.typst_edits.proofs.RunCandidates.{more-goes, more-ends, run-parted, well}
 use Rattle.typst_edits.proofs.QuietTrivia.{inner-quiet}
 use Rattle.typst_edits.proofs.MarkupCandidates.{InMarkup, descend, of-run}
 use Rattle.typst_edits.proofs.Placed.{left_text}
@@ -208,12 +204,8 @@ one-cut : (k : CharClasses) (levels : ℕ) (text : List ℕ) (s : Spot (Unit {0}
     → is_among (token_byte text (inner_both k levels i 1 s (start_of text))) b.cuts ≡ true)
 one-cut k levels text s at i b g h =
     let r = run_at k levels s (start_of text) in
-    let one : i + 1 ≡ suc i = omega arith in
-    let more : AllGo (first_of (suc i) r) = subst (λ j. AllGo (first_of j r)) one (go-add (turn_of r) (looks_in r) (each-ends r) i 1 (true, 0) r.place r.point g h) in
-    let end = made-add (turn_of r) (looks_in r) (each-ends r) i 1 (true, 0) r.place r.point in
     let byte = λ (e : End (Bool × ℕ)). width (take ((opened_at k levels s (start_of text) + e.taken) + gap_of e.state.known) text) in
-    let there : token_byte text (inner_end k levels (suc i) s (start_of text)) ≡ token_byte text (inner_both k levels i 1 s (start_of text)) = ap (λ j. byte (first_end j r)) (sym one) ∙ ap byte end in
-    subst (λ c. is_among c b.cuts ≡ true) there (b.is.has (suc i) (omega arith) (b.all (suc i) more))
+    ap (λ (u : End (Bool × ℕ)). is_among (byte u) b.cuts) (sym (more-ends r i)) ∙ b.is.has (suc i) (omega arith) (b.all (suc i) (more-goes r i g h))
 
 module _ (k : CharClasses) (levels : ℕ) (front old rest : List ℕ) (s : Spot (Unit {0})) (chosen : Among s (blocks_of_text k (front ++ (old ++ rest)))) (name : s.name ≡ block.Content) (level : max_depth - s.fewer ≡ suc levels)
     (some : 0 < (unit_at s (start_of (front ++ (old ++ rest)))).taken) (i n : ℕ) (t : Trivia) (first_go : AllGo (first_of i (run_at k levels s (text_with front old rest)))) (old_go : AllGo (then_of i n (run_at k levels s (text_with front old rest))))
@@ -251,12 +243,12 @@ module _ (k : CharClasses) (levels : ℕ) (front old rest : List ℕ) (s : Spot 
       let sum : f.taken + gap_of f.state.known ≡ (length front + length old) + past = ap (λ v. f.taken + gap_of v) known ∙ ends in
       is ∙ sym (ap width (take-past front old rest past (f.taken + gap_of f.state.known) sum))
 
-  none-there : n ≡ 0 → token_byte whole_text (inner_both k levels i n s z) ≡ begin
-  none-there nothing =
+  none-there : token_byte whole_text (inner_both k levels i 0 s z) ≡ begin
+  none-there =
       let e = first_end i r in
       let a = opened_at k levels s z in
       let sum : (a + (e.taken + 0)) + gap_of e.state.known ≡ (a + e.taken) + gap_of e.state.known = omega arith in
-      ap (λ d. token_byte whole_text (inner_both k levels i d s z)) nothing ∙ ap (λ d. width (take d whole_text)) sum
+      ap (λ d. width (take d whole_text)) sum
 
   -- Pieces there, or none after others, separate what follows them from what is before them.
   settles : (j l : ℕ) → (0 < j → 0 < l) → Settles l (onwards_in k levels j l s z)
@@ -285,47 +277,12 @@ module _ (k : CharClasses) (levels : ℕ) (front old rest : List ℕ) (s : Spot 
         last = led.last;
       }
 
-  -- the first of them alone
-  record OneKnown : Type 0 where
-    trivia : Trivia
-    is : (then_end i 1 r).state.known ≡ Some trivia
-
-  one-known : AllGo (then_of i 1 r) → OneKnown
-  unfolding run
-  one-known g =
-      let e = first_end i r in
-      let l = inner k levels in
-      let first = known-made l ends_block i (true, 0) r.place r.point (record { trivia = _; is = refl }) first_go in
-      let one = known-made l ends_block 1 e.value (moved e.taken r.place) e.state first g in
-      record { trivia = one.trivia; is = one.is }
-
-  one-goes : 0 < n → AllGo (then_of i 1 r)
-  one-goes there =
-      let e = first_end i r in
-      go-fewer (turn_of r) 1 n e.value (moved e.taken r.place) e.state (omega (arith, there)) old_go
-
-  gives-one : (own : BlockCuts k levels whole_text s (width (take s.at whole_text))) → 0 < n → GivesOne r own.cuts from kids i begin
-  gives-one own there =
-      let g = one-goes there in
-      let v = one-known g in
-      let led = leading-inner-law k levels whole_text s i 1 v.trivia chosen name level some first_go g v.is (inl (omega arith)) in
-      record {
-        trivia = v.trivia;
-        end = token_byte whole_text (inner_both k levels i 1 s z);
-        gives = gives-by 1 v.trivia led;
-        quiet = subst (λ (u : Option Trivia). Every Quiet (pending u)) v.is (inner-quiet k levels (moved s.at z) (point_of s.start) i 1);
-        cut = one-cut k levels whole_text s (width (take s.at whole_text)) i own first_go g;
-      }
-
   -- what they say of the block's children
-  pub parted-in : (own : BlockCuts k levels whole_text s (width (take s.at whole_text))) (end : ℕ) → end ≡ token_byte whole_text (inner_both k levels i n s z) → Parted r own.cuts from kids i n begin end
-  parted-in own end end_is =
-      let all = λ (f : 0 < i → 0 < n). leading-inner-law k levels whole_text s i n t chosen name level some first_go old_go known (settles i n f) in
-      parted r own.cuts from kids i n begin end t known
-      (λ f. subst (λ b. GivesAt r from kids i n t begin b) (sym end_is) (gives-by n t (all f)))
-      (λ l nothing. end_is ∙ none-there nothing)
-      (λ l there. gives-one own there)
-      (λ l there minds. inner-lone k levels (moved s.at z) (point_of s.start) i first_go (one-goes there) minds)
+  pub parted-in : (own : BlockCuts k levels whole_text s (width (take s.at whole_text))) → Parted r own.cuts from kids i n begin (token_byte whole_text (inner_both k levels i n s z))
+  parted-in own =
+      run-parted r own.cuts from kids i begin (λ l. token_byte whole_text (inner_both k levels i l s z)) (run-known k levels s z) first_go
+      (λ l v h is f. gives-by l v (leading-inner-law k levels whole_text s i l v chosen name level some first_go h is (settles i l f))) none-there (inner-quiet k levels (moved s.at z) (point_of s.start) i 1)
+      (one-cut k levels whole_text s (width (take s.at whole_text)) i own first_go) (inner-lone k levels (moved s.at z) (point_of s.start) i first_go) n t old_go known
 
 pub inner-candidate-law : OpensApartLaw → InnerCandidateLaw
 inner-candidate-law apart k levels front old new rest root s chosen name level c i n m past t u same candidate pieces path start led end h =
@@ -336,24 +293,10 @@ inner-candidate-law apart k levels front old new rest root s chosen name level c
     let rs = width front in
     let re = width (front ++ old) in
     let order : rs ≤ re = (let w = width-append front old in omega (arith, w)) in
-    let st = of-run rs re c.path from kids b.own.cuts c b.chosen in
-    let stretch_is = stretch b.own.cuts from kids rs re st.more order in
-    let from_is : c.from ≡ stretch_is.from = ap (λ (d : Candidate). d.from) st.is in
-    let to_is : c.to ≡ stretch_is.to = ap (λ (d : Candidate). d.to) st.is in
-    let start_is : c.start ≡ begins from kids stretch_is.from = ap (λ (d : Candidate). d.start) st.is in
-    let end_is : c.end ≡ begins from kids stretch_is.to = ap (λ (d : Candidate). d.end) st.is in
     let r = run_at k levels s (start_of text) in
-    let at = token_byte text (inner_end k levels i s (start_of text)) in
-    let at_is = λ (l : 0 < i). start-byte k levels front old rest s chosen name level b.some i n t h.first_go h.old_go h.known c.start start l in
-    let ends = end-byte k levels front old rest s chosen name level b.some i n t h.first_go h.old_go h.known c.end past h.ends end in
-    let own = parted-in k levels front old rest s chosen name level b.some i n t h.first_go h.old_go h.known b.own c.end ends in
-    let w = begun b.own.cuts from kids rs re st.more order r i n at c.end own (λ l. subst (λ a. 0 < a) from_is (led.0 l)) (λ l. sym (at_is l) ∙ start_is) end_is in (
+    let w = well r b.own.cuts from kids rs re c.path c i n (token_byte text (inner_end k levels i s (start_of text))) (token_byte text (inner_both k levels i n s (start_of text))) order (of-run rs re c.path from kids b.own.cuts c b.chosen)
+    (parted-in k levels front old rest s chosen name level b.some i n t h.first_go h.old_go h.known b.own) led (λ l. start-byte k levels front old rest s chosen name level b.some i n t h.first_go h.old_go h.known c.start start l)
+    (end-byte k levels front old rest s chosen name level b.some i n t h.first_go h.old_go h.known c.end past h.ends end) in (
       b.around,
-      record {
-        starts = w.starts;
-        goes_on = w.goes_on;
-        first = λ l. subst (λ a. StandsAt from kids a c.start) (sym from_is) (subst (λ a. StandsAt from kids stretch_is.from a) (sym (at_is l)) (w.first l));
-        next = λ over. subst (λ a. StandsAt from kids a c.end) (sym to_is) (w.next over);
-        last = λ over. to_is ∙ w.last over;
-      },
+      record { starts = w.starts; goes_on = w.goes_on; first = w.first; next = w.next; last = w.last },
     )

@@ -291,7 +291,7 @@ module _ (k : CharClasses) (levels : ℕ) (c : Spot (Unit {0})) (z : Place) wher
   abbrev run_here : Sequence
   run_here = run_at k levels c z
 
-  run-known : KnownAt run_here.point
+  pub run-known : KnownAt run_here.point
   unfolding run
   run-known = record { trivia = _; is = refl }
 

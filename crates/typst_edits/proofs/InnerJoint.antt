@@ -33,12 +33,12 @@ use Rattle.typst_edits.proofs.BlockRuns.{split-taken, sane, content-split, conte
 use Rattle.typst_edits.proofs.Edit.{after-same}
 use Rattle.typst_edits.proofs.Inside.{same_in-at}
 use Rattle.typst_edits.proofs.Joint.{exchanged, takes-call, known-is}
-use Rattle.typst_edits.proofs.Led.{after_trivia, before_trivia, same-renewed, kind-behind, asks-behind}
+use Rattle.typst_edits.proofs.Led.{after_trivia, before_trivia, same-renewed, kind-behind, asks-behind, Fronted}
 use Rattle.typst_edits.proofs.Meeting.{ReadAs, read-as, read-made, judged-alike, Met, met}
 use Rattle.typst_edits.proofs.Outcomes.{shift-zero}
 use Rattle.typst_edits.proofs.Runs.{moved-three, moved-four}
 use Rattle.typst_edits.proofs.Text.{block-law, content-reads}
-use Rattle.typst_edits.proofs.Turns.{Fronted, KnownFlush, flush-known, Taking, fronted-same}
+use Rattle.typst_edits.proofs.Turns.{KnownFlush, flush-known, Taking, fronted-same}
 
 -- with nothing known of the trivia after it
 abbrev pub forgets : Outcome Bool → Outcome Bool

@@ -1,5 +1,5 @@
 -- The entries of a content block's run, by their numbers.
-use Rattle.std.proofs.Common.{◌≡◌, ℕ, zero, suc, ◌+◌, ◌-◌, ◌<◌, ◌≤◌, ◌==◌, Bool, true, nat_lt, List, [], ◌∷◌, ◌++◌, length, take, drop, length-append, append_assoc, Some, refl, ap, sym, ◌∙◌, subst, arith}
+use Rattle.std.proofs.Common.{◌≡◌, ℕ, suc, ◌+◌, ◌-◌, ◌<◌, ◌≤◌, ◌==◌, true, nat_lt, List, [], ◌∷◌, ◌++◌, length, take, drop, length-append, append_assoc, Some, refl, ap, sym, ◌∙◌, subst, arith}
 use Rattle.typst_lines.specs.Place.{Place, moved}
 use Rattle.typst_lines.specs.Classes.{CharClasses}
 use Rattle.typst_tokens.specs.Sight.{width}
@@ -7,7 +7,7 @@ use Rattle.typst_language.specs.declared.calls.Block.{Block}
 use Rattle.typst_language.specs.declared.calls.Block.TheVariants as block
 use Rattle.typst_language.specs.declared.calls.Note.{Note}
 use Rattle.typst_language.specs.Ask.{shift}
-use Rattle.typst_language.specs.Point.{gap_of, point_of}
+use Rattle.typst_language.specs.Point.{point_of}
 use Rattle.typst_language.specs.Meaning.{run}
 use Rattle.typst_candidates.specs.declared.entry.EntryKind.TheVariants as entry_kind
 use Rattle.typst_candidates.specs.Cursors.{closing_of}
@@ -23,11 +23,11 @@ use Rattle.typst_edits.specs.Frame.{is_over}
 use Rattle.typst_edits.specs.InnerBytes.{inner_end}
 use Rattle.typst_edits.specs.InOrder.{InOrderLaw}
 use Rattle.typst_edits.specs.Laws.{blocks_of_text}
-use Rattle.typst_edits.specs.NumberedNotes.{of_level, cut_after, NumberedInner}
+use Rattle.typst_edits.specs.NumberedNotes.{of_level, NumberedInner}
 use Rattle.typst_edits.specs.PieceNotes.{listed}
 use Rattle.typst_edits.specs.RunNumbers.{cut_in, number_in, InnerNumbersLaw}
 use Rattle.typst_edits.specs.RunTest.{BeginsAt}
-use Rattle.typst_edits.specs.Runs.{AllGo, End, asks_of}
+use Rattle.typst_edits.specs.Runs.{AllGo, asks_of}
 use Rattle.typst_edits.specs.Sequence.{turn_of, first_of, first_end}
 use Rattle.typst_edits.specs.Splice.{notes_in}
 use Rattle.typst_edits.specs.Spot.{Spot}
@@ -44,6 +44,7 @@ use Rattle.typst_edits.proofs.NoteNumbers.{neither, go-fewer}
 use Rattle.typst_edits.proofs.NumberedNotes.{NestedNumbers, nested-numbers}
 use Rattle.typst_edits.proofs.OpensApart.{opens-apart-law}
 use Rattle.typst_edits.proofs.RunNumbers.{over-at}
+use Rattle.typst_edits.proofs.RunNotes.{cut-here}
 use Rattle.typst_edits.proofs.Sides.{count-append, count-shift}
 
 -- ---- a note by the number of those before it
@@ -131,7 +132,7 @@ module _ (ordered : InOrderLaw) (k : CharClasses) (levels : ℕ) (text : List �
       let j = length (of_level lv h.earlier) in
       let says = says-by lv n.inner text (λ m. inner_end k levels m s z0) h.earlier p.note h.later j n.each h.is p.levels refl in
       let fits : j ≤ n.count = omega (arith, ap (λ us. length (of_level lv us)) h.is, level-long lv h.earlier p.note h.later p.levels, n.all) in
-      let here = cut-here i (inner_end k levels i s z0) p.note d.token d.token_first in
+      let here = cut-here text i (inner_end k levels i s z0) p.note.start d.token d.token_first in
       record {
         earlier = h.earlier;
         note = p.note;
@@ -143,10 +144,6 @@ module _ (ordered : InOrderLaw) (k : CharClasses) (levels : ℕ) (text : List �
             (λ less. (let rise = inner-cuts-law k levels text s i j less (goes-up-to j fits) in omega (arith, rise, here, says.start)));
         all = omega (arith, h.long, before, long);
       }
-    where
-      cut-here : (i : ℕ) (e : End (Bool × ℕ)) (note : Note) → (0 < i → note.start ≡ width (take (e.taken + gap_of e.state.known) text)) → (i ≡ 0 → note.start ≡ width (take e.taken text)) → note.start ≡ width (take (cut_after i e) text)
-      cut-here zero e note some none = none refl
-      cut-here (suc i) e note some none = some (omega arith)
 
   among : RunAmong (suc levels) pre n.inner (n.closes ∷ n.later) text (λ i. inner_end k levels i s z0) n.count (number_in k levels text s)
   among = record {

@@ -52,8 +52,7 @@ use Rattle.typst_edits.proofs.InnerPieces.{block-taken, joint-of}
 use Rattle.typst_edits.proofs.InnerPiecesTest.{rereads, first-part, inner-entries-law, inner-part-law}
 use Rattle.typst_edits.proofs.InnerSplice.{around-splice-law, inner-splice-law}
 use Rattle.typst_edits.proofs.NoteNumbers.{take-longer}
-use Rattle.typst_edits.proofs.OneReading.{first-split}
-use Rattle.typst_edits.proofs.PiecesTest.{count-pieces}
+use Rattle.typst_edits.proofs.Sides.{count-made}
 use Rattle.typst_edits.proofs.ReadAlone.{first-goes, alike, goes-there}
 use Rattle.typst_edits.proofs.Resumed.{block-known, inner-count-law, alone-further}
 use Rattle.typst_edits.proofs.SameBlocks.{Home, home_of, same-byte, same-home}
@@ -145,8 +144,7 @@ module _ (ordered : InOrderLaw) (k : CharClasses) (levels : ℕ) (front old new 
   byte-is i = ap (λ j. width (take j text)) (cut-behind i)
 
   number-sum : (i n : ℕ) → number_in k levels text s (i + n) ≡ number_in k levels text s i + notes_in (asks_of (then_of i n q))
-  number-sum i n =
-      omega (arith, ap (λ os. notes_in (asks_of os)) (first-split q i n), count-pieces (first_of i q) (then_of i n q))
+  number-sum i n = omega (arith, count-made q i n)
 
   wide : width (front ++ old) < 2 ^ 64 - 1
   wide = let a = width-append front (old ++ rest) in let b = width-append old rest in let e = width-append front old in omega (arith, a, b, e, big)

@@ -208,7 +208,7 @@ module _ (k : CharClasses) (levels : ℕ) (front old rest : List ℕ) (s : Spot 
   all-bytes : byte own.count ≡ markup_from k levels text s + bytes_of (kids_in s.node)
   all-bytes =
       let st = standing q own.count 0 own.count (omega arith) own.go known-at in
-      let p = parted-in k levels front old rest s there name level some 0 own.count st.trivia tt st.go_on st.known own (token_byte text (inner_both k levels 0 own.count s z)) refl in
+      let p = parted-in k levels front old rest s there name level some 0 own.count st.trivia tt st.go_on st.known own in
       sym (both-end 0 own.count own.count (omega arith)) ∙ p.last (λ l. absurd (omega (arith, l))) over
 
 -- ---- the pieces
@@ -259,7 +259,7 @@ pieces-of k levels front old rest s there name level c b =
     let n = p.j - i in
     let go = standing q own.count i n (omega (arith, p.order, p.few)) own.go (known-at k levels front old rest s there name level b.some own) in
     let end = token_byte text (inner_both k levels i n s z) in
-    let parted = parted-in k levels front old rest s there name level b.some i n go.trivia go.first_go go.go_on go.known own end refl in
+    let parted = parted-in k levels front old rest s there name level b.some i n go.trivia go.first_go go.go_on go.known own in
     let well = begun cuts from kids rs re o.more order q i n (token i) end parted p.led.0 p.start (both-end k levels front old rest s there name level b.some own i n p.j (omega (arith, p.order)) ∙ p.end) in
     let begin = from-is k levels text s in
     let before = sooner (opened_at k levels s z) front (old ++ rest) (subst (λ d. d < rs) begin b.starts) in

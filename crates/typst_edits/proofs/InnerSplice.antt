@@ -11,13 +11,13 @@ use Rattle.typst_language.specs.Ask.{Ask, SameIn, shift, shift_one}
 use Rattle.typst_language.specs.Ask.Ask.{looked}
 use Rattle.typst_language.specs.Hand.{AtHand, len_at, at_trivia, column_look, column_asks, ahead, asks_by, ahead_asks, hand_asks}
 use Rattle.typst_language.specs.Log.{no_log, logged}
-use Rattle.typst_language.specs.Meaning.{Outcome, hand_asks_of, start_point, run}
+use Rattle.typst_language.specs.Meaning.{Outcome, hand_asks_of, run}
 use Rattle.typst_language.specs.Point.{Trivia, Point, point_of, gap_of}
 use Rattle.typst_language.specs.Steps.{peek}
 use Rattle.typst_language.proofs.Looks.{same_in-shift, same_in-first, same_in-second}
 use Rattle.typst_language.proofs.Places.{moved-sum}
 use Rattle.typst_grammar.specs.Markup.{markup_reading}
-use Rattle.typst_grammar.specs.Grammar.{rules, max_depth, whole, parsed, log}
+use Rattle.typst_grammar.specs.Grammar.{max_depth, parsed, log}
 use Rattle.typst_edits.specs.BlockRuns.{inner, look_first, look_again, bracket, inner_lead, inner_run, content_with, run_at, tail_at, close_at}
 use Rattle.typst_edits.specs.Edit.{text_with, AllEndBy, AllBeginIn}
 use Rattle.typst_edits.specs.InnerJoint.{onwards_past, left_past}
@@ -34,19 +34,18 @@ use Rattle.typst_edits.proofs.Edit.{before-same}
 use Rattle.typst_edits.proofs.Inside.{same_in-at}
 use Rattle.typst_edits.proofs.EmptyRuns.{hand-asks, token_look}
 use Rattle.typst_edits.proofs.EmptyRuns.{Never}
-use Rattle.typst_edits.proofs.InnerBytes.{asks_before, content-asks, lead-bare, before-marks}
+use Rattle.typst_edits.proofs.InnerBytes.{asks_before, content-asks, lead-bare, before-marks, past-both}
 use Rattle.typst_edits.proofs.InnerJoint.{block-read, inner-fronted, inner-joint-law}
-use Rattle.typst_edits.proofs.InTurn.{logged-lowered}
+use Rattle.typst_edits.proofs.LogNotes.{logged-lowered}
 use Rattle.typst_edits.proofs.Joint.{known-is}
 use Rattle.typst_edits.proofs.Led.{before_trivia}
 use Rattle.typst_edits.proofs.Outcomes.{shift-twice}
 use Rattle.typst_edits.proofs.PieceAsks.{lifted, lifted-append, lifted_note, lifted-count, lifted-ends, lifted-shift, begins-lowered, begins-both, begins-further, next-none, Cut, cut, again as again-any, Plain, side-in}
 use Rattle.typst_edits.proofs.Reached.{Reached}
 use Rattle.typst_edits.proofs.Resumed.{block-reached}
-use Rattle.typst_edits.proofs.RunSplice.{first_look, first-shift, unshifted, noted-last, noted-first, end-marked, onwards-begin}
+use Rattle.typst_edits.proofs.RunSplice.{first_look, first-shift, unshifted, onwards-begin}
 use Rattle.typst_edits.proofs.RunTrees.{chained-asks}
-use Rattle.typst_edits.proofs.Seen.{AllSeen, seen-first, sees-level}
-use Rattle.typst_edits.proofs.Sides.{Side, entries_at, back_at, count-append, count-shift, count-none, side-by, same-at, splice-sides}
+use Rattle.typst_edits.proofs.Sides.{entries_at, back_at, count-append, count-shift, count-none, side-by, same-at, splice-texts}
 use Rattle.typst_edits.proofs.Bytes.{both-end}
 
 -- ---- the look at a first token without trivia before it
@@ -168,15 +167,6 @@ late-is a f n gap end left seen hand behind asks after hand_is behind_is sum =
     ∙ ap (λ d. looked d seen ∷ (lifted a f (shift n behind) ++ shift (end + left) after)) at
     ∙ ap (λ u. looked (end + 0) seen ∷ u) (ap (λ u. u ++ shift (end + left) after) rest ∙ ap (λ u. shift end (lowered f asks) ++ u) (sym (shift-twice end left after)) ∙ sym (map-append (shift_one end) (lowered f asks) (shift left after)))
 
--- what is asked after known trivia, with what is after it
-past-both : (q : Outcome (Bool × ℕ)) (tail : Outcome (Unit {0})) (close asks : List Ask) (gap more : ℕ) → q.asks ++ shift q.taken tail.asks ≡ shift gap asks → q.taken + tail.taken ≡ gap + more
-    → q.asks ++ shift q.taken (tail.asks ++ shift tail.taken close) ≡ shift gap (asks ++ shift more close)
-past-both q tail close asks gap more is took =
-    ap (λ ls. q.asks ++ ls) (map-append (shift_one q.taken) tail.asks (shift tail.taken close) ∙ ap (λ ls. shift q.taken tail.asks ++ ls) (shift-twice q.taken tail.taken close))
-    ∙ sym (append_assoc q.asks (shift q.taken tail.asks) (shift (q.taken + tail.taken) close))
-    ∙ ap (λ ls. ls ++ shift (q.taken + tail.taken) close) is ∙ ap (λ j. shift gap asks ++ shift j close) took
-    ∙ ap (λ ls. shift gap asks ++ ls) (sym (shift-twice gap more close)) ∙ sym (map-append (shift_one gap) asks (shift more close))
-
 -- a run at its start, where no piece is read
 start-known : (r : Sequence) (i n : ℕ) (t : Trivia) → (then_end i n r).state.known ≡ Some t → i + n ≡ 0 → r.point.known ≡ Some t
 start-known r zero zero t h e = h
@@ -288,21 +278,11 @@ inner-splice-law k levels front old new rest c i n m past t u among h none none_
     ∙ whole-cut c.at f d.taken j.taken v.taken c.before (asks_before k levels w s) cuts.early (looks_next q ls_new i) (asks_of (then_of i m q)) _ (shift (stop + left) c.after) _ p once.is
     ∙ ap (λ a. (c.before ++ (lifted c.at f a ++ lifted at_new f cuts.early)) ++ noting (lifted_note at_new f p) ∷ (own_new ++ more_new)) opens_new
     ∙ ap (λ a. (c.before ++ (lifted c.at f opens ++ lifted a f cuts.early)) ++ noting (lifted_note a f p) ∷ (own_new ++ more_new)) at_same in
-    let upto = first ++ noting note ∷ [] in
     let early : AllEndBy (length front) first =
     both-end (length front) c.before _ h.pieces.looks.before (both-end (length front) (lifted c.at f opens) (lifted at f cuts.early) (lifted-ends c.at f (length front) opens h.pieces.looks.opens)
     (lifted-ends at f (length front) cuts.early (cuts.ends (length front) at h.pieces.looks.before_run))) in
-    let all_seen = (sees-level (rules k) k max_depth whole z0 (start_point markup_reading) (length front) (omega arith)).noted in
-    let noted_all = seen-first (length front) upto (own ++ more_old) (subst (AllSeen (length front)) (was ∙ sym (append_assoc first (noting note ∷ []) (own ++ more_old))) all_seen) (end-marked (length front) first note early) in
     let note_new : lifted_note at_new f (note_at q d.state i) ≡ note = ap (λ a. lifted_note a f (note_at q d.state i)) at_same ∙ ap (lifted_note at f) once.note in
-    let one : Side max_depth z0 note own (own ++ more_old) (entries_at max_depth z0 end last) (back_at max_depth z0 end last) = side_old in
-    let two : Side max_depth w0 note own_new (own_new ++ more_new) (entries_at max_depth z0 end last) (back_at max_depth z0 end last) =
-    subst (λ a. Side max_depth w0 a own_new (own_new ++ more_new) (entries_at max_depth z0 end last) (back_at max_depth z0 end last)) note_new (side-by max_depth _ _ _ _ _ _ _ _ alike.entries alike.back side_new) in
-    let law = splice-sides max_depth front (old ++ rest) (new ++ rest) first note own (own ++ more_old) own_new (own_new ++ more_new) (entries_at max_depth z0 end last) (back_at max_depth z0 end last) early
-    (noted-first (length front) first (noting note ∷ []) noted_all) (noted-last (length front) first note noted_all) one two in
     -- in numbers
-    let units_was = units_of (logged max_depth z0 no_log (first ++ noting note ∷ (own ++ more_old))) in
-    let part = entries_from (token_start w0 note) (logged max_depth w0 no_log own_new).notes in
     let pieces = asks_of (first_of i r) in
     let own_pieces = asks_of (then_of i n r) in
     let opens_none = lifted-count c.at f opens ∙ count-none opens (before-marks k levels Never z s) in
@@ -314,9 +294,6 @@ inner-splice-law k levels front old new rest c i n m past t u among h none none_
     lifted-count at f (own_of r ls i n) ∙ count-append (looks_next r ls i) _ ∙ ap (λ a. a + notes_in (shift e.taken own_pieces)) (next-none r b.state ls i (lead-bare k levels z s)) ∙ omega (arith, count-shift e.taken own_pieces) in
     let log_is : logged max_depth w0 no_log own_new ≡ pieces_log_in k levels i m c w0 =
     logged-lowered max_depth f at_new w0 no_log (own_of q ls_new i m) ∙ ap (λ a. logged a (moved at_new w0) no_log (own_of q ls_new i m)) h.pieces.level ∙ ap (λ a. logged (suc levels) a no_log (own_of q ls_new i m)) (moved-sum c.at d.taken w0) in
-    ap (λ a. units_of (logged max_depth w0 no_log a)) now ∙ law
-    ∙ ap (λ a. spliced a (a + notes_in own) part units_was) from_is
-    ∙ ap (λ a. spliced from (from + a) part units_was) own_is
-    ∙ ap (λ (a : Noting). spliced from (from + notes_in own_pieces) (entries_from (token_start w0 a) (logged max_depth w0 no_log own_new).notes) units_was) (sym note_new)
-    ∙ ap (λ a. spliced from (from + notes_in own_pieces) (entries_from (token_start w0 (end_note_in k levels i c w0)) a.notes) units_was) log_is
-    ∙ ap (λ a. spliced from (from + notes_in own_pieces) (entries_from (token_start w0 (end_note_in k levels i c w0)) (pieces_log_in k levels i m c w0).notes) (units_of (logged max_depth z0 no_log a))) (sym was)
+    splice-texts k front old new rest first note (lifted_note at_new f (note_at q d.state i)) own (own ++ more_old) own_new (own_new ++ more_new) (entries_at max_depth z0 end last) (back_at max_depth z0 end last) from (notes_in own_pieces)
+    was now note_new early side_old (side-by max_depth _ _ _ _ _ _ _ _ alike.entries alike.back side_new) from_is own_is
+    ∙ ap (λ a. spliced from (from + notes_in own_pieces) (entries_from (token_start w0 (end_note_in k levels i c w0)) a.notes) (units_of (log k (front ++ (old ++ rest))))) log_is

@@ -22,11 +22,11 @@ use Rattle.typst_edits.specs.Joint.{minds, passed, Exchanged, Meets, text_run, p
 use Rattle.typst_edits.specs.Runs.{AllGo, End, chain, piece_at, lead, pieces, end_at, pieces_from, end_from, rest_from, tail, whole_of}
 use Rattle.typst_edits.proofs.Edit.{before-same, after-same}
 use Rattle.typst_edits.proofs.Inside.{same_in-at}
-use Rattle.typst_edits.proofs.Led.{SameJudged, before_trivia, drop-front, Takes}
+use Rattle.typst_edits.proofs.Led.{SameJudged, before_trivia, drop-front, Takes, Fronted}
 use Rattle.typst_edits.proofs.Meeting.{ReadAs, read-made, Met, met}
 use Rattle.typst_edits.proofs.Runs.{moved-three}
 use Rattle.typst_edits.proofs.Root.{whole-is, split-at, first-same}
-use Rattle.typst_edits.proofs.Turns.{takes-expr, Fronted, Taking, fronted-same}
+use Rattle.typst_edits.proofs.Turns.{takes-expr, Taking, fronted-same}
 
 -- both outcomes, if the same stands after the trivia
 pub exchanged : {A : Type 0} (t u : Trivia) (us : List Tree) (o n c : Outcome A) → Fronted t us o c → Fronted u us n c → Exchanged t u o n

@@ -1,5 +1,5 @@
 -- What is known of the trivia at hand keeps a property, if the property holds of what was asked and of what a flush leaves.
-use Rattle.std.proofs.Common.{◌≡◌, ℕ, zero, suc, Bool, false, ◌&&◌, if◌then◌else◌, nat_lt, List, [], ◌∷◌, Option, Some, None, refl, sym, subst}
+use Rattle.std.proofs.Common.{◌≡◌, ℕ, zero, suc, false, List, [], ◌∷◌, Option, Some, None, refl, sym, subst}
 use Rattle.typst_kinds.specs.declared.mode.SyntaxMode.{SyntaxMode}
 use Rattle.typst_lines.specs.Place.{Place, moved}
 use Rattle.typst_tree.specs.Tree.{Tree}
@@ -10,13 +10,13 @@ use Rattle.typst_language.specs.Hand.{Hand, known_by, hand_at}
 use Rattle.typst_language.specs.Knot.{Rules, meaning_of, level_of}
 use Rattle.typst_language.specs.Point.{Trivia, Point}
 use Rattle.typst_language.specs.Shape.{Shape, after_node, after_shape}
-use Rattle.typst_language.specs.Syntax.{Op, Begin, Parser}
+use Rattle.typst_language.specs.Syntax.{Op, Parser}
 use Rattle.typst_language.specs.Syntax.Op.{hand, so, further, column, erred, takes, takes_so, flushes, complains, advises, marks, is_deepest}
-use Rattle.typst_language.specs.Syntax.Parser.{gives, does, next, pick, repeat, wraps, grows, nests, scoped, either, calls, block}
-use Rattle.typst_language.specs.Meaning.{Outcome, Meaning, Level, plain, joined, answered, turns, as_last, bound, repeated, before, inside, reshaped, grown, is_more, growths, growing, nestings, nesting, given_up, bounded, same_mode, left, entered, flushed_state, done, run}
+use Rattle.typst_language.specs.Meaning.{Outcome, Meaning, Level, joined, inside, reshaped, grown, same_mode, left, flushed_state, done, run}
 use Rattle.typst_language.proofs.Places.{moved-sum}
 use Rattle.typst_language.proofs.Runs.{shape-held, shape-known}
-use Rattle.typst_language.proofs.Within.{on_both, grew}
+use Rattle.typst_language.proofs.Within.{on_both}
+use Rattle.typst_edits.proofs.Traversal.{Parts, all-run}
 
 -- ---- how a flush leaves the state
 
@@ -26,9 +26,6 @@ flushed-as s (t ∷ ts) = (refl, refl)
 
 pub flushed-held : (h : Hand) (s : Point) → (flushed_state h s).held ≡ s.held
 flushed-held h s = (flushed-as s h.trivia).0
-
-pub flushed-reading : (h : Hand) (s : Point) → (flushed_state h s).reading ≡ s.reading
-flushed-reading h s = (flushed-as s h.trivia).1
 
 -- ---- a property of what is known, by how the token at hand is read and the place
 
@@ -59,16 +56,6 @@ module _ (P : Saying) (stays : Stays P) where
   pub holds-joined : {A B : Type 0} (k : CharClasses) (z : Place) (o : Outcome B) (p : Outcome A) → Holds P k (moved p.taken (moved o.taken z)) p.state → Holds P k (moved (joined o p).taken z) (joined o p).state
   holds-joined k z o p h = holds-at k p.state _ _ (moved-sum o.taken p.taken z) h
 
-  -- ---- the law
-
-  holds-turns : {A : Type 0} (k : CharClasses) (m : A → Meaning (Bool × A)) → ((x : A) → Keeps P k (m x)) → (n : ℕ) (x : A) → Keeps P k (turns m n x)
-  holds-turns k m h zero x z s r = r
-  holds-turns k m h (suc n) x z s r =
-      let o = m x z s in
-      let p = turns m n o.value.1 (moved o.taken z) o.state in
-      let t = h x z s r in
-      on_both (λ u. Holds P k (moved u.taken z) u.state) (o.value.0 && nat_lt 0 o.taken) (joined o p) (as_last o) (holds-joined k z o p (holds-turns k m h n o.value.1 (moved o.taken z) o.state t)) t
-
   holds-reshaped : {A : Type 0} (k : CharClasses) (z : Place) (shape : Shape) (n : ℕ) (o : Outcome A) → Holds P k (moved o.taken z) o.state → Holds P k (moved (reshaped shape n o).taken z) (reshaped shape n o).state
   holds-reshaped k z shape n o h =
       let ts = inside n o in
@@ -78,23 +65,21 @@ module _ (P : Saying) (stays : Stays P) where
   holds-grown k z n None o h = h
   holds-grown k z n (Some shape) o h = holds-reshaped k z shape n o h
 
-  holds-growths : {A : Type 0} (k : CharClasses) (m : A → Meaning (Option Shape × A)) → ((x : A) → Keeps P k (m x)) → (n i : ℕ) (o : Outcome A) (z : Place) → Holds P k (moved o.taken z) o.state → Holds P k (moved (growths m n i o z).taken z) (growths m n i o z).state
-  holds-growths k m f n zero o z h = h
-  holds-growths k m f n (suc i) o z h =
-      let p = m o.value (moved o.taken z) o.state in
-      let g = holds-grown k z n p.value.0 (answered p.value.1 (joined o p)) (holds-joined k z o p (f o.value (moved o.taken z) o.state h)) in
-      on_both (λ u. Holds P k (moved u.taken z) u.state) (is_more p.value.0 && nat_lt 0 p.taken) (growths m n i (grew n o p) z) (grew n o p) (holds-growths k m f n i (grew n o p) z g) g
+  -- From such a place a part of a reading ends at such a place.
+  abbrev Ends : CharClasses → (A : Type 0) → Place → Point → Outcome A → Type 0
+  Ends k A z s o = Holds P k z s → Holds P k (moved o.taken z) o.state
 
-  holds-nestings : {A : Type 0} (k : CharClasses) (f : A → Shape) (begin : Begin) (m : A → Meaning (Bool × A)) → ((x : A) → Keeps P k (m x)) → (n : ℕ) (x : A) → Keeps P k (nestings f begin m n x)
-  holds-nestings k f begin m h zero x z s r = r
-  holds-nestings k f begin m h (suc n) x z s r =
-      let o = m x z s in
-      let p = nestings f begin m n o.value.1 (moved o.taken z) o.state in
-      let b = o.value.0 && nat_lt 0 o.taken in
-      let q = if b then joined o p else as_last o in
-      let t = h x z s r in
-      holds-reshaped k z (f q.value) (before begin s) q
-      (on_both (λ u. Holds P k (moved u.taken z) u.state) b (joined o p) (as_last o) (holds-joined k z o p (holds-nestings k f begin m h n o.value.1 (moved o.taken z) o.state t)) t)
+  ends : (k : CharClasses) → Parts (Ends k)
+  ends k = record {
+    nothing = λ A z s a h. h;
+    both = λ A B z s o p f g h. holds-joined k z o p (g (f h));
+    answer = λ A B z s b o f h. f h;
+    in_shape = λ A z s shape n o f h. holds-reshaped k z shape n o (f h);
+    in_scope = λ A z s r o f h. holds-left k (moved o.taken z) s.reading o.state (f h);
+    instead = λ A z s o p f g h. g h;
+  }
+
+  -- ---- the law
 
   module _ (l : Level) where
     holds-done : {A : Type 0} (o : Op A) → Keeps P l.classes (done l o)
@@ -115,28 +100,7 @@ module _ (P : Saying) (stays : Stays P) where
 
     module _ (d : (c : Call) → Keeps P l.classes (l.deeper c)) where
       pub holds-run : {A : Type 0} (p : Parser A) → Keeps P l.classes (run l p)
-      unfolding run repeated growing nesting
-      holds-run (gives a) z s h = h
-      holds-run (does o) z s h = holds-done o z s h
-      holds-run (next p f) z s h =
-          let o = run l p z s in
-          holds-joined l.classes z o (run l (f o.value) (moved o.taken z) o.state) (holds-run (f o.value) (moved o.taken z) o.state (holds-run p z s h))
-      holds-run (pick b p q) z s h = on_both (λ o. Holds P l.classes (moved o.taken z) o.state) b (run l p z s) (run l q z s) (holds-run p z s h) (holds-run q z s h)
-      holds-run (repeat p x) z s h = holds-turns l.classes (λ y. run l (p y)) (λ y. holds-run (p y)) (suc (bound z s)) x z s h
-      holds-run (wraps f begin p) z s h =
-          let o = run l p z s in
-          holds-reshaped l.classes z (f o.value) (before begin s) o (holds-run p z s h)
-      holds-run (grows begin p f) z s h = holds-growths l.classes (λ y. run l (f y)) (λ y. holds-run (f y)) (before begin s) (suc (bound z s)) (run l p z s) z (holds-run p z s h)
-      holds-run (nests f begin p x) z s h = holds-nestings l.classes f begin (λ y. run l (p y)) (λ y. holds-run (p y)) (suc (bound z s)) x z s h
-      holds-run (scoped f p) z s h = let t = entered (f s.reading) s in holds-left l.classes (moved (run l p z t).taken z) s.reading (run l p z t).state (holds-run p z t h)
-      holds-run (either p is_wrong q) z s h =
-          let o = run l p z s in
-          on_both (λ u. Holds P l.classes (moved u.taken z) u.state) (is_wrong o.value) (given_up o (run l q z s)) o (holds-run q z s h) (holds-run p z s h)
-      holds-run (calls c) z s h = d c z s h
-      holds-run (block b) z s h =
-          let o = done l flushes z s in
-          let p = bounded b (l.blocks b) (moved o.taken z) o.state in
-          on_both (λ u. Holds P l.classes (moved u.taken z) u.state) (l.has b) (joined o p) (plain tt s) (holds-joined l.classes z o p (stays.none l.classes _ _)) h
+      holds-run p = all-run (Ends l.classes) (ends l.classes) l (λ A o. holds-done o) d (λ b z s h. stays.none l.classes _ _) p
 
   module _ (r : Rules) (k : CharClasses) where
     pub holds-meaning : (levels : ℕ) (call : Call) → Keeps P k (meaning_of r k levels call)

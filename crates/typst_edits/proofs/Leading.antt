@@ -40,8 +40,8 @@ use Rattle.typst_edits.specs.Sequence.{Sequence, turn_of, first_of, first_end, t
 use Rattle.typst_edits.specs.Spot.{Spot, last_node, unit_at, ended}
 use Rattle.typst_edits.proofs.BlockRuns.{sane as in-sane, content-split}
 use Rattle.typst_edits.proofs.Blocks.{ends as block-ends, last-is}
-use Rattle.typst_edits.proofs.Boundary.{KnownAt, first-of, turn-goes, going-on, known-made}
-use Rattle.typst_edits.proofs.Children.{given-together, tidy-together, stretch-is, back-law, run-apart, text-known}
+use Rattle.typst_edits.proofs.Boundary.{KnownAt, turn-goes, known-made}
+use Rattle.typst_edits.proofs.Children.{Fronts, fronts-joined, turn-fronts, pieces-front, given-together, tidy-together, stretch-is, back-law, run-apart, text-known}
 use Rattle.typst_edits.proofs.Edit.{among, trees-of}
 use Rattle.typst_edits.proofs.Fitting.{same-here}
 use Rattle.typst_edits.proofs.Fronts.{Full, full-append, full-less}
@@ -50,13 +50,13 @@ use Rattle.typst_edits.proofs.InnerJoint.{inner-fronted, block-taking}
 use Rattle.typst_edits.proofs.Inside.{Lawful}
 use Rattle.typst_edits.proofs.Joint.{onwards-fronted, text-taking}
 use Rattle.typst_edits.proofs.Law.{inside-level}
-use Rattle.typst_edits.proofs.Led.{before_trivia, drop-front, less-behind, Led, led-joined}
+use Rattle.typst_edits.proofs.Led.{before_trivia, drop-front, less-behind}
 use Rattle.typst_edits.proofs.Runs.{repeated-chain, chain-state, chain-taken, moved-three}
 use Rattle.typst_edits.proofs.RunTrees.{standing-none, tree-is}
 use Rattle.typst_edits.proofs.SpotPlaces.{width-encodes}
 use Rattle.typst_edits.proofs.Text.{content-reads}
 use Rattle.typst_edits.proofs.TokenNodes.{NoMarkup, bracket-plain, close-plain}
-use Rattle.typst_edits.proofs.Turns.{Taking, turn-led, stopped}
+use Rattle.typst_edits.proofs.Turns.{Taking, stopped}
 use Rattle.typst_edits.proofs.Widths.{width-none}
 use Rattle.typst_edits.proofs.Every.{first_or}
 
@@ -136,15 +136,6 @@ block-leads k levels z s = record {
   known = record { trivia = _; is = refl };
 }
 
--- It gives the trivia and then a node that isn't empty, as it does after them.
-pub record Fronts {A : Type 0} (t : Trivia) (o : Outcome A) : Type 0 where
-  pub trims : Bool
-  pub behind : Outcome A
-  pub led : Led t t.nodes trims o behind
-
-fronts-joined : {A B : Type 0} (t : Trivia) (o : Outcome B) (q : Outcome A) → Fronts t o → Tidy o.state q → Fronts t (joined o q)
-fronts-joined t o q f tidy = record { trims = f.trims; behind = joined f.behind q; led = led-joined t t.nodes f.trims o f.behind q f.led (subst (λ s. Tidy s q) f.led.state tidy) }
-
 module _ (r : Sequence) (leads : Leads r) where
   abbrev pub turn : Bool × ℕ → Meaning (Bool × (Bool × ℕ))
   turn x = turn_of r x
@@ -152,19 +143,11 @@ module _ (r : Sequence) (leads : Leads r) where
   pub sane : (x : Bool × ℕ) → Sane (turn x)
   sane x = sane-run r.level leads.taking.calls_sane leads.taking.blocks_sane (markup_turn true r.stops x)
 
-  -- a turn that isn't stopped
-  pub turn-fronts : (x : Bool × ℕ) (z : Place) (s : Point) (t : Trivia) → s.known ≡ Some t → ends r.stops x.1 (as_at_hand (hand_of r.level z s)).kind ≡ false → Fronts t (turn x z s)
-  turn-fronts x z s t is go =
-      let b = before_trivia s.reading s.held s.empties s.is_after_error t in
-      let same : s ≡ b = ap (λ u. record s { known = u }) is in
-      let go_there : ends r.stops x.1 (as_at_hand (hand_of r.level z b)).kind ≡ false = subst (λ p. ends r.stops x.1 (as_at_hand (hand_of r.level z p)).kind ≡ false) same go in
-      subst (λ p. Fronts t (turn x z p)) (sym same) (record { trims = _; behind = _; led = turn-led r.level r.stops leads.taking x z s.reading s.held s.empties s.is_after_error t go_there })
-
   turn-goes-on : (x : Bool × ℕ) (z : Place) (s : Point) (t : Trivia) → s.known ≡ Some t → ends r.stops x.1 (as_at_hand (hand_of r.level z s)).kind ≡ false → goes (turn x z s) ≡ true
   turn-goes-on x z s t is go =
       let o = turn x z s in
-      let led = (turn-fronts x z s t is go).led in
-      let some : 0 < o.taken = omega (arith, led.some, led.taken) in
+      let led = (turn-fronts r.level r.stops leads.taking x z s t is go).led in
+      let some : 0 < o.taken = omega (arith, led.some, led.front.taken) in
       ap (λ b. b && nat_lt 0 o.taken) (turn-goes r.level r.stops x z s go) ∙ lt-ltb 0 o.taken some
 
   -- Where none goes on, the run ends.
@@ -174,17 +157,6 @@ module _ (r : Sequence) (leads : Leads r) where
       by-end : (b : Bool) → ends r.stops x.1 (as_at_hand (hand_of r.level z s)).kind ≡ b → b ≡ true
       by-end true e = refl
       by-end false e = let d : true ≡ false = sym (turn-goes-on x z s there.trivia there.is e) ∙ stopped in cc
-
-  -- some pieces
-  pieces-front : (n : ℕ) (x : Bool × ℕ) (z : Place) (s : Point) (t : Trivia) → s.known ≡ Some t → 0 < n → AllGo (made turn n x z s)
-      → Fronts t (together (end_of x s (made turn n x z s)).state (made turn n x z s))
-  pieces-front zero x z s t is some g = absurd (omega (arith, some))
-  pieces-front (suc n) x z s t is some g =
-      let o = turn x z s in
-      let y = moved o.taken z in
-      let os = made turn n o.value.1 y o.state in
-      fronts-joined t o (together (end_of o.value.1 o.state os).state os) (turn-fronts x z s t is (going-on r.level r.stops x z s (first-of o.value.0 (nat_lt 0 o.taken) g.0)))
-      (tidy-together turn (λ v. (sane v).backs) n o.value.1 y o.state)
 
   -- all after some pieces, where another follows
   rest-front : (x : Bool × ℕ) (z : Place) (s : Point) (t : Trivia) (last : Outcome (Unit {0})) → s.known ≡ Some t → Tidy (repeated turn x z s).state last → ends r.stops x.1 (as_at_hand (hand_of r.level z s)).kind ≡ false
@@ -196,7 +168,7 @@ module _ (r : Sequence) (leads : Leads r) where
       let w = moved (o.taken + 0) z in
       let q = repeated turn o.value.1 w o.state in
       let parts : p ≡ joined o q = repeated-chain turn (λ v. (sane v).within) 1 x z s (turn-goes-on x z s t is go, tt) in
-      let one = fronts-joined t o q (turn-fronts x z s t is go) ((sane-run r.level leads.taking.calls_sane leads.taking.blocks_sane (repeat (markup_turn true r.stops) o.value.1)).backs w o.state) in
+      let one = fronts-joined t o q (turn-fronts r.level r.stops leads.taking x z s t is go) ((sane-run r.level leads.taking.calls_sane leads.taking.blocks_sane (repeat (markup_turn true r.stops) o.value.1)).backs w o.state) in
       fronts-joined t p last (subst (λ u. Fronts t u) (sym parts) one) tidy
 
   flush-nodes : (z : Place) (s : Point) (t : Trivia) → s.known ≡ Some t → (run r.level flush_trivia z s).nodes ≡ t.nodes
@@ -289,15 +261,15 @@ module _ (r : Sequence) (leads : Leads r) where
         let there_known = known-made r.level r.stops i (true, 0) r.place r.point leads.known g in
         let us = pending e.state.known in
         let us_is : us ≡ there_known.trivia.nodes = ap pending there_known.is in
-        let o = pieces-front n e.value w e.state there_known.trivia there_known.is some h in
+        let o = pieces-front r.level r.stops leads.taking n e.value w e.state there_known.trivia there_known.is some h in
         let empties = ap (λ (s : Point). s.empties) p-state in
-        let short : back < length o.led.rest = omega (arith, few, o.led.few, ap (λ (s : Point). s.empties) o.led.state, empties) in
-        let kept = less back o.led.rest in
+        let short : back < length o.led.front.rest = omega (arith, few, o.led.few, ap (λ (s : Point). s.empties) o.led.state, empties) in
+        let kept = less back o.led.front.rest in
         let right = (kept ++ ts) ++ rest in
-        let mine : less back p.nodes ≡ us ++ kept = ap (less back) o.led.nodes ∙ less-behind back there_known.trivia.nodes o.led.rest (omega (arith, short)) ∙ ap (λ xs. xs ++ kept) (sym us_is) in
+        let mine : less back p.nodes ≡ us ++ kept = ap (less back) o.led.front.nodes ∙ less-behind back there_known.trivia.nodes o.led.front.rest (omega (arith, short)) ∙ ap (λ xs. xs ++ kept) (sym us_is) in
         let all : kids ≡ (before ++ us) ++ right =
         is ∙ ap (λ xs. before ++ ((xs ++ ts) ++ rest)) mine ∙ ap (λ xs. before ++ (xs ++ rest)) (append_assoc us kept ts) ∙ ap (λ xs. before ++ xs) (append_assoc us (kept ++ ts) rest) ∙ sym (append_assoc before us right) in
-        let full = full-append (kept ++ ts) rest (full-append kept ts (full-less back o.led.rest short o.led.full)) in
+        let full = full-append (kept ++ ts) rest (full-append kept ts (full-less back o.led.front.rest short o.led.full)) in
         let text_is : texts (before ++ us) ≡ utf8_ahead (e.taken + gap_of e.state.known) r.place =
         texts-append before us ∙ ap (λ xs. xs ++ texts us) before-text ∙ ap (λ xs. utf8_ahead e.taken r.place ++ xs) (pending-text w e.state.known stands-e) ∙ text-add e.taken (gap_of e.state.known) r.place in
         let begins : from + bytes_of (before ++ us) ≡ at = omega (arith, ap length text_is, from-start (e.taken + gap_of e.state.known), from_is, at_is) in
@@ -323,7 +295,7 @@ module _ (r : Sequence) (leads : Leads r) where
     next-leads from at kids rest t last known_there from_is at_is tidy go few nodes is =
         let o = joined (rest_of i n r) last in
         let front = rest-front f.value (then_place i n r) f.state t last known_there tidy go in
-        let rest_is : front.led.rest ≡ rest = sym (ap (drop (length t.nodes)) front.led.nodes ∙ drop-front t.nodes front.led.rest (length t.nodes) refl) ∙ ap (drop (length t.nodes)) nodes ∙ drop-front t.nodes rest (length t.nodes) refl in
+        let rest_is : front.led.front.rest ≡ rest = sym (ap (drop (length t.nodes)) front.led.front.nodes ∙ drop-front t.nodes front.led.front.rest (length t.nodes) refl) ∙ ap (drop (length t.nodes)) nodes ∙ drop-front t.nodes rest (length t.nodes) refl in
         let olds = less o.back p.nodes ++ t.nodes in
         let all : kids ≡ (before ++ olds) ++ rest = is ∙ sym (append_assoc before olds rest) in
         subst (λ d. LeadsAt from kids at d) (length-append before olds) (leads-at from kids (before ++ olds) rest at all (subst (λ xs. Full xs) rest_is front.led.full) (ends-at from at o.back t known_there from_is at_is few))

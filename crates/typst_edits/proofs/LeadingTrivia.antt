@@ -1,17 +1,14 @@
 -- Pieces give the trivia before them first, so the exchange of children is the same without these.
-use Rattle.std.proofs.Common.{◌≡◌, ℕ, zero, suc, ◌+◌, ◌<◌, ◌≤◌, Bool, true, nat_lt, List, [], ◌∷◌, ◌++◌, length, drop, length-append, append_assoc, append-nil, Some, refl, ap, sym, ◌∙◌, subst, arith}
+use Rattle.std.proofs.Common.{◌≡◌, ℕ, zero, suc, ◌+◌, ◌<◌, ◌≤◌, Bool, true, List, [], ◌∷◌, ◌++◌, length, drop, length-append, append_assoc, append-nil, Some, refl, ap, sym, ◌∙◌, subst, arith}
 use Rattle.typst_kinds.specs.declared.kind.SyntaxKind.{SyntaxKind}
 use Rattle.typst_kinds.specs.declared.kind.SyntaxKind.TheVariants as kind
 use Rattle.typst_lines.specs.Place.{Place, moved}
 use Rattle.typst_lines.specs.Classes.{CharClasses}
 use Rattle.typst_tree.specs.Tree.{Tree, forest, trees, inner_of}
-use Rattle.typst_language.specs.declared.reading.Reading.{Reading}
 use Rattle.typst_language.specs.Depth.{is_end}
 use Rattle.typst_language.specs.Point.{Trivia, Point, pending}
 use Rattle.typst_language.specs.Meaning.{Meaning, Level, plain, less, run}
-use Rattle.typst_language.specs.Sound.{Tidy}
-use Rattle.typst_language.proofs.Knot.{sane-run}
-use Rattle.typst_grammar.specs.Markup.{ends, ends_block, markup_turn}
+use Rattle.typst_grammar.specs.Markup.{ends_block, markup_turn}
 use Rattle.typst_grammar.specs.Grammar.{level_at, max_depth, tree}
 use Rattle.typst_edits.specs.BlockRuns.{inner, run_at}
 use Rattle.typst_edits.specs.Children.{exchanged, together, with_children, standing_before, nodes_with}
@@ -24,14 +21,14 @@ use Rattle.typst_edits.specs.LeadingTrivia.{LeadingTriviaLaw, InnerLeadingTrivia
 use Rattle.typst_edits.specs.Runs.{made, AllGo, End, end_of, lead, pieces, end_at, pieces_from, end_from}
 use Rattle.typst_edits.specs.Sequence.{first_of, first_end, then_of, then_end}
 use Rattle.typst_edits.specs.Spot.{Spot}
-use Rattle.typst_edits.proofs.Boundary.{KnownAt, first-of, going-on, known-made}
-use Rattle.typst_edits.proofs.Children.{exchanged-is, tidy-together, top-known, behind-back, children-law}
+use Rattle.typst_edits.proofs.Boundary.{KnownAt, known-made}
+use Rattle.typst_edits.proofs.Children.{exchanged-is, pieces-front, top-known, behind-back, children-law}
 use Rattle.typst_edits.proofs.InnerChildren.{in-behind, inner-children-law, with-run, tree-by-block}
 use Rattle.typst_edits.proofs.InnerJoint.{block-taking}
-use Rattle.typst_edits.proofs.Joint.{joint-law, known-is, text-taking}
-use Rattle.typst_edits.proofs.Led.{none-less, less-behind, drop-front, before_trivia, led-joined}
+use Rattle.typst_edits.proofs.Joint.{joint-law, text-taking}
+use Rattle.typst_edits.proofs.Led.{none-less, less-behind, drop-front}
 use Rattle.typst_edits.proofs.Runs.{chain-state}
-use Rattle.typst_edits.proofs.Turns.{Taking, turn-led}
+use Rattle.typst_edits.proofs.Turns.{Taking}
 use Rattle.typst_edits.proofs.BlockRuns.{first-same}
 
 -- ---- stretches of nodes
@@ -74,28 +71,19 @@ module _ (l : Level) (stops : SyntaxKind → Bool) (taking : Taking l stops) whe
   abbrev Led_by : ℕ → ℕ → List Tree → Bool × ℕ → Place → Point → Type 0
   Led_by n back us x z s = (let os = made turn n x z s in let e = end_of x s os in AllGo os → back ≤ e.state.empties → pending e.state.known ≡ us → Leads (pending s.known) (less back (together e.state os).nodes ++ us))
 
-  leads-before : (n back : ℕ) (us : List Tree) (x : Bool × ℕ) (z : Place) (r h : Reading) (e : ℕ) (a : Bool) (t : Trivia) → Led_by (suc n) back us x z (before_trivia r h e a t)
-  leads-before n back us x z r h e a t g few known =
-      let s = before_trivia r h e a t in
-      let o = turn x z s in
-      let y = moved o.taken z in
-      let os = made turn n o.value.1 y o.state in
-      let end = end_of o.value.1 o.state os in
-      let q = together end.state os in
-      let led = turn-led l stops taking x z r h e a t (going-on l stops x z s (first-of o.value.0 (nat_lt 0 o.taken) g.0)) in
-      let tidy = tidy-together turn (λ v. (sane-run l taking.calls_sane taking.blocks_sane (markup_turn true stops v)).backs) n o.value.1 y o.state in
-      let all = led-joined t t.nodes _ o _ q led (subst (λ p. Tidy p q) led.state tidy) in
-      let there = ap (λ (p : Point). p.empties) (chain-state os (plain (tt {0}) end.state)) in
-      record {
-        rest = less back all.rest ++ us;
-        is = ap (λ ts. less back ts ++ us) all.nodes ∙ ap (λ ts. ts ++ us) (less-behind back t.nodes all.rest (omega (arith, all.few, few, there))) ∙ append_assoc t.nodes (less back all.rest) us;
-      }
-
   -- The nodes of some pieces without the last, with the trivia after them, begin with the trivia before them.
   pub leads-pieces : (n back : ℕ) (us : List Tree) (x : Bool × ℕ) (z : Place) (s : Point) → KnownAt s → Led_by n back us x z s
   leads-pieces zero back us x z s at g few known = record { rest = []; is = ap (λ ts. ts ++ us) (none-less back) ∙ sym known ∙ sym (append-nil (pending s.known)) }
   leads-pieces (suc n) back us x z s at g few known =
-      subst (Led_by (suc n) back us x z) (sym (known-is l.classes s at.trivia at.is)) (leads-before n back us x z s.reading s.held s.empties s.is_after_error at.trivia) g few known
+      let f = (pieces-front l stops taking (suc n) x z s at.trivia at.is (omega arith) g).led in
+      let os = made turn (suc n) x z s in
+      let there = ap (λ (p : Point). p.empties) (chain-state os (plain (tt {0}) (end_of x s os).state)) in
+      let kept = less back f.front.rest in
+      record {
+        rest = kept ++ us;
+        is = ap (λ ts. less back ts ++ us) f.front.nodes ∙ ap (λ ts. ts ++ us) (less-behind back at.trivia.nodes f.front.rest (omega (arith, f.few, few, there, ap (λ (p : Point). p.empties) f.state)))
+            ∙ append_assoc at.trivia.nodes kept us ∙ ap (λ v. pending v ++ (kept ++ us)) (sym at.is);
+      }
 
 -- ---- the run of a text
 

@@ -70,23 +70,27 @@ none-of false false hs js e f = ap (λ u. u ++ js) e ∙ f
 
 -- ---- one outcome after the trivia, and one that has them before it
 
--- `back` says that no error is taken back, except where that is said of the token.
-pub record Led {A : Type 0} (t : Trivia) (us : List Tree) (trims : Bool) (o c : Outcome A) : Type 0 where
+-- One gives the trivia, and one has others there.
+pub record Fronted {A : Type 0} (t : Trivia) (us : List Tree) (o c : Outcome A) : Type 0 where
   pub value : o.value ≡ c.value
   pub taken : o.taken ≡ t.gap + c.taken
-  pub some : 0 < c.taken
-  pub state : o.state ≡ c.state
   pub back : o.back ≡ c.back
-  pub none : trims ≡ false → c.back ≡ 0
   pub hints : o.hints ≡ []
   pub hints_too : c.hints ≡ []
   pub rest : List Tree
   pub nodes : o.nodes ≡ t.nodes ++ rest
   pub nodes_too : c.nodes ≡ us ++ rest
-  pub full : Full rest
-  pub few : c.state.empties < length rest
   pub asks : o.asks ≡ shift t.gap c.asks
   pub met : o.met ≡ c.met
+
+-- One goes on after it; `back` says that no error is taken back, except where that is said of the token.
+pub record Led {A : Type 0} (t : Trivia) (us : List Tree) (trims : Bool) (o c : Outcome A) : Type 0 where
+  pub front : Fronted t us o c
+  pub some : 0 < c.taken
+  pub state : o.state ≡ c.state
+  pub none : trims ≡ false → c.back ≡ 0
+  pub full : Full front.rest
+  pub few : c.state.empties < length front.rest
 
 pub standing-led : {A B : Type 0} (xs rest : List Tree) (o : Outcome B) (q : Outcome A) → o.nodes ≡ xs ++ rest → q.back < length rest → standing q o.nodes ≡ xs ++ (hinted q.hints (less q.back rest) ++ q.nodes)
 standing-led xs rest o q e h =
@@ -97,79 +101,80 @@ standing-led xs rest o q e h =
 -- After it everything is the same.
 pub led-joined : {A B : Type 0} (t : Trivia) (us : List Tree) (trims : Bool) (o c : Outcome B) (q : Outcome A) → Led t us trims o c → Tidy c.state q → Led t us trims (joined o q) (joined c q)
 led-joined t us trims o c q h tidy =
-    let short : q.back < length h.rest = omega (arith, h.few, tidy.back) in
-    let one = length-append t.nodes h.rest in
-    let two = length-append us h.rest in
-    let long : length o.nodes ≡ length (t.nodes ++ h.rest) = ap length h.nodes in
-    let long_too : length c.nodes ≡ length (us ++ h.rest) = ap length h.nodes_too in
+    let short : q.back < length h.front.rest = omega (arith, h.few, tidy.back) in
+    let one = length-append t.nodes h.front.rest in
+    let two = length-append us h.front.rest in
+    let long : length o.nodes ≡ length (t.nodes ++ h.front.rest) = ap length h.front.nodes in
+    let long_too : length c.nodes ≡ length (us ++ h.front.rest) = ap length h.front.nodes_too in
     record {
-      value = refl;
-      taken = omega (arith, h.taken);
+      front = record {
+        value = refl;
+        taken = omega (arith, h.front.taken);
+        back = omega (arith, h.front.back, short, one, two, long, long_too);
+        hints = hints-first o q (omega (arith, short, one, long)) ∙ h.front.hints;
+        hints_too = hints-first c q (omega (arith, short, two, long_too)) ∙ h.front.hints_too;
+        rest = hinted q.hints (less q.back h.front.rest) ++ q.nodes;
+        nodes = standing-led t.nodes h.front.rest o q h.front.nodes short;
+        nodes_too = standing-led us h.front.rest c q h.front.nodes_too short;
+        asks = ap (λ ls. ls ++ shift o.taken q.asks) h.front.asks ∙ ap (λ n. shift t.gap c.asks ++ shift n q.asks) h.front.taken
+            ∙ ap (λ ls. shift t.gap c.asks ++ ls) (sym (shift-twice t.gap c.taken q.asks)) ∙ sym (map-append (shift_one t.gap) c.asks (shift c.taken q.asks));
+        met = ap (λ b. b || q.met) h.front.met;
+      };
       some = omega (arith, h.some);
       state = refl;
-      back = omega (arith, h.back, short, one, two, long, long_too);
       none = λ f. (let none = h.none f in omega (arith, none, short, two, long_too));
-      hints = hints-first o q (omega (arith, short, one, long)) ∙ h.hints;
-      hints_too = hints-first c q (omega (arith, short, two, long_too)) ∙ h.hints_too;
-      rest = hinted q.hints (less q.back h.rest) ++ q.nodes;
-      nodes = standing-led t.nodes h.rest o q h.nodes short;
-      nodes_too = standing-led us h.rest c q h.nodes_too short;
-      full = full-append (hinted q.hints (less q.back h.rest)) q.nodes (full-hinted q.hints (less q.back h.rest) (full-less q.back h.rest short h.full));
-      few = omega (arith, h.few, tidy.back, tidy.left, length-append (hinted q.hints (less q.back h.rest)) q.nodes, length-less q.back h.rest, length-hinted q.hints (less q.back h.rest));
-      asks = ap (λ ls. ls ++ shift o.taken q.asks) h.asks ∙ ap (λ n. shift t.gap c.asks ++ shift n q.asks) h.taken
-          ∙ ap (λ ls. shift t.gap c.asks ++ ls) (sym (shift-twice t.gap c.taken q.asks)) ∙ sym (map-append (shift_one t.gap) c.asks (shift c.taken q.asks));
-      met = ap (λ b. b || q.met) h.met;
+      full = full-append (hinted q.hints (less q.back h.front.rest)) q.nodes (full-hinted q.hints (less q.back h.front.rest) (full-less q.back h.front.rest short h.full));
+      few = omega (arith, h.few, tidy.back, tidy.left, length-append (hinted q.hints (less q.back h.front.rest)) q.nodes, length-less q.back h.front.rest, length-hinted q.hints (less q.back h.front.rest));
     }
 
 pub led-then : {A B : Type 0} (t : Trivia) (us : List Tree) (trims : Bool) (z : Place) (o c : Outcome B) (f : B → Meaning A) → ((b : B) → Backs (f b)) → Led t us trims o c → Led t us trims (followed o f z) (followed c f (moved t.gap z))
 led-then t us trims z o c f tidy h =
     let w = moved t.gap z in
-    let there : moved o.taken z ≡ moved c.taken w = ap (λ n. moved n z) h.taken ∙ moved-sum t.gap c.taken z in
+    let there : moved o.taken z ≡ moved c.taken w = ap (λ n. moved n z) h.front.taken ∙ moved-sum t.gap c.taken z in
     let same : f o.value (moved o.taken z) o.state ≡ f c.value (moved c.taken w) c.state =
-    ap (λ v. f v (moved o.taken z) o.state) h.value ∙ ap (λ y. f c.value y o.state) there ∙ ap (f c.value (moved c.taken w)) h.state in
+    ap (λ v. f v (moved o.taken z) o.state) h.front.value ∙ ap (λ y. f c.value y o.state) there ∙ ap (f c.value (moved c.taken w)) h.state in
     subst (λ q. Led t us trims (joined o q) (joined c (f c.value (moved c.taken w) c.state))) (sym same) (led-joined t us trims o c _ h (tidy c.value (moved c.taken w) c.state))
 
 -- after a question
-pub led-asked : {A B : Type 0} (t : Trivia) (us : List Tree) (trims : Bool) (v : B) (s r : Point) (ls ks : List Ask) (m : Bool) (o c : Outcome A) → ls ≡ shift t.gap ks → Led t us trims o c
-    → Led t us trims (joined (record (plain v s) { asks = ls; met = m }) o) (joined (record (plain v r) { asks = ks; met = m }) c)
-led-asked t us trims v s r ls ks m o c e h =
+pub fronted-asked : {A B : Type 0} (t : Trivia) (us : List Tree) (v : B) (s r : Point) (ls ks : List Ask) (m : Bool) (o c : Outcome A) → ls ≡ shift t.gap ks → Fronted t us o c
+    → Fronted t us (joined (record (plain v s) { asks = ls; met = m }) o) (joined (record (plain v r) { asks = ks; met = m }) c)
+fronted-asked t us v s r ls ks m o c e h =
     record {
       value = h.value;
       taken = omega (arith, h.taken);
-      some = omega (arith, h.some);
-      state = h.state;
       back = omega (arith, h.back);
-      none = λ f. (let none = h.none f in omega (arith, none));
       hints = none-of (nat_lt o.back 0) (nat_lt 0 o.back) [] o.hints refl h.hints;
       hints_too = none-of (nat_lt c.back 0) (nat_lt 0 c.back) [] c.hints refl h.hints_too;
       rest = h.rest;
       nodes = ap (λ hs. hinted hs (less o.back []) ++ o.nodes) h.hints ∙ ap (λ ts. ts ++ o.nodes) (none-less o.back) ∙ h.nodes;
       nodes_too = ap (λ hs. hinted hs (less c.back []) ++ c.nodes) h.hints_too ∙ ap (λ ts. ts ++ c.nodes) (none-less c.back) ∙ h.nodes_too;
-      full = h.full;
-      few = h.few;
       asks = ap (λ js. js ++ shift 0 o.asks) e ∙ ap (λ js. shift t.gap ks ++ js) (shift-zero o.asks ∙ h.asks ∙ ap (shift t.gap) (sym (shift-zero c.asks))) ∙ sym (map-append (shift_one t.gap) ks (shift 0 c.asks));
       met = ap (λ b. m || b) h.met;
     }
 
+pub led-asked : {A B : Type 0} (t : Trivia) (us : List Tree) (trims : Bool) (v : B) (s r : Point) (ls ks : List Ask) (m : Bool) (o c : Outcome A) → ls ≡ shift t.gap ks → Led t us trims o c
+    → Led t us trims (joined (record (plain v s) { asks = ls; met = m }) o) (joined (record (plain v r) { asks = ks; met = m }) c)
+unfolding fronted-asked
+led-asked t us trims v s r ls ks m o c e h =
+    record {
+      front = fronted-asked t us v s r ls ks m o c e h.front;
+      some = omega (arith, h.some);
+      state = h.state;
+      none = λ f. (let none = h.none f in omega (arith, none));
+      full = h.full;
+      few = h.few;
+    }
+
 -- with other answers, states and looks
-pub led-like : {A B : Type 0} (t : Trivia) (us : List Tree) (trims : Bool) (o c : Outcome B) (v w : A) (p q : Point) (ls ks : List Ask) (h : Led t us trims o c) → v ≡ w → p ≡ q → q.empties < length h.rest → ls ≡ shift t.gap ks
+pub led-like : {A B : Type 0} (t : Trivia) (us : List Tree) (trims : Bool) (o c : Outcome B) (v w : A) (p q : Point) (ls ks : List Ask) (h : Led t us trims o c) → v ≡ w → p ≡ q → q.empties < length h.front.rest → ls ≡ shift t.gap ks
     → Led t us trims (record (answered v o) { state = p; asks = ls }) (record (answered w c) { state = q; asks = ks })
-led-like t us trims o c v w p q ls ks h e f few g = record {
-  value = e;
-  taken = h.taken;
+led-like t us trims o c v w p q ls ks h e f few a = record {
+  front = (let g = h.front in record { value = e; taken = g.taken; back = g.back; hints = g.hints; hints_too = g.hints_too; rest = g.rest; nodes = g.nodes; nodes_too = g.nodes_too; asks = a; met = g.met });
   some = h.some;
   state = f;
-  back = h.back;
   none = h.none;
-  hints = h.hints;
-  hints_too = h.hints_too;
-  rest = h.rest;
-  nodes = h.nodes;
-  nodes_too = h.nodes_too;
   full = h.full;
   few = few;
-  asks = g;
-  met = h.met;
 }
 
 -- ---- nodes
@@ -177,28 +182,30 @@ led-like t us trims o c v w p q ls ks h e f few g = record {
 pub led-wrapped : {A : Type 0} (t : Trivia) (us : List Tree) (f : A → Shape) (n m : ℕ) (o c : Outcome A) → n ≡ length t.nodes → m ≡ length us → Led t us false o c → Led t us false (wrapped f n o) (wrapped f m c)
 led-wrapped t us f n m o c e d h =
     let none = h.none refl in
-    let i : n + o.back ≡ length t.nodes = omega (arith, none, h.back, e) in
+    let i : n + o.back ≡ length t.nodes = omega (arith, none, h.front.back, e) in
     let j : m + c.back ≡ length us = omega (arith, none, d) in
-    let in_o : inside n o ≡ h.rest = ap (drop (n + o.back)) h.nodes ∙ drop-front t.nodes h.rest (n + o.back) i in
-    let in_c : inside m c ≡ h.rest = ap (drop (m + c.back)) h.nodes_too ∙ drop-front us h.rest (m + c.back) j in
+    let in_o : inside n o ≡ h.front.rest = ap (drop (n + o.back)) h.front.nodes ∙ drop-front t.nodes h.front.rest (n + o.back) i in
+    let in_c : inside m c ≡ h.front.rest = ap (drop (m + c.back)) h.front.nodes_too ∙ drop-front us h.front.rest (m + c.back) j in
     record {
-      value = ap (λ v. (v, map seen (inside n o))) h.value ∙ ap (λ ts. (c.value, map seen ts)) (in_o ∙ sym in_c);
-      taken = h.taken;
+      front = record {
+        value = ap (λ v. (v, map seen (inside n o))) h.front.value ∙ ap (λ ts. (c.value, map seen ts)) (in_o ∙ sym in_c);
+        taken = h.front.taken;
+        back = h.front.back;
+        hints = h.front.hints;
+        hints_too = h.front.hints_too;
+        rest = shaped (f c.value) h.front.rest;
+        nodes = ap (λ ts. take (n + o.back) o.nodes ++ shaped (f o.value) ts) in_o ∙ ap (λ v. take (n + o.back) o.nodes ++ shaped (f v) h.front.rest) h.front.value
+            ∙ ap (λ ts. ts ++ shaped (f c.value) h.front.rest) (ap (take (n + o.back)) h.front.nodes ∙ take-front t.nodes h.front.rest (n + o.back) i);
+        nodes_too = ap (λ ts. take (m + c.back) c.nodes ++ shaped (f c.value) ts) in_c
+            ∙ ap (λ ts. ts ++ shaped (f c.value) h.front.rest) (ap (take (m + c.back)) h.front.nodes_too ∙ take-front us h.front.rest (m + c.back) j);
+        asks = h.front.asks;
+        met = h.front.met;
+      };
       some = h.some;
-      state = ap (λ v. after_shape (f v) (inside n o) o.state) h.value ∙ ap (λ ts. after_shape (f c.value) ts o.state) (in_o ∙ sym in_c) ∙ ap (after_shape (f c.value) (inside m c)) h.state;
-      back = h.back;
+      state = ap (λ v. after_shape (f v) (inside n o) o.state) h.front.value ∙ ap (λ ts. after_shape (f c.value) ts o.state) (in_o ∙ sym in_c) ∙ ap (after_shape (f c.value) (inside m c)) h.state;
       none = h.none;
-      hints = h.hints;
-      hints_too = h.hints_too;
-      rest = shaped (f c.value) h.rest;
-      nodes = ap (λ ts. take (n + o.back) o.nodes ++ shaped (f o.value) ts) in_o ∙ ap (λ v. take (n + o.back) o.nodes ++ shaped (f v) h.rest) h.value
-          ∙ ap (λ ts. ts ++ shaped (f c.value) h.rest) (ap (take (n + o.back)) h.nodes ∙ take-front t.nodes h.rest (n + o.back) i);
-      nodes_too = ap (λ ts. take (m + c.back) c.nodes ++ shaped (f c.value) ts) in_c
-          ∙ ap (λ ts. ts ++ shaped (f c.value) h.rest) (ap (take (m + c.back)) h.nodes_too ∙ take-front us h.rest (m + c.back) j);
-      full = full-shaped (f c.value) h.rest h.full;
-      few = subst (λ ts. (after_shape (f c.value) ts c.state).empties < length (shaped (f c.value) h.rest)) (sym in_c) (few-shaped (f c.value) h.rest c.state h.full h.few);
-      asks = h.asks;
-      met = h.met;
+      full = full-shaped (f c.value) h.front.rest h.full;
+      few = subst (λ ts. (after_shape (f c.value) ts c.state).empties < length (shaped (f c.value) h.front.rest)) (sym in_c) (few-shaped (f c.value) h.front.rest c.state h.full h.few);
     }
 
 -- ---- words
@@ -244,21 +251,23 @@ module _ (l : Level) (h : Reading) (z : Place) (t u : Trivia) (alike : SameJudge
         let room : len_at l.classes h.mode (moved t.gap z) ≤ length (moved t.gap z).ahead = omega arith in
         let full = full-taken l.classes making x z some room in
         record {
-          value = refl;
-          taken = omega arith;
+          front = record {
+            value = refl;
+            taken = omega arith;
+            back = same-back trims e d same;
+            hints = refl;
+            hints_too = refl;
+            rest = tree ∷ [];
+            nodes = refl;
+            nodes_too = refl;
+            asks = asks-behind;
+            met = refl;
+          };
           some = omega (arith, some);
           state = same-renewed (is_error tree.head.kind) (text_of tree) r h e d a b t (after_trivia u);
-          back = same-back trims e d same;
           none = no-back trims d;
-          hints = refl;
-          hints_too = refl;
-          rest = tree ∷ [];
-          nodes = refl;
-          nodes_too = refl;
           full = full;
           few = few-node (is_error tree.head.kind) (text_of tree) (before_trivia r h d b (after_trivia u)) 1 full (omega arith);
-          asks = asks-behind;
-          met = refl;
         }
 
   pub takes-next : {A B : Type 0} (trims : Bool) (p : Parser B) (f : B → Parser A) → ((b : B) → Backs (run l (f b))) → Takes h z t u trims (run l p) → Takes h z t u trims (run l (next p f))
@@ -291,7 +300,7 @@ module _ (l : Level) (h : Reading) (z : Place) (t u : Trivia) (alike : SameJudge
       let i = k (f r) e d a b same in
       let o = run l p z (before_trivia (f r) h e a t) in
       let c = run l p (moved t.gap z) (before_trivia (f r) h d b (after_trivia u)) in
-      led-like t u.nodes trims o c o.value c.value (left r o.state) (left r c.state) o.asks c.asks i i.value (ap (left r) i.state) (omega (arith, left-empties r c.state, i.few)) i.asks
+      led-like t u.nodes trims o c o.value c.value (left r o.state) (left r c.state) o.asks c.asks i i.front.value (ap (left r) i.state) (omega (arith, left-empties r c.state, i.few)) i.front.asks
 
   pub takes-wraps : {A : Type 0} (f : A → Shape) (p : Parser A) → Takes h z t u false (run l p) → Takes h z t u false (run l (wraps f at_token p))
   unfolding run
@@ -303,4 +312,4 @@ module _ (l : Level) (h : Reading) (z : Place) (t u : Trivia) (alike : SameJudge
       let i = k r e d a b same in
       let o = l.deeper call z (before_trivia r h e a t) in
       let c = l.deeper call (moved t.gap z) (before_trivia r h d b (after_trivia u)) in
-      led-like t u.nodes trims o c o.value c.value o.state c.state (sunk o.asks) (sunk c.asks) i i.value i.state i.few (ap sunk i.asks ∙ sunk-shift t.gap c.asks)
+      led-like t u.nodes trims o c o.value c.value o.state c.state (sunk o.asks) (sunk c.asks) i i.front.value i.state i.few (ap sunk i.front.asks ∙ sunk-shift t.gap c.asks)

@@ -1,6 +1,6 @@
 -- From what a contract promises to the lemma behind it:
 --   block_law: edit              Text: of a whole text; Law: for every parser; Inside, Spots, Grows, Wrap, Outcomes: word by word; Blocks: each block's node; Edit: looks
---     that the block fits        Fitting; Content: a content block; Enclosed: what stands between brackets; Clear: a block begins at no trivia; Reached: what is known of trivia is all of them; Known: what stays true of what is known
+--     that the block fits        Fitting; Content: a content block; Enclosed: what stands between brackets; Clear: a block begins at no trivia; Reached: what is known of trivia is all of them; Known: what stays true of what is known; Traversal: what holds of whatever the language can say, word by word
 --   block_law: names             Names: each block is the one of its name, between its marks; SpotWalk: what holds of each block of a reading, word by word
 --   complete_law                 Complete: word by word, by the notes of the log
 --   standing_law: blocks         StandingLevels: of a whole text; Standing: word by word; Seats: a spot at a position, and in what nodes become; Positions: what holds at each position; CleanTokens: what holds of each token's node
@@ -9,17 +9,17 @@
 --   joint_law                    Joint: of a whole text; InnerJoint: of a content block; Meeting: any run; Turns: each head of markup, and how a run is read; Led: each word before a token is taken
 --   children_law                 Children: of a whole text; InnerChildren: of a content block; LeadingTrivia: without the trivia before the pieces
 --   head_law                     Heads: any run; NoneBack: in both texts
---   decision_law                 Bytes: the log; Boundary: where pieces of any run end; RunBytes: of a whole text; InnerBytes: of a content block; Widths: characters and bytes; Within: looks are at places of the text
+--   decision_law                 Bytes: where looks end and begin; LogNotes: the notes of a log, and what their numbers say; Boundary: where pieces of any run end; RunNotes: the note there, in the log of its text; RunBytes: of a whole text; InnerBytes: of a content block; Widths: characters and bytes; Within: looks are at places of the text
 --   replaced_law                 Replaced
 --   empty_run_law                EmptyRuns: of a whole text; EmptyBlocks: of a content block
 --   candidates_law               BareCandidates, CandidatePlaces
 --   notes_law                    PieceNotes: of a whole text and of a content block; BlockLog: a block's two notes in the log; Marks: in any list of asks
 --   numbered_notes_law           NumberedNotes: of a whole text and of a content block; InTurn: the marks of a run in turn; NoteNumbers, InnerNumbers: the number of a note; Cuts: where the tokens after pieces begin
---   rising_law                   Upward: marks in order, in whatever the language can say; Rising: by where they stand; InOrder: by their tokens; OpensApart: those where blocks begin; Nested: how they stand in each other; NestedInner: between the two notes of a block
+--   rising_law                   Upward: marks in order, in whatever the language can say; Rising: by where they stand; InOrder: by their tokens; OpensApart: those where blocks begin; Nested: how they stand in each other; BlockLog: of any block; NestedInner: between the two notes of a block
 --   leading_law                  Leading: of a whole text and of a content block; Fronts: nodes of which the first isn't empty
 --   block_worth_law              BlockWorth
 --   part_law                     BlockPart
---   splice_law                   Splice: of any asks; BlockSplice: of a block; RunSplice: of pieces of a text's run; InnerSplice: of pieces of a block's; PieceAsks: what is asked of them; Sides: what stands after a note; Seen: what is noted was looked at; Forward: trivia look ahead alone
+--   splice_law                   Splice: notes before a stretch and after it; BlockSplice: of a block; RunSplice: of pieces of a text's run; InnerSplice: of pieces of a block's; PieceAsks: what is asked of them; Sides: what stands after a note, and of any asks; Seen: what is noted was looked at; Forward: trivia look ahead alone
 --   one_reading_law              OneReading; KeptNodes: in the old tree
 --   block_test_law               BlockTest: entries and the block by itself; EntryNumbers: a block's two notes among the entries; CandidateBlocks: the candidate's node in a hole; BlockPlaces: the block there, by bytes; SecondPlaces: one that a reading that was given up covers
 --   pieces_test_law              ReadAlone: pieces read by themselves, of any run; PiecesTest: of a whole text
@@ -29,7 +29,7 @@
 --   run_numbers_law              RunNumbers: of a whole text; InnerRunNumbers: of a content block; FoundPieces: of any run; NestedPieces: of nested notes
 --   path_law                     Walk: the steps; SpotPlaces: where a block stands; Placed: what stands before it
 --   root_worth_law               RootWorth
---   root_pieces_law              RootPieces; RootCandidates: its candidates begin well; CandidateEnds: of any run; QuietTrivia: what is known of trivia clings; MarkupCandidates: where candidates come from; InnerCuts: the cuts of a run
+--   root_pieces_law              RootPieces; RootCandidates: its candidates begin well; RunCandidates, CandidateEnds: of any run; QuietTrivia: what is known of trivia clings; MarkupCandidates: where candidates come from; InnerCuts: the cuts of a run
 --   inner_candidate_law          InnerCandidates; MarkupCandidates: from which run a candidate comes; InnerCuts: the cuts of a block's run; CandidateEnds: where a stretch of children ends
 --   pieces_worth_law             RootPieces: at the root; InnerPieces: in a content block; RootCandidates: candidates at the root begin well; CandidateEnds: of any run; QuietTrivia: what is known of trivia clings; MarkupCandidates: where candidates come from; InnerCuts: the cuts of a run
 --   inner_worth_law              InnerWorth
@@ -41,6 +41,7 @@
 --   joints_of_texts              computed (laws); Begins: the test of looks
 --   answers_of_texts, blocks_of_texts, origins_of_texts, runs_of_texts, splices_of_texts, inner_splices_of_texts, conditions_of_texts, rare_conditions_of_texts      computed (laws)
 pub mod Every
+pub mod Traversal
 pub mod SpotWalk
 pub mod Outcomes
 pub mod Wrap
@@ -78,6 +79,7 @@ pub mod Joint
 pub mod InnerJoint
 pub mod Within
 pub mod Widths
+pub mod LogNotes
 pub mod Bytes
 pub mod Seen
 pub mod Splice
@@ -85,6 +87,7 @@ pub mod BlockSplice
 pub mod BlockWorth
 pub mod Marks
 pub mod Boundary
+pub mod RunNotes
 pub mod RunBytes
 pub mod InnerBytes
 pub mod RunTrees
@@ -136,6 +139,7 @@ pub mod QuietTrivia
 pub mod MarkupCandidates
 pub mod Deepest
 pub mod InnerCuts
+pub mod RunCandidates
 pub mod RootCandidates
 pub mod InnerCandidates
 pub mod CandidateRuns

@@ -1,11 +1,11 @@
 -- The marks in a list of asks.
-use Rattle.std.proofs.Common.{◌≡◌, ℕ, zero, suc, ◌+◌, ◌-◌, Bool, true, false, if◌then◌else◌, List, [], ◌∷◌, ◌++◌, length, append_assoc, append-nil, Option, Some, None, refl, ap, sym, ◌∙◌}
+use Rattle.std.proofs.Common.{◌≡◌, ℕ, zero, suc, ◌+◌, ◌-◌, max, min, Bool, true, false, if◌then◌else◌, List, [], ◌∷◌, ◌++◌, length, Option, Some, None, refl}
 use Rattle.typst_kinds.specs.declared.kind.SyntaxKind.TheVariants as kind
 use Rattle.typst_kinds.specs.Kinds.{same}
 use Rattle.typst_kinds.specs.declared.mode.SyntaxMode.{SyntaxMode}
 use Rattle.typst_lines.specs.Place.{Place, moved}
 use Rattle.typst_lines.specs.Classes.{CharClasses}
-use Rattle.typst_tokens.specs.Sight.{position, hull_of}
+use Rattle.typst_tokens.specs.Sight.{position, far, near}
 use Rattle.typst_language.specs.declared.calls.Mark.{Mark}
 use Rattle.typst_language.specs.declared.calls.Note.{Note}
 use Rattle.typst_language.specs.declared.reading.Newlines.{Newlines}
@@ -14,7 +14,6 @@ use Rattle.typst_language.specs.declared.reading.State.{State}
 use Rattle.typst_language.specs.Ask.{Ask, shift, sunk}
 use Rattle.typst_language.specs.Ask.Ask.{looked, marked}
 use Rattle.typst_language.specs.Hand.{len_at, at_trivia, asks_by, ahead_asks, ahead_of, asks_column, column_asks, hand_asks, as_at_hand}
-use Rattle.typst_language.specs.Log.{Log, with_hull, with_note, logged}
 use Rattle.typst_language.specs.Point.{Trivia, Point}
 use Rattle.typst_language.specs.Meaning.{Outcome, Level, plain, joined, hand_of, hand_asks_of, asked, done, run}
 use Rattle.typst_language.specs.Shape.Making.{itself}
@@ -22,8 +21,8 @@ use Rattle.typst_language.specs.Steps.{close_if}
 use Rattle.typst_language.specs.Syntax.Op.{takes}
 use Rattle.typst_language.proofs.Within.{on_both}
 use Rattle.typst_edits.specs.Spot.{lowered}
-use Rattle.typst_edits.proofs.Bytes.{noted-more}
 use Rattle.typst_edits.proofs.Every.{Every}
+use Rattle.typst_edits.proofs.LogNotes.{none_yet, notes_from}
 
 -- Each of them has a property, by its place, by how many levels fewer are left there, by what it says, and by the state.
 abbrev pub AllMarks : (ℕ → ℕ → Mark → State → Type 0) → List Ask → Type 0
@@ -106,20 +105,10 @@ pub record NoteOf (P : ℕ → ℕ → Mark → State → Type 0) (lv : ℕ) (z 
   pub levels : n.levels ≡ lv - fewer
   pub state : n.state ≡ told
 
--- a given number of further notes, each that of a mark
-pub record NotedEach (P : ℕ → ℕ → Mark → State → Type 0) (lv : ℕ) (z : Place) (ns : List Note) (h : Log) : Type 0 where
-  pub more : List Note
-  pub is : h.notes ≡ Some (ns ++ more)
-  pub each : Every (NoteOf P lv z) more
-
-pub noted-each : (P : ℕ → ℕ → Mark → State → Type 0) (lv : ℕ) (z : Place) (asks : List Ask) (h : Log) (ns : List Note) → h.notes ≡ Some ns → AllMarks P asks → NotedEach P lv z ns (logged lv z h asks)
-noted-each P lv z [] h ns e a = record { more = []; is = e ∙ ap Some (sym (append-nil ns)); each = tt }
-noted-each P lv z (looked at look ∷ asks) h ns e a = noted-each P lv z asks (with_hull (hull_of look (moved at z)) h) ns e a
-noted-each P lv z (marked at gap fewer m s ∷ asks) h ns e a =
-    let note : Note = record { mark = m; before = position (moved at z); start = position (moved gap (moved at z)); levels = lv - fewer; state = s; reach = h.reach; least = h.least } in
-    let i = noted-each P lv z asks (with_note gap (lv - fewer) m s (moved at z) h) (ns ++ note ∷ []) (noted-more note h.notes ns e) a.1 in
-    record {
-      more = note ∷ i.more;
-      is = i.is ∙ ap Some (append_assoc ns (note ∷ []) i.more);
-      each = (record { at = at; fewer = fewer; says = m; told = s; holds = a.0; mark = refl; before = refl; levels = refl; state = refl }, i.each);
-    }
+pub every-note : (P : ℕ → ℕ → Mark → State → Type 0) (lv : ℕ) (z : Place) (asks : List Ask) (reach least : ℕ) → AllMarks P asks → Every (NoteOf P lv z) (notes_from lv z reach least asks)
+every-note P lv z [] reach least a = tt
+every-note P lv z (looked at look ∷ asks) reach least a = every-note P lv z asks (max reach (far look.front (moved at z))) (min least (near look.back (moved at z))) a
+every-note P lv z (marked at gap fewer m s ∷ asks) reach least a = (
+  record { at = at; fewer = fewer; says = m; told = s; holds = a.0; mark = refl; before = refl; levels = refl; state = refl },
+  every-note P lv z asks 0 none_yet a.1,
+)

@@ -20,8 +20,8 @@ use Rattle.typst_edits.specs.Joint.{minds, onwards, passed, is_over_at, Meets}
 use Rattle.typst_edits.specs.Runs.{End, made, end_of}
 use Rattle.typst_edits.specs.Sequence.{Sequence}
 use Rattle.typst_edits.proofs.Enclosed.{reading-is}
-use Rattle.typst_edits.proofs.Led.{after_trivia, SameJudged, before_trivia, kind-behind}
-use Rattle.typst_edits.proofs.Turns.{Fronted, fronted-behind, stopped-alike, hand-seen, Taking, fronted-same}
+use Rattle.typst_edits.proofs.Led.{after_trivia, SameJudged, before_trivia, kind-behind, Fronted}
+use Rattle.typst_edits.proofs.Turns.{fronted-behind, stopped-alike, hand-seen, Taking, fronted-same}
 use Rattle.typst_edits.proofs.EmptyRuns.{and-false as none-and}
 
 -- ---- how a run is read

@@ -1,21 +1,19 @@
 -- Marks are nested: pieces of a run say its level, and blocks, with the marks in them, a deeper one.
-use Rattle.std.proofs.Common.{◌≡◌, ℕ, zero, suc, ◌+◌, ◌-◌, ◌≤◌, ◌<◌, Bool, true, false, List, [], ◌∷◌, ◌++◌, append_assoc, append-nil, Some, refl, ap, sym, ◌∙◌, subst, arith}
+use Rattle.std.proofs.Common.{◌≡◌, ℕ, zero, suc, ◌+◌, ◌-◌, ◌≤◌, ◌<◌, max, min, Bool, true, false, List, [], ◌∷◌, ◌++◌, append_assoc, refl, ap, sym, subst, arith}
 use Rattle.std.proofs.lemmas.List.{map-append}
 use Rattle.typst_kinds.specs.declared.kind.SyntaxKind.{SyntaxKind}
 use Rattle.typst_lines.specs.Place.{Place, moved}
 use Rattle.typst_lines.specs.Classes.{CharClasses}
-use Rattle.typst_tokens.specs.Sight.{position, hull_of}
+use Rattle.typst_tokens.specs.Sight.{far, near}
 use Rattle.typst_candidates.specs.Nested.{Nested}
 use Rattle.typst_candidates.specs.Nested.Nested.{none as nothing, piece as one_piece, block as one_block}
 use Rattle.typst_language.specs.declared.calls.Block.{Block}
 use Rattle.typst_language.specs.declared.calls.Mark.{Mark}
 use Rattle.typst_language.specs.declared.calls.Mark.TheVariants as mark
-use Rattle.typst_language.specs.declared.calls.Note.{Note}
 use Rattle.typst_language.specs.declared.reading.State.{State}
 use Rattle.typst_language.specs.Ask.{Ask, shift, shift_one, sunk, sink_one}
 use Rattle.typst_language.specs.Ask.Ask.{looked, marked}
 use Rattle.typst_language.specs.Knot.{meaning_of, level_of, blocks_of}
-use Rattle.typst_language.specs.Log.{Log, no_log, with_hull, with_note, logged}
 use Rattle.typst_language.specs.Point.{Point, forgot, state_of}
 use Rattle.typst_language.specs.Calls.{Call, Answer}
 use Rattle.typst_language.specs.Depth.{anywhere, skip_one, too_deep, deeper}
@@ -31,12 +29,13 @@ use Rattle.typst_grammar.proofs.Guarded.{Guarded, op_notes}
 use Rattle.typst_grammar.proofs.GuardedCode.{guarded-production, guarded-blocks}
 use Rattle.typst_edits.specs.Nested.{NestedLaw}
 use Rattle.typst_edits.specs.Laws.{block_at}
-use Rattle.typst_edits.specs.PieceNotes.{listed}
+use Rattle.typst_edits.specs.Splice.{Noting}
 use Rattle.typst_edits.specs.Spot.{ended}
-use Rattle.typst_edits.proofs.Bytes.{logged-append, noted-more}
+use Rattle.typst_edits.proofs.LogNotes.{none_yet, note_by, notes_from, fresh_notes, next_note, logged-listed, notes-around}
 use Rattle.typst_edits.proofs.Marks.{AllMarks}
 use Rattle.typst_edits.proofs.Rising.{pieces}
-use Rattle.typst_edits.proofs.Upward.{Joins, from-joined, from-turns, from-growths, from-nestings, from-looks, from-hand, from-done}
+use Rattle.typst_edits.proofs.Traversal.{all-turns, all-growths, all-nestings}
+use Rattle.typst_edits.proofs.Upward.{Joins, Spans, from-joined, from-parts, from-looks, from-hand, from-done}
 
 -- ---- marks in a list of asks
 
@@ -139,10 +138,10 @@ module _ (end lo : ℕ) where
         from-joined Nest nest 0 o (run l (f o.value) (moved o.taken z) o.state) (nest-run p q.0 z s) (nest-run (f o.value) (q.1 o.value) (moved o.taken z) o.state)
     nest-run (pick true p r) q z s = nest-run p (q.0 refl) z s
     nest-run (pick false p r) q z s = nest-run r (q.1 refl) z s
-    nest-run (repeat p x) q z s = from-turns Nest nest (λ y. run l (p y)) (λ y. nest-run (p y) (q y)) (suc (bound z s)) x z s
+    nest-run (repeat p x) q z s = all-turns (Spans Nest nest) (from-parts Nest nest) (λ y. run l (p y)) (λ y. nest-run (p y) (q y)) (suc (bound z s)) x z s
     nest-run (wraps f begin p) q z s = nest-run p q z s
-    nest-run (grows begin p f) q z s = from-growths Nest nest (λ y. run l (f y)) (λ y. nest-run (f y) (q.1 y)) (before begin s) (suc (bound z s)) (run l p z s) z (nest-run p q.0 z s)
-    nest-run (nests f begin p x) q z s = from-nestings Nest nest f begin (λ y. run l (p y)) (λ y. nest-run (p y) (q y)) (suc (bound z s)) x z s
+    nest-run (grows begin p f) q z s = all-growths (Spans Nest nest) (from-parts Nest nest) (λ y. run l (f y)) (λ y. nest-run (f y) (q.1 y)) (before begin s) (suc (bound z s)) (run l p z s) z s (nest-run p q.0 z s)
+    nest-run (nests f begin p x) q z s = all-nestings (Spans Nest nest) (from-parts Nest nest) f begin (λ y. run l (p y)) (λ y. nest-run (p y) (q y)) (suc (bound z s)) x z s
     nest-run (scoped f p) q z s = nest-run p q z (entered (f s.reading) s)
     nest-run (either p is_wrong r) q z s =
         let o = run l p z s in
@@ -215,48 +214,26 @@ whole-nests k levels =
 
 -- ---- their notes
 
--- a given number of further notes, which are nested
-pub record NotedNested (lv own : ℕ) (z : Place) (ns : List Note) (h : Log) : Type 0 where
-  pub more : List Note
-  pub is : h.notes ≡ Some (ns ++ more)
-  pub nested : Nested own more
-
-pub noted-nested : (lv own : ℕ) (z : Place) (h : Log) (ns : List Note) (asks : List Ask) → own ≤ lv → h.notes ≡ Some ns → Nests (suc lv) (suc own) asks → NotedNested lv (lv - own) z ns (logged lv z h asks)
-noted-nested lv own z h ns asks low e (bare _ _) = record { more = []; is = e ∙ ap Some (sym (append-nil ns)); nested = nothing (lv - own) }
-noted-nested lv own z h ns asks low e (seen _ _ at look more g) = noted-nested lv own z (with_hull (hull_of look (moved at z)) h) ns more low e g
-noted-nested lv own z h ns asks low e (piece _ _ at gap fewer line brackets s more same g) =
-    let left = lv - fewer in
-    let note : Note = record { mark = mark.Piece line brackets; before = position (moved at z); start = position (moved gap (moved at z)); levels = left; state = s; reach = h.reach; least = h.least } in
-    let r = noted-nested lv own z (with_note gap left (mark.Piece line brackets) s (moved at z) h) (ns ++ note ∷ []) more low (noted-more note h.notes ns e) g in
-    record { more = note ∷ r.more; is = r.is ∙ ap Some (append_assoc ns (note ∷ []) r.more); nested = one_piece (lv - own) note r.more line brackets refl (omega (arith, same)) r.nested }
-noted-nested lv own z h ns asks low e (unit _ _ at gap fewer to space b s t inner later deep short g f) =
-    let left = lv - fewer in
-    let one : Note = record { mark = mark.Opens b; before = position (moved at z); start = position (moved gap (moved at z)); levels = left; state = s; reach = h.reach; least = h.least } in
-    let h1 = with_note gap left (mark.Opens b) s (moved at z) h in
-    let i = noted-nested lv fewer z h1 (ns ++ one ∷ []) inner (omega (arith, short)) (noted-more one h.notes ns e) g in
-    let h2 = logged lv z h1 inner in
-    let two : Note = record { mark = mark.Closes; before = position (moved to z); start = position (moved space (moved to z)); levels = left; state = t; reach = h2.reach; least = h2.least } in
-    let h3 = with_note space left mark.Closes t (moved to z) h2 in
-    let r = noted-nested lv own z h3 (((ns ++ one ∷ []) ++ i.more) ++ two ∷ []) later low (noted-more two h2.notes ((ns ++ one ∷ []) ++ i.more) i.is) f in
-    let flat : (((ns ++ one ∷ []) ++ i.more) ++ two ∷ []) ++ r.more ≡ ns ++ one ∷ (i.more ++ two ∷ r.more) =
-    append_assoc ((ns ++ one ∷ []) ++ i.more) (two ∷ []) r.more ∙ append_assoc (ns ++ one ∷ []) i.more (two ∷ r.more) ∙ append_assoc ns (one ∷ []) (i.more ++ two ∷ r.more) in
-    record {
-      more = one ∷ (i.more ++ two ∷ r.more);
-      is = ap (λ (x : Log). x.notes) (logged-append lv z h1 inner (marked to space fewer mark.Closes t ∷ later)) ∙ r.is ∙ ap Some flat;
-      nested = one_block (lv - own) one two i.more r.more b refl refl refl (omega (arith, low, deep, short)) i.nested r.nested;
-    }
+pub notes-nested : (lv own : ℕ) (z : Place) (asks : List Ask) (reach least : ℕ) → own ≤ lv → Nests (suc lv) (suc own) asks → Nested (lv - own) (notes_from lv z reach least asks)
+notes-nested lv own z asks reach least low (bare _ _) = nothing (lv - own)
+notes-nested lv own z asks reach least low (seen _ _ at look more g) = notes-nested lv own z more (max reach (far look.front (moved at z))) (min least (near look.back (moved at z))) low g
+notes-nested lv own z asks reach least low (piece _ _ at gap fewer line brackets s more same g) =
+    one_piece (lv - own) (note_by lv z reach least at gap fewer (mark.Piece line brackets) s) (fresh_notes lv z more) line brackets refl (omega (arith, same)) (notes-nested lv own z more 0 none_yet low g)
+notes-nested lv own z asks reach least low (unit _ _ at gap fewer to space b s t inner later deep short g f) =
+    let one = note_by lv z reach least at gap fewer (mark.Opens b) s in
+    let closing : Noting = record { at = to; gap = space; fewer = fewer; mark = mark.Closes; state = t } in
+    subst (λ ns. Nested (lv - own) (one ∷ ns)) (sym (notes-around lv z inner closing later))
+    (one_block (lv - own) one (next_note lv z inner closing) (fresh_notes lv z inner) (fresh_notes lv z later) b refl refl refl (omega (arith, low, deep, short))
+    (notes-nested lv fewer z inner 0 none_yet (omega (arith, short)) g) (notes-nested lv own z later 0 none_yet low f))
 
 pub nested-law : NestedLaw
 unfolding log
 nested-law k text =
     let z = start_of text in
-    let r = noted-nested max_depth 0 z no_log [] (parsed k max_depth text).asks (omega arith) refl (whole-nests k max_depth z (start_point markup_reading)) in
-    subst (λ ns. Nested max_depth ns) (sym (ap listed r.is)) r.nested
+    let asks = (parsed k max_depth text).asks in
+    subst (λ ns. Nested max_depth ns) (sym (logged-listed max_depth z asks)) (notes-nested max_depth 0 z asks 0 none_yet (omega arith) (whole-nests k max_depth z (start_point markup_reading)))
 
 -- ---- of a block
 
 pub unit-nests : (k : CharClasses) (levels : ℕ) (b : Block) (z : Place) (s : Point) → Nests (suc levels) 1 (ended (block_at k levels b z s)).asks
 unit-nests k levels b z s = block-nests k levels (call-nests k levels) b z s
-
-pub same-some : {xs ys : List Note} → Some xs ≡ Some ys → xs ≡ ys
-same-some e = ap listed e

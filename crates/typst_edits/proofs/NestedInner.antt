@@ -1,11 +1,11 @@
 -- The notes between the two of a content block are nested, so no other note ends it.
-use Rattle.std.proofs.Common.{◌≡◌, ℕ, suc, ◌<◌, ◌==◌, eq-eqb, Bool, true, nat_lt, List, [], ◌∷◌, ◌++◌, length, drop, length-append, refl, ap, sym, ◌∙◌, subst, arith, ◌-◌}
+use Rattle.std.proofs.Common.{◌≡◌, ℕ, suc, ◌<◌, ◌==◌, eq-eqb, Bool, true, nat_lt, List, [], ◌∷◌, ◌++◌, length, drop, length-append, refl, ap, sym, ◌∙◌, subst, arith}
 use Rattle.typst_language.specs.declared.calls.Note.{Note}
 use Rattle.typst_candidates.specs.Nested.{Nested}
-use Rattle.typst_grammar.specs.Grammar.{start_of, max_depth}
+use Rattle.typst_grammar.specs.Grammar.{start_of}
 use Rattle.typst_grammar.specs.Markup.{ends_block, markup_turn}
 use Rattle.typst_edits.specs.BlockRuns.{run_at}
-use Rattle.typst_edits.specs.Nested.{NestedInnerLaw, NestedBlockLaw}
+use Rattle.typst_edits.specs.Nested.{NestedInnerLaw}
 use Rattle.typst_edits.specs.NumberedNotes.{of_level, NumberedInner}
 use Rattle.typst_edits.specs.PieceNotes.{listed}
 use Rattle.typst_edits.specs.Sequence.{turn_of}
@@ -15,16 +15,7 @@ use Rattle.typst_edits.proofs.NoteNumbers.{level-append}
 use Rattle.typst_edits.proofs.NumberedNotes.{NestedNumbers, nested-numbers}
 use Rattle.typst_edits.proofs.OpensApart.{opens-apart-law}
 use Rattle.typst_edits.proofs.Spots.{if-true}
-use Rattle.typst_lines.specs.Place.{moved}
-use Rattle.typst_language.specs.Log.{Log}
-use Rattle.typst_language.specs.Point.{point_of}
-use Rattle.typst_language.specs.Meaning.{Outcome}
-use Rattle.typst_edits.specs.Spot.{unit_at}
-use Rattle.typst_edits.proofs.BlockLog.{block-log}
-use Rattle.typst_edits.proofs.Bytes.{counted}
 use Rattle.typst_edits.proofs.Every.{first_or}
-use Rattle.typst_edits.proofs.InTurn.{logged-lowered}
-use Rattle.typst_edits.proofs.Nested.{Nests, unit-nests, noted-nested}
 
 -- A list cut at two of its notes: the same, or one of those before or after the other.
 data Cuts (es : List Note) (o : Note) (ahead fs : List Note) (p : Note) (beyond : List Note) : Type 0 where
@@ -89,34 +80,3 @@ nested-inner-law k levels text c chosen name left n =
     by_start (later between e f) =
         let apart = opens-apart-law k text m.earlier between more m.opens n.opens c.name c.name (ap listed m.notes ∙ ap (λ us. m.earlier ++ m.opens ∷ us) f) m.name n.name in
         absurd (omega (arith, apart, n.start, m.start))
-
-pub nested-block-law : NestedBlockLaw
-nested-block-law k text c chosen =
-    let z = start_of text in
-    let d = block-log k text c chosen in
-    let y = moved c.at z in
-    let u = unit_at c z in
-    let lv = max_depth - c.fewer in
-    let front = d.earlier ++ d.opens ∷ [] in
-    let own_nested = subst (λ (v : Outcome (Unit {0})). Nests (suc lv) 1 v.asks) (sym d.reads) (unit-nests k lv c.name y (point_of c.start)) in
-    let nest = noted-nested lv 0 y d.begun front u.asks (omega arith) d.begun_is own_nested in
-    let all_left : lv - 0 ≡ lv = omega arith in
-    let rest = d.rest nest.more (ap (λ (v : Log). v.notes) (logged-lowered max_depth c.fewer c.at z d.begun u.asks) ∙ nest.is) in
-    record {
-      earlier = d.earlier;
-      opens = d.opens;
-      inner = nest.more;
-      closes = d.closes;
-      later = rest.0;
-      notes = rest.1;
-      name = d.name;
-      start = d.start;
-      levels_there = d.levels;
-      name_end = d.name_end;
-      end = d.end;
-      levels_end = d.levels_end;
-      nested = subst (λ v. Nested v nest.more) all_left nest.nested;
-      number = d.number;
-      long = (let n = counted lv y u.asks d.begun front (front ++ nest.more) d.begun_is nest.is in
-          omega (arith, n, length-append front nest.more));
-    }

@@ -10,28 +10,25 @@ use Rattle.typst_language.specs.Point.{Point, point_of}
 use Rattle.typst_language.specs.Steps.{flush_trivia}
 use Rattle.typst_language.specs.Meaning.{Outcome, Meaning, Level, joined, hand_of, hand_asks_of, run}
 use Rattle.typst_language.proofs.Frame.{hand-frame}
-use Rattle.typst_language.proofs.Knot.{sane-at}
 use Rattle.typst_language.proofs.Looks.{same_in-shift, same_in-first, same_in-second}
 use Rattle.typst_language.proofs.Places.{moved-sum}
 use Rattle.typst_grammar.specs.Markup.{ends_block, markup_turn, markup_head}
-use Rattle.typst_grammar.specs.Grammar.{rules, max_depth, level_at}
+use Rattle.typst_grammar.specs.Grammar.{max_depth, level_at}
 use Rattle.typst_edits.specs.BlockRuns.{inner, bracket, inner_lead, run_at, EndsBefore}
-use Rattle.typst_edits.specs.Children.{read_from}
 use Rattle.typst_edits.specs.Edit.{text_with, AllEndBy}
 use Rattle.typst_edits.specs.Heads.{first_place, onwards_by, NoneBackLaw, InnerNoneBackLaw, NoneAfterLaw, InnerNoneAfterLaw, minds_at}
-use Rattle.typst_edits.specs.InnerChildren.{read_in}
 use Rattle.typst_edits.specs.InnerJoint.{onwards_in}
 use Rattle.typst_edits.specs.Joint.{minds, onwards_from, text_run}
-use Rattle.typst_edits.specs.Runs.{made, AllGo, End, end_of, asks_of, lead, pieces, end_at, piece_at}
-use Rattle.typst_edits.specs.Sequence.{turn_of, first_of, first_end, then_end, rest_of, Sequence}
+use Rattle.typst_edits.specs.Runs.{made, AllGo, End, end_of, asks_of, lead, pieces, end_at}
+use Rattle.typst_edits.specs.Sequence.{first_of, first_end, then_end, rest_of, Sequence}
 use Rattle.typst_edits.specs.Spot.{Spot}
-use Rattle.typst_edits.proofs.BlockRuns.{sane, first-same}
+use Rattle.typst_edits.proofs.BlockRuns.{first-same}
 use Rattle.typst_edits.proofs.Boundary.{made-ends, turn-ends}
-use Rattle.typst_edits.proofs.Children.{tidy-together}
+use Rattle.typst_edits.proofs.Children.{back-law}
 use Rattle.typst_edits.proofs.Edit.{before-same}
 use Rattle.typst_edits.proofs.Inside.{same_in-at}
 use Rattle.typst_edits.proofs.Heads.{head-law, inner-head-law}
-use Rattle.typst_edits.proofs.InnerChildren.{both-open}
+use Rattle.typst_edits.proofs.InnerChildren.{both-open, inner-back-law}
 use Rattle.typst_edits.proofs.InnerJoint.{inner-joint-law}
 use Rattle.typst_edits.proofs.Joint.{onwards-is, joint-law}
 use Rattle.typst_edits.proofs.Runs.{moved-three}
@@ -63,11 +60,6 @@ none-left a b h e = omega (arith, h, e)
 
 -- ---- a text's run
 
-text-back : (k : CharClasses) (i n : ℕ) (z : Place) → (read_from k i n z).back ≤ (end_at k i z).state.empties
-text-back k i n z =
-    let e = end_at k i z in
-    (tidy-together (piece_at k) (λ v. (sane-at (rules k) k max_depth (markup_turn true is_end v)).backs) n e.value (moved e.taken z) e.state).back
-
 pub lead-empties : (k : CharClasses) (z : Place) → (lead k z).state.empties ≡ 0
 unfolding run
 lead-empties k z = refl
@@ -97,7 +89,7 @@ pub none-back-law : NoneBackLaw
 none-back-law k front old new rest zero n m past t u h well =
     let z = text_with front old rest in
     let w = text_with front new rest in
-    record { back = none-left _ _ (text-back k 0 n z) (lead-empties k z); back_now = none-left _ _ (text-back k 0 m w) (lead-empties k w) }
+    record { back = none-left _ _ (back-law k (front ++ (old ++ rest)) 0 n).pieces_back (lead-empties k z); back_now = none-left _ _ (back-law k (front ++ (new ++ rest)) 0 m).pieces_back (lead-empties k w) }
 none-back-law k front old new rest (suc i) n m past t u h well =
     let w = text_with front new rest in
     let some : 0 < suc i = omega arith in
@@ -109,12 +101,6 @@ none-back-law k front old new rest (suc i) n m past t u h well =
     }
 
 -- ---- a content block's run
-
-block-back : (k : CharClasses) (levels i n : ℕ) (c : Spot (Unit {0})) (z : Place) → (read_in k levels i n c z).back ≤ (first_end i (run_at k levels c z)).state.empties
-block-back k levels i n c z =
-    let r = run_at k levels c z in
-    let e = first_end i r in
-    (tidy-together (turn_of r) (λ v. (sane k levels (markup_turn true ends_block v)).backs) n e.value (moved e.taken r.place) e.state).back
 
 block-empties : (k : CharClasses) (levels : ℕ) (c : Spot (Unit {0})) (z : Place) → (bracket k levels (moved c.at z) (point_of c.start)).state.empties ≡ 0 → (run_at k levels c z).point.empties ≡ 0
 unfolding run
@@ -149,8 +135,8 @@ inner-none-back-law k levels front old new rest c zero n m past t u chosen h wel
     let w = text_with front new rest in
     let opens = both-open k levels front old new rest c 0 n m past t u chosen h in
     record {
-      back = none-left _ _ (block-back k levels 0 n c z) (block-empties k levels c z opens.old_opens.empties);
-      back_now = none-left _ _ (block-back k levels 0 m c w) (block-empties k levels c w opens.new_opens.empties);
+      back = none-left _ _ (inner-back-law k levels (front ++ (old ++ rest)) c 0 n).pieces_back (block-empties k levels c z opens.old_opens.empties);
+      back_now = none-left _ _ (inner-back-law k levels (front ++ (new ++ rest)) c 0 m).pieces_back (block-empties k levels c w opens.new_opens.empties);
     }
 inner-none-back-law k levels front old new rest c (suc i) n m past t u chosen h well =
     let some : 0 < suc i = omega arith in

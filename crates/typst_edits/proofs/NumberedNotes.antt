@@ -1,9 +1,7 @@
 -- The notes of a run by their numbers.
-use Rattle.std.proofs.Common.{◌≡◌, ℕ, zero, suc, ◌+◌, ◌-◌, ◌<◌, Bool, true, false, ◌&&◌, nat_lt, List, [], ◌∷◌, ◌++◌, length, take, length-append, refl, ap, sym, ◌∙◌, subst, arith}
+use Rattle.std.proofs.Common.{◌≡◌, ℕ, zero, suc, ◌+◌, ◌-◌, ◌<◌, Bool, true, false, ◌&&◌, nat_lt, List, [], ◌∷◌, ◌++◌, length, take, Some, refl, ap, sym, ◌∙◌, subst, arith}
 use borrow.Author.Tests.{ltb-true, lt-ltb}
-use Rattle.std.proofs.lemmas.List.{append_cancel_left}
 use Rattle.typst_kinds.specs.declared.kind.SyntaxKind.{SyntaxKind}
-use Rattle.typst_kinds.specs.declared.kind.SyntaxKind.TheVariants as kind
 use Rattle.typst_kinds.specs.Kinds.{same}
 use Rattle.typst_lines.specs.Place.{Place, moved}
 use Rattle.typst_candidates.specs.Nested.{Nested}
@@ -18,7 +16,6 @@ use Rattle.typst_language.specs.declared.reading.State.{State}
 use Rattle.typst_language.specs.Ask.{Ask, shift}
 use Rattle.typst_language.specs.Depth.{deeper, is_end}
 use Rattle.typst_language.specs.Hand.{as_at_hand}
-use Rattle.typst_language.specs.Log.{Log, no_log, logged}
 use Rattle.typst_language.specs.Point.{Point, gap_of, point_of, state_of}
 use Rattle.typst_language.specs.Shape.{after_node}
 use Rattle.typst_language.specs.Meaning.{Outcome, Meaning, Level, joined, turns, as_last, bound, repeated, hand_of, hand_asks_of, asked, run}
@@ -40,13 +37,12 @@ use Rattle.typst_edits.specs.Splice.{notes_in}
 use Rattle.typst_edits.specs.Spot.{Spot, unit_at}
 use Rattle.typst_edits.proofs.BlockRuns.{content-is}
 use Rattle.typst_edits.proofs.Boundary.{KnownAt, stopped-is, stopped-asks, turn-asks, early-marks, turn-goes, turn-known, piece_mark}
-use Rattle.typst_edits.proofs.BlockLog.{own_asks, block-log}
-use Rattle.typst_edits.proofs.Bytes.{counted}
+use Rattle.typst_edits.proofs.BlockLog.{block-log}
 use Rattle.typst_edits.proofs.InnerBytes.{asks_before, run_mark, content-asks, before-marks}
-use Rattle.typst_edits.proofs.InTurn.{InTurn, turn-append, turn-next, turn-by, turn-shift, Deeper, turn-none, NoteNth, noted-nth, numbered-by, logged-lowered}
+use Rattle.typst_edits.proofs.InTurn.{InTurn, turn-append, turn-next, turn-by, turn-shift, Deeper, turn-none, NoteNth, noted-nth, numbered-by}
 use Rattle.typst_edits.proofs.Joint.{known-is, text-taking}
 use Rattle.typst_edits.proofs.Marks.{marks-append, marks-shift, none-hand, none-close}
-use Rattle.typst_edits.proofs.Nested.{Nests, unit-nests, noted-nested, same-some}
+use Rattle.typst_edits.proofs.LogNotes.{none_yet, fresh_notes, logged-listed}
 use Rattle.typst_edits.proofs.Root.{whole-is}
 use Rattle.typst_edits.proofs.RunTrees.{whole-asks}
 use Rattle.typst_edits.proofs.Spots.{if-true, if-false}
@@ -81,7 +77,7 @@ module _ (l : Level) (stops : SyntaxKind → Bool) (taking : Taking l stops) whe
       let is = known-is l.classes s t known.is in
       let led = turn-led l stops taking x z s.reading s.held s.empties s.is_after_error t (subst (λ p. ends stops x.1 (as_at_hand (hand_of l z p)).kind ≡ false) is go) in
       let same : turn x z s ≡ turn x z _ = ap (turn x z) is in
-      ap (λ b. b && nat_lt 0 (turn x z s).taken) (turn-goes l stops x z s go) ∙ lt-ltb 0 (turn x z s).taken (omega (arith, led.some, led.taken, ap (λ (o : Outcome (Bool × (Bool × ℕ))). o.taken) same))
+      ap (λ b. b && nat_lt 0 (turn x z s).taken) (turn-goes l stops x z s go) ∙ lt-ltb 0 (turn x z s).taken (omega (arith, led.some, led.front.taken, ap (λ (o : Outcome (Bool × (Bool × ℕ))). o.taken) same))
 
   -- A turn that isn't stopped notes only its end.
   one-mark : (x : Bool × ℕ) (z : Place) (s : Point) → ends stops x.1 (as_at_hand (hand_of l z s)).kind ≡ false → InTurn (EndsNth turn x z s) 1 2 (turn x z s).asks
@@ -192,16 +188,18 @@ numbered-run-law k text =
     let last = turn-none P c (shift q.taken t.asks) (marks-shift Deeper q.taken t.asks (flush-marks Deeper (level_at k max_depth) (moved q.taken z) q.state)) in
     let marks = subst (λ u. InTurn P 0 c u) (sym is)
     (record { at_is = refl; cut = refl; says = refl; state_is = refl }, turn-append P 1 c c ((lead k z).asks ++ q.asks) _ (turn-append P 1 1 c (lead k z).asks q.asks first own) last) in
-    let n = noted-nth P 255 z (parsed k max_depth text).asks no_log [] 0 c refl marks in
-    let there : listed (log k text).notes ≡ n.more = ap listed n.is in
+    let asks = (parsed k max_depth text).asks in
+    let n = noted-nth P 255 z asks 0 none_yet 0 c marks in
+    let notes = fresh_notes max_depth z asks in
+    let there : listed (log k text).notes ≡ notes = logged-listed max_depth z asks in
     let own_notes = sym (ap (of_level max_depth) there) in
-    let all_are : length (of_level max_depth n.more) ≡ c = omega (arith, n.all) in
+    let all_are : length (of_level max_depth notes) ≡ c = omega (arith, n.all) in
     record {
       count = r.count;
       go = r.go;
       over = r.over;
       all = subst (λ ns. length ns ≡ c) own_notes all_are;
-      each = subst (λ ns. Numbered (SaysOf text (λ i. end_at k i z)) 0 ns) own_notes (numbered-by (NoteNth P z) _ (λ i note h. says-of (piece_at k) (true, 0) z s 0 text (λ j. end_at k j z) i note (from-start (end_at k i z)) h) 0 (of_level max_depth n.more) n.each);
+      each = subst (λ ns. Numbered (SaysOf text (λ i. end_at k i z)) 0 ns) own_notes (numbered-by (NoteNth P z) _ (λ i note h. says-of (piece_at k) (true, 0) z s 0 text (λ j. end_at k j z) i note (from-start (end_at k i z)) h) 0 (of_level max_depth notes) n.each);
     }
 
 -- ---- a content block's run
@@ -275,6 +273,7 @@ unfolding blocks_of_text log position
 nested-numbers k levels text c chosen name left =
     let z = start_of text in
     let d = block-log k text c chosen in
+    let b0 = d.notes in
     let s = point_of c.start in
     let y = moved c.at z in
     let u = unit_at c z in
@@ -284,40 +283,35 @@ nested-numbers k levels text c chosen name left =
     let n = suc turns_are.count in
     let P = λ (i at gap : ℕ) (m : Mark) (p : State). Cut k levels y s b i at gap m p in
     let marks = subst (λ (v : Outcome (Unit {0})). InTurn P 0 n v.asks) (sym reads) (block-cuts k levels y s) in
-    let front = d.earlier ++ d.opens ∷ [] in
-    let inner_is : logged max_depth z d.begun (own_asks k text c) ≡ logged (suc levels) y d.begun u.asks = logged-lowered max_depth c.fewer c.at z d.begun u.asks ∙ ap (λ v. logged v y d.begun u.asks) left in
-    let two = noted-nth P levels y u.asks d.begun front 0 n d.begun_is marks in
-    let rest = d.rest two.more (ap (λ (v : Log). v.notes) inner_is ∙ two.is) in
-    let own_nested = subst (λ (v : Outcome (Unit {0})). Nests (suc (suc levels)) 1 v.asks) (sym reads) (unit-nests k (suc levels) block.Content y s) in
-    let nest = noted-nested (suc levels) 0 y d.begun front u.asks (omega arith) d.begun_is own_nested in
-    let all_left : suc levels - 0 ≡ suc levels = omega arith in
+    let inner = fresh_notes (suc levels) y u.asks in
+    let inner_is : b0.inner ≡ inner = d.inner_is ∙ ap (λ v. fresh_notes v y u.asks) left in
+    let two = noted-nth P levels y u.asks 0 none_yet 0 n marks in
     record {
       numbers = record {
-        earlier = d.earlier;
-        opens = d.opens;
-        inner = two.more;
-        closes = d.closes;
-        later = rest.0;
-        notes = rest.1;
-        name = d.name;
-        start = d.start;
-        levels_there = d.levels ∙ left;
+        earlier = b0.earlier;
+        opens = b0.opens;
+        inner = inner;
+        closes = b0.closes;
+        later = b0.later;
+        notes = b0.notes ∙ ap (λ ns. Some (b0.earlier ++ b0.opens ∷ (ns ++ b0.closes ∷ b0.later))) inner_is;
+        name = b0.name;
+        start = b0.start;
+        levels_there = b0.levels_there ∙ left;
         state = d.state;
-        name_end = d.name_end;
-        end = d.end;
-        levels_end = d.levels_end ∙ left;
+        name_end = b0.name_end;
+        end = b0.end;
+        levels_end = b0.levels_end ∙ left;
         count = turns_are.count;
         go = turns_are.go;
         over = turns_are.over;
         all = omega (arith, two.all);
         each = numbered-by (NoteNth P y) _
             (λ i note h. says-of (turn_of (run_at k levels c z)) (true, 0) (run_at k levels c z).place (run_at k levels c z).point (opened_at k levels c z) text (λ j. inner_end k levels j c z) i note refl
-            (nth-moved (turn_of (run_at k levels c z)) (true, 0) (run_at k levels c z).place (run_at k levels c z).point c.at b i z note h)) 0 (of_level (suc levels) two.more) two.each;
+            (nth-moved (turn_of (run_at k levels c z)) (true, 0) (run_at k levels c z).place (run_at k levels c z).point c.at b i z note h)) 0 (of_level (suc levels) inner) two.each;
       };
-      nested = subst (λ ns. Nested (suc levels) ns) (sym (append_cancel_left front two.more nest.more (same-some (sym two.is ∙ nest.is)))) (subst (λ v. Nested v nest.more) all_left nest.nested);
-      number = d.number;
-      long = (let n = counted (suc levels) y u.asks d.begun front (front ++ two.more) d.begun_is two.is in
-          omega (arith, n, length-append front two.more));
+      nested = subst (λ ns. Nested (suc levels) ns) inner_is (subst (λ v. Nested v b0.inner) left b0.nested);
+      number = b0.number;
+      long = ap length (sym inner_is) ∙ b0.long;
       asks = ap (λ (v : Outcome (Unit {0})). v.asks) reads;
     }
 

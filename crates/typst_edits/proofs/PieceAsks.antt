@@ -92,6 +92,10 @@ module _ (r : Sequence) (first : Point) (ls : List Ask) where
       let looks = hand_asks_of r.level (moved e.taken r.place) e.state in
       count-none (shift e.taken looks) (bare-shift e.taken looks (none-hand Never r.level.classes e.state.held e.state.known (moved e.taken r.place)))
 
+  -- where this is asked after i pieces
+  abbrev pub asks_in : ℕ → List Ask → List Ask
+  asks_in i behind = piece_mark 0 (true, 0) first ∷ ((ls ++ asks_of (first_of i r)) ++ shift (first_end i r).taken behind)
+
   -- what is asked up to the note where i pieces end, and the looks after it
   pub record Cut (i : ℕ) : Type 0 where
     pub early : List Ask
@@ -99,9 +103,10 @@ module _ (r : Sequence) (first : Point) (ls : List Ask) where
     pub count : notes_in early ≡ notes_in (asks_of (first_of i r))
     pub none : i ≡ 0 → early ≡ []
     pub ends : (n d : ℕ) → (0 < i → AllEndBy n (shift d (ls ++ asks_of (first_of i r)))) → AllEndBy n (shift d early)
+    pub ended : (n d : ℕ) → 0 < i → AllEndBy n (shift d early) → AllEndBy n (shift d (ls ++ asks_of (first_of i r)))
 
   pub cut : (i : ℕ) → AllMarks Never ls → AllGo (first_of i r) → Cut i
-  cut zero bare g = record { early = []; is = ap (λ u. piece_mark 0 (true, 0) first ∷ u) (append-nil ls); count = refl; none = λ e. refl; ends = λ n d h. tt }
+  cut zero bare g = record { early = []; is = ap (λ u. piece_mark 0 (true, 0) first ∷ u) (append-nil ls); count = refl; none = λ e. refl; ends = λ n d h. tt; ended = λ n d l. absurd (omega (arith, l)) }
   cut (suc j) bare g =
       let os = first_of (suc j) r in
       let b = made-ends (turn_of r) (looks_in r) (each-ends r) j (true, 0) r.place r.point g in
@@ -120,6 +125,10 @@ module _ (r : Sequence) (first : Point) (ls : List Ask) where
             (let one = end-split n d ls (asks_of os) (h (omega arith)) in
             let two = end-split n d b.early (looks ++ p ∷ looks) (subst (λ u. AllEndBy n (shift d u)) b.is one.1) in
             end-both n d ls (b.early ++ looks) one.0 (end-both n d b.early looks two.0 (end-split n d looks (p ∷ looks) two.1).0));
+        ended = λ n d l h.
+            (let one = end-split n d ls (b.early ++ looks) h in
+            let two = end-split n d b.early looks one.1 in
+            end-both n d ls (asks_of os) one.0 (subst (λ u. AllEndBy n (shift d u)) (sym b.is) (end-both n d b.early (looks ++ p ∷ looks) two.0 (end-both n d looks (p ∷ looks) two.1 two.1))));
       }
 
   -- what is asked of some pieces, cut at the note where they end

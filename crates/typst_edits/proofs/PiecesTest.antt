@@ -1,98 +1,40 @@
 -- What code finds of a candidate that is pieces of a text's own run, by the numbers of its entries and a reading from its first token on.
-use Rattle.std.proofs.Common.{◌≡◌, ℕ, zero, suc, ◌+◌, ◌<◌, ◌≤◌, ◌==◌, if◌then◌else◌, Bool, true, false, List, [], ◌∷◌, ◌++◌, length, take, refl, ap, sym, ◌∙◌, subst, arith}
+use Rattle.std.proofs.Common.{◌≡◌, ℕ, zero, suc, ◌+◌, ◌<◌, ◌≤◌, Bool, true, false, List, ◌++◌, length, take, refl, ap, sym, ◌∙◌, subst, arith}
 use Rattle.typst_lines.specs.Place.{Place}
 use Rattle.typst_lines.specs.Classes.{CharClasses}
 use Rattle.typst_tokens.specs.Sight.{width}
-use Rattle.typst_language.specs.Meaning.{Outcome, run}
-use Rattle.typst_language.specs.Point.{gap_of, state_of}
-use Rattle.typst_language.specs.Ask.{shift}
-use Rattle.typst_language.specs.declared.calls.Note.{Note}
+use Rattle.typst_language.specs.Meaning.{run}
 use Rattle.typst_candidates.specs.Entries.{units_of, spliced}
-use Rattle.typst_grammar.specs.Grammar.{max_depth, start_of, log}
+use Rattle.typst_grammar.specs.Grammar.{max_depth, log}
 use Rattle.typst_edits.specs.Edit.{text_with}
 use Rattle.typst_edits.specs.Frame.{top, inner, Gives, of_block, of_pieces, Before}
 use Rattle.typst_edits.specs.Hole.{path_of}
 use Rattle.typst_edits.specs.InOrder.{InOrderLaw}
 use Rattle.typst_edits.specs.NumberedNotes.{of_level, cut_after}
-use Rattle.typst_edits.specs.PieceNotes.{listed}
 use Rattle.typst_edits.specs.PiecesTest.{CutOnceLaw, RunEntriesLaw, RunReadLaw, RunGives, RunGivesLaw, RunPartLaw}
 use Rattle.typst_edits.specs.RootPieces.{root_run}
 use Rattle.typst_edits.specs.RunBytes.{PieceNote, both_end}
 use Rattle.typst_edits.specs.Runs.{AllGo, End, asks_of, pieces, end_at, pieces_from, piece_at, lead}
 use Rattle.typst_edits.specs.Sequence.{Sequence, first_of, first_end, then_of, then_end}
 use Rattle.typst_edits.specs.Joint.{text_run}
-use Rattle.typst_edits.specs.RunSplice.{noted_point, end_note, pieces_log}
+use Rattle.typst_edits.specs.RunSplice.{end_note, pieces_log}
 use Rattle.typst_edits.specs.Splice.{notes_in, token_start, entries_from}
 use Rattle.typst_edits.proofs.Fitting.{tail-none}
-use Rattle.typst_edits.proofs.Boundary.{noted-at, KnownAt, looks_in, each-ends, made-add, go-add}
+use Rattle.typst_edits.proofs.Boundary.{KnownAt, looks_in, each-ends, made-add, go-add}
 use Rattle.typst_edits.proofs.InnerPiecesTest.{numbers-of, behind-end, short}
 use Rattle.typst_edits.proofs.Children.{top-known}
 use Rattle.typst_edits.proofs.Cuts.{cuts-law}
 use Rattle.typst_edits.proofs.Edit.{before-same}
-use Rattle.typst_edits.proofs.RunBytes.{joint-decision-law}
-use Rattle.typst_edits.proofs.NestedPieces.{head-same, tail-same}
+use Rattle.typst_edits.proofs.RunBytes.{text-note, text-both, text-count, text-token, reaches, reaches-too, begins-past, begins-past-too, trivia-end}
 use Rattle.typst_edits.proofs.NoteNumbers.{neither, number-law}
-use Rattle.typst_edits.proofs.OneReading.{first-split, text-seen, text-clear}
+use Rattle.typst_edits.proofs.OneReading.{text-seen, text-clear}
 use Rattle.typst_edits.proofs.ReadAlone.{Rereads, gives-to, reads-to}
 use Rattle.typst_edits.proofs.Resumed.{text-fresh, text-goes-too}
 use Rattle.typst_edits.proofs.Root.{first-same as pieces-same}
 use Rattle.typst_edits.proofs.RootCandidates.{root-candidate-law}
 use Rattle.typst_edits.proofs.RootPieces.{take-past}
-use Rattle.typst_edits.proofs.RunSplice.{cut, cut-asks, all_asks, run-splice-law}
-use Rattle.typst_edits.proofs.Sides.{count-append, count-shift}
-
--- ---- the number of an entry among all
-
--- Two ways to split notes at a note of a level, with as many of that level before it, are the same.
-same-number : (lv : ℕ) (ns ms us vs : List Note) (n m : Note) → ns ++ n ∷ us ≡ ms ++ m ∷ vs → (n.levels == lv) ≡ true → (m.levels == lv) ≡ true → length (of_level lv ns) ≡ length (of_level lv ms) → (length ns ≡ length ms) × (n ≡ m)
-same-number lv [] [] us vs n m e a b c = (refl, head-same n m us vs e)
-same-number lv [] (x ∷ ms) us vs n m e a b c =
-    let is : (x.levels == lv) ≡ true = ap (λ (y : Note). y.levels == lv) (sym (head-same n x us (ms ++ m ∷ vs) e)) ∙ a in
-    absurd (omega (arith, c, ap (λ t. length (if t then x ∷ of_level lv ms else of_level lv ms)) is))
-same-number lv (x ∷ ns) [] us vs n m e a b c =
-    let is : (x.levels == lv) ≡ true = ap (λ (y : Note). y.levels == lv) (head-same x m (ns ++ n ∷ us) vs e) ∙ b in
-    absurd (omega (arith, c, ap (λ t. length (if t then x ∷ of_level lv ns else of_level lv ns)) is))
-same-number lv (x ∷ ns) (y ∷ ms) us vs n m e a b c =
-    let first = head-same x y (ns ++ n ∷ us) (ms ++ m ∷ vs) e in
-    let more = same-number lv ns ms us vs n m (tail-same x y (ns ++ n ∷ us) (ms ++ m ∷ vs) e) a b (by-first (x.levels == lv) (y.levels == lv) x y (of_level lv ns) (of_level lv ms) (ap (λ (v : Note). v.levels == lv) first) c) in
-    (ap suc more.0, more.1)
-  where
-    by-first : (s t : Bool) (x y : Note) (ns ms : List Note) → s ≡ t → length (if s then x ∷ ns else ns) ≡ length (if t then y ∷ ms else ms) → length ns ≡ length ms
-    by-first true true x y ns ms f c = omega (arith, c)
-    by-first true false x y ns ms f c = cc
-    by-first false true x y ns ms f c = cc
-    by-first false false x y ns ms f c = c
-
-state-noted : (k : CharClasses) (i : ℕ) (z : Place) → state_of (noted_point k i z) ≡ state_of (end_at k i z).state
-unfolding run
-state-noted k zero z = refl
-state-noted k (suc i) z = refl
-
-cut-noted : (k : CharClasses) (i : ℕ) (z : Place) → (end_at k i z).taken + gap_of (noted_point k i z).known ≡ cut_after i (end_at k i z)
-unfolding run
-cut-noted k zero z = refl
-cut-noted k (suc i) z = refl
-
--- As many notes stand before the one where some pieces of a text's run end as there are in them.
-pub counted : (k : CharClasses) (text : List ℕ) (i : ℕ) → (let z = start_of text in AllGo (pieces k i z) → (p : PieceNote (log k text) max_depth text (end_at k i z)) → (length p.earlier ≡ notes_in (asks_of (pieces k i z))) × (p.note.start ≡ width (take (cut_after i (end_at k i z)) text)))
-counted k text i g p =
-    let z = start_of text in
-    let c = cut k i z g in
-    let e = end_at k i z in
-    let s = end_note k i z in
-    let t = noted-at k text c.first (all_asks k i 0 z) e.taken s.gap 0 s.mark s.state (cut-asks k text i 0 c.first s g tt c.is) in
-    let levels : t.note.levels ≡ max_depth = t.levels in
-    let other : PieceNote (log k text) max_depth text e = record { earlier = t.earlier; note = t.note; later = t.later; notes = t.notes; mark = t.mark; before = t.before; levels = levels; state = t.state ∙ state-noted k i z } in
-    let here : (p.note.levels == max_depth) ≡ true = ap (λ n. n == max_depth) p.levels in
-    let there : (t.note.levels == max_depth) ≡ true = ap (λ n. n == max_depth) levels in
-    let same = same-number max_depth p.earlier t.earlier p.later t.later p.note t.note (ap listed (sym p.notes ∙ t.notes)) here there (number-law k text i g p ∙ sym (number-law k text i g other)) in
-    (same.0 ∙ t.count ∙ c.count, ap (λ (n : Note). n.start) same.1 ∙ t.start ∙ ap (λ j. width (take j text)) (cut-noted k i z))
-
-pub count-pieces : (os ps : List (Outcome (Bool × (Bool × ℕ)))) → notes_in (asks_of (os ++ ps)) ≡ notes_in (asks_of os) + notes_in (asks_of ps)
-count-pieces [] ps = omega arith
-count-pieces (o ∷ os) ps =
-    let own = count-append o.asks (shift o.taken (asks_of os)) in
-    omega (arith, count-pieces os ps, count-append o.asks (shift o.taken (asks_of (os ++ ps))), own, count-shift o.taken (asks_of (os ++ ps)), count-shift o.taken (asks_of os))
+use Rattle.typst_edits.proofs.RunSplice.{run-splice-law}
+use Rattle.typst_edits.proofs.Sides.{count-made}
 
 -- ---- the entries at its ends
 
@@ -105,32 +47,32 @@ pub run-entries-law : InOrderLaw → RunEntriesLaw
 run-entries-law ordered k front old rest i n past t g h known sum big =
     let text = front ++ (old ++ rest) in
     let z = text_with front old rest in
-    let d = joint-decision-law k front old rest i n past t g h known sum in
-    let b = d.begins in
-    let e = d.ends in
     let r = text_run k z in
+    let one = text-note k text i g in
+    let two = text-both k text i n g h in
+    let b = one.told in
+    let e = two.told in
     let joined : end_at k (i + n) z ≡ both_end k i n front old rest = made-add (piece_at k) (looks_in r) (each-ends r) i n (true, 0) z (lead k z).state in
-    let both = go-add (piece_at k) (looks_in r) (each-ends r) i n (true, 0) z (lead k z).state g h in
-    let from : length b.earlier ≡ notes_in (asks_of (pieces k i z)) = (counted k text i g b).0 in
+    let all = go-add (piece_at k) (looks_in r) (each-ends r) i n (true, 0) z (lead k z).state g h in
     let first = numbers-of ordered k text b.earlier b.note b.later b.notes in
     let last = numbers-of ordered k text e.earlier e.note e.later e.notes in
     let f = both_end k i n front old rest in
-    let token : b.note.start ≡ width (take (cut_after i (end_at k i z)) text) = (counted k text i g b).1 in
-    let ends_at : 0 < i + n → e.note.start ≡ width (front ++ (old ++ take past rest)) = λ more. d.trivia_end more ∙ ap width (take-past front old rest past (f.taken + t.gap) sum) in
+    let from = text-count k text i (end_at k i z) one in
+    let token = text-token k text i g in
+    let ends_at : 0 < i + n → e.note.start ≡ width (front ++ (old ++ take past rest)) = λ more. trivia-end k front old rest i n past t known sum two more ∙ ap width (take-past front old rest past (f.taken + t.gap) sum) in
     record {
       begins = b;
       ends = e;
       from = from;
-      to = subst (λ v. (p : PieceNote (log k text) max_depth text v) → length p.earlier ≡ notes_in (asks_of (pieces k (i + n) z))) joined (λ p. (counted k text (i + n) both p).0) e ∙ ap (λ os. notes_in (asks_of os)) (first-split r i n)
-          ∙ count-pieces (pieces k i z) (pieces_from k i n z) ∙ ap (λ j. j + notes_in (asks_of (pieces_from k i n z))) (sym from);
+      to = text-count k text (i + n) f two ∙ count-made r i n ∙ ap (λ j. j + notes_in (asks_of (pieces_from k i n z))) (sym from);
       number = number-law k text i g b;
-      number_end = subst (λ v. (p : PieceNote (log k text) max_depth text v) → length (of_level max_depth p.earlier) ≡ i + n) joined (number-law k text (i + n) both) e;
+      number_end = subst (λ v. (p : PieceNote (log k text) max_depth text v) → length (of_level max_depth p.earlier) ≡ i + n) joined (number-law k text (i + n) all) e;
       start = token;
       end = ends_at;
-      before = λ p some. d.before some (first.before (width front) p);
-      before_too = λ looks. first.before_too (width front) (subst (λ j. j ≤ width front) (sym token) (short (cut_after i (end_at k i z)) front (old ++ rest) (cut-within k front old rest i looks))) (d.before_too looks);
-      after = λ more q. d.after (last.after (width (front ++ old)) (behind-end front old rest past (ends_at more)) q);
-      after_too = λ more looks. last.after_too (width (front ++ old)) (behind-end front old rest past (ends_at more)) (d.after_too more big looks);
+      before = λ p some. reaches k text i (end_at k i z) one front (old ++ rest) refl some (first.before (width front) p);
+      before_too = λ looks. first.before_too (width front) (subst (λ j. j ≤ width front) (sym token) (short (cut_after i (end_at k i z)) front (old ++ rest) (cut-within k front old rest i looks))) (reaches-too k text i (end_at k i z) one front (old ++ rest) refl looks);
+      after = λ more q. begins-past k front old rest i n past t known sum two (last.after (width (front ++ old)) (behind-end front old rest past (ends_at more)) q);
+      after_too = λ more looks. last.after_too (width (front ++ old)) (behind-end front old rest past (ends_at more)) (begins-past-too k front old rest i n past t known sum two more big looks);
     }
 
 -- Different numbers of pieces don't end before tokens at one byte.

@@ -23,7 +23,7 @@ use Rattle.typst_language.proofs.Within.{and-second}
 use Rattle.typst_edits.proofs.Known.{Stays, Holds, Keeps, holds-joined, holds-grown, holds-run, holds-meaning}
 use Rattle.typst_language.proofs.Trivia.{none-left}
 pub use Rattle.typst_language.proofs.Trivia.{ahead-stop as ahead-direct}
-pub use Rattle.typst_edits.proofs.Known.{flushed-held, flushed-reading}
+pub use Rattle.typst_edits.proofs.Known.{flushed-held}
 
 -- ---- trivia are followed by no more of them
 

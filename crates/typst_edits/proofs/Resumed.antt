@@ -51,14 +51,14 @@ fresh-is l w clear = ap (λ h. asked h (start_point markup_reading)) (hand-first
 
 same-piece : (t : Trivia) (trims : Bool) (o c : Outcome (Bool × (Bool × ℕ))) → Led t [] trims o c → SamePiece t o c
 same-piece t trims o c h = record {
-  value = h.value;
-  taken = h.taken;
+  value = h.front.value;
+  taken = h.front.taken;
   state = h.state;
-  back = h.back;
-  hints = h.hints ∙ sym h.hints_too;
-  nodes = h.nodes ∙ ap (λ ts. t.nodes ++ ts) (sym h.nodes_too);
-  asks = h.asks;
-  met = h.met;
+  back = h.front.back;
+  hints = h.front.hints ∙ sym h.front.hints_too;
+  nodes = h.front.nodes ∙ ap (λ ts. t.nodes ++ ts) (sym h.front.nodes_too);
+  asks = h.front.asks;
+  met = h.front.met;
 }
 
 module _ (l : Level) (stops : SyntaxKind → Bool) (taking : Taking l stops) where
@@ -144,7 +144,7 @@ module _ (l : Level) (stops : SyntaxKind → Bool) (taking : Taking l stops) whe
   takes-more x z s known g =
       subst (λ p. (turn x z p).value.0 ≡ true → gap_of p.known < (turn x z p).taken) (sym (known-is l.classes s known.trivia known.is))
       (λ h. (let led = turn-led l stops taking x z s.reading s.held s.empties s.is_after_error known.trivia (going-on l stops x z _ h) in
-      omega (arith, led.taken, led.some))) g
+      omega (arith, led.front.taken, led.some))) g
 
   pub counted : (m n : ℕ) (x : Bool × ℕ) (z : Place) (s : Point) → KnownAt s → AllGo (made turn m x z s) → AllGo (made turn n x z s) → place_after x s (made turn m x z s) ≡ place_after x s (made turn n x z s) → m ≡ n
   counted zero zero x z s known g h e = refl

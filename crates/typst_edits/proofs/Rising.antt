@@ -1,8 +1,8 @@
 -- Marks don't go back and lie within what is taken, and after one where a block begins the next lies further on.
-use Rattle.std.proofs.Common.{◌≡◌, ℕ, zero, suc, ◌+◌, ◌-◌, ◌≤◌, Bool, true, false, List, [], ◌∷◌, ◌++◌, length, take, append_assoc, append-nil, Option, Some, None, refl, ap, sym, ◌∙◌, subst, arith}
+use Rattle.std.proofs.Common.{◌≡◌, ℕ, zero, suc, ◌+◌, ◌-◌, ◌≤◌, max, min, Bool, true, false, List, [], ◌∷◌, length, take, Option, Some, None, refl, ap, sym, ◌∙◌, subst, arith}
 use Rattle.typst_lines.specs.Place.{Place, moved}
 use Rattle.typst_lines.specs.Classes.{CharClasses}
-use Rattle.typst_tokens.specs.Sight.{width, position, hull_of}
+use Rattle.typst_tokens.specs.Sight.{width, position, far, near}
 use Rattle.typst_language.specs.declared.calls.Block.{Block}
 use Rattle.typst_language.specs.Calls.{Call}
 use Rattle.typst_language.specs.declared.calls.Mark.{Mark}
@@ -13,13 +13,12 @@ use Rattle.typst_language.specs.declared.reading.State.{State}
 use Rattle.typst_language.specs.Ask.{Ask}
 use Rattle.typst_language.specs.Ask.Ask.{looked, marked}
 use Rattle.typst_language.specs.Knot.{meaning_of, level_of, blocks_of}
-use Rattle.typst_language.specs.Log.{Log, no_log, with_hull, with_note, logged}
 use Rattle.typst_language.specs.Point.{Point, forgot, Trivia, gap_of}
 use Rattle.typst_language.specs.Shape.{Shape}
 use Rattle.typst_language.specs.Steps.{peek, node, eat, eat_making}
 use Rattle.typst_language.specs.Syntax.{Parser, ◌>>◌, ◌>>=◌}
 use Rattle.typst_language.specs.Syntax.Op.{hand, takes, flushes}
-use Rattle.typst_language.specs.Syntax.Parser.{gives, does, next, scoped, block}
+use Rattle.typst_language.specs.Syntax.Parser.{gives, does, next, scoped}
 use Rattle.typst_language.specs.Meaning.{wrapped, Outcome, Meaning, Level, plain, joined, before, bounded, blockless, entered, start_point, done, run, hand_of, asked}
 use Rattle.typst_language.proofs.Places.{ahead-left, moved-sum}
 use Rattle.typst_grammar.specs.Grammar.{rules, production, max_depth, start_of, whole, parsed, log, block_production}
@@ -40,7 +39,7 @@ use Rattle.typst_grammar.proofs.GuardedCode.{guarded-production, guarded-whole, 
 use Rattle.typst_kinds.specs.declared.mode.SyntaxMode.{SyntaxMode}
 use Rattle.typst_language.specs.Syntax.Begin.{at_token}
 use Rattle.typst_edits.specs.Lost.{is_opening}
-use Rattle.typst_edits.proofs.Bytes.{noted-more}
+use Rattle.typst_edits.proofs.LogNotes.{none_yet, note_by, notes_from, fresh_notes, logged-listed}
 use Rattle.typst_edits.proofs.Upward.{Joins, Upward, AllUp, UpFrom, ups, up-low, up-ends, up-append, up-sunk, up-after, Unmarked, unmarked-joined, unmarked-hand, from-joined, from-run}
 use Rattle.typst_edits.proofs.Widths.{width-moved, width-none}
 use Rattle.typst_edits.proofs.Splice.{take-width as take-all}
@@ -220,25 +219,24 @@ spread-low : (a b : ℕ) (ns : List Note) → a ≤ b → Spread b ns → Spread
 spread-low a b [] e h = tt
 spread-low a b (n ∷ ns) e h = (let low = h.0 in omega (arith, e, low), h.1, h.2)
 
--- A given number of further notes come in order.
-record NotedRising (text : List ℕ) (from : ℕ) (ns : List Note) (h : Log) : Type 0 where
-  more : List Note
-  is : h.notes ≡ Some (ns ++ more)
-  rising : Rising from (width text) more
-  spread : Spread from more
+-- Notes come in order.
+record NotedRising (text : List ℕ) (from : ℕ) (ns : List Note) : Type 0 where
+  rising : Rising from (width text) ns
+  spread : Spread from ns
 
 rising-low : (a b end : ℕ) (ns : List Note) → a ≤ b → Rising b end ns → Rising a end ns
 rising-low a b end [] e h = omega (arith, e, h)
 rising-low a b end (n ∷ ns) e h = (let low = h.0 in omega (arith, e, low), h.1, h.2, h.3)
 
-noted-rising : (lv : ℕ) (text : List ℕ) (asks : List Ask) (h : Log) (ns : List Note) (lo hi : ℕ) → hi ≤ length text → h.notes ≡ Some ns → Rise lo hi asks → NotedRising text (width (take lo text)) ns (logged lv (start_of text) h asks)
+noted-rising : (lv : ℕ) (text : List ℕ) (asks : List Ask) (reach least lo hi : ℕ) → hi ≤ length text → Rise lo hi asks → NotedRising text (width (take lo text)) (notes_from lv (start_of text) reach least asks)
 unfolding position
-noted-rising lv text [] h ns lo hi fits e r = record { more = []; is = e ∙ ap Some (sym (append-nil ns)); rising = take-all lo text; spread = tt }
-noted-rising lv text (looked at look ∷ asks) h ns lo hi fits e r = noted-rising lv text asks (with_hull (hull_of look (moved at (start_of text))) h) ns lo hi fits e r
-noted-rising lv text (marked at gap fewer m s ∷ asks) h ns lo hi fits e r =
+noted-rising lv text [] reach least lo hi fits r = record { rising = take-all lo text; spread = tt }
+noted-rising lv text (looked at look ∷ asks) reach least lo hi fits r = let y = moved at (start_of text) in noted-rising lv text asks (max reach (far look.front y)) (min least (near look.back y)) lo hi fits r
+noted-rising lv text (marked at gap fewer m s ∷ asks) reach least lo hi fits r =
     let z = start_of text in
-    let note : Note = record { mark = m; before = position (moved at z); start = position (moved gap (moved at z)); levels = lv - fewer; state = s; reach = h.reach; least = h.least } in
-    let i = noted-rising lv text asks (with_note gap (lv - fewer) m s (moved at z) h) (ns ++ note ∷ []) (at + taken_behind m) hi fits (noted-more note h.notes ns e) r.2 in
+    let note = note_by lv z reach least at gap fewer m s in
+    let more = fresh_notes lv z asks in
+    let i = noted-rising lv text asks 0 none_yet (at + taken_behind m) hi fits r.2 in
     let before : note.before ≡ width (take at text) = width-moved at text in
     let start : note.start ≡ width (take (at + gap) text) = ap (λ (y : Place). width y.before) (sym (moved-sum at gap z)) ∙ width-moved (at + gap) text in
     let one = take-more lo at text r.0 in
@@ -246,28 +244,24 @@ noted-rising lv text (marked at gap fewer m s ∷ asks) h ns lo hi fits e r =
     let three = take-all (at + gap) text in
     let behind = take-behind at (at + taken_behind m) text (omega arith) (omega (arith, up-ends step direct (at + taken_behind m) hi asks r.2, fits)) in
     record {
-      more = note ∷ i.more;
-      is = i.is ∙ ap Some (append_assoc ns (note ∷ []) i.more);
-      rising = (omega (arith, one, before), omega (arith, two, before, start), omega (arith, three, start), rising-low note.before (width (take (at + taken_behind m) text)) (width text) i.more (omega (arith, before, behind)) i.rising);
-      spread = (omega (arith, one, before), λ o. (let same : at + gap ≡ at = omega (arith, r.1 o) in start ∙ ap (λ n. width (take n text)) same ∙ sym before), spread-low (note.before + taken_behind m) (width (take (at + taken_behind m) text)) i.more (omega (arith, before, behind)) i.spread);
+      rising = (omega (arith, one, before), omega (arith, two, before, start), omega (arith, three, start), rising-low note.before (width (take (at + taken_behind m) text)) (width text) more (omega (arith, before, behind)) i.rising);
+      spread = (omega (arith, one, before), λ o. (let same : at + gap ≡ at = omega (arith, r.1 o) in start ∙ ap (λ n. width (take n text)) same ∙ sym before), spread-low (note.before + taken_behind m) (width (take (at + taken_behind m) text)) more (omega (arith, before, behind)) i.spread);
     }
 
-text-rises : (k : CharClasses) (text : List ℕ) → NotedRising text (width (take 0 text)) [] (log k text)
+text-rises : (k : CharClasses) (text : List ℕ) → NotedRising text (width (take 0 text)) (listed (log k text).notes)
 unfolding log
 text-rises k text =
     let z = start_of text in
     let o = parsed k max_depth text in
     let within = (sane-at (rules k) k max_depth whole).within z (start_point markup_reading) in
-    noted-rising max_depth text o.asks no_log [] 0 o.taken (omega (arith, within)) refl (level-rises k max_depth whole (guarded-whole pieces false (λ _ _. refl)) z (start_point markup_reading))
+    subst (λ ns. NotedRising text (width (take 0 text)) ns) (sym (logged-listed max_depth z o.asks))
+    (noted-rising max_depth text o.asks 0 none_yet 0 o.taken (omega (arith, within)) (level-rises k max_depth whole (guarded-whole pieces false (λ _ _. refl)) z (start_point markup_reading)))
 
 pub rising-law : RisingLaw
 rising-law k text =
-    let n = text-rises k text in
     let none : width (take 0 text) ≡ 0 = width-none in
-    subst (λ ns. Rising 0 (width text) ns) (sym (ap listed n.is)) (subst (λ d. Rising d (width text) n.more) none n.rising)
+    subst (λ d. Rising d (width text) (listed (log k text).notes)) none (text-rises k text).rising
 
 -- After a note where a block begins the others stand at later bytes.
 pub notes-spread : (k : CharClasses) (text : List ℕ) → Spread 0 (listed (log k text).notes)
-notes-spread k text =
-    let n = text-rises k text in
-    subst (λ ns. Spread 0 ns) (sym (ap listed n.is)) (spread-low 0 (width (take 0 text)) n.more (omega arith) n.spread)
+notes-spread k text = spread-low 0 (width (take 0 text)) (listed (log k text).notes) (omega arith) (text-rises k text).spread

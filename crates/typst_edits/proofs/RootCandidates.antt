@@ -1,32 +1,28 @@
 -- A candidate among the children at the top of a text's tree begins well.
-use Rattle.std.proofs.Common.{◌≡◌, inl, inr, ℕ, zero, suc, ◌+◌, ◌<◌, ◌≤◌, ◌==◌, ne_eqb, Bool, true, false, nat_lt, List, [], ◌++◌, length, take, Some, refl, ap, sym, ◌∙◌, subst, arith}
+use Rattle.std.proofs.Common.{◌≡◌, inl, inr, ℕ, zero, suc, ◌+◌, ◌<◌, ◌==◌, ne_eqb, Bool, true, false, nat_lt, List, [], ◌++◌, length, take, Some, refl, ap, sym, ◌∙◌, subst, arith}
 use Rattle.typst_lines.specs.Place.{Place, moved}
 use Rattle.typst_lines.specs.Classes.{CharClasses}
 use Rattle.typst_tree.specs.Tree.{Tree, none, trees, bare}
 use Rattle.typst_tokens.specs.Sight.{width}
-use Rattle.typst_language.specs.Depth.{is_end}
 use Rattle.typst_language.specs.Meaning.{Outcome}
-use Rattle.typst_language.specs.Point.{Trivia, gap_of, pending}
-use Rattle.typst_candidates.specs.Units.{starts, after_first, top_cuts}
+use Rattle.typst_language.specs.Point.{Trivia, gap_of}
+use Rattle.typst_candidates.specs.Units.{after_first, top_cuts}
 use Rattle.typst_candidates.specs.Candidates as candidate
 use Rattle.typst_candidates.specs.Candidates.{is_among, Candidate, begins, of_run}
-use Rattle.typst_grammar.specs.Grammar.{max_depth, level_at, start_of, tree, log}
+use Rattle.typst_grammar.specs.Grammar.{max_depth, start_of, tree, log}
 use Rattle.typst_edits.specs.CandidateEnds.{RootCandidateLaw}
 use Rattle.typst_edits.specs.Children.{Settles, standing_before}
 use Rattle.typst_edits.specs.Edit.{Among, text_with}
-use Rattle.typst_edits.specs.Every.{Every}
 use Rattle.typst_edits.specs.Joint.{text_run, onwards_from}
 use Rattle.typst_edits.specs.Leading.{both, token_byte}
 use Rattle.typst_edits.specs.NumberedNotes.{of_level, cut_after}
 use Rattle.typst_edits.specs.Occurrences.{goes}
 use Rattle.typst_edits.specs.PieceNotes.{listed}
-use Rattle.typst_edits.specs.RootPieces.{StandsAt}
 use Rattle.typst_edits.specs.Runs.{AllGo, End, piece_at, lead, pieces, end_at, pieces_from, end_from}
 use Rattle.typst_edits.specs.Sequence.{Sequence}
 use Rattle.typst_edits.proofs.BareCandidates.{bare-candidates-law}
-use Rattle.typst_edits.proofs.Boundary.{first-of, looks_in, each-ends, go-add, made-add, turn-known}
-use Rattle.typst_edits.proofs.CandidateEnds.{Quiet, stretch, Parted, GivesAt, GivesOne, begun, parted}
-use Rattle.typst_edits.proofs.Children.{back-law}
+use Rattle.typst_edits.proofs.CandidateEnds.{Parted, GivesAt}
+use Rattle.typst_edits.proofs.Children.{back-law, text-known}
 use Rattle.typst_edits.proofs.Edit.{among}
 use Rattle.typst_edits.proofs.Heads.{text-lone}
 use Rattle.typst_edits.proofs.InnerCuts.{CutOf, starts-are, behind-are, few-go}
@@ -34,10 +30,10 @@ use Rattle.typst_edits.proofs.Joint.{onwards-is}
 use Rattle.typst_edits.proofs.Leading.{leading-law}
 use Rattle.typst_edits.proofs.MarkupCandidates.{OfStretch, of-run, own-run}
 use Rattle.typst_edits.proofs.NoneBack.{lead-empties}
-use Rattle.typst_edits.proofs.NoteNumbers.{go-fewer}
 use Rattle.typst_edits.proofs.NumberedNotes.{numbered-run-law}
 use Rattle.typst_edits.proofs.QuietTrivia.{text-quiet}
 use Rattle.typst_edits.proofs.Root.{within}
+use Rattle.typst_edits.proofs.RunCandidates.{more-goes, more-ends, run-parted, well}
 use Rattle.typst_edits.proofs.RootPieces.{take-past, behind-zero, cut-is}
 use Rattle.typst_edits.proofs.RunTrees.{tree-is}
 use Rattle.typst_edits.proofs.Widths.{width-append}
@@ -106,38 +102,14 @@ module _ (k : CharClasses) (text : List ℕ) (i : ℕ) (g : AllGo (pieces k i (s
         last = led.last;
       }
 
-  -- One piece more ends at a cut.
-  gives-one : (n : ℕ) (cuts : TopCuts k text) → AllGo (pieces_from k i n z0) → 0 < n → GivesOne run0 cuts.cuts 0 kids i start0
-  gives-one n cuts h some =
-      let e = end_at k i z0 in
-      let y = moved e.taken z0 in
-      let h1 : AllGo (pieces_from k i 1 z0) = go-fewer (piece_at k) 1 n e.value y e.state (omega (arith, some)) h in
-      let o = piece_at k e.value y e.state in
-      let t = turn-known (level_at k max_depth) is_end e.value y e.state (first-of o.value.0 (nat_lt 0 o.taken) h1.0) in
-      let known : (end_from k i 1 z0).state.known ≡ Some t.trivia = t.is in
-      let next : i + 1 ≡ suc i = omega arith in
-      let go : AllGo (pieces k (i + 1) z0) = go-add (piece_at k) (looks_in run0) (each-ends run0) i 1 (true, 0) z0 (lead k z0).state g h1 in
-      let sum : end_at k (i + 1) z0 ≡ both k i 1 z0 = made-add (piece_at k) (looks_in run0) (each-ends run0) i 1 (true, 0) z0 (lead k z0).state in
-      let cut : is_among (token_byte text (end_at k (suc i) z0)) cuts.cuts ≡ true = cuts.has (suc i) (omega arith) (subst (λ j. AllGo (pieces k j z0)) next go) in
-      record {
-        trivia = t.trivia;
-        end = token_byte text (both k i 1 z0);
-        gives = gives-at 1 t.trivia h1 known (λ l. omega arith);
-        quiet = subst (λ u. Every Quiet (pending u)) known (text-quiet k z0 i 1);
-        cut = ap (λ (u : End (Bool × ℕ)). is_among (token_byte text u) cuts.cuts) (sym sum ∙ ap (λ j. end_at k j z0) next) ∙ cut;
-      }
-
   -- None end where they begin.
-  none-end : (n : ℕ) → n ≡ 0 → token_byte text (both k i n z0) ≡ start0
-  none-end n e =
-      let u = end_at k i z0 in
-      let sum : (u.taken + 0) + gap_of u.state.known ≡ u.taken + gap_of u.state.known = omega arith in
-      ap (λ m. token_byte text (both k i m z0)) e ∙ ap (λ d. width (take d text)) sum
+  none-end : token_byte text (both k i 0 z0) ≡ start0
+  none-end = let u = end_at k i z0 in let sum : (u.taken + 0) + gap_of u.state.known ≡ u.taken + gap_of u.state.known = omega arith in ap (λ d. width (take d text)) sum
 
   pub pieces-parted : (n : ℕ) (t : Trivia) (cuts : TopCuts k text) → AllGo (pieces_from k i n z0) → (end_from k i n z0).state.known ≡ Some t → Parted run0 cuts.cuts 0 kids i n start0 (token_byte text (both k i n z0))
   pieces-parted n t cuts h known =
-      parted run0 cuts.cuts 0 kids i n start0 (token_byte text (both k i n z0)) t known (gives-at n t h known) (λ l e. none-end n e) (λ l some. gives-one n cuts h some)
-      (λ l some mind. (let e = end_at k i z0 in text-lone k z0 i g (go-fewer (piece_at k) 1 n e.value (moved e.taken z0) e.state (omega (arith, some)) h) mind))
+      run-parted run0 cuts.cuts 0 kids i start0 (λ n. token_byte text (both k i n z0)) (text-known k z0) g gives-at none-end (text-quiet k z0 i 1)
+      (λ h. ap (λ (u : End (Bool × ℕ)). is_among (token_byte text u) cuts.cuts) (sym (more-ends run0 i)) ∙ cuts.has (suc i) (omega arith) (more-goes run0 i g h)) (text-lone k z0 i g) n t h known
 
 -- ---- the candidate
 
@@ -163,25 +135,11 @@ root-candidate-law k front old new rest root c i n m past t u same chosen pieces
     let re = width (front ++ old) in
     let kids = trees (tree k text).kids in
     let cuts = cuts-of-text k text in
-    let o = of-the-root k text rs re root c cuts same chosen pieces path in
-    let order : rs ≤ re = omega (arith, width-append front old) in
-    let s = stretch cuts.cuts 0 kids rs re o.more order in
-    let from : c.from ≡ s.from = ap (λ (d : Candidate). d.from) o.is in
-    let to : c.to ≡ s.to = ap (λ (d : Candidate). d.to) o.is in
-    let begins_is : c.start ≡ begins 0 kids s.from = ap (λ (d : Candidate). d.start) o.is in
-    let ends_is : c.end ≡ begins 0 kids s.to = ap (λ (d : Candidate). d.end) o.is in
     let e = end_at k i z in
-    let start_byte : 0 < i → c.start ≡ token_byte text e = λ l. start ∙ ap (λ d. width (take d text)) (cut-is (i == 0) (e.taken + gap_of e.state.known) (ne_eqb i 0 (omega (arith, l)))) in
     let f = both k i n z in
     let gap : gap_of f.state.known ≡ t.gap = ap gap_of h.known in
     let sum : f.taken + gap_of f.state.known ≡ (length front + length old) + past = ap (λ d. f.taken + d) gap ∙ behind-zero f.taken t.gap _ h.ends in
-    let end_byte : c.end ≡ token_byte text f = end ∙ sym (ap width (take-past front old rest past (f.taken + gap_of f.state.known) sum)) in
-    let p = pieces-parted k text i h.first_go n t cuts h.old_go h.known in
-    let b = begun cuts.cuts 0 kids rs re o.more order (text_run k z) i n (token_byte text e) (token_byte text f) p (λ l. subst (λ d. 0 < d) from (led.0 l)) (λ l. sym (start_byte l) ∙ begins_is) (sym end_byte ∙ ends_is) in
-    record {
-      starts = b.starts;
-      goes_on = b.goes_on;
-      first = λ l. subst (λ d. StandsAt 0 kids d c.start) (sym from) (subst (λ d. StandsAt 0 kids s.from d) (sym (start_byte l)) (b.first l));
-      next = λ over. subst (λ d. StandsAt 0 kids d c.end) (sym to) (subst (λ d. StandsAt 0 kids s.to d) (sym end_byte) (b.next over));
-      last = λ over. to ∙ b.last over;
-    }
+    let w = well (text_run k z) cuts.cuts 0 kids rs re [] c i n (token_byte text e) (token_byte text f) (omega (arith, width-append front old)) (of-the-root k text rs re root c cuts same chosen pieces path)
+    (pieces-parted k text i h.first_go n t cuts h.old_go h.known) led (λ l. start ∙ ap (λ d. width (take d text)) (cut-is (i == 0) (e.taken + gap_of e.state.known) (ne_eqb i 0 (omega (arith, l)))))
+    (end ∙ sym (ap width (take-past front old rest past (f.taken + gap_of f.state.known) sum))) in
+    record { starts = w.starts; goes_on = w.goes_on; first = w.first; next = w.next; last = w.last }

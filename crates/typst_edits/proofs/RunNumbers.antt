@@ -1,5 +1,5 @@
 -- The entries of a text's run, by their numbers.
-use Rattle.std.proofs.Common.{◌≡◌, ℕ, suc, ◌+◌, ◌≤◌, ◌==◌, Bool, true, false, nat_lt, List, [], ◌∷◌, ◌++◌, length, length-append, append-nil, Option, Some, None, refl, ap, sym, ◌∙◌, subst, arith}
+use Rattle.std.proofs.Common.{◌≡◌, ℕ, suc, ◌+◌, ◌≤◌, ◌==◌, Bool, true, false, nat_lt, List, [], append-nil, refl, ap, sym, ◌∙◌, subst, arith}
 use Rattle.std.proofs.lemmas.Bool.{eqb-true, eqb-false}
 use Rattle.typst_lines.specs.Place.{moved}
 use Rattle.typst_lines.specs.Classes.{CharClasses}
@@ -17,21 +17,20 @@ use Rattle.typst_edits.specs.Joint.{text_run}
 use Rattle.typst_edits.specs.NumberedNotes.{NumberedRun}
 use Rattle.typst_edits.specs.Occurrences.{goes}
 use Rattle.typst_edits.specs.PieceNotes.{listed}
-use Rattle.typst_edits.specs.RunBytes.{PieceNote}
 use Rattle.typst_edits.specs.RunNumbers.{cut_of, number_of, RunNumbersLaw}
 use Rattle.typst_edits.specs.Runs.{AllGo, End, pieces, piece_at, end_at, lead}
 use Rattle.typst_edits.specs.Sequence.{Sequence, turn_of, first_of, first_end, then_end}
 use Rattle.typst_edits.proofs.BlockTest.{units-listed}
 use Rattle.typst_edits.proofs.Boundary.{looks_in, each-ends, made-add, first-of, going-on, known-made}
 use Rattle.typst_edits.proofs.Cuts.{cuts-law}
-use Rattle.typst_edits.proofs.FoundPieces.{NoteAt, RunAmong, FoundPieces, says-by, nth-note, found-pieces}
+use Rattle.typst_edits.proofs.FoundPieces.{NoteAt, RunAmong, FoundPieces, found-pieces}
 use Rattle.typst_edits.proofs.InnerCuts.{few-go}
 use Rattle.typst_edits.proofs.Leading.{Leads, text-leads, turn-over}
 use Rattle.typst_edits.proofs.Nested.{nested-law}
-use Rattle.typst_edits.proofs.NoteNumbers.{less-than, go-fewer, go-next}
+use Rattle.typst_edits.proofs.NoteNumbers.{less-than, go-fewer, go-next, number-law}
 use Rattle.typst_edits.proofs.NumberedNotes.{numbered-run-law}
-use Rattle.typst_edits.proofs.PiecesTest.{counted}
 use Rattle.typst_edits.proofs.Root.{within}
+use Rattle.typst_edits.proofs.RunBytes.{text-note, text-count}
 
 -- ---- where a run is over
 
@@ -67,10 +66,6 @@ module _ (r : Sequence) (leads : Leads r) where
 
 -- ---- a text's run
 
-listed-some : (o : Option (List Note)) (xs : List Note) (n : Note) (ys : List Note) → listed o ≡ xs ++ n ∷ ys → o ≡ Some (xs ++ n ∷ ys)
-listed-some None xs n ys e = absurd (let long = ap length e in let sum = length-append xs (n ∷ ys) in omega (arith, long, sum))
-listed-some (Some ns) xs n ys e = ap Some e
-
 module _ (ordered : InOrderLaw) (k : CharClasses) (text : List ℕ) where
   abbrev ns : List Note
   ns = listed (log k text).notes
@@ -84,19 +79,10 @@ module _ (ordered : InOrderLaw) (k : CharClasses) (text : List ℕ) where
   -- the note where a given number of pieces end
   note-at : (i : ℕ) → i ≤ n.count → NoteAt max_depth 0 ns i (number_of k text i)
   note-at i l =
-      let h = nth-note max_depth ns i (omega (arith, l, n.all)) in
-      let says = (says-by max_depth ns text (λ j. end_at k j (start_of text)) h.earlier h.note h.later i n.each h.is h.own h.index).says in
-      let p : PieceNote (log k text) max_depth text (end_at k i (start_of text)) = record {
-        earlier = h.earlier;
-        note = h.note;
-        later = h.later;
-        notes = listed-some (log k text).notes h.earlier h.note h.later h.is;
-        mark = says.mark;
-        before = says.before;
-        levels = h.own;
-        state = says.state;
-      } in
-      record { earlier = h.earlier; note = h.note; later = h.later; is = h.is; own = h.own; index = h.index; all = omega (arith, (counted k text i (goes-up-to i l) p).0) }
+      let g = goes-up-to i l in
+      let o = text-note k text i g in
+      let p = o.told in
+      record { earlier = p.earlier; note = p.note; later = p.later; is = ap listed p.notes; own = p.levels; index = number-law k text i g p; all = omega (arith, text-count k text i (end_at k i (start_of text)) o) }
 
   among : RunAmong max_depth [] ns [] text (λ i. end_at k i (start_of text)) n.count (number_of k text)
   among = record {

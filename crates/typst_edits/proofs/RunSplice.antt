@@ -1,10 +1,9 @@
 -- The units of a text with an edit inside some pieces of its run.
-use Rattle.std.proofs.Common.{◌≡◌, ◌==◌, inl, inr, ◌⊎◌, ℕ, zero, suc, ◌+◌, ◌-◌, ◌<◌, ◌≤◌, ◌^◌, Bool, true, List, [], ◌∷◌, ◌++◌, length, map, append_assoc, Some, refl, ap, sym, ◌∙◌, subst, arith}
+use Rattle.std.proofs.Common.{◌≡◌, ◌==◌, inl, inr, ◌⊎◌, ℕ, zero, suc, ◌+◌, ◌-◌, ◌<◌, ◌^◌, Bool, true, List, [], ◌∷◌, ◌++◌, length, map, append_assoc, Some, refl, ap, sym, ◌∙◌, subst, arith}
 use Rattle.std.proofs.lemmas.List.{map-append}
 use Rattle.typst_kinds.specs.Kinds.{same}
 use Rattle.typst_kinds.specs.declared.kind.SyntaxKind.TheVariants as kind
 use Rattle.typst_kinds.specs.declared.mode.SyntaxMode.TheVariants as mode
-use Rattle.typst_candidates.specs.Entries.{units_of, spliced}
 use Rattle.typst_candidates.specs.declared.entry.Entry.{Entry}
 use Rattle.typst_lines.specs.Place.{Place, moved}
 use Rattle.typst_lines.specs.Classes.{CharClasses}
@@ -14,41 +13,39 @@ use Rattle.typst_language.specs.Ask.{Ask, SameIn, shift, shift_one}
 use Rattle.typst_language.specs.Ask.Ask.{looked, marked}
 use Rattle.typst_language.specs.Depth.{is_end}
 use Rattle.typst_language.specs.Hand.{AtHand, Hand, as_at_hand, hand_at}
-use Rattle.typst_language.specs.Log.{no_log, logged}
-use Rattle.typst_language.specs.Meaning.{Outcome, hand_of, hand_asks_of, repeated, start_point, run}
+use Rattle.typst_language.specs.Meaning.{Outcome, hand_of, hand_asks_of, repeated, run}
 use Rattle.typst_language.specs.Point.{Trivia, Point, gap_of}
 use Rattle.typst_language.specs.Steps.{peek}
 use Rattle.typst_language.proofs.Ends.{hand-ends}
 use Rattle.typst_language.proofs.Knot.{sane-at}
 use Rattle.typst_grammar.specs.Markup.{ends, markup_reading}
-use Rattle.typst_grammar.specs.Grammar.{rules, level_at, max_depth, start_of, whole, parsed, log}
+use Rattle.typst_grammar.specs.Grammar.{rules, level_at, max_depth, start_of, parsed, log}
 use Rattle.typst_edits.specs.Edit.{text_with, AllEndBy, AllBeginIn}
 use Rattle.typst_edits.specs.Looks.{AllFrom}
 use Rattle.typst_edits.specs.Joint.{passed, onwards, text_run, place_from, onwards_from}
 use Rattle.typst_edits.specs.JointBytes.{asked_past}
-use Rattle.typst_edits.specs.RunSplice.{end_note, next_looks, own_asks, pieces_log, OverAt, RunSpliceLaw}
+use Rattle.typst_edits.specs.RunSplice.{end_note, next_looks, own_asks, OverAt, RunSpliceLaw}
 use Rattle.typst_edits.specs.RunTrees.{run_mark}
 use Rattle.typst_edits.specs.Runs.{start, AllGo, asks_of, chain, lead, pieces, end_at, pieces_from, end_from, rest_from, tail, whole_of}
 use Rattle.typst_edits.specs.Sequence.{Sequence, turn_of}
-use Rattle.typst_edits.specs.Splice.{Noting, noting, notes_in, AllNotedBy, token_start, entries_from}
-use Rattle.typst_edits.proofs.Boundary.{Begins, begins-append, looks_in, pieces-begin, from-both, from-second}
+use Rattle.typst_edits.specs.Splice.{Noting, noting, notes_in}
+use Rattle.typst_edits.proofs.Boundary.{Begins, begins-append, looks_in, pieces-begin, from-both, split-from}
 use Rattle.typst_edits.proofs.Edit.{before-same}
 use Rattle.typst_edits.proofs.EmptyRuns.{Knows, Never, hand-asks, hand-gap, passed-kind, onwards-looks, end-look, token_look, end-any}
 use Rattle.typst_edits.proofs.Every.{Every}
 use Rattle.typst_edits.proofs.Forward.{ahead-from, lead-ahead}
 use Rattle.typst_edits.proofs.Joint.{text-read, onwards-is, onwards-fronted, joint-law}
-use Rattle.typst_edits.proofs.Marks.{AllMarks, marks-append, none-hand}
+use Rattle.typst_edits.proofs.Marks.{AllMarks, marks-append}
 use Rattle.typst_edits.proofs.Outcomes.{shift-zero, shift-twice}
 use Rattle.typst_edits.proofs.Root.{whole-is, split-at, split-taken}
+use Rattle.typst_edits.proofs.RunBytes.{lead-bare}
 use Rattle.typst_edits.proofs.RunTrees.{whole-asks, chained-asks}
 use Rattle.typst_edits.proofs.Runs.{chain-state}
-use Rattle.typst_edits.proofs.Seen.{AllSeen, seen-first, sees-level}
-use Rattle.typst_edits.proofs.Sides.{Side, Last, entries_at, back_at, count-append, count-shift, each-bare, each-from, from-zero, bare-shift, side-none, side-by, same-at, last-at, splice-sides}
+use Rattle.typst_edits.proofs.Sides.{Side, Last, entries_at, back_at, count-append, count-shift, each-bare, each-from, from-zero, bare-shift, side-none, side-by, same-at, last-at, splice-texts}
 use Rattle.typst_edits.proofs.Splice.{take-width}
 use Rattle.typst_edits.proofs.Widths.{width-moved}
 use Rattle.typst_edits.proofs.PieceAsks.{lifted, lifted_note, lifted-none, Cut as AnyCut, cut as cut-any, next-none as next-none-any, side-in, again}
 use Rattle.typst_edits.specs.InnerSplice.{note_at, looks_next, own_of}
-use Rattle.typst_edits.proofs.Bytes.{both-end}
 
 -- ---- lists of asks
 
@@ -74,19 +71,6 @@ back-shift d (marked at gap fewer m s ∷ asks) = let e : (d + at) - d ≡ at = 
 -- Lists that are the same after a given number of characters.
 pub unshifted : (d : ℕ) (xs ys : List Ask) → shift d xs ≡ shift d ys → xs ≡ ys
 unshifted d xs ys e = sym (back-shift d xs) ∙ ap (map (back_one d)) e ∙ back-shift d ys
-
-pub noted-last : (n : ℕ) (ls : List Ask) (p : Noting) → AllNotedBy n (ls ++ noting p ∷ []) → p.at + p.gap ≤ n
-noted-last n [] p h = h.0
-noted-last n (looked at seen ∷ ls) p h = noted-last n ls p h
-noted-last n (marked at gap fewer m s ∷ ls) p h = noted-last n ls p h.1
-
-pub noted-first : (n : ℕ) (ls ks : List Ask) → AllNotedBy n (ls ++ ks) → AllNotedBy n ls
-noted-first n [] ks h = tt
-noted-first n (looked at seen ∷ ls) ks h = noted-first n ls ks h
-noted-first n (marked at gap fewer m s ∷ ls) ks h = (h.0, noted-first n ls ks h.1)
-
-pub end-marked : (n : ℕ) (ls : List Ask) (p : Noting) → AllEndBy n ls → AllEndBy n (ls ++ noting p ∷ [])
-end-marked n ls p h = both-end n ls (noting p ∷ []) h tt
 
 bare-second : (ls ks : List Ask) → AllMarks Never (ls ++ ks) → AllMarks Never ks
 bare-second [] ks h = h
@@ -133,12 +117,8 @@ module _ (k : CharClasses) where
     pub count : notes_in first ≡ notes_in (asks_of (pieces k i z))
     early : (n : ℕ) → (0 < i → AllEndBy n ((lead k z).asks ++ asks_of (pieces k i z))) → AllEndBy n first
 
-  lead-bare : (z : Place) → AllMarks Never (lead k z).asks
-  unfolding run
-  lead-bare z = none-hand Never k start.held start.known z
-
   next-none : (i : ℕ) (z : Place) → notes_in (next_looks k i z) ≡ 0
-  next-none i z = ap notes_in (sym (looks-are i z)) ∙ next-none-any (text_run k z) start (lead k z).asks i (lead-bare z)
+  next-none i z = ap notes_in (sym (looks-are i z)) ∙ next-none-any (text_run k z) start (lead k z).asks i (lead-bare k z)
 
   abbrev cut_by : (i : ℕ) (z : Place) → AnyCut (text_run k z) start (lead k z).asks i → Cut i z
   cut_by i z c =
@@ -150,7 +130,7 @@ module _ (k : CharClasses) where
       }
 
   pub cut : (i : ℕ) (z : Place) → AllGo (pieces k i z) → Cut i z
-  cut i z g = cut_by i z (cut-any (text_run k z) start (lead k z).asks i (lead-bare z) g)
+  cut i z g = cut_by i z (cut-any (text_run k z) start (lead k z).asks i (lead-bare k z) g)
 
   -- all that is asked of a text, cut there
   pub cut-asks : (text : List ℕ) (i n : ℕ) → (let z = start_of text in (first : List Ask) (p : Noting) → AllGo (pieces k i z) → AllGo (pieces_from k i n z)
@@ -202,10 +182,10 @@ module _ (k : CharClasses) where
       let same : t.gap ≡ end = omega (arith, a.ends) in
       let all_last : hand ++ on ≡ shift end last = a.asks ∙ ap (λ d. shift d last) same in
       let behind : AllMarks Never on = bare-second hand on (subst (λ u. AllMarks Never u) (sym all_last) (bare-shift end last none)) in
-      let behind_too : AllFrom 0 z on = from-second 0 z hand on (subst (λ u. AllFrom 0 z u) (sym all_last) begun_last) in
+      let behind_too : AllFrom 0 z on = (split-from 0 z hand on (subst (λ u. AllFrom 0 z u) (sym all_last) begun_last)).1 in
       let still : shift 0 (shift 0 on) ≡ on = shift-zero (shift 0 on) ∙ shift-zero on in
-      side-none max_depth z (end_note k 0 z) (own_asks k 0 0 z) (all_asks 0 0 z) (marks-append Never ls [] (lead-bare z) tt)
-      (subst (λ u. AllMarks Never (ls ++ u)) (sym still) (marks-append Never ls on (lead-bare z) behind))
+      side-none max_depth z (end_note k 0 z) (own_asks k 0 0 z) (all_asks 0 0 z) (marks-append Never ls [] (lead-bare k z) tt)
+      (subst (λ u. AllMarks Never (ls ++ u)) (sym still) (marks-append Never ls on (lead-bare k z) behind))
       (subst (λ u. AllFrom 0 z (ls ++ u)) (sym still) (from-both 0 z ls on begun behind_too)) refl
 
   -- None follows the last pieces of a text either.
@@ -337,21 +317,7 @@ run-splice-law k front old new rest i n m past t u h over over_new big big_new =
     let note_same : end_note k i w ≡ p = sym (note-is k i w) ∙ more.note ∙ note-is k i z in
     let was = cut-asks k (front ++ (old ++ rest)) i n cuts.first p h.first_go h.old_go cuts.is in
     let now = cut-asks k (front ++ (new ++ rest)) i m cuts.first p new_first h.new_go (more.is ∙ (λ v. any.early ++ noting (note-is k i z v) ∷ looks-are k i w v)) in
-    let early = cuts.early (length front) h.before in
-    let upto = cuts.first ++ noting p ∷ [] in
-    let all_seen = (sees-level (rules k) k max_depth whole z (start_point markup_reading) (length front) (omega arith)).noted in
-    let noted_all = seen-first (length front) upto (all_asks k i n z) (subst (AllSeen (length front)) (was ∙ sym (append_assoc cuts.first (noting p ∷ []) (all_asks k i n z))) all_seen) (end-marked (length front) cuts.first p early) in
-    let law = splice-sides max_depth front (old ++ rest) (new ++ rest) cuts.first p (own_asks k i n z) (all_asks k i n z) (own_asks k i m w) (all_asks k i m w) both.behind both.back early
-    (noted-first (length front) cuts.first (noting p ∷ []) noted_all) (noted-last (length front) cuts.first p noted_all) both.one
-    (subst (λ a. Side max_depth w a (own_asks k i m w) (all_asks k i m w) both.behind both.back) note_same both.two) in
-    let from = notes_in (asks_of (pieces k i z)) in
-    let count = notes_in (own_asks k i n z) in
-    let part = entries_from (token_start w p) (pieces_log k i m w).notes in
-    let units_was = units_of (logged max_depth z no_log (cuts.first ++ noting p ∷ all_asks k i n z)) in
-    let own_count : count ≡ notes_in (asks_of (pieces_from k i n z)) =
+    let own_count : notes_in (own_asks k i n z) ≡ notes_in (asks_of (pieces_from k i n z)) =
     count-append (next_looks k i z) _ ∙ ap (λ a. a + notes_in (shift (end_at k i z).taken (asks_of (pieces_from k i n z)))) (next-none k i z) ∙ omega (arith, count-shift (end_at k i z).taken (asks_of (pieces_from k i n z))) in
-    ap (λ ls. units_of (logged max_depth w no_log ls)) now ∙ law
-    ∙ ap (λ a. spliced a (a + count) part units_was) cuts.count
-    ∙ ap (λ a. spliced from (from + a) part units_was) own_count
-    ∙ ap (λ (a : Noting). spliced from (from + notes_in (asks_of (pieces_from k i n z))) (entries_from (token_start w a) (pieces_log k i m w).notes) units_was) (sym note_same)
-    ∙ ap (λ ls. spliced from (from + notes_in (asks_of (pieces_from k i n z))) (entries_from (token_start w (end_note k i w)) (pieces_log k i m w).notes) (units_of (logged max_depth z no_log ls))) (sym was)
+    splice-texts k front old new rest cuts.first p (end_note k i w) (own_asks k i n z) (all_asks k i n z) (own_asks k i m w) (all_asks k i m w) both.behind both.back (notes_in (asks_of (pieces k i z))) (notes_in (asks_of (pieces_from k i n z)))
+    was now note_same (cuts.early (length front) h.before) both.one both.two cuts.count own_count

@@ -47,10 +47,10 @@ use Rattle.typst_edits.proofs.Children.{top-known}
 use Rattle.typst_edits.proofs.Cuts.{cuts-law}
 use Rattle.typst_edits.proofs.EmptyRuns.{empty-text-law}
 use Rattle.typst_edits.proofs.NoteNumbers.{turns-within}
-use Rattle.typst_edits.proofs.OneReading.{first-split}
 use Rattle.typst_edits.proofs.Outcomes.{shift-zero}
 use Rattle.typst_edits.proofs.PiecesLog.{pieces-log-law}
-use Rattle.typst_edits.proofs.PiecesTest.{count-pieces, run-entries-law, run-part-law, no-errors-before, rereads}
+use Rattle.typst_edits.proofs.Sides.{count-made}
+use Rattle.typst_edits.proofs.PiecesTest.{run-entries-law, run-part-law, no-errors-before, rereads}
 use Rattle.typst_edits.proofs.ReadAlone.{first-goes, begun, alike, goes-there}
 use Rattle.typst_edits.proofs.Resumed.{count-law, further}
 use Rattle.typst_edits.proofs.Root.{within}
@@ -155,8 +155,7 @@ module _ (in_order : InOrderLaw) (k : CharClasses) (front old new rest : List �
 
     pub to-is : length notes.ends.earlier ≡ number_of k text (i + n)
     to-is =
-        notes.to ∙ ap (λ j. j + notes_in (asks_of (pieces_from k i n begin))) notes.from ∙ sym (count-pieces (pieces k i begin) (pieces_from k i n begin))
-        ∙ sym (ap (λ os. notes_in (asks_of os)) (first-split whole i n))
+        notes.to ∙ ap (λ j. j + notes_in (asks_of (pieces_from k i n begin))) notes.from ∙ sym (count-made whole i n)
 
     pub before-is : number_of k text i < front_in k front old rest ↔ Before k front old rest top_run i
     before-is = ((λ l. notes.before (subst (λ j. j < front_in k front old rest) (sym notes.from) l)), (λ h. subst (λ j. j < front_in k front old rest) notes.from (notes.before_too h)))

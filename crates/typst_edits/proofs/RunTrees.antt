@@ -82,6 +82,11 @@ chained-asks ls x v s r os ps q t =
     ap (λ u. (ls ++ u) ++ shift c.taken t.asks) asks ∙ ap (λ n. (ls ++ (first ++ shift a second)) ++ shift n t.asks) taken
     ∙ ap (λ u. u ++ last) (sym (append_assoc ls first (shift a second))) ∙ append_assoc (ls ++ first) (shift a second) last ∙ ap (λ u. (ls ++ first) ++ u) (sym outer)
 
+-- the same with no pieces between
+pub chain-last : (ls : List Ask) (x : Bool × ℕ) (s : Point) (os : List (Outcome (Bool × (Bool × ℕ)))) (q : Outcome (Bool × ℕ)) (t : Outcome (Unit {0})) → (let c = chain os q in
+    (ls ++ c.asks) ++ shift c.taken t.asks ≡ (ls ++ asks_of os) ++ shift (end_of x s os).taken (q.asks ++ shift q.taken t.asks))
+chain-last ls x s os q t = chained-asks ls x x s s os [] q t ∙ ap (λ u. (ls ++ asks_of os) ++ shift (end_of x s os).taken u) (shift-zero (q.asks ++ shift q.taken t.asks))
+
 -- a text's tree, by its pieces and all after them
 pub tree-is : (k : CharClasses) (text : List ℕ) (i n : ℕ) → (let z = start_of text in AllGo (pieces k i z) → AllGo (pieces_from k i n z) → tree k text ≡ tree_by (pieces k i z) (pieces_from k i n z) (onwards_from k i n z))
 unfolding tree

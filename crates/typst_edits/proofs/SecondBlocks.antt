@@ -1,5 +1,5 @@
 -- Where a block within a reading that was given up begins, no run of a content block is noted.
-use Rattle.std.proofs.Common.{◌≡◌, ℕ, ◌<◌, ◌==◌, Bool, true, false, ◌&&◌, if◌then◌else◌, List, [], ◌∷◌, ◌++◌, length, length-append, take, Some, refl, ap, sym, ◌∙◌, subst, arith}
+use Rattle.std.proofs.Common.{◌≡◌, ℕ, ◌<◌, ◌==◌, Bool, true, false, ◌&&◌, if◌then◌else◌, List, [], ◌∷◌, ◌++◌, length, Some, refl, ap, sym, subst, arith}
 use Rattle.std.proofs.lemmas.Bool.{eqb-true}
 use Rattle.typst_lines.specs.Classes.{CharClasses}
 use Rattle.typst_tree.specs.Tree.{Tree, text_of}
@@ -9,20 +9,16 @@ use Rattle.typst_language.specs.declared.calls.Mark.{Mark}
 use Rattle.typst_language.specs.declared.calls.Mark.TheVariants as mark
 use Rattle.typst_language.specs.declared.calls.Note.{Note}
 use Rattle.typst_candidates.specs.Units.{opens_content, starts, up_to_end, after_first, cuts_in}
-use Rattle.typst_grammar.specs.Grammar.{max_depth, start_of, parsed, log}
+use Rattle.typst_grammar.specs.Grammar.{log}
 use Rattle.typst_edits.specs.Edit.{Among}
 use Rattle.typst_edits.specs.Hole.{Hole}
-use Rattle.typst_edits.specs.Lost.{is_opening}
 use Rattle.typst_edits.specs.PieceNotes.{listed}
 use Rattle.typst_edits.specs.Spot.{Spot}
-use Rattle.typst_edits.specs.Standing.{seconds_of_text, IsOf, place_of}
-use Rattle.typst_edits.proofs.BlockPlaces.{early-by, hole-same, take-same}
-use Rattle.typst_edits.proofs.BlockTest.{Asked, among-here, asked-of, byte-at}
-use Rattle.typst_edits.proofs.Edit.{among}
-use Rattle.typst_edits.proofs.OpensApart.{opens-directly}
+use Rattle.typst_edits.specs.Standing.{seconds_of_text, IsOf}
+use Rattle.typst_edits.proofs.BlockPlaces.{hole-same}
+use Rattle.typst_edits.proofs.BlockTest.{never-second}
 use Rattle.typst_edits.proofs.Placed.{left_text}
 use Rattle.typst_edits.proofs.SecondPlaces.{second-place}
-use Rattle.typst_edits.proofs.UnnotedLevels.{unnoted-law}
 
 -- ---- the note of a run
 
@@ -62,14 +58,4 @@ none-there k front more hole node s cuts there of full starts noted =
     let same = hole-same s.hole hole s.node node of.path of.nodes in
     let some : 0 < length (text_of s.node) = subst (λ (t : Tree). 0 < length (text_of t)) (sym same.1) full in
     let o = begins-at (length (left_text hole)) (listed (log k text).notes) cuts noted in
-    let asked = among (Asked (start_of text) (parsed k max_depth text).asks) o.note _ (subst (Among o.note) (sym o.is) (among-here o.earlier o.note o.later)) (asked-of k text) in
-    let a = asked (ap is_opening o.mark) in
-    let begin = opens-directly k text o.earlier o.note o.later block.Content o.is o.mark in
-    let at = length (left_text hole) in
-    let spot_byte : width (take s.at text) ≡ at = omega (arith, second-place k text s there some, ap length same.0) in
-    let ask_byte : width (take (place_of a.ask) text) ≡ at = omega (arith, byte-at (place_of a.ask) text, a.before, begin, o.start) in
-    let one = early-by s.at front more (omega (arith, spot_byte, starts)) in
-    let two = early-by (place_of a.ask) front more (omega (arith, ask_byte, starts)) in
-    let long = length-append front more in
-    let meet = take-same (place_of a.ask) s.at text (omega (arith, two, long)) (omega (arith, one, long)) (ask_byte ∙ sym spot_byte) in
-    omega (arith, unnoted-law k text s a.ask there a.among_all meet, one, long)
+    never-second k front more s there o.earlier o.note o.later block.Content o.is o.mark (omega (arith, second-place k text s there some, ap length same.0, o.start)) (omega (arith, starts, o.start))

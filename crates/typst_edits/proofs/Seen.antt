@@ -1,5 +1,5 @@
 -- Whatever is taken was looked at, and the token of each note before the note: they end where the looks end, or before.
-use Rattle.std.proofs.Common.{◌≡◌, ℕ, zero, suc, ◌+◌, ◌-◌, ◌≤◌, Bool, true, false, ◌&&◌, if◌then◌else◌, nat_lt, List, [], ◌∷◌, ◌++◌, length, Option, Some, None, ap, arith}
+use Rattle.std.proofs.Common.{◌≡◌, ℕ, zero, suc, ◌+◌, ◌-◌, ◌≤◌, Bool, true, false, if◌then◌else◌, List, [], ◌∷◌, ◌++◌, length, Option, Some, None, ap, arith}
 use Rattle.typst_kinds.specs.declared.mode.SyntaxMode.{SyntaxMode}
 use Rattle.typst_lines.specs.Place.{Place, moved}
 use Rattle.typst_lines.specs.Classes.{CharClasses}
@@ -15,16 +15,16 @@ use Rattle.typst_language.specs.Point.{Trivia, Point, gap_of, forgot}
 use Rattle.typst_language.specs.Shape.{Shape}
 use Rattle.typst_language.specs.Steps.{peek}
 use Rattle.typst_language.specs.Tokens.{token}
-use Rattle.typst_language.specs.Syntax.{Op, Begin, Parser, ◌>>◌}
+use Rattle.typst_language.specs.Syntax.{Op, Parser, ◌>>◌}
 use Rattle.typst_language.specs.Syntax.Op.{hand, so, further, column, erred, takes, takes_so, flushes, complains, advises, marks, is_deepest}
-use Rattle.typst_language.specs.Syntax.Parser.{gives, does, next, pick, repeat, wraps, grows, nests, scoped, either, calls, block}
-use Rattle.typst_language.specs.Meaning.{Outcome, Meaning, Level, plain, joined, answered, turns, as_last, bound, repeated, before, inside, reshaped, grown, is_more, growths, growing, nestings, nesting, deeper_by_one, given_up, bounded, blockless, entered, left_to, same_mode, hand_of, hand_asks_of, reader_so, done, run}
+use Rattle.typst_language.specs.Meaning.{Outcome, Meaning, Level, plain, joined, answered, inside, reshaped, deeper_by_one, given_up, bounded, blockless, left_to, same_mode, hand_of, hand_asks_of, reader_so, done, run}
 use Rattle.typst_language.proofs.Looks.{len-covers}
-use Rattle.typst_language.proofs.Within.{on_both, grew}
+use Rattle.typst_language.proofs.Within.{on_both}
 use Rattle.typst_language.proofs.Runs.{shape-known}
 use Rattle.typst_edits.specs.Edit.{AllEndBy}
 use Rattle.typst_edits.specs.Splice.{AllNotedBy}
 use Rattle.typst_edits.proofs.Marks.{AllMarks, none-hand}
+use Rattle.typst_edits.proofs.Traversal.{Parts, all-run}
 pub use Rattle.typst_edits.proofs.Bytes.{end-first}
 
 -- ---- lists of asks
@@ -138,41 +138,11 @@ seen-joined n o p a k = record {
   ends = λ e. joined-ends n o p (a.ends (end-first n o.asks (shift o.taken p.asks) e)) k (end-second n o.asks (shift o.taken p.asks) e);
 }
 
-seen-last : {A : Type 0} (n : ℕ) (o : Outcome (Bool × A)) → Seen n o → Seen n (as_last o)
-seen-last n o a = record { noted = a.noted; ends = a.ends }
-
-sees-turns : {A : Type 0} (m : A → Meaning (Bool × A)) → ((x : A) → Sees (m x)) → (i : ℕ) (x : A) → Sees (turns m i x)
-sees-turns m h zero x z s n g = sees-plain x z s n g
-sees-turns m h (suc i) x z s n g =
-    let o = m x z s in
-    let p = turns m i o.value.1 (moved o.taken z) o.state in
-    on_both (Seen n) (o.value.0 && nat_lt 0 o.taken) (joined o p) (as_last o) (seen-joined n o p (h x z s n g) (sees-turns m h i o.value.1 (moved o.taken z) o.state)) (seen-last n o (h x z s n g))
-
 seen-reshaped : {A : Type 0} (n : ℕ) (shape : Shape) (i : ℕ) (o : Outcome A) → Seen n o → Seen n (reshaped shape i o)
 seen-reshaped n shape i o a = record { noted = a.noted; ends = λ e. omega (arith, a.ends e, ap gap_of (shape-known shape (inside i o) o.state)) }
 
-seen-grown : {A : Type 0} (n i : ℕ) (shape : Option Shape) (o : Outcome A) → Seen n o → Seen n (grown i shape o)
-seen-grown n i None o h = h
-seen-grown n i (Some shape) o h = seen-reshaped n shape i o h
-
 seen-answered : {A B : Type 0} (n : ℕ) (b : B) (o : Outcome A) → Seen n o → Seen n (answered b o)
 seen-answered n b o a = record { noted = a.noted; ends = a.ends }
-
-seen-growths : {A : Type 0} (m : A → Meaning (Option Shape × A)) → ((x : A) → Sees (m x)) → (n i j : ℕ) (o : Outcome A) (z : Place) → Seen n o → Seen n (growths m i j o z)
-seen-growths m h n i zero o z k = k
-seen-growths m h n i (suc j) o z k =
-    let p = m o.value (moved o.taken z) o.state in
-    let all = seen-grown n i p.value.0 (answered p.value.1 (joined o p)) (seen-answered n p.value.1 (joined o p) (seen-joined n o p k (h o.value (moved o.taken z) o.state))) in
-    on_both (Seen n) (is_more p.value.0 && nat_lt 0 p.taken) (growths m i j (grew i o p) z) (grew i o p) (seen-growths m h n i j (grew i o p) z all) all
-
-sees-nestings : {A : Type 0} (f : A → Shape) (begin : Begin) (m : A → Meaning (Bool × A)) → ((x : A) → Sees (m x)) → (i : ℕ) (x : A) → Sees (nestings f begin m i x)
-sees-nestings f begin m h zero x z s n g = sees-plain x z s n g
-sees-nestings f begin m h (suc i) x z s n g =
-    let o = m x z s in
-    let p = nestings f begin m i o.value.1 (moved o.taken z) o.state in
-    let b = o.value.0 && nat_lt 0 o.taken in
-    seen-reshaped n (f (if b then joined o p else as_last o).value) (before begin s) (if b then joined o p else as_last o)
-    (on_both (Seen n) b (joined o p) (as_last o) (seen-joined n o p (h x z s n g) (sees-nestings f begin m h i o.value.1 (moved o.taken z) o.state)) (seen-last n o (h x z s n g)))
 
 seen-left : {A : Type 0} (n : ℕ) (outer : Reading) (o : Outcome A) → Seen n o → Seen n (left_to outer o)
 seen-left n outer o a = record { noted = a.noted; ends = λ e. (let l = a.ends e in on_both (λ (t : Point). o.taken + gap_of t.known ≤ n) (same_mode o.state.reading.mode outer.mode) _ _ l (omega (arith, l))) }
@@ -182,6 +152,19 @@ seen-given-up n o p a = record { noted = seen-only n (o.asks ++ p.asks); ends = 
 
 seen-deeper : {A : Type 0} (n : ℕ) (o : Outcome A) → Seen n o → Seen n (deeper_by_one o)
 seen-deeper n o a = record { noted = seen-sunk n o.asks a.noted; ends = λ e. a.ends (end-sunk n o.asks e) }
+
+abbrev SeenBy : (A : Type 0) → Place → Point → Outcome A → Type 0
+SeenBy A z s o = (n : ℕ) → gap_of s.known ≤ n → Seen n o
+
+seen : Parts SeenBy
+seen = record {
+  nothing = λ A z s a n g. sees-plain a z s n g;
+  both = λ A B z s o p h k n g. seen-joined n o p (h n g) k;
+  answer = λ A B z s b o h n g. seen-answered n b o (h n g);
+  in_shape = λ A z s shape i o h n g. seen-reshaped n shape i o (h n g);
+  in_scope = λ A z s r o h n g. seen-left n s.reading o (h n g);
+  instead = λ A z s o p h k n g. seen-given-up n o p (k n g);
+}
 
 module _ (l : Level) where
   sees-hand : (z : Place) (s : Point) (n : ℕ) → gap_of s.known ≤ n → AllEndBy n (hand_asks_of l z s) → (hand_of l z s).gap + (hand_of l z s).len ≤ n
@@ -229,29 +212,7 @@ module _ (l : Level) where
         record { noted = (omega arith, seen-append n o.asks _ a.noted (λ e. (omega (arith, a.ends e), tt))); ends = λ e. omega (arith, a.ends (end-first n o.asks _ e)) }
 
     pub sees-run : {A : Type 0} (p : Parser A) → Sees (run l p)
-    unfolding run repeated growing nesting
-    sees-run (gives a) z s n g = sees-plain a z s n g
-    sees-run (does o) z s n g = sees-done o z s n g
-    sees-run (next p f) z s n g =
-        let o = run l p z s in
-        seen-joined n o (run l (f o.value) (moved o.taken z) o.state) (sees-run p z s n g) (sees-run (f o.value) (moved o.taken z) o.state)
-    sees-run (pick b p q) z s n g = on_both (Seen n) b (run l p z s) (run l q z s) (sees-run p z s n g) (sees-run q z s n g)
-    sees-run (repeat p x) z s n g = sees-turns (λ y. run l (p y)) (λ y. sees-run (p y)) (suc (bound z s)) x z s n g
-    sees-run (wraps f begin p) z s n g =
-        let o = run l p z s in
-        seen-answered n (o.value, _) (reshaped (f o.value) (before begin s) o) (seen-reshaped n (f o.value) (before begin s) o (sees-run p z s n g))
-    sees-run (grows begin p f) z s n g = seen-growths (λ y. run l (f y)) (λ y. sees-run (f y)) n (before begin s) (suc (bound z s)) (run l p z s) z (sees-run p z s n g)
-    sees-run (nests f begin p x) z s n g = sees-nestings f begin (λ y. run l (p y)) (λ y. sees-run (p y)) (suc (bound z s)) x z s n g
-    sees-run (scoped f p) z s n g = seen-left n s.reading (run l p z (entered (f s.reading) s)) (sees-run p z (entered (f s.reading) s) n g)
-    sees-run (either p is_wrong q) z s n g =
-        let o = run l p z s in
-        let u = run l q z s in
-        on_both (Seen n) (is_wrong o.value) (given_up o u) o (seen-given-up n o u (sees-run q z s n g)) (sees-run p z s n g)
-    sees-run (calls c) z s n g = seen-deeper n (l.deeper c z s) (i c z s n g)
-    sees-run (block b) z s n g =
-        let o = done l flushes z s in
-        let p = bounded b (l.blocks b) (moved o.taken z) o.state in
-        on_both (Seen n) (l.has b) (joined o p) (plain tt s) (seen-joined n o p (sees-done flushes z s n g) (sees-bounded b (moved o.taken z) o.state)) (sees-plain tt z s n g)
+    sees-run p = all-run SeenBy seen l (λ A o. sees-done o) (λ c z s n g. seen-deeper n (l.deeper c z s) (i c z s n g)) sees-bounded p
 
 -- ---- by any rules, at every level
 

@@ -1,7 +1,7 @@
 -- The units of two texts that are asked the same before a stretch and after it.
-use Rattle.std.proofs.Common.{◌≡◌, ℕ, zero, suc, ◌+◌, ◌-◌, ◌<◌, ◌≤◌, ◌^◌, max, min, List, [], ◌∷◌, ◌++◌, length, take, drop, length-append, append_assoc, append-nil, Option, Some, None, refl, ap, sym, ◌∙◌, subst, arith}
+use Rattle.std.proofs.Common.{◌≡◌, ℕ, zero, suc, ◌+◌, ◌-◌, ◌<◌, ◌≤◌, ◌^◌, max, min, List, [], ◌∷◌, ◌++◌, length, take, drop, append_assoc, append-nil, refl, ap, sym, ◌∙◌, subst, arith}
 use Rattle.std.proofs.Math.Seq.{take-append_seam, drop-append_seam}
-use Rattle.typst_candidates.specs.Entries.{Units, entry_kind_of, count_of, back_of, entry_of, entries_by, last_start, units_by, units_of, spliced}
+use Rattle.typst_candidates.specs.Entries.{entry_kind_of, count_of, back_of, entry_of, entries_by, last_start, spliced}
 use Rattle.typst_candidates.specs.declared.entry.Entry.{Entry}
 use Rattle.typst_candidates.specs.declared.entry.EntryKind.{EntryKind}
 use Rattle.typst_lines.specs.Place.{Place, moved, moved_from}
@@ -11,58 +11,20 @@ use Rattle.typst_language.specs.declared.calls.Note.{Note}
 use Rattle.typst_language.specs.declared.reading.State.{State}
 use Rattle.typst_language.specs.Ask.{Ask, shift}
 use Rattle.typst_language.specs.Ask.Ask.{looked, marked}
-use Rattle.typst_language.specs.Log.{no_log, logged}
 use Rattle.typst_language.proofs.Places.{moved-sum, moved-ahead}
 use Rattle.typst_edits.specs.Edit.{text_with, AllEndBy, AllBeginIn}
-use Rattle.typst_edits.specs.Splice.{Noting, noting, notes_in, AllNotedBy, token_start, entries_from, SpliceLaw}
+use Rattle.typst_edits.specs.Splice.{Noting, noting, AllNotedBy, token_start}
 use Rattle.typst_edits.proofs.Edit.{onto, past-is}
+use Rattle.typst_edits.proofs.LogNotes.{note_with, note_by, notes_from, least_from}
 use Rattle.typst_edits.proofs.Widths.{width-append, width-none, width-onto, stretch-to, moved-width}
 
--- ---- the notes of what is asked, from where the looks since the last note end and begin
-
-abbrev pub note_with : ℕ → ℕ → ℕ → ℕ → Mark → State → ℕ → ℕ → Note
-note_with lv reach least fewer m s before start = record { mark = m; before = before; start = start; levels = lv - fewer; state = s; reach = reach; least = least }
-
-abbrev pub note_by : ℕ → Place → ℕ → ℕ → ℕ → ℕ → ℕ → Mark → State → Note
-note_by lv z reach least at gap fewer m s = note_with lv reach least fewer m s (position (moved at z)) (position (moved gap (moved at z)))
-
-abbrev pub notes_from : ℕ → Place → ℕ → ℕ → List Ask → List Note
-notes_from lv z reach least [] = []
-notes_from lv z reach least (looked at look ∷ asks) = notes_from lv z (max reach (far look.front (moved at z))) (min least (near look.back (moved at z))) asks
-notes_from lv z reach least (marked at gap fewer m s ∷ asks) = note_by lv z reach least at gap fewer m s ∷ notes_from lv z 0 (2 ^ 64 - 1) asks
-
-abbrev pub least_from : ℕ → Place → ℕ → List Ask → ℕ
-least_from lv z least [] = least
-least_from lv z least (looked at look ∷ asks) = least_from lv z (min least (near look.back (moved at z))) asks
-least_from lv z least (marked at gap fewer m s ∷ asks) = least_from lv z (2 ^ 64 - 1) asks
-
-pub logged-notes : (lv : ℕ) (z : Place) (asks : List Ask) (reach least : ℕ) (ns : List Note) → (logged lv z (record { reach = reach; least = least; notes = Some ns }) asks).notes ≡ Some (ns ++ notes_from lv z reach least asks)
-logged-notes lv z [] reach least ns = ap Some (sym (append-nil ns))
-logged-notes lv z (looked at look ∷ asks) reach least ns = logged-notes lv z asks (max reach (far look.front (moved at z))) (min least (near look.back (moved at z))) ns
-logged-notes lv z (marked at gap fewer m s ∷ asks) reach least ns =
-    let note = note_by lv z reach least at gap fewer m s in
-    logged-notes lv z asks 0 (2 ^ 64 - 1) (ns ++ note ∷ []) ∙ ap Some (append_assoc ns (note ∷ []) (notes_from lv z 0 (2 ^ 64 - 1) asks))
-
-pub logged-least : (lv : ℕ) (z : Place) (asks : List Ask) (reach least : ℕ) (ns : List Note) → (logged lv z (record { reach = reach; least = least; notes = Some ns }) asks).least ≡ least_from lv z least asks
-logged-least lv z [] reach least ns = refl
-logged-least lv z (looked at look ∷ asks) reach least ns = logged-least lv z asks (max reach (far look.front (moved at z))) (min least (near look.back (moved at z))) ns
-logged-least lv z (marked at gap fewer m s ∷ asks) reach least ns = logged-least lv z asks 0 (2 ^ 64 - 1) (ns ++ note_by lv z reach least at gap fewer m s ∷ [])
+-- ---- the notes of what is asked
 
 -- A note separates them.
 pub notes-split : (lv : ℕ) (z : Place) (asks more : List Ask) (p : Noting) (reach least : ℕ) → notes_from lv z reach least (asks ++ noting p ∷ more) ≡ notes_from lv z reach least (asks ++ noting p ∷ []) ++ notes_from lv z 0 (2 ^ 64 - 1) more
 notes-split lv z [] more p reach least = refl
 notes-split lv z (looked at look ∷ asks) more p reach least = notes-split lv z asks more p (max reach (far look.front (moved at z))) (min least (near look.back (moved at z)))
 notes-split lv z (marked at gap fewer m s ∷ asks) more p reach least = ap (λ ns. note_by lv z reach least at gap fewer m s ∷ ns) (notes-split lv z asks more p 0 (2 ^ 64 - 1))
-
-pub least-split : (lv : ℕ) (z : Place) (asks more : List Ask) (p : Noting) (least : ℕ) → least_from lv z least (asks ++ noting p ∷ more) ≡ least_from lv z (2 ^ 64 - 1) more
-least-split lv z [] more p least = refl
-least-split lv z (looked at look ∷ asks) more p least = least-split lv z asks more p (min least (near look.back (moved at z)))
-least-split lv z (marked at gap fewer m s ∷ asks) more p least = least-split lv z asks more p (2 ^ 64 - 1)
-
-pub notes-length : (lv : ℕ) (z : Place) (asks : List Ask) (p : Noting) (reach least : ℕ) → length (notes_from lv z reach least (asks ++ noting p ∷ [])) ≡ suc (notes_in asks)
-notes-length lv z [] p reach least = refl
-notes-length lv z (looked at look ∷ asks) p reach least = notes-length lv z asks p (max reach (far look.front (moved at z))) (min least (near look.back (moved at z)))
-notes-length lv z (marked at gap fewer m s ∷ asks) p reach least = ap suc (notes-length lv z asks p 0 (2 ^ 64 - 1))
 
 pub last-is : (lv : ℕ) (z : Place) (asks : List Ask) (p : Noting) (reach least start : ℕ) → last_start start (notes_from lv z reach least (asks ++ noting p ∷ [])) ≡ token_start z p
 last-is lv z [] p reach least start = refl
@@ -288,50 +250,7 @@ module _ (lv : ℕ) (front old new rest : List ℕ) (past end stop : ℕ) (e : e
         back = ap (λ n. back_of (last_start n ns) (least_from lv z (2 ^ 64 - 1) (shift end asks))) (start-old at gap) ∙ o.back ∙ ap (λ n. back_of (last_start n ms) (least_from lv w (2 ^ 64 - 1) (shift stop asks))) (sym (start-new at gap));
       }
 
--- ---- the law
-
--- the units of what is asked up to a note, up to another one, and after it
-module _ (lv : ℕ) (z : Place) (first second last : List Ask) (p q : Noting) where
-  abbrev none_yet : ℕ
-  none_yet = 2 ^ 64 - 1
-
-  abbrev notes_first : List Note
-  notes_first = notes_from lv z 0 none_yet (first ++ noting p ∷ [])
-
-  abbrev notes_second : List Note
-  notes_second = notes_from lv z 0 none_yet (second ++ noting q ∷ [])
-
-  abbrev notes_last : List Note
-  notes_last = notes_from lv z 0 none_yet last
-
-  abbrev split_units : Units
-  split_units = record {
-    entries = entries_by 0 notes_first ++ (entries_by (token_start z p) notes_second ++ entries_by (token_start z q) notes_last);
-    back = back_of (last_start (token_start z q) notes_last) (least_from lv z none_yet last);
-  }
-
-  units-split : units_of (logged lv z no_log (first ++ noting p ∷ (second ++ noting q ∷ last))) ≡ split_units
-  units-split =
-      let asks = first ++ noting p ∷ (second ++ noting q ∷ last) in
-      let tp = token_start z p in
-      let tq = token_start z q in
-      let h = logged lv z no_log asks in
-      let notes : h.notes ≡ Some (notes_first ++ (notes_second ++ notes_last)) =
-      logged-notes lv z asks 0 none_yet [] ∙ ap Some (notes-split lv z first (second ++ noting q ∷ last) p 0 none_yet ∙ ap (λ ns. notes_first ++ ns) (notes-split lv z second last q 0 none_yet)) in
-      let least : h.least ≡ least_from lv z none_yet last =
-      logged-least lv z asks 0 none_yet [] ∙ least-split lv z first (second ++ noting q ∷ last) p none_yet ∙ least-split lv z second last q none_yet in
-      let first_end = last-is lv z first p 0 none_yet 0 in
-      let second_end = last-is lv z second q 0 none_yet tp in
-      let entries : entries_by 0 (notes_first ++ (notes_second ++ notes_last)) ≡ entries_by 0 notes_first ++ (entries_by tp notes_second ++ entries_by tq notes_last) =
-      entries-append 0 notes_first (notes_second ++ notes_last)
-      ∙ ap (λ n. entries_by 0 notes_first ++ entries_by n (notes_second ++ notes_last)) first_end
-      ∙ ap (λ es. entries_by 0 notes_first ++ es) (entries-append tp notes_second notes_last ∙ ap (λ n. entries_by tp notes_second ++ entries_by n notes_last) second_end) in
-      let ending : last_start 0 (notes_first ++ (notes_second ++ notes_last)) ≡ last_start tq notes_last =
-      last-append 0 notes_first (notes_second ++ notes_last) ∙ ap (λ n. last_start n (notes_second ++ notes_last)) first_end ∙ last-append tp notes_second notes_last ∙ ap (λ n. last_start n notes_last) second_end in
-      ap (λ (o : Option (List Note)). units_by (elim o as (λ _. List Note) [ None ↦ [] | Some ns ↦ ns ]) h.least) notes
-      ∙ ap (λ l. units_by (notes_first ++ (notes_second ++ notes_last)) l) least
-      ∙ ap (λ es. record { entries = es; back = back_of (last_start 0 (notes_first ++ (notes_second ++ notes_last))) (least_from lv z none_yet last) }) entries
-      ∙ ap (λ n. record { entries = entries_by 0 notes_first ++ (entries_by tp notes_second ++ entries_by tq notes_last); back = back_of n (least_from lv z none_yet last) }) ending
+-- ---- parts
 
 -- entries of three parts, of which the second is exchanged
 pub spliced-is : (from to : ℕ) (es fs gs part : List Entry) (back : ℕ) → length es ≡ suc from → length (es ++ fs) ≡ suc to
@@ -346,43 +265,3 @@ whole-width front mid rest = omega (arith, width-append front (mid ++ rest), wid
 
 pub token-at : (z : Place) (p : Noting) (end : ℕ) → p.at + p.gap ≡ end → token_start z p ≡ position (moved end z)
 token-at z p end e = ap position (sym (moved-sum p.at p.gap z)) ∙ ap (λ n. position (moved n z)) e
-
-pub splice-law : SpliceLaw
-splice-law lv front old new rest past gap first second third last p q r big big_new ends noted within at_end at_stop begins =
-    let z = text_with front old rest in
-    let w = text_with front new rest in
-    let end = (length front + length old) + past in
-    let stop = (length front + length new) + past in
-    let b = width (onto old (onto front [])) in
-    let c = width (onto new (onto front [])) in
-    let x = width (take (past + gap) rest) in
-    let none_yet = 2 ^ 64 - 1 in
-    let fits : b + width rest < none_yet = subst (λ n. n < none_yet) (sym (whole-width front old rest)) big in
-    let fits_new : c + width rest < none_yet = subst (λ n. n < none_yet) (sym (whole-width front new rest)) big_new in
-    let behind = rear lv front old new rest past end stop refl refl last x 0 none_yet 0 none_yet (take-width (past + gap) rest) fits fits_new (reach-none b c) (least-none (width rest) b c none_yet fits fits_new) begins in
-    let q_is : token_start z q ≡ b + x = token-at z q (end + gap) at_end ∙ position-old lv front old new rest past end stop refl refl gap in
-    let r_is : token_start w r ≡ c + x = token-at w r (stop + gap) at_stop ∙ position-new lv front old new rest past end stop refl refl gap in
-    let front_is = ap (entries_by 0) (sym (front-same lv front (old ++ rest) (new ++ rest) first p 0 none_yet ends noted within)) in
-    let es = entries_by 0 (notes_first lv z first second (shift end last) p q) in
-    let fs = entries_by (token_start z p) (notes_second lv z first second (shift end last) p q) in
-    let gs = entries_by (token_start z q) (notes_last lv z first second (shift end last) p q) in
-    let ps = entries_by (token_start w p) (notes_second lv w first third (shift stop last) p r) in
-    let ns = notes_from lv z 0 none_yet (shift end last) in
-    let ms = notes_from lv w 0 none_yet (shift stop last) in
-    let rest_is : entries_by (token_start w r) ms ≡ gs = ap (λ n. entries_by n ms) r_is ∙ sym behind.entries ∙ ap (λ n. entries_by n ns) (sym q_is) in
-    let back_is : back_of (last_start (token_start w r) ms) (least_from lv w none_yet (shift stop last)) ≡ back_of (last_start (token_start z q) ns) (least_from lv z none_yet (shift end last)) =
-    ap (λ n. back_of (last_start n ms) (least_from lv w none_yet (shift stop last))) r_is ∙ sym behind.back ∙ ap (λ n. back_of (last_start n ns) (least_from lv z none_yet (shift end last))) (sym q_is) in
-    let back = back_of (last_start (token_start z q) ns) (least_from lv z none_yet (shift end last)) in
-    let from = notes_in first in
-    let to = suc (notes_in first + notes_in second) in
-    let long : length es ≡ suc from = entries-length 0 _ ∙ notes-length lv z first p 0 none_yet in
-    let longer : length fs ≡ suc (notes_in second) = entries-length (token_start z p) _ ∙ notes-length lv z second q 0 none_yet in
-    let all : length (es ++ fs) ≡ suc to = omega (arith, length-append es fs, long, longer) in
-    let part_is : entries_from (token_start w p) (logged lv w no_log (third ++ noting r ∷ [])).notes ≡ ps = ap (entries_from (token_start w p)) (logged-notes lv w (third ++ noting r ∷ []) 0 none_yet []) in
-    units-split lv w first third (shift stop last) p r
-    ∙ ap (λ u. record { entries = u ++ (ps ++ entries_by (token_start w r) ms); back = back_of (last_start (token_start w r) ms) (least_from lv w none_yet (shift stop last)) }) front_is
-    ∙ ap (λ u. record { entries = es ++ (ps ++ u); back = back_of (last_start (token_start w r) ms) (least_from lv w none_yet (shift stop last)) }) rest_is
-    ∙ ap (λ u. record { entries = es ++ (ps ++ gs); back = u }) back_is
-    ∙ sym (spliced-is from to es fs gs ps back long all)
-    ∙ ap (λ part. spliced from to part (split_units lv z first second (shift end last) p q)) (sym part_is)
-    ∙ ap (spliced from to (entries_from (token_start w p) (logged lv w no_log (third ++ noting r ∷ [])).notes)) (sym (units-split lv z first second (shift end last) p q))

@@ -10,12 +10,12 @@ use Rattle.typst_language.specs.Calls.{Call}
 use Rattle.typst_language.specs.Calls.Call.{MarkupExpr}
 use Rattle.typst_language.specs.declared.reading.Newlines.{Newlines}
 use Rattle.typst_language.specs.declared.reading.Reading.{Reading}
-use Rattle.typst_language.specs.Ask.{Ask, SameIn, shift, shift_one}
+use Rattle.typst_language.specs.Ask.{SameIn, shift, shift_one}
 use Rattle.typst_language.specs.Depth.{anywhere, too_deep, deeper, is_end}
 use Rattle.typst_tree.specs.Tree.{Tree}
 use Rattle.typst_language.specs.Hand.{AtHand, as_at_hand, len_at, hand_at, hand_asks}
 use Rattle.typst_language.specs.Point.{Trivia, Point}
-use Rattle.typst_language.specs.Shape.{Making, hinted, Shape, encloses}
+use Rattle.typst_language.specs.Shape.{Making, Shape, encloses}
 use Rattle.typst_language.specs.Shape.Making.{itself, of_kind, surprise}
 use Rattle.typst_language.specs.Steps.{peek, eat_making, eat, convert_and_eat, unexpected, flush_trivia, node, within}
 use Rattle.typst_language.specs.Syntax.{Parser, ◌>>=◌, ◌>>◌}
@@ -34,7 +34,7 @@ use Rattle.typst_grammar.specs.Embedded.{embedded}
 use Rattle.typst_grammar.specs.Equations.{between_dollars, equation}
 use Rattle.typst_edits.specs.Joint.{minds}
 use Rattle.typst_edits.specs.Occurrences.{goes}
-use Rattle.typst_edits.proofs.Led.{after_trivia, SameJudged, before_trivia, none-less, none-of, Led, led-then, led-asked, Takes, asks-behind, takes-token, takes-next, takes-peek, takes-column, takes-scoped, takes-wraps, takes-calls, kind-behind, same-judged, led-like}
+use Rattle.typst_edits.proofs.Led.{after_trivia, SameJudged, before_trivia, none-of, Led, led-then, led-asked, Takes, asks-behind, takes-token, takes-next, takes-peek, takes-column, takes-scoped, takes-wraps, takes-calls, kind-behind, same-judged, led-like, Fronted, fronted-asked}
 use Rattle.typst_edits.proofs.Runs.{repeated-chain}
 use Rattle.typst_edits.proofs.Outcomes.{shift-zero}
 use Rattle.typst_edits.proofs.Reached.{flushed-held}
@@ -161,54 +161,10 @@ pub record Taking (l : Level) (stops : SyntaxKind → Bool) : Type 0 where
 
 -- ---- all after some pieces
 
--- one outcome that gives the trivia, and one that has others there
-pub record Fronted {A : Type 0} (t : Trivia) (us : List Tree) (o c : Outcome A) : Type 0 where
-  pub value : o.value ≡ c.value
-  pub taken : o.taken ≡ t.gap + c.taken
-  pub back : o.back ≡ c.back
-  pub hints : o.hints ≡ []
-  pub hints_too : c.hints ≡ []
-  pub rest : List Tree
-  pub nodes : o.nodes ≡ t.nodes ++ rest
-  pub nodes_too : c.nodes ≡ us ++ rest
-  pub asks : o.asks ≡ shift t.gap c.asks
-  pub met : o.met ≡ c.met
-
-fronted-led : {A : Type 0} (t : Trivia) (us : List Tree) (trims : Bool) (o c : Outcome A) → Led t us trims o c → Fronted t us o c
-fronted-led t us trims o c h = record {
-  value = h.value;
-  taken = h.taken;
-  back = h.back;
-  hints = h.hints;
-  hints_too = h.hints_too;
-  rest = h.rest;
-  nodes = h.nodes;
-  nodes_too = h.nodes_too;
-  asks = h.asks;
-  met = h.met;
-}
-
--- after a question
-fronted-asked : {A B : Type 0} (t : Trivia) (us : List Tree) (v : B) (s r : Point) (ls ks : List Ask) (o c : Outcome A) → ls ≡ shift t.gap ks → Fronted t us o c
-    → Fronted t us (joined (record (plain v s) { asks = ls }) o) (joined (record (plain v r) { asks = ks }) c)
-fronted-asked t us v s r ls ks o c e h =
-    record {
-      value = h.value;
-      taken = omega (arith, h.taken);
-      back = omega (arith, h.back);
-      hints = none-of (nat_lt o.back 0) (nat_lt 0 o.back) [] o.hints refl h.hints;
-      hints_too = none-of (nat_lt c.back 0) (nat_lt 0 c.back) [] c.hints refl h.hints_too;
-      rest = h.rest;
-      nodes = ap (λ hs. hinted hs (less o.back []) ++ o.nodes) h.hints ∙ ap (λ ts. ts ++ o.nodes) (none-less o.back) ∙ h.nodes;
-      nodes_too = ap (λ hs. hinted hs (less c.back []) ++ c.nodes) h.hints_too ∙ ap (λ ts. ts ++ c.nodes) (none-less c.back) ∙ h.nodes_too;
-      asks = ap (λ js. js ++ shift 0 o.asks) e ∙ ap (λ js. shift t.gap ks ++ js) (shift-zero o.asks ∙ h.asks ∙ ap (shift t.gap) (sym (shift-zero c.asks))) ∙ sym (map-append (shift_one t.gap) ks (shift 0 c.asks));
-      met = h.met;
-    }
-
 pub goes-same : {A : Type 0} (t : Trivia) (us : List Tree) (trims : Bool) (o c : Outcome (Bool × A)) → Led t us trims o c → goes o ≡ goes c
 goes-same t us trims o c h =
-    let more : 0 < o.taken = omega (arith, h.some, h.taken) in
-    ap (λ v. v.0 && nat_lt 0 o.taken) h.value ∙ ap (λ b. c.value.0 && b) (lt-ltb 0 o.taken more ∙ sym (lt-ltb 0 c.taken h.some))
+    let more : 0 < o.taken = omega (arith, h.some, h.front.taken) in
+    ap (λ v. v.0 && nat_lt 0 o.taken) h.front.value ∙ ap (λ b. c.value.0 && b) (lt-ltb 0 o.taken more ∙ sym (lt-ltb 0 c.taken h.some))
 
 module _ {A : Type 0} (m : A → Meaning (Bool × A)) (within : (x : A) → Within (m x)) where
   -- a turn that goes on, and one that doesn't
@@ -234,7 +190,7 @@ module _ {A : Type 0} (m : A → Meaning (Bool × A)) (within : (x : A) → With
       let w = moved t.gap z in
       let o = m x z s in
       let c = m x w r in
-      let last = led-like t us trims o c o.value.1 c.value.1 o.state c.state o.asks c.asks h (ap (λ v. v.1) h.value) h.state h.few h.asks in
+      let last = led-like t us trims o c o.value.1 c.value.1 o.state c.state o.asks c.asks h (ap (λ v. v.1) h.front.value) h.state h.few h.front.asks in
       subst (λ p. Led t us trims p (repeated m x w r)) (sym (last-turn x z s (goes-same t us trims o c h ∙ g))) (subst (λ p. Led t us trims (as_last o) p) (sym (last-turn x w r g)) last)
 
   led-repeated : (t : Trivia) (us : List Tree) (trims : Bool) (x : A) (z : Place) (s r : Point) → ((y : A) → Backs (repeated m y)) → Led t us trims (m x z s) (m x (moved t.gap z) r) → Led t us trims (repeated m x z s) (repeated m x (moved t.gap z) r)
@@ -349,7 +305,7 @@ module _ (l : Level) (stops : SyntaxKind → Bool) (taking : Taking l stops) whe
         let old : behind x z s ≡ joined (record (plain x s) { asks = ls ++ [] }) (run l flush_trivia z s) = ap (λ o. joined o (run l flush_trivia (moved o.taken z) o.state)) (stopped x z s f) in
         let new : behind x w y ≡ joined (record (plain x y) { asks = ks ++ [] }) (run l flush_trivia w y) = ap (λ o. joined o (run l flush_trivia (moved o.taken w) o.state)) (stopped x w y g) in
         subst (λ o. Fronted t u.nodes o (behind x w y)) (sym old) (subst (λ c. Fronted t u.nodes (joined (record (plain x s) { asks = ls ++ [] }) (run l flush_trivia z s)) c) (sym new)
-        (fronted-asked t u.nodes x s y (ls ++ []) (ks ++ []) _ _ (ap (λ js. js ++ []) (asks-behind l h z t u alike) ∙ sym (map-append (shift_one t.gap) ks [])) flushed))
+        (fronted-asked t u.nodes x s y (ls ++ []) (ks ++ []) false _ _ (ap (λ js. js ++ []) (asks-behind l h z t u alike) ∙ sym (map-append (shift_one t.gap) ks [])) flushed))
 
     -- The token at hand takes a character, unless it is the end.
     some-token : ends stops x.1 now.kind ≡ false → 0 < len_at l.classes h.mode w
@@ -368,7 +324,7 @@ module _ (l : Level) (stops : SyntaxKind → Bool) (taking : Taking l stops) whe
 
     fronted-by : (ends stops x.1 now.kind ≡ false → minds (markup_head x.0 x.1 now.kind) ≡ true → e ≡ d) → (v : Bool) → ends stops x.1 now.kind ≡ v → Fronted t u.nodes (behind x z s) (behind x w y)
     fronted-by same true f = ended-behind f
-    fronted-by same false f = fronted-led t u.nodes _ _ _ (led-behind (same f) f)
+    fronted-by same false f = (led-behind (same f) f).front
 
     pub fronted-behind : (ends stops x.1 now.kind ≡ false → minds (markup_head x.0 x.1 now.kind) ≡ true → e ≡ d) → Fronted t u.nodes (behind x z s) (behind x w y)
     fronted-behind same = fronted-by same (ends stops x.1 now.kind) refl

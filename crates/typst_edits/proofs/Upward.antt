@@ -1,5 +1,5 @@
 -- Marks that stand in order, from one place up to another, in whatever the language can say.
-use Rattle.std.proofs.Common.{◌≡◌, ℕ, zero, suc, ◌+◌, ◌≤◌, Bool, true, false, ◌&&◌, nat_lt, List, [], ◌∷◌, ◌++◌, Option, Some, None, refl, arith}
+use Rattle.std.proofs.Common.{◌≡◌, ℕ, suc, ◌+◌, ◌≤◌, Bool, true, false, List, [], ◌∷◌, ◌++◌, refl, arith}
 use Rattle.typst_lines.specs.Place.{Place, moved}
 use Rattle.typst_language.specs.declared.calls.Block.{Block}
 use Rattle.typst_language.specs.Calls.{Call}
@@ -8,14 +8,14 @@ use Rattle.typst_language.specs.declared.reading.State.{State}
 use Rattle.typst_language.specs.Ask.{Ask, shift, sunk, only_looks}
 use Rattle.typst_language.specs.Ask.Ask.{looked, marked}
 use Rattle.typst_language.specs.Point.{Point, state_of, gap_of}
-use Rattle.typst_language.specs.Shape.{Shape}
-use Rattle.typst_language.specs.Syntax.{Op, Begin, Parser}
+use Rattle.typst_language.specs.Syntax.{Op, Parser}
 use Rattle.typst_language.specs.Syntax.Op.{hand, so, further, column, erred, takes, takes_so, flushes, complains, advises, marks, is_deepest}
 use Rattle.typst_language.specs.Syntax.Parser.{gives, does, next, pick, repeat, wraps, grows, nests, scoped, either, calls, block}
-use Rattle.typst_language.specs.Meaning.{Outcome, Meaning, Level, plain, joined, answered, turns, as_last, bound, repeated, before, grown, is_more, growths, growing, nestings, nesting, given_up, bounded, entered, hand_asks_of, done, run}
-use Rattle.typst_language.proofs.Within.{on_both, on_if, grew}
+use Rattle.typst_language.specs.Meaning.{Outcome, Meaning, Level, plain, joined, bound, repeated, before, growing, nesting, given_up, bounded, entered, hand_asks_of, done, run}
+use Rattle.typst_language.proofs.Within.{on_both, on_if}
 use Rattle.typst_grammar.proofs.Guarded.{op_notes, sees, Guarded}
 use Rattle.typst_edits.proofs.Marks.{AllMarks, marks-append, marks-shift, none-hand}
+use Rattle.typst_edits.proofs.Traversal.{Parts, all-turns, all-growths, all-nestings}
 
 abbrev pub Unmarked : List Ask → Type 0
 Unmarked asks = AllMarks (λ at fewer m s. ⊥) asks
@@ -39,6 +39,9 @@ pub record Joins (Q : ℕ → ℕ → List Ask → Type 0) : Type 0 where
   pub append : (lo mid hi : ℕ) (ls ks : List Ask) → Q lo mid ls → Q mid hi ks → Q lo hi (ls ++ ks)
   pub shifted : (d hi : ℕ) (ls : List Ask) → Q 0 hi ls → Q d (d + hi) (shift d ls)
   pub none : (lo hi : ℕ) (ls : List Ask) → lo ≤ hi → Unmarked ls → Q lo hi ls
+
+pub unmarked : Joins (λ lo hi ls. Unmarked ls)
+unmarked = record { append = λ lo mid hi ls ks h k. marks-append (λ at fewer m s. ⊥) ls ks h k; shifted = λ d hi ls h. unmarked-shift d ls h; none = λ lo hi ls e h. h }
 
 module _ (step : ℕ → Mark → ℕ) (P : ℕ → Mark → Type 0) where
   -- The marks stand in order, from one place up to another, each at a given distance after the one before, and a property holds of each.
@@ -114,33 +117,21 @@ module _ (Q : ℕ → ℕ → List Ask → Type 0) (joins : Joins Q) where
   pub from-joined : {A B : Type 0} (lo : ℕ) (o : Outcome B) (p : Outcome A) → From lo o → From 0 p → From lo (joined o p)
   from-joined lo o p h k = joins.append lo o.taken (o.taken + p.taken) o.asks _ h (joins.shifted o.taken p.taken p.asks k)
 
-  pub from-turns : {A : Type 0} (m : A → Meaning (Bool × A)) → ((x : A) → AllFrom (m x)) → (n : ℕ) (x : A) → AllFrom (turns m n x)
-  from-turns m h zero x z s = joins.none 0 0 [] (omega arith) tt
-  from-turns m h (suc n) x z s =
-      let o = m x z s in
-      let p = turns m n o.value.1 (moved o.taken z) o.state in
-      on_both (From 0) (o.value.0 && nat_lt 0 o.taken) (joined o p) (as_last o) (from-joined 0 o p (h x z s) (from-turns m h n o.value.1 (moved o.taken z) o.state)) (h x z s)
-
-  from-grown : {A : Type 0} (i : ℕ) (shape : Option Shape) (o : Outcome A) → From 0 o → From 0 (grown i shape o)
-  from-grown i None o h = h
-  from-grown i (Some shape) o h = h
-
-  pub from-growths : {A : Type 0} (m : A → Meaning (Option Shape × A)) → ((x : A) → AllFrom (m x)) → (n i : ℕ) (o : Outcome A) (z : Place) → From 0 o → From 0 (growths m n i o z)
-  from-growths m h n zero o z k = k
-  from-growths m h n (suc i) o z k =
-      let p = m o.value (moved o.taken z) o.state in
-      let all = from-grown n p.value.0 (answered p.value.1 (joined o p)) (from-joined 0 o p k (h o.value (moved o.taken z) o.state)) in
-      on_both (From 0) (is_more p.value.0 && nat_lt 0 p.taken) (growths m n i (grew n o p) z) (grew n o p) (from-growths m h n i (grew n o p) z all) all
-
-  pub from-nestings : {A : Type 0} (f : A → Shape) (begin : Begin) (m : A → Meaning (Bool × A)) → ((x : A) → AllFrom (m x)) → (n : ℕ) (x : A) → AllFrom (nestings f begin m n x)
-  from-nestings f begin m h zero x z s = joins.none 0 0 [] (omega arith) tt
-  from-nestings f begin m h (suc n) x z s =
-      let o = m x z s in
-      let p = nestings f begin m n o.value.1 (moved o.taken z) o.state in
-      on_both (From 0) (o.value.0 && nat_lt 0 o.taken) (joined o p) (as_last o) (from-joined 0 o p (h x z s) (from-nestings f begin m h n o.value.1 (moved o.taken z) o.state)) (h x z s)
-
   pub from-looks : (hi : ℕ) (ls : List Ask) → Q 0 hi (only_looks ls)
   from-looks hi ls = joins.none 0 hi (only_looks ls) (omega arith) (unmarked-looks ls)
+
+  abbrev pub Spans : (A : Type 0) → Place → Point → Outcome A → Type 0
+  Spans A z s o = From 0 o
+
+  pub from-parts : Parts Spans
+  from-parts = record {
+    nothing = λ A z s a. joins.none 0 0 [] (omega arith) tt;
+    both = λ A B z s o p h k. from-joined 0 o p h k;
+    answer = λ A B z s b o h. h;
+    in_shape = λ A z s shape n o h. h;
+    in_scope = λ A z s r o h. h;
+    instead = λ A z s o p h k. from-looks p.taken (o.asks ++ p.asks);
+  }
 
   module _ (l : Level) where
     pub from-hand : (z : Place) (s : Point) (hi : ℕ) → Q 0 hi (hand_asks_of l z s)
@@ -177,10 +168,10 @@ module _ (Q : ℕ → ℕ → List Ask → Type 0) (joins : Joins Q) where
             from-joined 0 o (run l (f o.value) (moved o.taken z) o.state) (from-run seen p q.0 z s t) (from-run (sees p o.value) (f o.value) (q.1 o.value) (moved o.taken z) o.state (there _ p z s))
         from-run seen (pick true p r) q z s t = from-run seen p (q.0 refl) z s t
         from-run seen (pick false p r) q z s t = from-run seen r (q.1 refl) z s t
-        from-run seen (repeat p x) q z s t = from-turns (λ y. run l (p y)) (λ y z s. from-run false (p y) (q y) z s (λ e. absurd (cc))) (suc (bound z s)) x z s
+        from-run seen (repeat p x) q z s t = all-turns Spans from-parts (λ y. run l (p y)) (λ y z s. from-run false (p y) (q y) z s (λ e. absurd (cc))) (suc (bound z s)) x z s
         from-run seen (wraps f begin p) q z s t = from-run false p q z s (λ e. absurd (cc))
-        from-run seen (grows begin p f) q z s t = from-growths (λ y. run l (f y)) (λ y z s. from-run false (f y) (q.1 y) z s (λ e. absurd (cc))) (before begin s) (suc (bound z s)) (run l p z s) z (from-run false p q.0 z s (λ e. absurd (cc)))
-        from-run seen (nests f begin p x) q z s t = from-nestings f begin (λ y. run l (p y)) (λ y z s. from-run false (p y) (q y) z s (λ e. absurd (cc))) (suc (bound z s)) x z s
+        from-run seen (grows begin p f) q z s t = all-growths Spans from-parts (λ y. run l (f y)) (λ y z s. from-run false (f y) (q.1 y) z s (λ e. absurd (cc))) (before begin s) (suc (bound z s)) (run l p z s) z s (from-run false p q.0 z s (λ e. absurd (cc)))
+        from-run seen (nests f begin p x) q z s t = all-nestings Spans from-parts f begin (λ y. run l (p y)) (λ y z s. from-run false (p y) (q y) z s (λ e. absurd (cc))) (suc (bound z s)) x z s
         from-run seen (scoped f p) q z s t = from-run false p q z (entered (f s.reading) s) (λ e. absurd (cc))
         from-run seen (either p is_wrong r) q z s t =
             let o = run l p z s in

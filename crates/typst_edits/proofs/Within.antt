@@ -1,5 +1,5 @@
 -- Each look is at a place of the text, or at its end.
-use Rattle.std.proofs.Common.{ℕ, zero, suc, ◌+◌, ◌≤◌, max, Bool, false, ◌&&◌, nat_lt, List, [], ◌∷◌, ◌++◌, length, Option, Some, None, arith}
+use Rattle.std.proofs.Common.{ℕ, zero, suc, ◌+◌, ◌≤◌, max, false, List, [], ◌∷◌, ◌++◌, length, Option, Some, None, ap, arith}
 use Rattle.typst_kinds.specs.declared.mode.SyntaxMode.{SyntaxMode}
 use Rattle.typst_lines.specs.Place.{Place, moved}
 use Rattle.typst_lines.specs.Classes.{CharClasses}
@@ -12,17 +12,18 @@ use Rattle.typst_language.specs.Ask.Ask.{looked, marked}
 use Rattle.typst_language.specs.Hand.{len_at, at_trivia, asks_by, ahead_asks, ahead_of, ahead_asks_of, asks_column, column_look, hand_at, hand_asks}
 use Rattle.typst_language.specs.Knot.{Rules, meaning_of, level_of, blocks_of}
 use Rattle.typst_language.specs.Point.{Trivia, Point, gap_of, forgot}
-use Rattle.typst_language.specs.Shape.{Shape}
 use Rattle.typst_language.specs.Shape.Making.{itself}
 use Rattle.typst_language.specs.Steps.{peek}
-use Rattle.typst_language.specs.Syntax.{Op, Begin, Parser, ◌>>◌}
+use Rattle.typst_language.specs.Syntax.{Op, Parser, ◌>>◌}
 use Rattle.typst_language.specs.Syntax.Op.{hand, so, further, column, erred, takes, takes_so, flushes, complains, advises, marks, is_deepest}
-use Rattle.typst_language.specs.Syntax.Parser.{gives, does, next, pick, repeat, wraps, grows, nests, scoped, either, calls, block}
-use Rattle.typst_language.specs.Meaning.{Outcome, Meaning, Level, plain, joined, answered, turns, as_last, bound, repeated, before, grown, is_more, growths, growing, nestings, nesting, given_up, bounded, blockless, entered, hand_of, hand_asks_of, done, run}
+use Rattle.typst_language.specs.Syntax.Parser.{does}
+use Rattle.typst_language.specs.Meaning.{Outcome, Meaning, Level, joined, bound, inside, bounded, blockless, same_mode, hand_of, hand_asks_of, done, run}
 use Rattle.typst_language.specs.Sound.{Within}
 use Rattle.typst_language.proofs.Knot.{Sane, sane-run, sane-meaning, sane-block, sane-plain}
-use Rattle.typst_language.proofs.Places.{ahead-left}
-use Rattle.typst_language.proofs.Within.{on_both, grew, enough-grew}
+use Rattle.typst_language.proofs.Places.{ahead-left, moved-sum}
+use Rattle.typst_language.proofs.Runs.{shape-known}
+use Rattle.typst_language.proofs.Within.{on_both}
+use Rattle.typst_edits.proofs.Traversal.{Parts, all-run}
 
 -- Each look is at most a given number of characters further on.
 abbrev pub AllAt : ℕ → List Ask → Type 0
@@ -94,34 +95,19 @@ Inbound m = (z : Place) (s : Point) → AllAt (bound z s) (m z s).asks
 in-joined : {A B : Type 0} (n : ℕ) (z : Place) (o : Outcome B) (p : Outcome A) → o.taken + bound (moved o.taken z) o.state ≤ n → AllAt n o.asks → AllAt (bound (moved o.taken z) o.state) p.asks → AllAt n (joined o p).asks
 in-joined n z o p e h k = at-append n o.asks _ h (at-shift o.taken (bound (moved o.taken z) o.state) n p.asks e k)
 
-in-turns : {A : Type 0} (m : A → Meaning (Bool × A)) → ((x : A) → Within (m x)) → ((x : A) → Inbound (m x)) → (n : ℕ) (x : A) → Inbound (turns m n x)
-in-turns m w h zero x z s = tt
-in-turns m w h (suc n) x z s =
-    let o = m x z s in
-    let p = turns m n o.value.1 (moved o.taken z) o.state in
-    on_both (λ u. AllAt (bound z s) u.asks) (o.value.0 && nat_lt 0 o.taken) (joined o p) (as_last o) (in-joined (bound z s) z o p (w x z s) (h x z s) (in-turns m w h n o.value.1 (moved o.taken z) o.state)) (h x z s)
+-- What is taken ends in the text, or with known trivia, and no look is further on.
+abbrev Inside : (A : Type 0) → Place → Point → Outcome A → Type 0
+Inside A z s o = (o.taken + bound (moved o.taken z) o.state ≤ bound z s) × AllAt (bound z s) o.asks
 
-in-grown : {A : Type 0} (n i : ℕ) (shape : Option Shape) (o : Outcome A) → AllAt n o.asks → AllAt n (grown i shape o).asks
-in-grown n i None o h = h
-in-grown n i (Some shape) o h = h
-
-in-growths : {A : Type 0} (m : A → Meaning (Option Shape × A)) → ((x : A) → Within (m x)) → ((x : A) → Inbound (m x)) → (n i : ℕ) (o : Outcome A) (z : Place) (known : ℕ)
-    → o.taken + bound (moved o.taken z) o.state ≤ max known (length z.ahead) → AllAt (max known (length z.ahead)) o.asks → AllAt (max known (length z.ahead)) (growths m n i o z).asks
-in-growths m w h n zero o z known e k = k
-in-growths m w h n (suc i) o z known e k =
-    let p = m o.value (moved o.taken z) o.state in
-    let most = max known (length z.ahead) in
-    let f = enough-grew z known n o p e (w o.value (moved o.taken z) o.state) in
-    let all = in-grown most n p.value.0 (answered p.value.1 (joined o p)) (in-joined most z o p e k (h o.value (moved o.taken z) o.state)) in
-    on_both (λ u. AllAt most u.asks) (is_more p.value.0 && nat_lt 0 p.taken) (growths m n i (grew n o p) z) (grew n o p) (in-growths m w h n i (grew n o p) z known f all) all
-
-in-nestings : {A : Type 0} (f : A → Shape) (begin : Begin) (m : A → Meaning (Bool × A)) → ((x : A) → Within (m x)) → ((x : A) → Inbound (m x)) → (n : ℕ) (x : A) → Inbound (nestings f begin m n x)
-in-nestings f begin m w h zero x z s = tt
-in-nestings f begin m w h (suc n) x z s =
-    let o = m x z s in
-    let p = nestings f begin m n o.value.1 (moved o.taken z) o.state in
-    let b = o.value.0 && nat_lt 0 o.taken in
-    on_both (λ u. AllAt (bound z s) u.asks) b (joined o p) (as_last o) (in-joined (bound z s) z o p (w x z s) (h x z s) (in-nestings f begin m w h n o.value.1 (moved o.taken z) o.state)) (h x z s)
+inside-parts : Parts Inside
+inside-parts = record {
+  nothing = λ A z s a. (omega arith, tt);
+  both = λ A B z s o p h k. (omega (arith, h.0, k.0, ap (λ (w : Place). length w.ahead) (moved-sum o.taken p.taken z)), in-joined (bound z s) z o p h.0 h.1 k.1);
+  answer = λ A B z s b o h. h;
+  in_shape = λ A z s shape n o h. (omega (arith, h.0, ap gap_of (shape-known shape (inside n o) o.state)), h.1);
+  in_scope = λ A z s r o h. (let l = h.0 in on_both (λ (t : Point). o.taken + bound (moved o.taken z) t ≤ bound z s) (same_mode o.state.reading.mode s.reading.mode) _ _ l (omega (arith, l)), h.1);
+  instead = λ A z s o p h k. (k.0, at-only (bound z s) (o.asks ++ p.asks) (at-append (bound z s) o.asks p.asks h.1 k.1));
+}
 
 module _ (l : Level) (d : (c : Call) → Sane (l.deeper c)) (e : (b : Block) → Sane (l.blocks b)) where
   w-run : {A : Type 0} (p : Parser A) → Within (run l p)
@@ -157,26 +143,10 @@ module _ (l : Level) (d : (c : Call) → Sane (l.deeper c)) (e : (b : Block) →
     in-bounded b z s = at-append _ (l.blocks b z (forgot s)).asks _ (at-more (bound z (forgot s)) (bound z s) (l.blocks b z (forgot s)).asks (omega arith) (j b z (forgot s))) tt
 
     pub in-run : {A : Type 0} (p : Parser A) → Inbound (run l p)
-    unfolding run repeated growing nesting
-    in-run (gives a) z s = tt
-    in-run (does o) z s = in-done o z s
-    in-run (next p f) z s =
-        let o = run l p z s in
-        in-joined (bound z s) z o (run l (f o.value) (moved o.taken z) o.state) (w-run p z s) (in-run p z s) (in-run (f o.value) (moved o.taken z) o.state)
-    in-run (pick b p q) z s = on_both (λ o. AllAt (bound z s) o.asks) b (run l p z s) (run l q z s) (in-run p z s) (in-run q z s)
-    in-run (repeat p x) z s = in-turns (λ y. run l (p y)) (λ y. w-run (p y)) (λ y. in-run (p y)) (suc (bound z s)) x z s
-    in-run (wraps f begin p) z s = in-run p z s
-    in-run (grows begin p f) z s = in-growths (λ y. run l (f y)) (λ y. w-run (f y)) (λ y. in-run (f y)) (before begin s) (suc (bound z s)) (run l p z s) z (gap_of s.known) (w-run p z s) (in-run p z s)
-    in-run (nests f begin p x) z s = in-nestings f begin (λ y. run l (p y)) (λ y. w-run (p y)) (λ y. in-run (p y)) (suc (bound z s)) x z s
-    in-run (scoped f p) z s = in-run p z (entered (f s.reading) s)
-    in-run (either p is_wrong q) z s =
-        let o = run l p z s in
-        on_both (λ u. AllAt (bound z s) u.asks) (is_wrong o.value) (given_up o (run l q z s)) o (at-only (bound z s) (o.asks ++ (run l q z s).asks) (at-append (bound z s) o.asks _ (in-run p z s) (in-run q z s))) (in-run p z s)
-    in-run (calls c) z s = at-sunk (bound z s) (l.deeper c z s).asks (i c z s)
-    in-run (block b) z s =
-        let o = done l flushes z s in
-        let p = bounded b (l.blocks b) (moved o.taken z) o.state in
-        on_both (λ u. AllAt (bound z s) u.asks) (l.has b) (joined o p) (plain tt s) (in-joined (bound z s) z o p (w-run (does flushes) z s) (in-done flushes z s) (in-bounded b (moved o.taken z) o.state)) tt
+    unfolding run
+    in-run p z s =
+        (all-run Inside inside-parts l (λ A o y t. (w-run (does o) y t, in-done o y t)) (λ c y t. ((d c).within y t, at-sunk (bound y t) (l.deeper c y t).asks (i c y t)))
+        (λ b y t. (let w = (e b).within y (forgot t) in omega (arith, w), in-bounded b y t)) p z s).1
 
 -- ---- by any rules, at every level
 

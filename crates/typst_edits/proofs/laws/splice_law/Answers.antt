@@ -1,7 +1,7 @@
 use Rattle.typst_edits.proofs.BlockSplice.{block-splice-law}
 use Rattle.typst_edits.proofs.InnerSplice.{around-splice-law, inner-splice-law}
 use Rattle.typst_edits.proofs.RunSplice.{run-splice-law}
-use Rattle.typst_edits.proofs.Splice.{splice-law}
+use Rattle.typst_edits.proofs.Sides.{splice-law}
 use Rattle.typst_edits.proofs.laws.splice_law.Goals as goal
 
 pub returns-clause-units : goal.returns-clause-units
