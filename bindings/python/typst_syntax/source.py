@@ -32,7 +32,7 @@ def parse(text: str | bytes, mode: Mode = Mode.MARKUP) -> Tree:
     ['Binary']
     """
     data = bytes_of(text)
-    return Tree(data, filled(len(data), lambda *room: library.typst_parse(mode, data, len(data), *room)))
+    return Tree(data, filled(guessed(len(data)), lambda *room: library.typst_parse(mode, data, len(data), *room)))
 
 
 def parse_all(text: str | bytes, mode: Mode = Mode.MARKUP) -> tuple[Tree, list[Remark]]:
@@ -173,7 +173,8 @@ class Source:
         with self._lock:
             at, data = self._open(), self.data
             if self._tree is None:
-                self._tree = Tree(data, filled(len(data), lambda *room: library.typst_source_nodes(at, *room)))
+                fill = lambda *room: library.typst_source_nodes(at, *room)  # noqa: E731
+                self._tree = Tree(data, filled(told(fill), fill))
             return self._tree
 
     @property
@@ -193,7 +194,7 @@ class Source:
             at, data = self._open(), self.data
             bounds = size(start), size(end)
             fill = lambda *room: library.typst_source_nodes_in(at, *bounds, *room)  # noqa: E731
-            return Tree(data, filled(min(len(data), max(0, end - start)), fill), is_whole=False)
+            return Tree(data, filled(guessed(min(len(data), max(0, end - start))), fill), is_whole=False)
 
     def find(self, span: int) -> Node | None:
         """The node with a span of this file."""
@@ -259,9 +260,21 @@ def size(number: int) -> int:
     return number
 
 
-def filled(bytes: int, call) -> bytearray:
-    """The records that a call fills: with room for as many as so many bytes mostly have, and again where there are more."""
-    count, room = c_size_t(), bytes // 2 + 64
+def guessed(bytes: int) -> int:
+    """As many records as so many bytes mostly have, or more."""
+    return bytes // 2 + 64
+
+
+def told(call) -> int:
+    """How many records a call would fill: without room for any, it only counts them."""
+    count = c_size_t()
+    check(call(room_in(bytearray()), 0, byref(count)))
+    return count.value
+
+
+def filled(room: int, call) -> bytearray:
+    """The records that a call fills: with room for so many, and again where there are more."""
+    count = c_size_t()
     while True:
         buffer = bytearray(room * WIDTH)
         check(call(room_in(buffer), room, byref(count)))

@@ -6,6 +6,7 @@ from bisect import bisect_left
 from collections.abc import Iterator, Sequence
 from ctypes import sizeof
 from dataclasses import dataclass
+from functools import cache
 from typing import TYPE_CHECKING, overload
 
 from .tables import KIND_NAMES, TAG_CLASSES, Flag, Kind, NodeRecord, Severity, Tag
@@ -35,6 +36,14 @@ class Remark:
     severity: Severity
     message: str
     hints: tuple[Hint, ...] = ()
+
+
+@cache
+def record_type() -> numpy.dtype:
+    """The type of a record in arrays of numpy, which takes long to make."""
+    import numpy
+
+    return numpy.dtype(NodeRecord)
 
 
 class Tree(Sequence["Node"]):
@@ -89,7 +98,7 @@ class Tree(Sequence["Node"]):
         """The records as an array of numpy over the same memory, with a name for each field: `tree.numpy()["start"]`."""
         import numpy
 
-        return numpy.frombuffer(self.buffer, dtype=numpy.dtype(NodeRecord))
+        return numpy.frombuffer(self.buffer, dtype=record_type())
 
     def index_of(self, number: int) -> int:
         """The index of the first node here whose number is at least the given one; how many there are for none."""

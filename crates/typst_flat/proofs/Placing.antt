@@ -1,197 +1,255 @@
--- The walk through all nodes of a tree, step by step.
-use Rattle.std.proofs.Common.{◌≡◌, ℕ, suc, ◌+◌, ◌-◌, ◌^◌, ◌<◌, true, List, [], ◌∷◌, ◌++◌, length, map, Option, None, Some, refl, ap, sym, subst, ◌∙◌, arith, length-append, ◌≤◌, false}
-use Rattle.std.specs.Prelude.{reverse, nat_le}
-use Rattle.std.specs.Option.{option_map}
-use Rattle.std.proofs.lemmas.List.{reverse-append}
-use Rattle.typst_tree.specs.Tree.{Forest, none, more, Tree, forest, count, nodes, places, preorder, saturated, text_of}
-use Rattle.typst_tree.specs.Walks.{is_childless}
-use Rattle.typst_tree.specs.Steps.{at, node_of, offset_of, parent, end_of}
-use Rattle.typst_tree.proofs.WalksInPreorder.{length_places, length_preorder}
-use Rattle.typst_highlight.specs.Spans.{numbers_from}
-use Rattle.typst_highlight.proofs.Rows.{Stand, here, below, behind, alone, parent_here}
-use Rattle.typst_highlight.proofs.Leaves.{offset_below, offset_behind}
-use Rattle.typst_flat.specs.Records.{number_if, meets}
-use Rattle.typst_flat.specs.Walk.{up_number}
-use Rattle.typst_flat.specs.Placed.{AreReady, Comes, IsBehind, IsPlaced, RowFits, Stays, ahead}
-use Rattle.typst_flat.specs.declared.nodes.AllNodes.{AllNodes}
-use Rattle.typst_flat.specs.declared.nodes.PlacedNode.{PlacedNode}
-use Rattle.typst_flat.specs.declared.nodes.Row.{Row}
+-- The walk through the nodes of a tree with their tags, step by step.
+use Rattle.std.proofs.Common.{◌≡◌, ℕ, ◌+◌, ◌-◌, ◌^◌, ◌<◌, ◌≤◌, Bool, true, false, ◌&&◌, not, List, [], ◌∷◌, ◌++◌, length, map, Option, None, Some, refl, ap, sym, subst, ◌∙◌, arith, cond, append_assoc, append-nil, length-append}
+use Rattle.std.specs.Prelude.{reverse, nat_le, option_and_then}
 use Rattle.std.specs.List.{filter}
 use Rattle.std.proofs.lemmas.Bool.Decides.{nat_tests}
+use Rattle.std.proofs.lemmas.List.{reverse-append}
+use Rattle.typst_kinds.specs.Head.{Head}
+use Rattle.typst_kinds.specs.Kinds.{is_error, is_trivia}
+use Rattle.typst_kinds.specs.declared.kind.SyntaxKind.{SyntaxKind}
+use Rattle.typst_tree.specs.Tree.{Forest, none, more, Tree, forest, count, nodes, places, preorder, saturated, text_of}
+use Rattle.typst_tree.specs.Walks.{is_childless, is_leaf}
+use Rattle.typst_tree.specs.Steps.{At, at, kind_of, node_of, offset_of, end_of, prev_leaf}
+use Rattle.typst_tree.proofs.WalksInPreorder.{length_places}
+use Rattle.typst_highlight.specs.declared.tags.Tag.{Tag}
+use Rattle.typst_highlight.specs.declared.context.Context.{Context}
+use Rattle.typst_highlight.specs.declared.context.Trail.{Trail}
+use Rattle.typst_highlight.specs.declared.progress.Waiting.{Waiting}
+use Rattle.typst_highlight.specs.Nodes.{kind_if, name_tag, tag_of}
+use Rattle.typst_highlight.specs.Rules.{is_dot, is_name}
+use Rattle.typst_highlight.specs.Spans.{numbers_from}
+use Rattle.typst_highlight.specs.Walk.{tree_of, ahead_of, end, first_ahead, first_leaf, joined, resumed, root_context, tag, waiting, within, past, passed, dotted}
+use Rattle.typst_highlight.proofs.Rows.{Stand, here, below, behind, alone, parent_here}
+use Rattle.typst_highlight.proofs.Leaves.{ahead_at, ahead_is, first_law, offset_behind, own_name, prev_here, trail_at}
+use Rattle.typst_highlight.proofs.Contexts.{Fits, fits_below, fits_behind, fits_root, passed_here}
+use Rattle.typst_highlight.proofs.Trees.{tag_law}
+use Rattle.typst_highlight.proofs.Nears.{Alike, Near, past_near, passed_near, same_context, tag_near, within_near}
+use Rattle.typst_flat.specs.Codes.{cut}
+use Rattle.typst_flat.specs.Records.{meets, number_if}
+use Rattle.typst_flat.specs.Walk.{ahead_from, up_number}
+use Rattle.typst_flat.specs.Placed.{AreReady, Comes, EndsIn, IsBehind, IsPlaced, IsRecord, IsSought, Moves, Passes, RowFits, Stays}
+use Rattle.typst_flat.specs.declared.placed.PlacedNode.{PlacedNode}
+use Rattle.typst_flat.specs.declared.nodes.PlacedRecord.{PlacedRecord}
+use Rattle.typst_flat.specs.declared.nodes.StretchNodes.{StretchNodes}
 use Rattle.typst_flat.specs.declared.records.Stretch.{Stretch}
-use Rattle.typst_flat.proofs.Passed.{come_to, passed_over}
-use Rattle.typst_flat.proofs.Steps.{ahead_from}
+use Rattle.typst_flat.proofs.Endings.{no_kids}
+use Rattle.typst_flat.proofs.Passed.{come_to, outside, passed_over}
+use Rattle.typst_flat.proofs.Steps.{up_of, within_nodes}
 
--- the first node of a row
-pub record First (root : Tree) (n : ℕ) (w : Row) (ws : List Row) (t : Tree) (r : Forest) : Type 0 where
-  pub front : List Tree
-  pub back : List Tree
-  pub up : Option ℕ
-  pub stands : Stand root n (more t.head t.kids r) front back up
-  pub start : w.start ≡ offset_of (at root n)
-  pub above : up_number up ≡ w.parent
-  pub ready : AreReady root (n + count (more t.head t.kids r)) ws
+-- ---- what is around the nodes of a row
 
-pub first_of : (root : Tree) (n : ℕ) (w : Row) (ws : List Row) (t : Tree) (r : List Tree) → AreReady root n (w ∷ ws) → w.nodes.now ≡ t ∷ r → First root n w ws t (forest r)
-first_of root n w ws t r ready e =
+-- the first leaf of the rows to come back to
+ahead_ready : (root : Tree) (n : ℕ) (ws : List Waiting) (ps : List ℕ) → AreReady root n ws ps → ahead_of ws ≡ ahead_at root n
+ahead_ready root n [] [] e = sym (ahead_is root n (places root) [] (sym (append-nil (places root))) (omega (arith, e, length_places root)))
+ahead_ready root n [] (p ∷ ps) e = absurd e
+ahead_ready root n (w ∷ ws) [] e = absurd e
+ahead_ready root n (w ∷ ws) (p ∷ ps) e =
+    let s : RowFits root n w p = e.0 in
+    ap (first_ahead (first_leaf w.level.parent w.start (forest w.nodes.now))) (ahead_ready root (n + count (forest w.nodes.now)) ws ps e.1)
+    ∙ first_law root n w.start (forest w.nodes.now) s.front s.back s.up w.level.parent s.stands s.parent s.start
+
+-- the context of some nodes, and one that is like it
+pub record Goes (root : Tree) (k : ℕ) (f : Forest) (up : Option ℕ) (c : Context) : Type 0 where
+  pub context : Context
+  pub fits : Fits root k f up context
+  pub near : Near c context
+
+goes_behind : (root : Tree) (k : ℕ) (h : Head) (ks r : Forest) (front back : List Tree) (up : Option ℕ) (c d : Context) → Stand root k (more h ks r) front back up → Fits root k (more h ks r) up d → Near c d → Goes root (k + (1 + count ks)) r up (past c (tree_of h ks) (passed c (tree_of h ks) r))
+goes_behind root k h ks r front back up c d s w n =
+    let t : Tree = tree_of h ks in
+    record {
+      context = past d t (passed d t r);
+      fits = fits_behind root k h ks r front back up d (passed d t r) s w (passed_here root k h ks r front back up d s w);
+      near = past_near c d t (passed c t r) (passed d t r) n (passed_near c d t r n);
+    }
+
+goes_below : (root : Tree) (k : ℕ) (h : Head) (ks r : Forest) (front back : List Tree) (up : Option ℕ) (c d : Context) → Stand root k (more h ks r) front back up → Fits root k (more h ks r) up d → Near c d → is_leaf (tree_of h ks) ≡ false → Goes root (k + 1) ks (Some k) (within c (tree_of h ks) r)
+goes_below root k h ks r front back up c d s w n inner =
+    record {
+      context = within d (tree_of h ks) r;
+      fits = fits_below root k h ks r front back up d s w inner;
+      near = within_near c d (tree_of h ks) r n;
+    }
+
+-- a walk that comes to some nodes
+moved : (P : Tree → ℕ → Forest → Type 0) (root r : Tree) (n m : ℕ) (f g : Forest) → r ≡ root → m ≡ n → g ≡ f → P root n f → P r m g
+moved P root r n m f g e h k p = subst (λ x. P x m g) (sym e) (subst (λ x. P root x g) (sym h) (subst (λ x. P root n x) (sym k) p))
+
+ready_moved : (root r : Tree) (n m : ℕ) (ws vs : List Waiting) (ps qs : List ℕ) → r ≡ root → m ≡ n → vs ≡ ws → qs ≡ ps → AreReady root n ws ps → AreReady r m vs qs
+ready_moved root r n m ws vs ps qs e h k l p =
+    subst (λ x. AreReady x m vs qs) (sym e) (subst (λ x. AreReady root x vs qs) (sym h) (subst (λ x. AreReady root n x qs) (sym k) (subst (λ x. AreReady root n ws x) (sym l) p)))
+
+stays_at : (w : StretchNodes) (root : Tree) (n : ℕ) (f : Forest) (front back : List Tree) (up : Option ℕ) (c : Context) (ws : List Waiting) (ps : List ℕ) → nodes root < 2 ^ 64 - 1 → Stand root n f front back up → Goes root n f up c → AreReady root (n + count f) ws ps → cut (up_number up) ≡ w.parent → w.root.now ≡ root → w.number ≡ n → forest w.nodes.now ≡ f → joined w.progress ≡ c → waiting w.progress ≡ ws → reverse w.parents.items ≡ ps → Stays w
+stays_at w root n f front back up c ws ps few stands goes ready above eroot en ef ec ews eps =
+    let total : w.number + count (forest w.nodes.now) ≡ n + count f = (λ i. en i + count (ef i)) in
+    record {
+      counted = subst (λ x. nodes x < 2 ^ 64 - 1) (sym eroot) few;
+      front = front;
+      back = back;
+      up = up;
+      stands = moved (λ x m g. Stand x m g front back up) root w.root.now n w.number f (forest w.nodes.now) eroot en ef stands;
+      above = above;
+      context = goes.context;
+      fits = moved (λ x m g. Fits x m g up goes.context) root w.root.now n w.number f (forest w.nodes.now) eroot en ef goes.fits;
+      near = subst (λ x. Near x goes.context) (sym ec) goes.near;
+      ready = ready_moved root w.root.now (n + count f) (w.number + count (forest w.nodes.now)) ws (waiting w.progress) ps (reverse w.parents.items) eroot total ews eps ready;
+    }
+
+-- ---- steps
+
+-- the next node
+record First (w : StretchNodes) (t : Tree) (r : Forest) : Type 0 where
+  front : List Tree
+  back : List Tree
+  up : Option ℕ
+  stands : Stand w.root.now w.number (more t.head t.kids r) front back up
+  above : cut (up_number up) ≡ w.parent
+  context : Context
+  fits : Fits w.root.now w.number (more t.head t.kids r) up context
+  near : Near (joined w.progress) context
+  ready : AreReady w.root.now (w.number + count (more t.head t.kids r)) (waiting w.progress) (reverse w.parents.items)
+
+first_of : (w : StretchNodes) (t : Tree) (r : List Tree) → Stays w → w.nodes.now ≡ t ∷ r → First w t (forest r)
+first_of w t r s e =
     let row : forest w.nodes.now ≡ more t.head t.kids (forest r) = ap forest e in
-    let s : RowFits root n w = ready.0 in
     record {
       front = s.front;
       back = s.back;
       up = s.up;
-      stands = subst (λ g. Stand root n g s.front s.back s.up) row s.stands;
-      start = s.start;
+      stands = subst (λ g. Stand w.root.now w.number g s.front s.back s.up) row s.stands;
       above = s.above;
-      ready = subst (λ g. AreReady root (n + count g) ws) row ready.1;
+      context = s.context;
+      fits = subst (λ g. Fits w.root.now w.number g s.up s.context) row s.fits;
+      near = s.near;
+      ready = subst (λ g. AreReady w.root.now (w.number + count g) (waiting w.progress) (reverse w.parents.items)) row s.ready;
     }
 
--- what is left of the row behind it
-pub ready_behind : (root : Tree) (n : ℕ) (w v : Row) (ws : List Row) (t : Tree) (r : Forest) → First root n w ws t r → forest v.nodes.now ≡ r → v.start ≡ saturated (w.start + length (text_of t)) → v.parent ≡ w.parent → AreReady root (n + (1 + count t.kids)) (v ∷ ws)
-ready_behind root n w v ws t r f nodes_are start parent =
-    let row : Stand root (n + (1 + count t.kids)) (forest v.nodes.now) (f.front ++ places t) f.back f.up =
-    subst (λ g. Stand root (n + (1 + count t.kids)) g (f.front ++ places t) f.back f.up) (sym nodes_are) (behind root n t.head t.kids r f.front f.back f.up f.stands) in
-    let total : n + count (more t.head t.kids r) ≡ n + (1 + count t.kids) + count r = omega arith in
-    let first : RowFits root (n + (1 + count t.kids)) v = record {
+-- it is one of the tree's
+pub is_within : (w : StretchNodes) (t : Tree) (r : List Tree) → Stays w → w.nodes.now ≡ t ∷ r → w.number + nodes t ≤ nodes w.root.now
+is_within w t r s e =
+    let f = first_of w t r s e in
+    omega (arith, within_nodes w.root.now w.number (more t.head t.kids (forest r)) f.front f.back f.up f.stands)
+
+-- its tag
+tag_is : (w : StretchNodes) (t : Tree) (r : List Tree) → Stays w → w.nodes.now ≡ t ∷ r → tag (joined w.progress) t (forest r) ≡ tag_of (at w.root.now w.number)
+tag_is w t r s e =
+    let f = first_of w t r s e in
+    tag_near (joined w.progress) f.context t (forest r) f.near
+    ∙ tag_law w.root.now w.number t.head t.kids (forest r) f.front f.back f.up f.context f.stands f.fits
+
+-- it is given as it is
+pub is_placed : (w : StretchNodes) (t : Tree) (r : List Tree) (g : PlacedNode) → Stays w → w.nodes.now ≡ t ∷ r → g.node.now ≡ t → g.start ≡ (joined w.progress).offset → g.end ≡ saturated (g.start + length (text_of t)) → g.number ≡ w.number → g.parent ≡ w.parent → g.tag ≡ tag (joined w.progress) t (forest r) → IsPlaced (at w.root.now w.number) g
+is_placed w t r g s e node start ends number up own =
+    let f = first_of w t r s e in
+    let is : node_of (at w.root.now w.number) ≡ t = here w.root.now w.number t f.front _ f.stands.whole f.stands.number in
+    let begins : g.start ≡ offset_of (at w.root.now w.number) = start ∙ (f.near.offset ∙ f.fits.offset) in
+    record {
+      node = node ∙ sym is;
+      start = begins;
+      end = omega (arith, ends, begins, ap (λ u. length (text_of u)) is);
+      number = number;
+      parent = up ∙ sym (ap (λ p. cut (number_if p)) (parent_here w.root.now w.number t.head t.kids (forest r) f.front f.back f.up f.stands) ∙ (ap cut (up_of w.root.now f.up) ∙ f.above));
+      tag = own ∙ tag_is w t r s e;
+    }
+
+-- past a node without children
+pub stays_behind : (v w : StretchNodes) (t : Tree) (r : List Tree) → Stays v → v.nodes.now ≡ t ∷ r → is_childless t.kids ≡ true → w.root.now ≡ v.root.now → w.number ≡ v.number + 1 → w.parent ≡ v.parent → w.nodes.now ≡ r → joined w.progress ≡ past (joined v.progress) t (passed (joined v.progress) t (forest r)) → waiting w.progress ≡ waiting v.progress → w.parents.items ≡ v.parents.items → Stays w
+stays_behind v w t r s e childless root number up row around rows above =
+    let f = first_of v t r s e in
+    let next : w.number ≡ v.number + (1 + count t.kids) = omega (arith, number, no_kids t.kids childless) in
+    let total : v.number + count (more t.head t.kids (forest r)) ≡ v.number + (1 + count t.kids) + count (forest r) = omega arith in
+    stays_at w v.root.now (v.number + (1 + count t.kids)) (forest r) (f.front ++ places t) f.back f.up (past (joined v.progress) t (passed (joined v.progress) t (forest r))) (waiting v.progress) (reverse v.parents.items) s.counted
+    (behind v.root.now v.number t.head t.kids (forest r) f.front f.back f.up f.stands)
+    (goes_behind v.root.now v.number t.head t.kids (forest r) f.front f.back f.up (joined v.progress) f.context f.stands f.fits f.near)
+    (subst (λ m. AreReady v.root.now m (waiting v.progress) (reverse v.parents.items)) total f.ready)
+    (f.above ∙ sym up) root next (ap forest row) around rows (ap reverse above)
+
+-- at the first child of a node
+no_leaf : (t : Tree) → is_childless t.kids ≡ false → is_leaf t ≡ false
+no_leaf t e = ap (λ b. b && (not (is_trivia t.head.kind) && not (is_error t.head.kind))) e
+
+row_behind : (v : StretchNodes) (t : Tree) (r : List Tree) (x : Waiting) → Stays v → v.nodes.now ≡ t ∷ r → x.nodes.now ≡ r → x.start ≡ end (joined v.progress) t → x.level ≡ v.progress.level → AreReady v.root.now (v.number + (1 + count t.kids)) (x ∷ waiting v.progress) (v.parent ∷ reverse v.parents.items)
+row_behind v t r x s e row start level =
+    let f = first_of v t r s e in
+    let n : ℕ = v.number + (1 + count t.kids) in
+    let fits : RowFits v.root.now n x v.parent = record {
       front = f.front ++ places t;
       back = f.back;
       up = f.up;
-      stands = row;
-      start = start ∙ offset_behind root n w.start t.head t.kids r f.front f.back f.up f.stands f.start;
-      above = f.above ∙ sym parent;
+      stands = subst (λ g. Stand v.root.now n (forest g) (f.front ++ places t) f.back f.up) (sym row) (behind v.root.now v.number t.head t.kids (forest r) f.front f.back f.up f.stands);
+      start = start ∙ offset_behind v.root.now v.number (joined v.progress).offset t.head t.kids (forest r) f.front f.back f.up f.stands (f.near.offset ∙ f.fits.offset);
+      parent = ap (λ l. l.parent) level ∙ (f.near.parent ∙ f.fits.parent);
+      outer = ap (λ l. l.outer) level ∙ (f.near.outer ∙ f.fits.outer);
+      above_is = f.above;
     } in
-    (first, subst (λ g. AreReady root (n + (1 + count t.kids) + count g) ws) (sym nodes_are) (subst (λ m. AreReady root m ws) total f.ready))
+    let total : v.number + count (more t.head t.kids (forest r)) ≡ n + count (forest x.nodes.now) = omega (arith, ap (λ g. count (forest g)) row) in
+    (fits, subst (λ m. AreReady v.root.now m (waiting v.progress) (reverse v.parents.items)) total f.ready)
 
--- its children, and what is left of the row behind it
-pub ready_below : (root : Tree) (n : ℕ) (w u v : Row) (ws : List Row) (t : Tree) (r : Forest) → First root n w ws t r → forest v.nodes.now ≡ r → v.start ≡ saturated (w.start + length (text_of t)) → v.parent ≡ w.parent → forest u.nodes.now ≡ t.kids → u.start ≡ saturated (w.start + length t.head.text) → u.parent ≡ n → AreReady root (n + 1) (u ∷ v ∷ ws)
-ready_below root n w u v ws t r f nodes_are start parent kids begin up =
-    let row : Stand root (n + 1) (forest u.nodes.now) (f.front ++ t ∷ []) (preorder r ++ f.back) (Some n) =
-    subst (λ g. Stand root (n + 1) g (f.front ++ t ∷ []) (preorder r ++ f.back) (Some n)) (sym kids) (below root n t.head t.kids r f.front f.back f.up f.stands) in
-    let first : RowFits root (n + 1) u = record {
-      front = f.front ++ t ∷ [];
-      back = preorder r ++ f.back;
-      up = Some n;
-      stands = row;
-      start = begin ∙ offset_below root n w.start t.head t.kids r f.front f.back f.up f.stands f.start;
-      above = sym up;
-    } in
-    let number : n + (1 + count t.kids) ≡ n + 1 + count (forest u.nodes.now) = omega (arith, ap count kids) in
-    (first, subst (λ m. AreReady root m (v ∷ ws)) number (ready_behind root n w v ws t r f nodes_are start parent))
-
-no_kids : (f : Forest) → is_childless f ≡ true → count f ≡ 0
-no_kids none e = refl
-no_kids (more h ks r) e = absurd (cc)
-
-ready_along : (root r : Tree) (n m : ℕ) (ws vs : List Row) → r ≡ root → m ≡ n → vs ≡ ws → AreReady root n ws → AreReady r m vs
-ready_along root r n m ws vs e f g ready =
-    subst (λ t. AreReady t m vs) (sym e) (subst (λ k. AreReady root k vs) (sym f) (subst (λ us. AreReady root n us) (sym g) ready))
-
--- past a node without children
-pub passed : (v w : AllNodes) (t : Tree) (b : Row) → Stays v → IsBehind v t b → is_childless t.kids ≡ true → w.root.now ≡ v.root.now → w.number ≡ v.number + 1 → w.here ≡ b → w.above.items ≡ v.above.items → Stays w
-passed v w t b s at_hand childless root number row above =
-    let ws : List Row = reverse v.above.items in
-    let f = first_of v.root.now v.number v.here ws t b.nodes.now s.ready at_hand.nodes in
-    let next : w.number ≡ v.number + (1 + count t.kids) = omega (arith, number, no_kids t.kids childless) in
-    record {
-      counted = subst (λ u. nodes u < 2 ^ 64 - 1) (sym root) s.counted;
-      ready = ready_along v.root.now w.root.now (v.number + (1 + count t.kids)) w.number (b ∷ ws) (w.here ∷ reverse w.above.items) root next (λ i. row i ∷ reverse (above i)) (ready_behind v.root.now v.number v.here b ws t (forest b.nodes.now) f refl at_hand.start at_hand.parent);
-    }
-
--- at the first child of a node
-pub entered : (v w : AllNodes) (t : Tree) (b : Row) → Stays v → IsBehind v t b → w.root.now ≡ v.root.now → w.number ≡ v.number + 1 → forest w.here.nodes.now ≡ t.kids → w.here.start ≡ saturated (v.here.start + length t.head.text) → w.here.parent ≡ v.number → w.above.items ≡ v.above.items ++ b ∷ [] → Stays w
-entered v w t b s at_hand root number kids begin up above =
-    let ws : List Row = reverse v.above.items in
-    let f = first_of v.root.now v.number v.here ws t b.nodes.now s.ready at_hand.nodes in
-    let turned : reverse w.above.items ≡ b ∷ ws = ap reverse above ∙ reverse-append v.above.items (b ∷ []) in
-    record {
-      counted = subst (λ u. nodes u < 2 ^ 64 - 1) (sym root) s.counted;
-      ready = ready_along v.root.now w.root.now (v.number + 1) w.number (w.here ∷ b ∷ ws) (w.here ∷ reverse w.above.items) root number (ap (λ us. w.here ∷ us) turned) (ready_below v.root.now v.number v.here w.here b ws t (forest b.nodes.now) f refl at_hand.start at_hand.parent kids begin up);
-    }
-
--- what is ready behind a row that is done
-behind_row : (v : AllNodes) → Stays v → v.here.nodes.now ≡ [] → AreReady v.root.now v.number (reverse v.above.items)
-behind_row v s e =
-    let number : v.number + count (forest v.here.nodes.now) ≡ v.number = omega (arith, ap (λ xs. count (forest xs)) e) in
-    subst (λ m. AreReady v.root.now m (reverse v.above.items)) number s.ready.1
+pub stays_below : (v w : StretchNodes) (t : Tree) (r : List Tree) (x : Waiting) → Stays v → v.nodes.now ≡ t ∷ r → is_childless t.kids ≡ false → w.root.now ≡ v.root.now → w.number ≡ v.number + 1 → w.parent ≡ cut v.number → forest w.nodes.now ≡ t.kids → joined w.progress ≡ within (joined v.progress) t (forest r) → waiting w.progress ≡ x ∷ waiting v.progress → w.parents.items ≡ v.parents.items ++ v.parent ∷ [] → x.nodes.now ≡ r → x.start ≡ end (joined v.progress) t → x.level ≡ v.progress.level → Stays w
+stays_below v w t r x s e inner root number up kids around rows above row start level =
+    let f = first_of v t r s e in
+    let next : v.number + (1 + count t.kids) ≡ v.number + 1 + count t.kids = omega arith in
+    let turned : reverse w.parents.items ≡ v.parent ∷ reverse v.parents.items = ap reverse above ∙ reverse-append v.parents.items (v.parent ∷ []) in
+    stays_at w v.root.now (v.number + 1) t.kids (f.front ++ t ∷ []) (preorder (forest r) ++ f.back) (Some v.number) (within (joined v.progress) t (forest r)) (x ∷ waiting v.progress) (v.parent ∷ reverse v.parents.items) s.counted
+    (below v.root.now v.number t.head t.kids (forest r) f.front f.back f.up f.stands)
+    (goes_below v.root.now v.number t.head t.kids (forest r) f.front f.back f.up (joined v.progress) f.context f.stands f.fits f.near (no_leaf t inner))
+    (subst (λ m. AreReady v.root.now m (x ∷ waiting v.progress) (v.parent ∷ reverse v.parents.items)) next (row_behind v t r x s e row start level))
+    (sym up) root number kids around rows turned
 
 -- back behind a node
-pub back : (v w : AllNodes) → Stays v → v.here.nodes.now ≡ [] → w.root.now ≡ v.root.now → w.number ≡ v.number → v.above.items ≡ w.above.items ++ w.here ∷ [] → Stays w
-back v w s e root number above =
-    let turned : reverse v.above.items ≡ w.here ∷ reverse w.above.items = ap reverse above ∙ reverse-append w.above.items (w.here ∷ []) in
-    record {
-      counted = subst (λ u. nodes u < 2 ^ 64 - 1) (sym root) s.counted;
-      ready = ready_along v.root.now w.root.now v.number w.number (reverse v.above.items) (w.here ∷ reverse w.above.items) root number (sym turned) (behind_row v s e);
-    }
+ended_row : (v : StretchNodes) → Stays v → v.nodes.now ≡ [] → AreReady v.root.now v.number (waiting v.progress) (reverse v.parents.items)
+ended_row v s e =
+    let number : v.number + count (forest v.nodes.now) ≡ v.number = omega (arith, ap (λ xs. count (forest xs)) e) in
+    subst (λ m. AreReady v.root.now m (waiting v.progress) (reverse v.parents.items)) number s.ready
 
--- the root is first
-pub at_root : (w : AllNodes) (root : Tree) → nodes root < 2 ^ 64 - 1 → w.root.now ≡ root → w.number ≡ 0 → w.here.nodes.now ≡ root ∷ [] → w.here.start ≡ 0 → w.here.parent ≡ 0 → w.above.items ≡ [] → Stays w
-at_root w root counted same number row start up above =
-    let nodes_are : forest w.here.nodes.now ≡ more root.head root.kids none = ap forest row in
-    let first : RowFits root 0 w.here = record {
-      front = [];
-      back = [];
-      up = None;
-      stands = subst (λ g. Stand root 0 g [] [] None) (sym nodes_are) (alone root);
-      start = start;
-      above = sym up;
+pub stays_back : (v w : StretchNodes) (x : Waiting) → Stays v → v.nodes.now ≡ [] → waiting v.progress ≡ x ∷ waiting w.progress → joined w.progress ≡ resumed x (waiting w.progress) v.progress.trail → v.parents.items ≡ w.parents.items ++ w.parent ∷ [] → w.root.now ≡ v.root.now → w.number ≡ v.number → w.nodes.now ≡ x.nodes.now → Stays w
+stays_back v w x s e rows around above root number row =
+    let turned : reverse v.parents.items ≡ w.parent ∷ reverse w.parents.items = ap reverse above ∙ reverse-append w.parents.items (w.parent ∷ []) in
+    let ready : AreReady v.root.now v.number (x ∷ waiting w.progress) (w.parent ∷ reverse w.parents.items) =
+    ready_moved v.root.now v.root.now v.number v.number (waiting v.progress) (x ∷ waiting w.progress) (reverse v.parents.items) (w.parent ∷ reverse w.parents.items) refl refl (sym rows) (sym turned) (ended_row v s e) in
+    let r : RowFits v.root.now v.number x w.parent = ready.0 in
+    let m : ℕ = v.number + count (forest x.nodes.now) in
+    let d : Context = record { parent = x.level.parent; outer = x.level.outer; offset = x.start; trail = s.context.trail; ahead = ahead_at v.root.now m } in
+    let goes : Goes v.root.now v.number (forest x.nodes.now) r.up (resumed x (waiting w.progress) v.progress.trail) = record {
+      context = d;
+      fits = record { parent = r.parent; outer = r.outer; offset = r.start; trail = s.fits.trail; ahead = refl };
+      near = record { parent = refl; outer = refl; offset = refl; trail = s.near.trail; ahead = ahead_ready v.root.now m (waiting w.progress) (reverse w.parents.items) ready.1 };
     } in
-    let all : 0 + count (forest w.here.nodes.now) ≡ nodes root = omega (arith, ap count nodes_are) in
-    record {
-      counted = subst (λ u. nodes u < 2 ^ 64 - 1) (sym same) counted;
-      ready = ready_along root w.root.now 0 w.number (w.here ∷ []) (w.here ∷ reverse w.above.items) same number (ap (λ us. w.here ∷ reverse us) above) (first, all);
-    }
+    stays_at w v.root.now v.number (forest x.nodes.now) r.front r.back r.up (resumed x (waiting w.progress) v.progress.trail) (waiting w.progress) (reverse w.parents.items) s.counted r.stands goes ready.1 r.above_is root number (ap forest row) around refl refl
+
+pub none_there : (xs : List Tree) → length xs ≡ 0 → xs ≡ []
+none_there [] e = refl
+none_there (x ∷ xs) e = absurd (omega (arith, e))
 
 -- at the end all nodes were come to
-pub all_come : (v : AllNodes) → Stays v → v.here.nodes.now ≡ [] → v.above.items ≡ [] → ahead v ≡ []
-all_come v s e above =
-    let number : v.number ≡ nodes v.root.now = subst (λ us. AreReady v.root.now v.number (reverse us)) above (behind_row v s e) in
-    let nothing : nodes v.root.now - v.number ≡ 0 = omega (arith, number) in
-    ap (λ k. map (at v.root.now) (numbers_from v.number k)) nothing
+no_rows : (root : Tree) (n : ℕ) (ps : List ℕ) → AreReady root n [] ps → n ≡ nodes root
+no_rows root n [] e = e
+no_rows root n (p ∷ ps) e = absurd e
 
-pub none_above : (xs : List Row) → length xs ≡ 0 → xs ≡ []
-none_above [] e = refl
-none_above (x ∷ xs) e = absurd (omega (arith, e))
+no_parents : (root : Tree) (n : ℕ) (ws : List Waiting) → AreReady root n ws [] → n ≡ nodes root
+no_parents root n [] e = e
+no_parents root n (w ∷ ws) e = absurd e
 
--- the node at hand is one of the tree's
-pub is_within : (v : AllNodes) (t : Tree) (r : List Tree) → Stays v → v.here.nodes.now ≡ t ∷ r → v.number < nodes v.root.now
-is_within v t r s e =
-    let f = first_of v.root.now v.number v.here (reverse v.above.items) t r s.ready e in
-    let row : Forest = more t.head t.kids (forest r) in
-    omega (arith, f.stands.number, length_places v.root.now, ap length f.stands.whole, length-append f.front (preorder row ++ f.back), length-append (preorder row) f.back, length_preorder row)
+pub all_come : (v : StretchNodes) → Stays v → v.nodes.now ≡ [] → waiting v.progress ≡ [] → v.number ≡ nodes v.root.now
+all_come v s e rows =
+    no_rows v.root.now v.number (reverse v.parents.items) (subst (λ ws. AreReady v.root.now v.number ws (reverse v.parents.items)) rows (ended_row v s e))
 
-up_of : (root : Tree) (up : Option ℕ) → number_if (option_map (at root) up) ≡ up_number up
-up_of root None = refl
-up_of root (Some n) = refl
+pub none_above : (v : StretchNodes) → Stays v → v.nodes.now ≡ [] → v.parents.items ≡ [] → v.number ≡ nodes v.root.now
+none_above v s e above =
+    no_parents v.root.now v.number (waiting v.progress) (subst (λ ps. AreReady v.root.now v.number (waiting v.progress) ps) (ap reverse above) (ended_row v s e))
 
--- the node at hand as it is given
-pub is_placed : (v : AllNodes) (t : Tree) (r : List Tree) (g : PlacedNode) → Stays v → v.here.nodes.now ≡ t ∷ r → g.node.now ≡ t → g.start ≡ v.here.start → g.end ≡ saturated (v.here.start + length (text_of t)) → g.number ≡ v.number → g.parent ≡ v.here.parent → IsPlaced (at v.root.now v.number) g
-is_placed v t r g s e node start ends number up =
-    let f = first_of v.root.now v.number v.here (reverse v.above.items) t r s.ready e in
-    let is : node_of (at v.root.now v.number) ≡ t = here v.root.now v.number t f.front _ f.stands.whole f.stands.number in
-    record {
-      node = node ∙ sym is;
-      start = start ∙ f.start;
-      end = omega (arith, ends, f.start, ap (λ u. length (text_of u)) is);
-      number = number;
-      parent = up ∙ sym (ap number_if (parent_here v.root.now v.number t.head t.kids (forest r) f.front f.back f.up f.stands) ∙ (up_of v.root.now f.up ∙ f.above));
-    }
+-- the root is first
+pub at_root : (w : StretchNodes) (root : Tree) → nodes root < 2 ^ 64 - 1 → w.root.now ≡ root → w.number ≡ 0 → w.parent ≡ 0 → w.nodes.now ≡ root ∷ [] → joined w.progress ≡ root_context → waiting w.progress ≡ [] → w.parents.items ≡ [] → Stays w
+at_root w root few same number up row around rows above =
+    let all : 0 + count (more root.head root.kids none) ≡ nodes root = omega arith in
+    let goes : Goes root 0 (more root.head root.kids none) None root_context = record {
+      context = root_context;
+      fits = fits_root root root_context refl refl refl refl refl;
+      near = same_context root_context;
+    } in
+    stays_at w root 0 (more root.head root.kids none) [] [] None root_context [] [] few (alone root) goes all (omega (arith, up)) same number (ap forest row) around rows (ap reverse above)
 
--- it comes first
-pub comes : (v w : AllNodes) → w.root.now ≡ v.root.now → w.number ≡ v.number + 1 → v.number < nodes v.root.now → ahead v ≡ at v.root.now v.number ∷ ahead w
-comes v w root number less =
-    let whole : nodes v.root.now - v.number ≡ suc (nodes v.root.now - (v.number + 1)) = omega (arith, less) in
-    ap (λ k. map (at v.root.now) (numbers_from v.number k)) whole
-    ∙ (λ i. at v.root.now v.number ∷ map (at (sym root i)) (numbers_from (sym number i) (nodes (sym root i) - sym number i)))
-
-pub same_ahead : (v w : AllNodes) → w.root.now ≡ v.root.now → w.number ≡ v.number → ahead v ≡ ahead w
-same_ahead v w root number = λ i. map (at (sym root i)) (numbers_from (sym number i) (nodes (sym root i) - sym number i))
-
--- a walk that went back over rows that are done gives the next node
-pub comes_from : (v u w : AllNodes) (g : PlacedNode) → u.root.now ≡ v.root.now → u.number ≡ v.number → w.root.now ≡ u.root.now → w.number ≡ u.number + 1 → u.number < nodes u.root.now → IsPlaced (at u.root.now u.number) g → Stays w → Comes v (Some g) w
-comes_from v u w g eroot en wroot wn less placed stays =
-    let first : v.number < nodes v.root.now = omega (arith, less, en, ap nodes eroot) in
-    let number : w.number ≡ v.number + 1 = omega (arith, wn, en) in
-    (first, (number, (comes v w (wroot ∙ eroot) number first, (subst (λ a. IsPlaced a g) (λ i. at (eroot i) (en i)) placed, stays))))
+-- ---- what meets the stretch
 
 -- of the node at hand and those after it, those that meet a stretch: it is the first of them
 pub one_meets : (s : Stretch) (root : Tree) (n : ℕ) → n < nodes root → offset_of (at root n) ≤ s.end → s.start ≤ end_of (at root n) → ahead_from s root n ≡ at root n ∷ ahead_from s root (n + 1)
@@ -211,3 +269,153 @@ one_passes s root n less reaches early =
     let whole : nodes root - n ≡ 1 + (nodes root - (n + 1)) = omega (arith, less) in
     let only : (j : ℕ) → n ≤ j → j < n + 1 → meets s (at root j) ≡ false = λ j l m. let number : n ≡ j = omega (arith, l, m) in subst (λ k. meets s (at root k) ≡ false) number fails in
     ap (λ k. filter (meets s) (map (at root) (numbers_from n k))) whole ∙ passed_over s root n 1 (nodes root - (n + 1)) only
+
+and_false : (b : Bool) → (b && false) ≡ false
+and_false true = refl
+and_false false = refl
+
+ends_early : (s : Stretch) (a : At) → end_of a < s.start → meets s a ≡ false
+ends_early s a h = let last : nat_le s.start (end_of a) ≡ false = grind (arith, nat_tests, h) in rw last (and_false (nat_le (offset_of a) s.end))
+
+-- a node that ends before the stretch doesn't meet it, nor does what is below it
+early_passes : (s : Stretch) (root : Tree) (n : ℕ) (t : Tree) (r : Forest) (front back : List Tree) (up : Option ℕ) → Stand root n (more t.head t.kids r) front back up → end_of (at root n) < s.start → ahead_from s root n ≡ ahead_from s root (n + nodes t)
+early_passes s root n t r front back up st early =
+    let most : n + count (more t.head t.kids r) ≤ nodes root = within_nodes root n (more t.head t.kids r) front back up st in
+    let whole : nodes root - n ≡ nodes t + (nodes root - (n + nodes t)) = omega (arith, most) in
+    ap (λ k. filter (meets s) (map (at root) (numbers_from n k))) whole
+    ∙ passed_over s root n (nodes t) (nodes root - (n + nodes t)) (λ j l m. outside s root n t.head t.kids r front back up st (ends_early s (at root n) early) j l m)
+
+-- ---- a place to go on at
+
+pub sought_here : (w : StretchNodes) (row : List Tree) (start n : ℕ) → Stays w → row ≡ w.nodes.now → start ≡ (joined w.progress).offset → n ≡ w.number → IsSought w row start n
+sought_here w row start n s same begins number =
+    record {
+      stays = s;
+      front = s.front;
+      stands = moved (λ x m g. Stand x m g s.front s.back s.up) w.root.now w.root.now w.number n (forest w.nodes.now) (forest row) refl number (ap forest same) s.stands;
+      begins = begins ∙ (s.near.offset ∙ (s.fits.offset ∙ ap (λ k. offset_of (at w.root.now k)) (sym number)));
+      whole = λ i. number i + count (forest (same i));
+      onward = omega (arith, number);
+      left = ap (ahead_from w.stretch w.root.now) (sym number);
+    }
+
+pub sought_within : (w : StretchNodes) (t : Tree) (r : List Tree) (start n : ℕ) → IsSought w (t ∷ r) start n → n + nodes t ≤ nodes w.root.now
+sought_within w t r start n p =
+    omega (arith, within_nodes w.root.now n (more t.head t.kids (forest r)) p.front p.stays.back p.stays.up p.stands)
+
+-- past a node that ends before the stretch
+pub sought_next : (w : StretchNodes) (t : Tree) (r : List Tree) (start e n : ℕ) → IsSought w (t ∷ r) start n → e ≡ saturated (start + length (text_of t)) → e < w.stretch.start → IsSought w r e (n + nodes t)
+sought_next w t r start e n p ends early =
+    let stands : Stand w.root.now n (more t.head t.kids (forest r)) p.front p.stays.back p.stays.up = p.stands in
+    let is : node_of (at w.root.now n) ≡ t = here w.root.now n t p.front _ stands.whole stands.number in
+    let last : end_of (at w.root.now n) < w.stretch.start = omega (arith, early, ends, p.begins, ap (λ u. length (text_of u)) is) in
+    record {
+      stays = p.stays;
+      front = p.front ++ places t;
+      stands = behind w.root.now n t.head t.kids (forest r) p.front p.stays.back p.stays.up stands;
+      begins = ends ∙ offset_behind w.root.now n start t.head t.kids (forest r) p.front p.stays.back p.stays.up stands p.begins;
+      whole = omega (arith, p.whole);
+      onward = omega (arith, p.onward);
+      left = p.left ∙ early_passes w.stretch w.root.now n t (forest r) p.front p.stays.back p.stays.up stands last;
+    }
+
+no_dotted : (k : SyntaxKind) (x : Option Tag) → is_dot k ≡ false → dotted (Some k) x ≡ None
+no_dotted k x e = ap (λ b. cond b x None) e
+
+-- the leaves before a node, where the last one is neither a name nor a dot
+abbrev one_leaf : SyntaxKind → Trail
+one_leaf k = record { before = Some k; name = None; earlier = None }
+
+trail_near : (root : Tree) (q : ℕ) (t : Tree) (front rest : List Tree) (k : SyntaxKind) → places root ≡ front ++ (t ∷ rest) → q ≡ length front → is_leaf t ≡ true → t.head.kind ≡ k → is_name k ≡ false → is_dot k ≡ false → Alike (one_leaf k) (trail_at root (q + 1))
+trail_near root q t front rest k e n is_so kind no_name no_dot =
+    let last : prev_leaf (at root (q + 1)) ≡ Some (at root q) = prev_here root q t front rest e n is_so in
+    let own_kind : kind_of (at root q) ≡ k = ap (λ x. x.head.kind) (here root q t front rest e n) ∙ kind in
+    let before : kind_if (prev_leaf (at root (q + 1))) ≡ Some k = ap kind_if last ∙ ap (λ x. Some x) own_kind in
+    let nameless : is_name (kind_of (at root q)) ≡ false = ap is_name own_kind ∙ no_name in
+    let own : own_name (at root q) ≡ None = ap (λ b. cond b (name_tag (q + 1) (at root q)) None) nameless in
+    let earlier : Option Tag = option_and_then own_name (option_and_then prev_leaf (prev_leaf (at root (q + 1)))) in
+    record {
+      before = sym before;
+      name = sym (ap (option_and_then own_name) last ∙ own);
+      dotted = no_dotted k None no_dot ∙ sym (ap (λ o. dotted o earlier) before ∙ no_dotted k earlier no_dot);
+    }
+
+split_seam : (front init behind_it back : List Tree) (x : Tree) → front ++ (((init ++ x ∷ []) ++ behind_it) ++ back) ≡ (front ++ init) ++ (x ∷ (behind_it ++ back))
+split_seam front init behind_it back x = simp append_assoc refl
+
+-- behind a node that ends in such a leaf
+trail_behind : (root : Tree) (n : ℕ) (t : Tree) (r : Forest) (front back : List Tree) (up : Option ℕ) (k : SyntaxKind) → Stand root n (more t.head t.kids r) front back up → EndsIn t k → Alike (one_leaf k) (trail_at root (n + nodes t))
+trail_behind root n t r front back up k s e =
+    let whole : places root ≡ (front ++ e.init) ++ (e.last ∷ (preorder r ++ back)) = s.whole ∙ (ap (λ xs. front ++ ((xs ++ preorder r) ++ back)) e.nodes ∙ split_seam front e.init (preorder r) back e.last) in
+    let number : length (front ++ e.init) + 1 ≡ n + nodes t = omega (arith, s.number, length_places t, ap length e.nodes, length-append e.init (e.last ∷ []), length-append front e.init) in
+    subst (λ m. Alike (one_leaf k) (trail_at root m)) number (trail_near root (length (front ++ e.init)) e.last (front ++ e.init) (preorder r ++ back) k whole refl e.leaf e.kind e.no_name e.no_dot)
+
+pub sought_behind : (w : StretchNodes) (t : Tree) (r : List Tree) (e n : ℕ) → IsBehind w t r e n → IsSought w r e n
+sought_behind w t r e n p = subst (IsSought w r e) (sym p.number) (sought_next w t r p.start e p.first p.sought p.ends p.early)
+
+-- the walk goes on there
+pub stays_sought : (v w : StretchNodes) (t : Tree) (r : List Tree) (e n : ℕ) (k : SyntaxKind) → IsBehind v t r e n → EndsIn t k → w.root.now ≡ v.root.now → w.number ≡ n → w.parent ≡ v.parent → w.nodes.now ≡ r → joined w.progress ≡ record (joined v.progress) { offset = e; trail = one_leaf k } → waiting w.progress ≡ waiting v.progress → w.parents.items ≡ v.parents.items → Stays w
+stays_sought v w t r e n k p last root number up row around rows above =
+    let s : Stays v = p.sought.stays in
+    let stands : Stand v.root.now p.first (more t.head t.kids (forest r)) p.sought.front s.back s.up = p.sought.stands in
+    let m : ℕ = p.first + nodes t in
+    let c : Context = record (joined v.progress) { offset = e; trail = one_leaf k } in
+    let d : Context = record s.context { offset = e; trail = trail_at v.root.now m } in
+    let there : e ≡ offset_of (at v.root.now m) = p.ends ∙ offset_behind v.root.now p.first p.start t.head t.kids (forest r) p.sought.front s.back s.up stands p.sought.begins in
+    let total : v.number + count (forest v.nodes.now) ≡ m + count (forest r) = omega (arith, p.sought.whole) in
+    let goes : Goes v.root.now m (forest r) s.up c = record {
+      context = d;
+      fits = record { parent = s.fits.parent; outer = s.fits.outer; offset = there; trail = refl; ahead = s.fits.ahead ∙ ap (ahead_at v.root.now) total };
+      near = record { parent = s.near.parent; outer = s.near.outer; offset = refl; trail = trail_behind v.root.now p.first t (forest r) p.sought.front s.back s.up k stands last; ahead = s.near.ahead };
+    } in
+    stays_at w v.root.now m (forest r) (p.sought.front ++ places t) s.back s.up c (waiting v.progress) (reverse v.parents.items) s.counted
+    (behind v.root.now p.first t.head t.kids (forest r) p.sought.front s.back s.up stands)
+    goes
+    (subst (λ q. AreReady v.root.now q (waiting v.progress) (reverse v.parents.items)) total s.ready)
+    (s.above ∙ sym up) root (number ∙ p.number) (ap forest row) around rows (ap reverse above)
+
+pub passes_none : (v : StretchNodes) → Passes v v
+passes_none v = record { onward = omega arith; left = refl }
+
+pub passes_to : (v w : StretchNodes) (r : List Tree) (e n : ℕ) → IsSought v r e n → w.number ≡ n → Passes v w
+passes_to v w r e n q number =
+    record { onward = omega (arith, q.onward, number); left = q.left ∙ ap (ahead_from v.stretch v.root.now) (sym number) }
+
+pub passes_on : (u v w : StretchNodes) → v.root.now ≡ u.root.now → v.stretch ≡ u.stretch → Passes u v → Passes v w → Passes u w
+passes_on u v w root stretch p q =
+    record {
+      onward = omega (arith, p.onward, q.onward);
+      left = p.left ∙ ((λ i. ahead_from (sym stretch i) (sym root i) v.number) ∙ (q.left ∙ (λ i. ahead_from (stretch i) (root i) w.number)));
+    }
+
+-- ---- a step of the walk
+
+pub moves_one : (v w : StretchNodes) → v.number < nodes v.root.now → w.number ≡ v.number + 1 → Stays w → Moves v w
+moves_one v w less number s =
+    record { within = less; onward = omega (arith, number); left = ap (ahead_from v.stretch v.root.now) (sym number); stays = s }
+
+pub moves_by : (v u w : StretchNodes) → v.number < nodes v.root.now → u.root.now ≡ v.root.now → u.stretch ≡ v.stretch → u.number ≡ v.number + 1 → Passes u w → Stays w → Moves v w
+moves_by v u w less root stretch number p s =
+    record {
+      within = less;
+      onward = omega (arith, number, p.onward);
+      left = (λ i. ahead_from (sym stretch i) (sym root i) (sym number i)) ∙ (p.left ∙ (λ i. ahead_from (stretch i) (root i) w.number));
+      stays = s;
+    }
+
+-- a walk that went back over rows that are done gives the record of the next node
+pub comes_from : (v u w : StretchNodes) (g : PlacedRecord) → u.root.now ≡ v.root.now → u.stretch ≡ v.stretch → u.number ≡ v.number → IsRecord (at u.root.now u.number) g → Moves u w → Comes v (Some g) w
+comes_from v u w g root stretch number placed m = (
+  subst (λ a. IsRecord a g) (λ i. at (root i) (number i)) placed,
+  record {
+    within = omega (arith, m.within, number, ap nodes root);
+    onward = omega (arith, m.onward, number);
+    left = (λ i. ahead_from (sym stretch i) (sym root i) (sym number i + 1)) ∙ (m.left ∙ (λ i. ahead_from (stretch i) (root i) w.number));
+    stays = m.stays;
+  },
+)
+
+-- what is left of a stretch behind the next node
+pub goes_on : (s : Stretch) (v w : StretchNodes) → v.stretch ≡ s → w.root.now ≡ v.root.now → Moves v w → ahead_from s v.root.now (v.number + 1) ≡ ahead_from s w.root.now w.number
+goes_on s v w stretch root m =
+    (λ i. ahead_from (sym stretch i) v.root.now (v.number + 1)) ∙ (m.left ∙ (λ i. ahead_from (stretch i) (sym root i) w.number))

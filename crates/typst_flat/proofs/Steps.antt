@@ -15,13 +15,13 @@ use Rattle.typst_highlight.specs.Walk.{tree_of}
 use Rattle.typst_highlight.proofs.Rows.{Stand, here, below, behind, alone, parent_here}
 use Rattle.typst_highlight.specs.Spans.{numbers_from}
 use Rattle.typst_flat.specs.Records.{number_if, meets}
-use Rattle.typst_flat.specs.Walk.{RowStands, IsReady, IsAt, up_number}
+use Rattle.typst_flat.specs.Walk.{RowStands, IsReady, IsAt, ahead_from, up_number}
 use Rattle.typst_flat.specs.declared.records.Stretch.{Stretch}
 use Rattle.typst_flat.specs.declared.walk.Row.{Row}
 use Rattle.typst_flat.proofs.Passed.{outside, passed_over, come_to}
 
 -- trees that stand side by side end before the tree's nodes do
-within_nodes : (root : Tree) (k : ℕ) (f : Forest) (front back : List Tree) (up : Option ℕ) → Stand root k f front back up → k + count f ≤ nodes root
+pub within_nodes : (root : Tree) (k : ℕ) (f : Forest) (front back : List Tree) (up : Option ℕ) → Stand root k f front back up → k + count f ≤ nodes root
 within_nodes root k f front back up s =
     omega (arith, s.number, length_places root, ap length s.whole, length-append front (preorder f ++ back), length-append (preorder f) back, length_preorder f)
 
@@ -96,7 +96,7 @@ entered root n above w ws a c e f g =
     let total : n + nodes (node_of (at root n)) ≡ n + 1 + count c.kids = omega (arith, size_here root n above ws c) in
     (record { trees = c.kids; front = front; back = back; stands = stands; row = here_row; begun = omega arith }, subst (λ m. IsReady root m ws) total c.ready)
 
-up_of : (root : Tree) (up : Option ℕ) → number_if (option_map (at root) up) ≡ up_number up
+pub up_of : (root : Tree) (up : Option ℕ) → number_if (option_map (at root) up) ≡ up_number up
 up_of root None = refl
 up_of root (Some n) = refl
 
@@ -104,10 +104,6 @@ up_of root (Some n) = refl
 pub parent_is : (root : Tree) (n above : ℕ) (ws : List Row) → IsAt root n above ws → above ≡ number_if (parent (at root n))
 parent_is root n above ws c =
     sym (ap number_if (parent_here root n c.head c.kids c.later c.front c.back c.up c.stands) ∙ (up_of root c.up ∙ c.above_is))
-
--- the nodes from the number n on that meet a stretch
-abbrev pub ahead_from : Stretch → Tree → ℕ → List At
-ahead_from s root n = filter (meets s) (map (at root) (numbers_from n (nodes root - n)))
 
 -- of a node that doesn't meet the stretch nothing is left, nor of what is below it
 pub skipped : (s : Stretch) (root : Tree) (n above : ℕ) (ws : List Row) → IsAt root n above ws → meets s (at root n) ≡ false → ahead_from s root n ≡ ahead_from s root (n + nodes (node_of (at root n)))

@@ -1,14 +1,25 @@
--- The walk through all nodes of a tree (of private clauses).
-use Rattle.std.specs.Prelude.{◌≡◌, ℕ, ◌+◌, ◌-◌, ◌^◌, ◌<◌, List, [], ◌∷◌, map, reverse, length, Option, None, Some}
-use Rattle.typst_tree.specs.Tree.{Tree, count, nodes, forest, saturated, text_of}
+-- The walk through the nodes of a tree with their places and tags, begun near a stretch (of private clauses).
+use Rattle.std.specs.Prelude.{◌≡◌, ℕ, ◌+◌, ◌-◌, ◌^◌, ◌<◌, ◌≤◌, Bool, false, true, ◌&&◌, ◌||◌, not, List, [], ◌∷◌, ◌++◌, reverse, length, Option, None, Some}
+use Rattle.typst_kinds.specs.Kinds.{is_error, is_trivia}
+use Rattle.typst_kinds.specs.declared.kind.SyntaxKind.{SyntaxKind}
+use Rattle.typst_tree.specs.Tree.{Tree, count, nodes, forest, places, saturated, text_of}
+use Rattle.typst_tree.specs.Walks.{is_childless, is_leaf}
 use Rattle.typst_tree.specs.Steps.{At, at, node_of, offset_of, end_of, parent}
-use Rattle.typst_highlight.specs.Spans.{numbers_from}
+use Rattle.typst_highlight.specs.declared.context.Context.{Context}
+use Rattle.typst_highlight.specs.declared.progress.Waiting.{Waiting}
+use Rattle.typst_highlight.specs.Nodes.{tag_of}
+use Rattle.typst_highlight.specs.Rules.{is_dot, is_name}
+use Rattle.typst_highlight.specs.Walk.{joined, waiting}
 use Rattle.typst_highlight.proofs.Rows.{Stand}
-use Rattle.typst_flat.specs.Records.{number_if}
-use Rattle.typst_flat.specs.Walk.{up_number}
-use Rattle.typst_flat.specs.declared.nodes.Row.{Row}
-use Rattle.typst_flat.specs.declared.nodes.PlacedNode.{PlacedNode}
-use Rattle.typst_flat.specs.declared.nodes.AllNodes.{AllNodes}
+use Rattle.typst_highlight.proofs.Leaves.{kind_up}
+use Rattle.typst_highlight.proofs.Contexts.{Fits, outer_at}
+use Rattle.typst_highlight.proofs.Nears.{Near}
+use Rattle.typst_flat.specs.Codes.{cut}
+use Rattle.typst_flat.specs.Records.{node_record, number_if}
+use Rattle.typst_flat.specs.Walk.{ahead_from, up_number}
+use Rattle.typst_flat.specs.declared.placed.PlacedNode.{PlacedNode}
+use Rattle.typst_flat.specs.declared.nodes.PlacedRecord.{PlacedRecord}
+use Rattle.typst_flat.specs.declared.nodes.StretchNodes.{StretchNodes}
 
 -- a node as it is given
 pub record IsPlaced (a : At) (g : PlacedNode) : Type 0 where
@@ -16,38 +27,98 @@ pub record IsPlaced (a : At) (g : PlacedNode) : Type 0 where
   pub start : g.start ≡ offset_of a
   pub end : g.end ≡ end_of a
   pub number : g.number ≡ a.number
-  pub parent : g.parent ≡ number_if (parent a)
+  pub parent : g.parent ≡ cut (number_if (parent a))
+  pub tag : g.tag ≡ tag_of a
 
--- what is left of a row, the first of which has the number n
-pub record RowFits (root : Tree) (n : ℕ) (w : Row) : Type 0 where
+-- its record
+pub record IsRecord (a : At) (g : PlacedRecord) : Type 0 where
+  pub start : g.start ≡ offset_of a
+  pub end : g.end ≡ end_of a
+  pub node : g.node ≡ node_record a
+
+-- nodes that a walk comes back to, the first of which has the number n, below the node of the number `above`
+pub record RowFits (root : Tree) (n : ℕ) (w : Waiting) (above : ℕ) : Type 0 where
   pub front : List Tree
   pub back : List Tree
   pub up : Option ℕ
   pub stands : Stand root n (forest w.nodes.now) front back up
   pub start : w.start ≡ offset_of (at root n)
-  pub above : up_number up ≡ w.parent
+  pub parent : w.level.parent ≡ kind_up root up
+  pub outer : w.level.outer ≡ outer_at root up
+  pub above_is : cut (up_number up) ≡ above
 
--- the rows hold all nodes from the number n on, the innermost first
-abbrev pub AreReady : Tree → ℕ → List Row → Type 0
-AreReady root n [] = n ≡ nodes root
-AreReady root n (w ∷ ws) = (s : RowFits root n w) × AreReady root (n + count (forest w.nodes.now)) ws
+-- the rows to come back to hold all nodes from the number n on, the innermost first
+abbrev pub AreReady : Tree → ℕ → List Waiting → List ℕ → Type 0
+AreReady root n [] [] = n ≡ nodes root
+AreReady root n [] (p ∷ ps) = ⊥
+AreReady root n (w ∷ ws) [] = ⊥
+AreReady root n (w ∷ ws) (p ∷ ps) = RowFits root n w p × AreReady root (n + count (forest w.nodes.now)) ws ps
 
--- the rows of a walk hold all nodes that it has still to come to
-pub record Stays (w : AllNodes) : Type 0 where
+-- the rows hold all nodes from the walk's number on, and the walk knows what is around the next one as far as tags depend on it
+pub record Stays (w : StretchNodes) : Type 0 where
   pub counted : nodes w.root.now < 2 ^ 64 - 1
-  pub ready : AreReady w.root.now w.number (w.here ∷ reverse w.above.items)
+  pub front : List Tree
+  pub back : List Tree
+  pub up : Option ℕ
+  pub stands : Stand w.root.now w.number (forest w.nodes.now) front back up
+  pub above : cut (up_number up) ≡ w.parent
+  pub context : Context
+  pub fits : Fits w.root.now w.number (forest w.nodes.now) up context
+  pub near : Near (joined w.progress) context
+  pub ready : AreReady w.root.now (w.number + count (forest w.nodes.now)) (waiting w.progress) (reverse w.parents.items)
 
--- what is left of a walk's row after its first node
-pub record IsBehind (w : AllNodes) (t : Tree) (v : Row) : Type 0 where
-  pub nodes : w.here.nodes.now ≡ t ∷ v.nodes.now
-  pub start : v.start ≡ saturated (w.here.start + length (text_of t))
-  pub parent : v.parent ≡ w.here.parent
+-- a walk goes past some nodes, none of which meets its stretch
+pub record Passes (v w : StretchNodes) : Type 0 where
+  pub onward : v.number ≤ w.number
+  pub left : ahead_from v.stretch v.root.now v.number ≡ ahead_from v.stretch v.root.now w.number
 
--- the nodes that a walk has still to come to
-abbrev pub ahead : AllNodes → List At
-ahead w = map (at w.root.now) (numbers_from w.number (nodes w.root.now - w.number))
+-- a walk goes past the next node, and past some that don't meet its stretch
+pub record Moves (v w : StretchNodes) : Type 0 where
+  pub within : v.number < nodes v.root.now
+  pub onward : v.number < w.number
+  pub left : ahead_from v.stretch v.root.now (v.number + 1) ≡ ahead_from v.stretch v.root.now w.number
+  pub stays : Stays w
 
--- a walk gives the next node, or comes to its end
-abbrev pub Comes : AllNodes → Option PlacedNode → AllNodes → Type 0
-Comes v None w = ahead v ≡ []
-Comes v (Some g) w = (v.number < nodes v.root.now) × ((w.number ≡ v.number + 1) × ((ahead v ≡ at v.root.now v.number ∷ ahead w) × (IsPlaced (at v.root.now v.number) g × Stays w)))
+-- a walk gives the record of the next node, or comes to its end
+abbrev pub Comes : StretchNodes → Option PlacedRecord → StretchNodes → Type 0
+Comes v None w = v.number ≡ nodes v.root.now
+Comes v (Some g) w = IsRecord (at v.root.now v.number) g × Moves v w
+
+-- the last node among a node and those below it
+pub record EndsWith (t last : Tree) : Type 0 where
+  pub init : List Tree
+  pub nodes : places t ≡ init ++ last ∷ []
+  pub childless : is_childless last.kids ≡ true
+
+-- a kind of leaves that count, which is neither that of names nor that of dots
+abbrev pub is_settled : SyntaxKind → Bool
+is_settled k = (not (is_trivia k || is_error k) && not (is_name k)) && not (is_dot k)
+
+-- the last node of a node and those below it is a leaf of the kind
+pub record EndsIn (t : Tree) (k : SyntaxKind) : Type 0 where
+  pub init : List Tree
+  pub last : Tree
+  pub nodes : places t ≡ init ++ last ∷ []
+  pub leaf : is_leaf last ≡ true
+  pub kind : last.head.kind ≡ k
+  pub no_name : is_name k ≡ false
+  pub no_dot : is_dot k ≡ false
+
+-- a place in a walk's row that it may go on at, whose first node has the number n and begins there: all before it end before the stretch
+pub record IsSought (w : StretchNodes) (row : List Tree) (start n : ℕ) : Type 0 where
+  pub stays : Stays w
+  pub front : List Tree
+  pub stands : Stand w.root.now n (forest row) front stays.back stays.up
+  pub begins : start ≡ offset_of (at w.root.now n)
+  pub whole : n + count (forest row) ≡ w.number + count (forest w.nodes.now)
+  pub onward : w.number ≤ n
+  pub left : ahead_from w.stretch w.root.now w.number ≡ ahead_from w.stretch w.root.now n
+
+-- such a place behind the node t
+pub record IsBehind (w : StretchNodes) (t : Tree) (row : List Tree) (end n : ℕ) : Type 0 where
+  pub start : ℕ
+  pub first : ℕ
+  pub sought : IsSought w (t ∷ row) start first
+  pub ends : end ≡ saturated (start + length (text_of t))
+  pub early : end < w.stretch.start
+  pub number : n ≡ first + nodes t

@@ -10,6 +10,7 @@ use Rattle.typst_tree.specs.declared.linked.LinkedNode.{LinkedNode}
 use Rattle.typst_highlight.proofs.Rows.{Stand}
 use Rattle.typst_highlight.specs.Spans.{numbers_from}
 use Rattle.typst_flat.specs.Records.{number_if, meets}
+use Rattle.typst_flat.specs.declared.records.Stretch.{Stretch}
 use Rattle.typst_flat.specs.declared.walk.Row.{Row}
 use Rattle.typst_flat.specs.declared.walk.Place.{Place}
 use Rattle.typst_flat.specs.declared.walk.Walk.{Walk}
@@ -51,9 +52,13 @@ rows w = reverse w.rows.items
 abbrev pub Stays : Walk → Type 0
 Stays w = IsReady w.root.now w.number (rows w)
 
+-- the nodes from the number n on that meet a stretch
+abbrev pub ahead_from : Stretch → Tree → ℕ → List At
+ahead_from s root n = filter (meets s) (map (at root) (numbers_from n (nodes root - n)))
+
 -- the nodes that a walk has still to come to
 abbrev pub ahead : Walk → List At
-ahead w = filter (meets w.stretch) (map (at w.root.now) (numbers_from w.number (nodes w.root.now - w.number)))
+ahead w = ahead_from w.stretch w.root.now w.number
 
 -- the node at hand is taken out of its row, with the number of its parent, if there is one
 abbrev pub Takes : Walk → Option (LinkedNode × ℕ) → Walk → Type 0

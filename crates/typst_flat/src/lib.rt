@@ -11,9 +11,9 @@ mod codes;
 mod fill;
 mod kinds;
 mod nodes;
+mod placed;
 mod records;
 mod said;
-mod tags;
 mod walk;
 
 pub use bytes::fill_text;

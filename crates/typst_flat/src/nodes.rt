@@ -1,163 +1,280 @@
-//! The nodes of a tree with their places, one after the other.
+//! The records of a tree's nodes, one after the other.
 
-ghost use Rattle.std.specs.Prelude.{◌≡◌, ◌+◌, ◌∷◌, ◌-◌, ◌^◌, ◌<◌, IfOk, OnOk, false, true};
-ghost use Rattle.typst_tree.specs.Tree.{nodes};
+ghost use Rattle.std.specs.Prelude.{◌≡◌, ◌+◌, ◌∷◌, ◌-◌, ◌^◌, ◌<◌, IfOk, IfSome, None, OnOk, true, false, if◌then◌else◌};
+ghost use Rattle.typst_tree.specs.Tree.{forest, nodes};
 ghost use Rattle.typst_tree.specs.Steps.{at};
 ghost use Rattle.typst_tree.specs.Walks.{is_childless};
+ghost use Rattle.typst_highlight.specs.Rules.{is_name};
+ghost use Rattle.typst_highlight.specs.Walk as walk;
 ghost use Rattle.typst_flat.specs.Placed as spec;
-ghost use Rattle.typst_flat.specs.Records.{all_of};
 
+use crate::codes::narrow;
+use crate::placed::{PlacedNode, node_count, record};
+use crate::{Node, Stretch};
 use std::alloc::{AllocError, Global};
 use std::slice;
+use typst_highlight::{Progress, Tag, is_childless, is_dot, is_name, is_skipped, tag_next};
+use typst_kinds::SyntaxKind;
 use typst_tree::SyntaxNode;
 
-/// A node with its place in a tree.
+/// For so many bytes before a stretch a walk looks first for a place to begin at.
+const NEAR: usize = 1024;
+
+/// The record of a node, with its place as a walk counts it.
 #[derive(Clone, Copy)]
-pub struct PlacedNode<'t> {
-    pub node: &'t SyntaxNode,
-    /// Where it begins, in bytes.
+pub struct PlacedRecord {
+    /// Where the node begins, in bytes.
     pub start: usize,
     /// Where it ends, in bytes.
     pub end: usize,
-    /// Its number among all nodes in preorder.
-    pub number: usize,
-    /// The number of its parent; of the root 0.
-    pub parent: usize,
-}
-
-/// The nodes that are left of a row.
-#[derive(Clone, Copy)]
-struct Row<'t> {
-    nodes: &'t [SyntaxNode],
-    /// Where the first of them begins, in bytes.
-    start: usize,
-    /// The number of their parent; of the root's row 0.
-    parent: usize,
+    /// Its record.
+    pub node: Node,
 }
 
 /// The nodes of a tree that a walk has still to come to, each before its children.
 ///
 /// It doesn't call itself, whatever the depth of the tree, and goes over rows of nodes as slices. It takes memory
-/// for the rows to come back to.
+/// for the rows to come back to. Of each row it passes the first nodes, where they end before the stretch: it adds up
+/// their lengths and counts, up to near the stretch.
 #[derive(Drop)]
-pub struct AllNodes<'t> {
+pub struct StretchNodes<'t> {
     root: &'t SyntaxNode,
+    stretch: Stretch,
     /// The number of the next node.
     number: usize,
-    /// The row of the next node.
-    here: Row<'t>,
-    /// The rows to come back to, the innermost last.
-    above: Vec<Row<'t>>,
+    /// The number of its parent, as records have it; of the root 0.
+    parent: u32,
+    /// The next node and those after it in its row.
+    nodes: &'t [SyntaxNode],
+    /// The parents of the rows to come back to, the innermost last.
+    parents: Vec<u32>,
+    /// The rows to come back to, and what the next node's tag depends on.
+    progress: Progress<'t>,
 }
 
-impl<'t> AllNodes<'t> {
-    /// All nodes of a tree.
-    pub fn new(alloc: Global, root: &'t SyntaxNode) -> AllNodes<'t>
+impl<'t> StretchNodes<'t> {
+    /// All nodes of a tree, but for some that end before a stretch.
+    pub fn new(alloc: Global, root: &'t SyntaxNode, stretch: Stretch) -> StretchNodes<'t>
         requires { nodes root.now < 2 ^ 64 - 1 }
         ensures root { result.root.now ≡ root.now }
-        ensures all { spec.ahead result ≡ all_of root.now }
+        ensures stretch { result.stretch ≡ stretch }
+        ensures number { result.number ≡ 0 }
         ensures ready { spec.Stays result }
     {
-        AllNodes {
+        StretchNodes {
             root,
+            stretch,
             number: 0,
-            here: Row {
-                nodes: slice::from_ref(root),
-                start: 0,
-                parent: 0,
-            },
-            above: Vec::new(alloc),
+            parent: 0,
+            nodes: slice::from_ref(root),
+            parents: Vec::new(alloc),
+            progress: Progress::start(alloc),
         }
     }
 
-    /// The next node, or none at the end. After a refused request for memory the walk can't go on.
+    /// The record of the next node, or none at the end. After a refused request for memory the walk can't go on.
     #[inline(always)]
-    pub fn next(&mut self) -> Result<Option<PlacedNode<'t>>, AllocError>
+    pub fn next(&mut self) -> Result<Option<PlacedRecord>, AllocError>
         requires { spec.Stays self.old }
         ensures root { OnOk result (self.new.root.now ≡ self.old.root.now) }
+        ensures stretch { OnOk result (self.new.stretch ≡ self.old.stretch) }
         ensures comes { IfOk result (λ placed. spec.Comes self.old placed self.new) }
     {
         'rows: loop {
-            if let Some((node, later)) = self.here.nodes.split_first() {
+            if let Some((node, later)) = self.nodes.split_first() {
                 let placed = self.visit(node, later)?;
                 return Ok(Some(placed));
             }
-            let Some(row) = self.above.pop() else {
+            let Some(row) = self.progress.leave() else {
                 return Ok(None);
             };
-            self.here = row;
+            let Some(parent) = self.parents.pop() else {
+                return Ok(None);
+            };
+            self.nodes = row.nodes;
+            self.parent = parent;
         }
     }
 
-    /// Gives the next node, and goes to the one after it in preorder.
+    /// Gives the record of the next node, and goes on to the one after it in preorder that has to be visited.
+    // The record is made before anything is written, so that the node is read once.
     #[inline(always)]
     fn visit(
         &mut self,
         node: &'t SyntaxNode,
         later: &'t [SyntaxNode],
-    ) -> Result<PlacedNode<'t>, AllocError>
+    ) -> Result<PlacedRecord, AllocError>
         requires ready { spec.Stays self.old }
-        requires row { self.old.here.nodes.now ≡ node.now ∷ later.now }
+        requires row { self.old.nodes.now ≡ node.now ∷ later.now }
         ensures root { OnOk result (self.new.root.now ≡ self.old.root.now) }
-        ensures number { OnOk result (self.new.number ≡ self.old.number + 1) }
-        ensures ready { OnOk result (spec.Stays self.new) }
-        ensures placed { IfOk result (λ placed. spec.IsPlaced (at self.old.root.now self.old.number) placed) }
+        ensures stretch { OnOk result (self.new.stretch ≡ self.old.stretch) }
+        ensures moves { OnOk result (spec.Moves self.old self.new) }
+        ensures placed { IfOk result (λ placed. spec.IsRecord (at self.old.root.now self.old.number) placed) }
     {
-        let Row { start, parent, .. } = self.here;
-        let number = self.number;
+        let start = self.progress.offset();
         let end = start.saturating_add(node.len());
-        let behind = Row {
-            nodes: later,
-            start: end,
-            parent,
-        };
-        if node.children().is_empty() {
-            self.pass(node, behind);
-        } else {
-            self.enter(node, behind)?;
-        }
-        Ok(PlacedNode {
+        let next = tag_next(node, later, &self.progress)?;
+        let made = record(&PlacedNode {
             node,
             start,
             end,
-            number,
-            parent,
+            number: self.number,
+            parent: self.parent,
+            tag: next.tag,
+        });
+        if is_childless(node) {
+            self.pass(node, later, end, next.name);
+        } else {
+            self.enter(node, later)?;
+        }
+        Ok(PlacedRecord {
+            start,
+            end,
+            node: made,
         })
     }
 
-    /// Goes past a node without children to what is left of its row.
+    /// Goes past the next node, which has no children, and ends there, and whose tag is known if it is a name.
     #[inline(always)]
-    fn pass(&mut self, node: &'t SyntaxNode, behind: Row<'t>)
+    fn pass(&mut self, node: &'t SyntaxNode, later: &'t [SyntaxNode], end: usize, name: Option<Tag>)
         requires ready { spec.Stays self.old }
-        requires row { spec.IsBehind self.old node.now behind }
+        requires row { self.old.nodes.now ≡ node.now ∷ later.now }
         requires childless { is_childless node.now.kids ≡ true }
+        requires named { name ≡ (if is_name node.now.head.kind then walk.name (walk.joined self.old.progress) node.now (forest later.now) else None) }
+        requires ends { end ≡ walk.end (walk.joined self.old.progress) node.now }
         ensures root { self.new.root.now ≡ self.old.root.now }
-        ensures number { self.new.number ≡ self.old.number + 1 }
-        ensures ready { spec.Stays self.new }
+        ensures stretch { self.new.stretch ≡ self.old.stretch }
+        ensures moves { spec.Moves self.old self.new }
     {
-        let _ = node;
-        self.here = behind;
+        self.progress.pass_to(node, later, end, name);
+        self.nodes = later;
         self.number += 1;
     }
 
-    /// Goes to the first child of a node, with what is left of the node's row to come back to.
+    /// Goes to the first child of the next node that has to be visited.
     #[inline(always)]
-    fn enter(&mut self, node: &'t SyntaxNode, behind: Row<'t>) -> Result<(), AllocError>
+    fn enter(&mut self, node: &'t SyntaxNode, later: &'t [SyntaxNode]) -> Result<(), AllocError>
         requires ready { spec.Stays self.old }
-        requires row { spec.IsBehind self.old node.now behind }
+        requires row { self.old.nodes.now ≡ node.now ∷ later.now }
+        requires inner { is_childless node.now.kids ≡ false }
         ensures root { OnOk result (self.new.root.now ≡ self.old.root.now) }
+        ensures stretch { OnOk result (self.new.stretch ≡ self.old.stretch) }
+        ensures moves { OnOk result (spec.Moves self.old self.new) }
+    {
+        self.go_below(node, later)?;
+        if self.progress.offset() >= self.stretch.start {
+            return Ok(());
+        }
+        self.seek();
+        Ok(())
+    }
+
+    /// Goes to the first child of the next node.
+    #[inline(always)]
+    fn go_below(&mut self, node: &'t SyntaxNode, later: &'t [SyntaxNode]) -> Result<(), AllocError>
+        requires ready { spec.Stays self.old }
+        requires row { self.old.nodes.now ≡ node.now ∷ later.now }
+        requires inner { is_childless node.now.kids ≡ false }
+        ensures root { OnOk result (self.new.root.now ≡ self.old.root.now) }
+        ensures stretch { OnOk result (self.new.stretch ≡ self.old.stretch) }
         ensures number { OnOk result (self.new.number ≡ self.old.number + 1) }
         ensures ready { OnOk result (spec.Stays self.new) }
     {
-        let number = self.number;
-        let start = self.here.start.saturating_add(node.leaf_text().len());
-        self.above.push(behind)?;
-        self.here = Row {
-            nodes: node.children(),
-            start,
-            parent: number,
-        };
-        self.number = number + 1;
+        let text = node.leaf_text();
+        self.progress.enter(node, later, text.len(), None)?;
+        self.parents.push(self.parent)?;
+        self.parent = narrow(self.number);
+        self.number += 1;
+        self.nodes = node.children();
         Ok(())
     }
+
+    /// Goes past nodes of the row that end before the stretch: up to the last place near it where tags depend on no
+    /// more than the leaf before, or if there is none near it, to the last one before that.
+    #[inline(never)]
+    fn seek(&mut self)
+        requires { spec.Stays self.old }
+        ensures root { self.new.root.now ≡ self.old.root.now }
+        ensures stretch { self.new.stretch ≡ self.old.stretch }
+        ensures ready { spec.Stays self.new }
+        ensures passes { spec.Passes self.old self.new }
+    {
+        let near = self.stretch.start.saturating_sub(NEAR);
+        let number = self.number;
+        self.seek_from(near);
+        if self.number > number || self.progress.offset() >= near {
+            return;
+        }
+        self.seek_from(0);
+    }
+
+    /// Goes past nodes of the row that end before the stretch, up to the last place, from that byte on, where tags
+    /// depend on no more than the leaf before.
+    fn seek_from(&mut self, near: usize)
+        requires { spec.Stays self.old }
+        ensures root { self.new.root.now ≡ self.old.root.now }
+        ensures stretch { self.new.stretch ≡ self.old.stretch }
+        ensures ready { spec.Stays self.new }
+        ensures passes { spec.Passes self.old self.new }
+    {
+        let mut rest = self.nodes;
+        let mut start = self.progress.offset();
+        let mut number = self.number;
+        'nodes: while let Some((node, later)) = rest.split_first() {
+            let end = start.saturating_add(node.len());
+            if end >= self.stretch.start {
+                return;
+            }
+            number += node_count(node);
+            if end >= near {
+                self.settle(node, later, end, number);
+            }
+            rest = later;
+            start = end;
+        }
+    }
+
+    /// Goes on after a node of the row, which ends there, where the next one has that number, if the last leaf is
+    /// neither a name nor a dot.
+    #[inline(always)]
+    fn settle(&mut self, node: &SyntaxNode, later: &'t [SyntaxNode], end: usize, number: usize)
+        requires { spec.IsBehind self.old node.now later.now end number }
+        ensures root { self.new.root.now ≡ self.old.root.now }
+        ensures stretch { self.new.stretch ≡ self.old.stretch }
+        ensures sought { spec.IsSought self.new later.now end number }
+        ensures passes { spec.Passes self.old self.new }
+    {
+        let Some(before) = settled_end(node) else {
+            return;
+        };
+        self.progress.resume(end, before);
+        self.nodes = later;
+        self.number = number;
+    }
+}
+
+/// The kind of the last leaf of a node, if nothing comes after it, and it is neither a name nor a dot.
+fn settled_end(node: &SyntaxNode) -> Option<SyntaxKind>
+    ensures { IfSome result (λ kind. spec.EndsIn node.now kind) }
+{
+    let kind = last_of(node).kind();
+    if is_settled(kind) { Some(kind) } else { None }
+}
+
+/// Whether a leaf of the kind counts as one, and is neither a name nor a dot.
+fn is_settled(kind: SyntaxKind) -> bool
+    ensures { result ≡ spec.is_settled kind }
+{
+    !is_skipped(kind) && !is_name(kind) && !is_dot(kind)
+}
+
+/// The last node in preorder among a node and those below it.
+fn last_of(node: &SyntaxNode) -> &SyntaxNode
+    ensures { spec.EndsWith node.now result.now }
+{
+    let mut last = node;
+    'levels: while let Some((kid, _)) = last.children().split_last() {
+        last = kid;
+    }
+    last
 }

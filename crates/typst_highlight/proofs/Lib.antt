@@ -5,6 +5,8 @@
 --   tag_here                     Places: the leaf whose tag a hash has
 --   give_tree                    Returning: what is left of the walk; Levels: a name's next leaf, and where nothing is looked for; Outlets: what it gives the nodes to
 --   node_spans                   SpanLists: the walk lists the tags of the tree's nodes
+--   Progress::resume             Nears: what tags after a leaf don't depend on
+--   tag_next                     NameRules; Levels
 --   tag_stretches                Outlets: the walk adds the stretches of the tree, which follow one on another
 --   highlight_html: shown        Reading: a reader of the HTML; Escapes: escaped texts; Pages: what is put on a page
 pub mod Bounds
@@ -14,6 +16,8 @@ pub mod Contexts
 pub mod Escapes
 pub mod Leaves
 pub mod Levels
+pub mod NameRules
+pub mod Nears
 pub mod Outlets
 pub mod Pages
 pub mod Places

@@ -1,6 +1,6 @@
 //! How far a walk through a tree has come.
 
-ghost use Rattle.std.specs.Prelude.{◌≡◌, [], ◌∷◌, IfOk, MatchOption, None, OnOk, true, if◌then◌else◌, length, reverse};
+ghost use Rattle.std.specs.Prelude.{◌≡◌, [], ◌∷◌, IfOk, MatchOption, None, OnOk, Some, true, if◌then◌else◌, length, reverse};
 ghost use Rattle.typst_tree.specs.Tree.{forest};
 ghost use Rattle.typst_tree.specs.Walks.{is_childless};
 ghost use Rattle.typst_highlight.specs.Rules.{is_name};
@@ -79,6 +79,14 @@ impl<'t> Progress<'t> {
             },
             waiting: Vec::new(alloc),
         }
+    }
+
+    /// Where the next node begins, in bytes.
+    #[inline(always)]
+    pub fn offset(&self) -> usize
+        ensures { result ≡ (walk.joined self.now).offset }
+    {
+        self.offset
     }
 
     /// The first leaf after the next node's parent.
@@ -210,5 +218,46 @@ impl<'t> Progress<'t> {
             };
         }
         self.offset = self.offset.saturating_add(len);
+    }
+
+    /// Goes past a node without children, which ends there, and whose tag is known if it is a name.
+    #[inline(always)]
+    pub fn pass_to(
+        &mut self,
+        node: &SyntaxNode,
+        later: &[SyntaxNode],
+        end: usize,
+        name: Option<Tag>,
+    )
+        requires childless { is_childless node.now.kids ≡ true }
+        requires named { name ≡ (if is_name node.now.head.kind then walk.name (walk.joined self.old) node.now (forest later.now) else None) }
+        requires ends { end ≡ walk.end (walk.joined self.old) node.now }
+        ensures joined { walk.joined self.new ≡ walk.past (walk.joined self.old) node.now (walk.passed (walk.joined self.old) node.now (forest later.now)) }
+        ensures waiting { walk.waiting self.new ≡ walk.waiting self.old }
+    {
+        let kind = node.kind();
+        if !is_skipped(kind) {
+            self.trail = Trail {
+                before: Some(kind),
+                name,
+                earlier: self.trail.name,
+            };
+        }
+        self.offset = end;
+    }
+
+    /// Goes on with a later node of the same row, which begins there, after a leaf of a kind that is neither a name
+    /// nor a dot. No tag from there on depends on what is before that leaf.
+    #[inline(always)]
+    pub fn resume(&mut self, offset: usize, before: SyntaxKind)
+        ensures joined { walk.joined self.new ≡ record (walk.joined self.old) { offset = offset; trail = record { before = Some before; name = None; earlier = None } } }
+        ensures waiting { walk.waiting self.new ≡ walk.waiting self.old }
+    {
+        self.offset = offset;
+        self.trail = Trail {
+            before: Some(before),
+            name: None,
+            earlier: None,
+        };
     }
 }

@@ -3,9 +3,9 @@ use Rattle.typst_tree.specs.Tree.{nodes}
 use Rattle.typst_tree.specs.Linked.{linked}
 use Rattle.typst_tree.specs.Steps.{At, at, node_of, offset_of, parent}
 use Rattle.typst_flat.specs.Records.{meets, number_if}
-use Rattle.typst_flat.specs.Walk.{Takes, rows}
+use Rattle.typst_flat.specs.Walk.{Takes, ahead_from, rows}
 use Rattle.typst_flat.specs.declared.records.Stretch.{Stretch}
-use Rattle.typst_flat.proofs.Steps.{ahead_from, beyond, came, parent_is, ready_along, size_told, skipped, some_nodes, within}
+use Rattle.typst_flat.proofs.Steps.{beyond, came, parent_is, ready_along, size_told, skipped, some_nodes, within}
 use Rattle.typst_flat.proofs.walk.Walk.next.Goals as goal
 
 pub returns-then-meets-clause-comes : goal.returns-then-meets-clause-comes

@@ -1,0 +1,13 @@
+use Rattle.std.proofs.Common.{arith}
+use Rattle.typst_flat.proofs.Placing.{is_within, moves_by, moves_one}
+use Rattle.typst_flat.proofs.nodes.StretchNodes.enter.Goals as goal
+
+pub returns-then-offset-self-clause-moves : goal.returns-then-offset-self-clause-moves
+returns-then-offset-self-clause-moves c =
+    let v = c.args.self.now in
+    moves_one v _ (omega (arith, is_within v c.args.node.now c.args.later.now c.requires.ready c.requires.row)) c.in_ok-go_below.ensures.number c.in_ok-go_below.ensures.ready
+
+pub returns-clause-moves : goal.returns-clause-moves
+returns-clause-moves c =
+    let v = c.args.self.now in
+    moves_by v c.go_below.new.self _ (omega (arith, is_within v c.args.node.now c.args.later.now c.requires.ready c.requires.row)) c.in_ok-go_below.ensures.root c.in_ok-go_below.ensures.stretch c.in_ok-go_below.ensures.number c.seek.ensures.passes c.seek.ensures.ready

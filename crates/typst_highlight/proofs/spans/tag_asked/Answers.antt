@@ -1,0 +1,12 @@
+use Rattle.std.proofs.Common.{◌∙◌}
+use Rattle.typst_tree.specs.Tree.{forest}
+use Rattle.typst_highlight.specs.Rules.{rule_of}
+use Rattle.typst_highlight.specs.Walk.{joined, next_kind, tag_under}
+use Rattle.typst_highlight.proofs.Levels.{under_tag}
+use Rattle.typst_highlight.proofs.spans.tag_asked.Goals as goal
+
+pub returns-in-Some : goal.returns-in-Some
+returns-in-Some c =
+    let later = forest c.args.later.now in
+    let told = c.in-Some.ensures ∙ (λ i. tag_under (rule_of (c.kind.ensures i)) (c.parent.ensures i) (next_kind later)) in
+    under_tag (rule_of c.args.node.now.head.kind) (joined c.args.progress.now) c.args.node.now later _ c.in-Some.tag told
