@@ -2,6 +2,7 @@
 #![tactic(auto)]
 
 mod context;
+mod edges;
 mod entities;
 mod highlighter;
 mod html;
@@ -15,6 +16,7 @@ mod stretches;
 mod tags;
 mod walk;
 
+pub use edges::is_edge;
 pub use highlighter::highlight;
 pub use html::highlight_html;
 pub use listed::node_spans;
