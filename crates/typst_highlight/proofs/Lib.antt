@@ -9,6 +9,9 @@
 --   tag_next                     NameRules; Levels
 --   tag_stretches                Outlets: the walk adds the stretches of the tree, which follow one on another
 --   highlight_html: shown        Reading: a reader of the HTML; Escapes: escaped texts; Pages: what is put on a page
+-- For crates above, what stands on either side of an edge: BeforeEdges, MovedRows, BareRows.
+pub mod BareRows
+pub mod BeforeEdges
 pub mod Bounds
 pub mod Cases
 pub mod Chains
@@ -16,6 +19,7 @@ pub mod Contexts
 pub mod Escapes
 pub mod Leaves
 pub mod Levels
+pub mod MovedRows
 pub mod NameRules
 pub mod Nears
 pub mod Outlets

@@ -1,6 +1,8 @@
+pub mod Edges
 pub mod Html
 pub mod Names
 pub mod Nodes
+pub mod RootEdits
 pub mod Rules
 pub mod Spans
 pub mod Stretches

@@ -4,6 +4,7 @@
 #![tactic(auto)]
 
 mod context;
+mod edges;
 mod entities;
 mod highlighter;
 mod html;
@@ -18,6 +19,7 @@ mod tags;
 mod walk;
 
 pub use context::is_childless;
+pub use edges::is_edge;
 pub use highlighter::highlight;
 pub use html::highlight_html;
 pub use listed::node_spans;

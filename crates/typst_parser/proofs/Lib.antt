@@ -31,6 +31,7 @@ mod Serving
 mod RunSteps
 mod ReadSteps
 mod Turns
+pub mod RootEdits
 -- What the crates above name of those below.
 pub use Rattle.typst_tree.proofs.Numbering
 pub use Rattle.typst_highlight.proofs.Reading

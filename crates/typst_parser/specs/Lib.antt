@@ -28,6 +28,7 @@ pub use Rattle.typst_tree.specs.Preorder
 pub use Rattle.typst_tree.specs.Tree
 pub use Rattle.typst_tree.specs.declared.preorder.Visit
 pub use Rattle.typst_highlight.specs.Html
+pub use Rattle.typst_highlight.specs.RootEdits
 pub use Rattle.typst_highlight.specs.Stretches
 pub use Rattle.typst_highlight.specs.declared.stretches.Tagged
 pub use Rattle.typst_highlight.specs.declared.tags.Tag

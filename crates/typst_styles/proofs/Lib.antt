@@ -6,3 +6,9 @@ pub mod TokenOrder
 pub mod TokenTurns
 pub mod TokensByNode
 pub mod TokensTouching
+pub mod TokenSeams
+pub mod TokensApart
+pub mod TokensByWalk
+pub mod WindowEdges
+pub mod WindowTokens
+pub mod RenewedTokens

@@ -51,14 +51,14 @@ token-begun range s a n h =
     let fails : touches range t ≡ false = grind (arith, nat_tests, h) in
     one-gone range (n == 0) t fails
 
-lines-ended : (range : Range ℕ) (s : Style) (a n : ℕ) (bs : List ℕ) → a + n + length bs ≤ range.start → touching range (lines s a n bs) ≡ []
+pub lines-ended : (range : Range ℕ) (s : Style) (a n : ℕ) (bs : List ℕ) → a + n + length bs ≤ range.start → touching range (lines s a n bs) ≡ []
 lines-ended range s a n [] h = token-ended range s a n (omega (arith, h))
 lines-ended range s a n (b ∷ bs) h =
     either-gone range (ends_line b) (token s a n ++ lines s (a + n + 1) 0 bs) (lines s a (n + 1) bs)
     (both-gone range (token s a n) (lines s (a + n + 1) 0 bs) (token-ended range s a n (omega (arith, h))) (lines-ended range s (a + n + 1) 0 bs (omega (arith, h))))
     (lines-ended range s a (n + 1) bs (omega (arith, h)))
 
-lines-begun : (range : Range ℕ) (s : Style) (a n : ℕ) (bs : List ℕ) → range.end ≤ a → touching range (lines s a n bs) ≡ []
+pub lines-begun : (range : Range ℕ) (s : Style) (a n : ℕ) (bs : List ℕ) → range.end ≤ a → touching range (lines s a n bs) ≡ []
 lines-begun range s a n [] h = token-begun range s a n h
 lines-begun range s a n (b ∷ bs) h =
     either-gone range (ends_line b) (token s a n ++ lines s (a + n + 1) 0 bs) (lines s a (n + 1) bs)

@@ -3,3 +3,5 @@ pub mod Styles
 pub mod Tokens
 pub mod Seeking
 pub mod DataEdits
+pub mod Windows
+pub mod Renewed

@@ -1,15 +1,20 @@
 //! Semantic tokens: which stretches of a text are shown how, line by line, and what changes from one list of
 //! their numbers to the next.
 //!
-//! [`semantic_tokens`] gives those of a tree that touch a range, [`edit_between`] the edit that makes one list of
-//! numbers of another. Positions are in bytes of the tree's text.
+//! [`semantic_tokens`] gives those of a tree that touch a range, [`renewed_tokens`] all after an edit, by those
+//! before it, and [`edit_between`] the edit that makes one list of numbers of another. Positions are in bytes of
+//! the tree's text.
 #![tactic(auto)]
 
 mod delta;
+mod renewed;
 mod seeking;
 mod styles;
 mod tokens;
+mod windows;
 
 pub use delta::{DataEdit, edit_between};
+pub use renewed::renewed_tokens;
 pub use styles::{Style, TokenKind};
 pub use tokens::{Token, semantic_tokens};
+pub use windows::{token_window, window_law};

@@ -1,0 +1,82 @@
+-- Where the edges of a row of nodes are, node by node.
+use Rattle.std.proofs.Common.{◌≡◌, ℕ, ◌+◌, ◌<◌, ◌≤◌, ◌⊎◌, true, List, [], ◌∷◌, ◌++◌, length, take, drop, get_or, ap, sym, subst, ◌∙◌, inl, inr, arith, add-one, drop-cons}
+use Rattle.std.proofs.lemmas.List.{take-append-drop, take_more}
+use Rattle.std.specs.declared.ops.Range.{Range}
+use Rattle.typst_tree.specs.Tree.{Forest, Tree, forest, text_of}
+use Rattle.typst_highlight.specs.Edges.{is_edge}
+use Rattle.typst_highlight.specs.RootEdits.{bytes_of}
+use Rattle.typst_styles.specs.Windows.{BeginsEdge, BeginsOne, EndsEdge, EndsOne, FollowsFeed, HasEdge, IsLineAfter, IsWindow, StartsBefore, StartsBehind, range_of}
+use Rattle.typst_styles.proofs.TokensApart.{list_length}
+use Rattle.typst_styles.proofs.WindowTokens.{bytes_append}
+
+-- the nodes are those before one, that one, and those after it
+in_parts : (ts : List Tree) (i : ℕ) (d : Tree) → i < length ts → ts ≡ take i ts ++ get_or ts i d ∷ drop (i + 1) ts
+in_parts ts i d l =
+    sym (take-append-drop i ts) ∙ ap (λ rest. take i ts ++ rest) (drop-cons ts i d l ∙ ap (λ n. get_or ts i d ∷ drop n ts) (sym (add-one i)))
+
+-- one node more
+pub bytes_more : (ts : List Tree) (i : ℕ) (d : Tree) → i < length ts → bytes_of (take (i + 1) ts) ≡ bytes_of (take i ts) + length (text_of (get_or ts i d))
+bytes_more ts i d l =
+    omega (arith, ap bytes_of (take_more ts i d l), bytes_append (take i ts) (get_or ts i d ∷ []), list_length (get_or ts i d) [])
+
+abbrev has_edge : (ts : List Tree) (i : ℕ) (d : Tree) → i < length ts → is_edge (get_or ts i d) ≡ true → 0 < length (text_of (get_or ts i d)) → HasEdge (forest ts)
+has_edge ts i d l e s = record { front = take i ts; edge = get_or ts i d; back = drop (i + 1) ts; whole = ap forest (in_parts ts i d l); parts = e; some = s }
+
+-- an edge ends before a byte
+pub begins_one : (ts : List Tree) (i : ℕ) (x : Tree) (limit at : ℕ) → i < length ts → x ≡ get_or ts i x → is_edge x ≡ true → 0 < length (text_of x) → bytes_of (take (i + 1) ts) < limit → at ≡ bytes_of (take i ts) → BeginsOne (forest ts) limit at
+begins_one ts i x limit at l is e s below here = record {
+  edge = has_edge ts i x l (sym (ap is_edge is) ∙ e) (subst (λ t. 0 < length (text_of t)) is s);
+  ends = omega (arith, bytes_more ts i x l, below);
+  here = here;
+}
+
+-- so does one that ends in some bytes before it; there is none in no bytes
+pub begins_before : (kids : Forest) (bytes limit at : ℕ) → (bytes < limit) ⊎ (bytes ≡ 0) → BeginsEdge kids (bytes + 1) at → BeginsEdge kids limit at
+begins_before kids bytes limit at below (inl none) = inl none
+begins_before kids bytes limit at (inl less) (inr one) =
+    let ends = one.ends in
+    inr (record { edge = one.edge; ends = omega (arith, ends, less); here = one.here })
+begins_before kids bytes limit at (inr none) (inr one) =
+    let ends = one.ends in
+    let some = one.edge.some in
+    absurd (omega (arith, ends, some, none))
+
+-- a node is an edge behind a byte
+pub ends_one : (ts : List Tree) (i : ℕ) (x : Tree) (limit end : ℕ) → i < length ts → x ≡ get_or ts i x → is_edge x ≡ true → 0 < length (text_of x) → limit < bytes_of (take i ts) → end ≡ bytes_of (take i ts) + length (text_of x) → EndsOne (forest ts) limit end
+ends_one ts i x limit end l is e s begins here = record {
+  edge = has_edge ts i x l (sym (ap is_edge is) ∙ e) (subst (λ t. 0 < length (text_of t)) is s);
+  begins = begins;
+  here = here ∙ ap (λ t. bytes_of (take i ts) + length (text_of t)) is;
+}
+
+-- one node more, by the node
+pub bytes_with : (ts : List Tree) (i : ℕ) (x : Tree) → i < length ts → x ≡ get_or ts i x → bytes_of (take (i + 1) ts) ≡ bytes_of (take i ts) + length (text_of x)
+bytes_with ts i x l is = bytes_more ts i x l ∙ ap (λ t. bytes_of (take i ts) + length (text_of t)) (sym is)
+
+-- ---- the window
+
+starts : (root : Tree) (text : List ℕ) (read : Range ℕ) (first start : ℕ) → BeginsEdge root.kids read.start first → start ≤ first → ((start ≡ 0) ⊎ FollowsFeed text start) → ((start ≡ 0) ⊎ StartsBefore root text read start)
+starts root text read first start begins low (inl none) = inl none
+starts root text read first start (inl none) low (inr line) = inl (omega (arith, low, none))
+starts root text read first start (inr one) low (inr line) =
+    let here = one.here in
+    inr (record { edge = one.edge; ends = one.ends; within = omega (arith, low, here); line = line })
+
+ends : (root : Tree) (text : List ℕ) (read : Range ℕ) (last end : ℕ) → EndsEdge root.kids read.end (length text) last → IsLineAfter text last end → ((end ≡ length text) ⊎ StartsBehind root text read end)
+ends root text read last end edge (inl whole) = inl whole
+ends root text read last end (inl whole) (inr line) =
+    let low = line.0 in
+    let within = line.1.0 in
+    inl (omega (arith, whole, low, within))
+ends root text read last end (inr one) (inr line) =
+    let here = one.here in
+    let low = line.0 in
+    inr (record { edge = one.edge; begins = one.begins; behind = omega (arith, here, low); within = line.1.0; line = line.1.1 })
+
+-- from the start of an edge to the end of another one, and from there to lines
+pub window_is : (root : Tree) (text : List ℕ) (read : Range ℕ) (first last start end : ℕ) → BeginsEdge root.kids read.start first → EndsEdge root.kids read.end (length text) last → start ≤ first → ((start ≡ 0) ⊎ FollowsFeed text start) → IsLineAfter text last end
+    → IsWindow root text read (range_of start end)
+window_is root text read first last start end begins edge low line after = record {
+  start = starts root text read first start begins low line;
+  end = ends root text read last end edge after;
+}
