@@ -5,22 +5,17 @@ use Rattle.typst_lines.specs.Place.{Place, moved}
 use Rattle.typst_tree.specs.Tree.{Tree, forest}
 use Rattle.typst_lines.specs.Classes.{CharClasses}
 use Rattle.typst_language.specs.Calls.Call.{CodeExpr}
-use Rattle.typst_code.specs.declared.heads.CodeTail.{CodeTail}
-use Rattle.typst_code.specs.declared.heads.CodeTail.TheVariants as tail
-use Rattle.typst_code.specs.Arguments.{arguments}
 use Rattle.typst_language.specs.Depth.{anywhere, skip_one, too_deep, deeper}
 use Rattle.typst_language.specs.Knot.{meaning_of}
 use Rattle.typst_language.specs.declared.reading.AtNewline.TheVariants.{Continue}
 use Rattle.typst_language.specs.Syntax.{◌>>◌}
 use Rattle.typst_language.specs.Syntax.Parser.{gives, repeat}
-use Rattle.typst_language.specs.Expected.{expect_identifier}
-use Rattle.typst_code.specs.Expressions.{binary_expr, call_tail, code_expr, code_primary, code_tail, code_tail_turn, direct_field, not_in, tail_by}
+use Rattle.typst_code.specs.Expressions.{code_expr, code_primary, code_tail, code_tail_turn}
 use Rattle.typst_language.specs.Hand.{Hand, as_at_hand}
 use Rattle.typst_language.specs.Point.{Point, pending}
 use Rattle.typst_language.specs.Shape.{Shape, shaped}
 use Rattle.typst_language.specs.Shape.Shape.{fails}
-use Rattle.typst_code.specs.Statements.{field}
-use Rattle.typst_language.specs.Steps.{eat, expected, grow, node, within}
+use Rattle.typst_language.specs.Steps.{grow, node, within}
 use Rattle.typst_language.specs.Meaning.{Outcome, Level, plain, deeper_by_one, inside, reshaped, joined, bound, growths, growing, hand_of, hand_asks_of, asked, run}
 use Rattle.typst_language.proofs.Ends.{hand-again}
 use Rattle.typst_language.proofs.Knot.{sane-at}
@@ -28,10 +23,10 @@ use Rattle.typst_language.proofs.Places.{no-end}
 use Rattle.typst_grammar.specs.Grammar.{rules, level_at}
 use Rattle.typst_grammar.specs.Binding.{any_errors}
 use Rattle.typst_grammar.proofs.Fine.{All, Fines, is_ordinary}
-use Rattle.typst_grammar.proofs.FineRuns.{if_by, Gives, gives-all, gives-run, PlainBy, Still, still-hand}
+use Rattle.typst_grammar.proofs.FineRuns.{if_by, Gives, gives-run, PlainBy, Still, still-hand}
 use Rattle.typst_grammar.proofs.Heads.{LastIs, standing-none}
 use Rattle.typst_grammar.proofs.Proper.{ordinary, proper-deep}
-use Rattle.typst_grammar.proofs.PlainCode.{proper-primary, proper-tail-turn}
+use Rattle.typst_grammar.proofs.PlainCode.{gives-tail, proper-primary, proper-tail-turn}
 use Rattle.typst_grammar.proofs.Grown.{errors-after, kind_at, Ended, Grown, Operand, operand-growths}
 use Rattle.typst_grammar.proofs.BindingLevels.{CallsBind, DeeperOperands, level-binds}
 use Rattle.typst_grammar.proofs.Lost.{Holds, Lost, operand-lost}
@@ -43,40 +38,14 @@ use Rattle.typst_grammar.proofs.Tails.{turn-turned}
 abbrev Says : Option Shape × Unit {0} → Type 0
 Says v = Holds v.0
 
-says-binary : (op : _) → Gives Says (binary_expr op)
-unfolding binary_expr
-says-binary op = gives-all _ (λ _. gives-all _ (λ _. tt) (deeper _ _)) eat
-
-says-tail : (t : CodeTail) → Gives Says (tail_by t)
-unfolding call_tail field direct_field not_in
-says-tail tail.Call = gives-all _ (λ _. tt) arguments
-says-tail tail.Field = gives-all _ (λ _. gives-all _ (λ _. tt) expect_identifier) eat
-says-tail tail.DirectField = λ _. (gives-all _ (λ _. gives-all _ (λ _. tt) expect_identifier) eat, tt)
-says-tail tail.NotIn = gives-all _ (λ _ _. (says-binary _, gives-all _ (λ _. tt) (expected _))) eat
-says-tail (tail.Binary op) = says-binary op
-says-tail tail.Nothing = tt
-
 says-turn : (least : ℕ) (x : Unit {0}) → Gives Says (code_tail_turn false least x)
 unfolding code_tail_turn
-says-turn least x = λ a. says-tail (code_tail false least a.kind a.has_trivia)
+says-turn least x = λ a. gives-tail Says tt tt tt tt (code_tail false least a.kind a.has_trivia)
 
 -- ---- what an expression makes, binary nodes too
 
 abbrev Orders : Option Shape × Unit {0} → Type 0
 Orders v = if_by is_ordinary v.0 ≡ true
-
-orders-binary : (op : _) → Gives Orders (binary_expr op)
-unfolding binary_expr
-orders-binary op = gives-all _ (λ _. gives-all _ (λ _. refl) (deeper _ _)) eat
-
-orders-tail : (t : CodeTail) → Gives Orders (tail_by t)
-unfolding call_tail field direct_field not_in
-orders-tail tail.Call = gives-all _ (λ _. refl) arguments
-orders-tail tail.Field = gives-all _ (λ _. gives-all _ (λ _. refl) expect_identifier) eat
-orders-tail tail.DirectField = λ _. (gives-all _ (λ _. gives-all _ (λ _. refl) expect_identifier) eat, refl)
-orders-tail tail.NotIn = gives-all _ (λ _ _. (orders-binary _, gives-all _ (λ _. refl) (expected _))) eat
-orders-tail (tail.Binary op) = orders-binary op
-orders-tail tail.Nothing = refl
 
 turn-ordinary : (least : ℕ) (x : Unit {0}) → PlainBy is_ordinary (code_tail_turn false least x)
 turn-ordinary least x = ordinary (code_tail_turn false least x) (proper-tail-turn _ false least x)
@@ -87,7 +56,7 @@ ordinary-expr least = (
   refl,
   λ _. (
     ordinary (code_primary false) (proper-primary _ false),
-    λ x. (λ a. orders-tail (code_tail false least a.kind a.has_trivia), turn-ordinary least x),
+    λ x. (λ a. gives-tail Orders refl refl refl refl (code_tail false least a.kind a.has_trivia), turn-ordinary least x),
   ),
 )
 

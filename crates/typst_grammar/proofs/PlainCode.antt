@@ -1,5 +1,5 @@
 -- The facts of code: each part is proper, though an operator makes a binary node, and what a token begins takes it first.
-use Rattle.std.proofs.Common.{◌≡◌, ℕ, Bool, true, false, ◌&&◌, if◌then◌else◌, List, [], ◌++◌, Option, Some, None, refl}
+use Rattle.std.proofs.Common.{◌≡◌, ℕ, Bool, true, false, ◌&&◌, if◌then◌else◌, List, ◌++◌, Option, Some, None, refl}
 use Rattle.std.specs.Prelude.{codes, not}
 use Rattle.typst_kinds.specs.Kinds.{same}
 use Rattle.typst_kinds.specs.declared.kind.SyntaxKind.{SyntaxKind}
@@ -23,21 +23,21 @@ use Rattle.typst_code.specs.Imports.{path_turn, import_name, import_path, renami
 use Rattle.typst_code.specs.Parens.{as_group, readings, sign, parens}
 use Rattle.typst_code.specs.Sequences.{missing_break, statement_end, statement, code_turn, code_exprs, code, code_reading, ends_code, code_block}
 use Rattle.typst_code.specs.Statements.{any_block, field, target_turn, target, set_rule, show_shape, show_rule, contextual, other_branch, conditional_turn, conditional, while_loop, second_pattern, loop_names, for_loop, module_include, jump, func_return}
+use Rattle.typst_language.specs.Shape.{Shape, becomes}
 use Rattle.typst_language.specs.Shape.NodeChange.{stays, turns_wrong}
-use Rattle.typst_language.specs.Shape.Making.{surprise}
 use Rattle.typst_language.specs.Shape.Shape.{keeps, holds}
-use Rattle.typst_language.specs.Steps.{within, eat, eat_if, close_if, eat_making, node, nest, read_block}
+use Rattle.typst_language.specs.Steps.{within, eat, eat_if, close_if, eat_making, expected, node, nest, read_block}
 use Rattle.typst_language.specs.Syntax.{Parser, ◌>>=◌}
 use Rattle.typst_language.specs.Syntax.Parser.{scoped}
 use Rattle.typst_language.proofs.Within.{on_both}
 use Rattle.std.proofs.lemmas.Bool.{and_parts}
 use Rattle.typst_kinds.specs.declared.operator.BinOp.{BinOp}
-use Rattle.typst_language.specs.Depth.{is_end}
+use Rattle.typst_language.specs.Depth.{deeper, is_end}
 use Rattle.typst_kinds.specs.Sets.{code_expr as code_kinds}
 use Rattle.typst_language.specs.declared.calls.Block.{Block}
 use Rattle.typst_language.specs.declared.calls.Block.TheVariants as block
-use Rattle.typst_code.specs.Bindings.{let_binding}
-use Rattle.typst_code.specs.Closures.{closure_shape, named, placeholder}
+use Rattle.typst_code.specs.Bindings.{bound_name as bound_function, bound_part, binding, let_binding}
+use Rattle.typst_code.specs.Closures.{closure_shape, name_shape, underscore_shape, named, placeholder}
 use Rattle.typst_code.specs.Equations.{between_dollars, equation}
 use Rattle.typst_code.specs.Markup.{content_block}
 use Rattle.typst_code.specs.Params.{params}
@@ -47,18 +47,10 @@ use Rattle.typst_grammar.specs.Grammar.{block_production}
 use Rattle.typst_grammar.proofs.EatsFirst.{EatsFirst, every-among}
 use Rattle.typst_grammar.proofs.Fine.{tame, tame_kind}
 use Rattle.typst_grammar.proofs.FineRuns.{tame_if, Gives, gives-all}
-use Rattle.typst_grammar.proofs.Proper.{Scope, Proper, bracket-there, brace-there, proper-making, proper-eat, proper-if, proper-close, proper-unexpected, proper-expected, proper-expect, proper-within, proper-shaped, proper-node, proper-grow, proper-nest, proper-read, proper-seeing, proper-expects, proper-identifier, tame-closed, tame-both, proper-deep, proper-deeper}
-use Rattle.typst_grammar.proofs.PlainParts.{proper-equation, proper-separator, proper-destructuring, proper-params, tame-after, proper-named, proper-placeholder, proper-let}
+use Rattle.typst_grammar.proofs.Proper.{proper_steps, Scope, Proper, bracket-there, brace-there, proper-eat, proper-if, proper-close, proper-expected, proper-within, proper-shaped, proper-node, proper-grow, proper-read, proper-identifier, tame-closed, tame-both}
+use Rattle.typst_grammar.proofs.PlainParts.{proper-equation, proper-separator, proper-destructuring, proper-params, tame-after, proper-right, tame-bound-shape, proper-equals}
 
 -- ---- groups
-
-proper-spread : (c : Scope) → Proper c spread
-unfolding spread
-proper-spread c = proper-node _ _ _ (λ _. refl) (proper-eat _, λ _. proper-deeper _ _ _)
-
-proper-pair : (c : Scope) → Proper c pair
-unfolding pair
-proper-pair c = (proper-seeing _ _ (proper-deeper _ _ _), λ _. (refl, λ _. (((proper-eat _, λ _. proper-deeper _ _ _), λ _. tt), tt)))
 
 tame-seen : (names : List (List ℕ)) (name : List ℕ) (k : SyntaxKind) → tame_kind k ≡ true → tame (holds (when_seen names name) k) ≡ true
 tame-seen names name k e = on_both (λ change. tame (holds change k) ≡ true) (has_name names name) (turns_wrong (codes "duplicate key: " ++ name)) stays e e
@@ -77,8 +69,8 @@ tame-misfit (Some false) true = refl
 tame-misfit (Some false) false = refl
 
 proper-item : (c : Scope) (items : ParenItems) → Proper c (item items)
-unfolding item
-proper-item c items = (refl, λ _. ((proper-spread _, λ _. tt), (proper-node _ _ _ (λ _. tame-misfit _ _) (proper-node _ _ _ (tame-item _) (proper-pair _)), λ _. tt)))
+unfolding item pair spread
+proper-item c items = search (proper_steps, tame-misfit, tame-item) depth 40 fits 4000
 
 tame-list : (pairs : Option Bool) → tame_kind (list_kind pairs) ≡ true
 tame-list None = refl
@@ -91,8 +83,7 @@ tame-group items closed =
 
 proper-rest : (c : Scope) → Proper c group_rest
 unfolding group_rest group_turn
-proper-rest c =
-    (proper-if _ _, λ _. (λ items. (refl, λ _. (tt, ((proper-item _ items, λ _. (proper-separator _, λ _. tt)), (proper-unexpected _ [], λ _. tt)))), λ _. (proper-if _ _, λ _. tt)))
+proper-rest c = search (proper_steps, proper-separator, proper-item) depth 40 fits 4000
 
 gives-rest : Gives (λ x. (h : AtHand) → tame (group_shape x) ≡ true) group_rest
 unfolding group_rest
@@ -106,17 +97,11 @@ proper-group c = (proper-shaped _ _ _ (gives-all _ (λ _. gives-rest) eat) ((pro
 
 pub proper-readings : (c : Scope) → Proper c readings
 unfolding readings as_group
-proper-readings c =
-    (refl, λ _. ((((proper-group _, λ _. (refl, λ _. tt)), (proper-params _, λ _. tt)), (proper-destructuring _ _ _, λ _. tt)), (proper-group _, λ _. (refl, λ _. tt))))
+proper-readings c = search (proper_steps, proper-group, proper-params, proper-destructuring) depth 40 fits 4000
 
 proper-sign : (c : Scope) (b : AfterName) → Proper c (sign b)
-proper-sign c after.Arrow = proper-expects _ _ _
-proper-sign c after.Eq = proper-expects _ _ _
 proper-sign c after.Nothing = tt
-
-proper-parens : (c : Scope) → Proper c parens
-unfolding parens
-proper-parens c = (proper-node _ _ _ (tame-after closure_shape refl refl refl) (proper-readings _, λ b. (proper-sign _ b, λ came. ((proper-deeper _ _ _, tt), λ _. tt))), λ _. tt)
+proper-sign c _ = search proper_steps
 
 -- ---- arguments
 
@@ -126,18 +111,13 @@ tame-argument names (Some (key.Name name)) = on_both (λ change. tame (holds cha
 tame-argument names (Some (key.Str text)) = refl
 tame-argument names (Some key.Other) = refl
 
+proper-argument : (c : Scope) (names : List (List ℕ)) → Proper c (argument names)
+unfolding argument pair spread
+proper-argument c names = search (proper_steps, tame-argument) depth 40 fits 4000
+
 proper-argument-turn : (c : Scope) (names : List (List ℕ)) → Proper c (argument_turn names)
-unfolding argument_turn argument
-proper-argument-turn c names = (
-  refl,
-  λ _. (
-    tt,
-    (
-      ((refl, λ _. ((proper-spread _, λ _. tt), (proper-node _ _ _ (tame-argument names) (proper-pair _), λ _. tt))), λ _. (proper-separator _, λ _. tt)),
-      (proper-unexpected _ [], λ _. tt),
-    ),
-  ),
-)
+unfolding argument_turn
+proper-argument-turn c names = search (proper_steps, proper-separator, proper-argument) depth 40 fits 4000
 
 pub proper-arguments : (c : Scope) → Proper c arguments
 unfolding arguments begin_arguments missing_arguments listed_arguments argument_list content_turn
@@ -154,26 +134,13 @@ proper-arguments c = (
 
 -- ---- imports
 
-proper-path : (c : Scope) → Proper c import_path
-unfolding import_path import_name path_turn
-proper-path c = proper-node _ _ _ (λ _. refl) ((refl, λ _. (proper-eat _, proper-unexpected _ [])), λ _. λ x. (proper-if _ _, λ _. ((proper-identifier _, tt), λ _. tt)))
-
-proper-renaming : (c : Scope) → Proper c renaming
-unfolding renaming
-proper-renaming c = (proper-if _ _, λ _. ((proper-identifier _, tt), λ _. tt))
-
 proper-items : (c : Scope) → Proper c import_items
-unfolding import_items import_turn
-proper-items c = proper-node _ _ _ (λ _. refl) (λ x. (refl, λ _. (tt, (proper-node _ _ _ (tame-both import_shape refl refl) (proper-path _, λ _. proper-renaming _), λ _. (proper-separator _, λ _. tt)))))
+unfolding import_items import_turn import_path import_name path_turn renaming
+proper-items c = search (proper_steps, proper-separator, tame-both import_shape refl refl) depth 40 fits 4000
 
 proper-imported : (c : Scope) → Proper c imported
 unfolding imported import_parens
-proper-imported c =
-    (refl, λ _. ((proper-node _ _ _ (tame-both parens_shape refl refl) (proper-within _ _ _ (proper-eat _, λ _. (proper-items _, λ _. proper-if _ _))), λ _. tt), (proper-eat _, proper-items _)))
-
-proper-import : (c : Scope) → Proper c module_import
-unfolding module_import
-proper-import c = proper-node _ _ _ (λ _. refl) (proper-eat _, λ _. (proper-deeper _ _ _, λ _. (proper-renaming _, λ _. (proper-if _ _, λ _. (proper-imported _, tt)))))
+proper-imported c = search (proper_steps, proper-items, tame-both parens_shape refl refl) depth 40 fits 4000
 
 -- ---- statements
 
@@ -183,7 +150,7 @@ proper-block c = (refl, λ a. (proper-read _ _ (λ g. bracket-there a.kind g.1),
 
 pub proper-field : (c : Scope) → Proper c field
 unfolding field
-proper-field c = (proper-eat _, λ _. (proper-identifier _, λ _. tt))
+proper-field c = search proper_steps depth 40 fits 4000
 
 pub gives-field : Gives (λ v. tame_if v.0 ≡ true) field
 unfolding field
@@ -193,29 +160,15 @@ proper-target : (c : Scope) → Proper c target
 unfolding target target_turn
 proper-target c = proper-grow _ _ _ (proper-identifier _, λ _. tt) (λ x. (λ _. (gives-field, refl), (refl, λ _. (proper-field _, tt))))
 
-proper-show : (c : Scope) → Proper c show_rule
-unfolding show_rule
-proper-show c = (proper-node _ _ _ (tame-both show_shape refl refl) (proper-eat _, λ _. (refl, λ _. ((proper-deeper _ _ _, tt), λ _. (proper-if _ _, λ colon. ((proper-deeper _ _ _, tt), λ _. tt))))), λ _. tt)
-
-proper-conditional : (c : Scope) → Proper c conditional
-unfolding conditional conditional_turn other_branch
-proper-conditional c =
-    proper-nest _ _ _ _ (λ _. refl) (λ _. (proper-eat _, λ _. (proper-deeper _ _ _, λ _. (proper-block _, λ _. (proper-if _ _, λ _. ((refl, λ _. (tt, (proper-block _, λ _. tt))), tt))))))
-
-proper-names : (c : Scope) → Proper c loop_names
-unfolding loop_names second_pattern
-proper-names c = (proper-deeper _ _ _, λ names. (refl, λ _. ((proper-making _ false (surprise _) refl, λ _. (refl, λ _. ((proper-deeper _ _ _, λ _. tt), tt))), tt)))
-
 -- ---- sequences
 
 proper-statement : (c : Scope) (stops : SyntaxKind → Bool) → Proper c (statement stops)
 unfolding statement statement_end missing_break
-proper-statement c stops =
-    (refl, λ _. ((proper-deeper _ _ _, λ _. (refl, λ _. (tt, (proper-eat _, (proper-expected _ _, λ _. (refl, λ _. ((refl, λ _. refl), tt))))))), proper-unexpected _ []))
+proper-statement c stops = search proper_steps depth 40 fits 4000
 
 pub proper-code-exprs : (c : Scope) (stops : SyntaxKind → Bool) → Proper c (code_exprs stops)
 unfolding code_exprs code_turn
-proper-code-exprs c stops = (refl, λ _. (proper-deep _ stops, λ x. (refl, λ _. (tt, (proper-within _ _ _ (proper-statement _ stops), λ _. tt)))))
+proper-code-exprs c stops = search (proper_steps, proper-statement) depth 40 fits 4000
 
 -- what stands in the node of a block
 abbrev pub inside_code : Parser Bool
@@ -241,32 +194,18 @@ head-there true kind.End e = absurd (cc)
 head-there false kind.End e = absurd (cc)
 head-there atomic _ e = refl
 
+ruleset code_parts = (proper-equation, proper-group, proper-params, proper-equals, proper-target, proper-arguments, proper-block, proper-imported, proper-field, tame-bound-shape)
+
+-- a production is opened here, or has a lemma among the parts
 proper-by : (c : Scope) (atomic : Bool) (h : CodeHead) → (begins_block h ≡ true → c.seen ≡ true) → Proper c (code_by atomic h)
-unfolding unary_expr set_rule contextual while_loop for_loop module_include jump func_return
-proper-by c atomic (head.Unary op) e = proper-node _ _ _ (λ _. refl) (proper-eat _, λ _. proper-deeper _ _ _)
-proper-by c atomic head.StrayOperator e = proper-unexpected _ _
-proper-by c atomic head.Itself e = proper-eat _
-proper-by c atomic head.Named e = proper-named _
-proper-by c atomic head.Placeholder e = proper-placeholder _
+unfolding unary_expr named placeholder parens let_binding binding bound_part bound_function set_rule show_rule contextual conditional conditional_turn other_branch while_loop for_loop loop_names second_pattern module_import renaming module_include jump func_return
 proper-by c atomic head.CodeBlock e = proper-read _ _ (λ _. e refl)
 proper-by c atomic head.ContentBlock e = proper-read _ _ (λ _. e refl)
-proper-by c atomic head.Equation e = proper-equation _
-proper-by c atomic head.Group e = (proper-group _, λ _. tt)
-proper-by c atomic head.Parens e = proper-parens _
-proper-by c atomic head.Let e = proper-let _
-proper-by c atomic head.Set e = proper-node _ _ _ (λ _. refl) (proper-eat _, λ _. (proper-target _, λ _. (proper-arguments _, λ _. (proper-if _ _, λ given. (proper-deeper _ _ _, tt)))))
-proper-by c atomic head.Show e = proper-show _
-proper-by c atomic head.Context e = proper-node _ _ _ (λ _. refl) (proper-eat _, λ _. proper-deeper _ _ _)
-proper-by c atomic head.If e = proper-conditional _
-proper-by c atomic head.While e = proper-node _ _ _ (λ _. refl) ((proper-eat _, λ _. proper-deeper _ _ _), λ _. proper-block _)
-proper-by c atomic head.For e = proper-node _ _ _ (λ _. refl) ((((proper-eat _, λ _. proper-names _), λ _. proper-expect _ _ _), λ _. proper-deeper _ _ _), λ _. proper-block _)
-proper-by c atomic head.Import e = proper-import _
-proper-by c atomic head.Include e = proper-node _ _ _ (λ _. refl) (proper-eat _, λ _. proper-deeper _ _ _)
-proper-by c atomic head.Break e = proper-node _ _ _ (λ _. refl) (proper-eat _)
-proper-by c atomic head.Continue e = proper-node _ _ _ (λ _. refl) (proper-eat _)
-proper-by c atomic head.Return e = proper-node _ _ _ (λ _. refl) (proper-eat _, λ _. (refl, λ _. (proper-deeper _ _ _, tt)))
-proper-by c atomic head.Unexpected e = proper-unexpected _ []
-proper-by c atomic head.Missing e = proper-expected _ _
+proper-by c atomic head.Named e = search (proper_steps, proper-right, tame-after closure_shape refl refl refl, tame-after name_shape refl refl refl) depth 40 fits 4000
+proper-by c atomic head.Placeholder e = search (proper_steps, proper-right, tame-after closure_shape refl refl refl, tame-after underscore_shape refl refl refl) depth 40 fits 4000
+proper-by c atomic head.Parens e = search (proper_steps, proper-readings, proper-sign, tame-after closure_shape refl refl refl) depth 40 fits 4000
+proper-by c atomic head.Show e = search (proper_steps, tame-both show_shape refl refl) depth 40 fits 4000
+proper-by c atomic _ e = search (proper_steps, code_parts) depth 40 fits 4000
 
 pub proper-primary : (c : Scope) (atomic : Bool) → Proper c (code_primary atomic)
 unfolding code_primary
@@ -324,22 +263,24 @@ begun-opens i e = every-among (λ j. opens (code_head false j)) code_kinds refl 
 
 -- ---- what comes after it
 
-proper-binary : (c : Scope) (op : BinOp) → Proper c (binary_expr op)
-unfolding binary_expr
-proper-binary c op = (proper-eat _, λ _. (proper-deeper _ _ _, λ _. tt))
-
 pub proper-tail : (c : Scope) (t : CodeTail) → Proper c (tail_by t)
-unfolding call_tail direct_field not_in
-proper-tail c tail.Call = (proper-arguments _, λ _. tt)
-proper-tail c tail.Field = proper-field _
-proper-tail c tail.DirectField = (refl, λ _. (proper-field _, tt))
-proper-tail c tail.NotIn = (proper-eat _, λ _. (refl, λ _. (proper-binary _ _, (proper-expected _ _, λ _. tt))))
-proper-tail c (tail.Binary op) = proper-binary _ op
+unfolding call_tail direct_field not_in binary_expr
 proper-tail c tail.Nothing = tt
+proper-tail c _ = search (proper_steps, code_parts) depth 40 fits 4000
 
 pub proper-tail-turn : (c : Scope) (atomic : Bool) (least : ℕ) (x : Unit {0}) → Proper c (code_tail_turn atomic least x)
 unfolding code_tail_turn
 proper-tail-turn c atomic least x = (refl, λ a. proper-tail _ (code_tail atomic least a.kind a.has_trivia))
+
+-- what holds of no shape, of calls, of fields and of operators holds of what a tail says
+pub gives-tail : (Q : Option Shape × Unit {0} → Type 0) → Q (None, tt) → Q (Some (becomes kind.FuncCall), tt) → Q (Some (becomes kind.FieldAccess), tt) → Q (Some (becomes kind.Binary), tt) → (t : CodeTail) → Gives Q (tail_by t)
+unfolding call_tail field direct_field not_in binary_expr
+gives-tail Q none call access binary tail.Call = gives-all _ (λ _. call) arguments
+gives-tail Q none call access binary tail.Field = gives-all _ (λ _. gives-all _ (λ _. access) expect_identifier) eat
+gives-tail Q none call access binary tail.DirectField = λ _. (gives-all _ (λ _. gives-all _ (λ _. access) expect_identifier) eat, none)
+gives-tail Q none call access binary tail.NotIn = gives-all _ (λ _ _. (gives-all _ (λ _. gives-all _ (λ _. binary) (deeper _ _)) eat, gives-all _ (λ _. none) (expected _))) eat
+gives-tail Q none call access binary (tail.Binary op) = gives-all _ (λ _. gives-all _ (λ _. binary) (deeper _ _)) eat
+gives-tail Q none call access binary tail.Nothing = none
 
 -- the shapes that a tail says
 abbrev Shapes : CodeTail → Type 0

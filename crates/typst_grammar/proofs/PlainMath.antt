@@ -31,7 +31,7 @@ use Rattle.typst_code.specs.Embedded.{embedded}
 use Rattle.typst_grammar.proofs.EatsFirst.{EatsFirst, every-among}
 use Rattle.typst_grammar.proofs.Fine.{tame, tame_kind, tame_making}
 use Rattle.typst_grammar.proofs.FineRuns.{tame_if, Gives, gives-all}
-use Rattle.typst_grammar.proofs.Proper.{Scope, Proper, proper-eat, proper-convert, proper-so, proper-if, proper-expected, proper-shaped, proper-node, proper-grow, proper-seeing, tame-closed, tame-both, proper-deeper}
+use Rattle.typst_grammar.proofs.Proper.{proper_steps, Scope, Proper, proper-eat, proper-expected, proper-shaped, proper-node, proper-grow, proper-seeing, tame-both}
 use Rattle.typst_grammar.proofs.PlainParts.{proper-embedded, proper-exprs}
 
 tame-sign : (text : List ℕ) → tame_kind (sign_kind text) ≡ true
@@ -48,16 +48,11 @@ proper-delimiter c = (proper-shaped _ _ _ (gives-all {A = Unit {0} × List Seen}
 
 proper-delimited : (c : Scope) → Proper c delimited
 unfolding delimited delimited_body delimiter_if
-proper-delimited c =
-    (proper-node _ _ _ (tame-both delimited_shape refl refl) (proper-delimiter _, λ _. (proper-node _ _ _ (tame-both body_shape refl refl) (proper-exprs _ _, λ _. (refl, λ _. tt)), λ _. ((proper-delimiter _, tt), λ _. tt))), λ _. tt)
-
-proper-operand : (c : Scope) (least : ℕ) (signs : ChainSet) → Proper c (operand least signs)
-unfolding operand
-proper-operand c least signs = proper-node _ _ _ (λ _. refl) (proper-deeper _ _ _)
+proper-delimited c = search (proper_steps, proper-delimiter, proper-exprs, tame-both delimited_shape refl refl, tame-both body_shape refl refl) depth 40 fits 4000
 
 proper-attachments : (c : Scope) → Proper c attachments
-unfolding attachments attachment_turn
-proper-attachments c = (λ signs. (refl, λ _. ((proper-eat _, λ _. (proper-operand _ _ _, λ _. tt)), tt)), λ _. tt)
+unfolding attachments attachment_turn operand
+proper-attachments c = search proper_steps depth 40 fits 4000
 
 tame-value : (count : ℕ) → tame (value_shape count) ≡ true
 tame-value count = on_both (λ shape. tame shape ≡ true) (count == 1) (keeps stays) (becomes kind.Math) refl refl
@@ -74,55 +69,27 @@ tame-math names (key.Name name) = on_both (λ change. tame (holds change kind.Na
 tame-math names (key.Str text) = refl
 tame-math names key.Other = refl
 
-proper-named-argument : (c : Scope) (k : SyntaxKind) (names : List (List ℕ)) → Proper c (named_argument k names)
-unfolding named_argument argument_name eat_name
-proper-named-argument c k names =
-    proper-node _ _ _ (tame-math names) ((proper-seeing _ _ (proper-so _ _ (name_making k) (tame-making k)), λ _. tt), λ _. (proper-convert _ kind.Colon refl, λ _. (proper-value _ true, λ _. tt)))
-
 proper-math-argument : (c : Scope) (names : List (List ℕ)) → Proper c (math_argument names)
-unfolding math_argument spread_argument
-proper-math-argument c names = (
-  refl,
-  λ _. (
-    refl,
-    λ _. (
-      (proper-node _ _ _ (λ _. refl) (proper-so _ _ itself refl, λ _. proper-value _ false), λ _. tt),
-      (refl, λ _. ((proper-named-argument _ _ _, λ _. tt), (proper-value _ false, λ _. tt))),
-    ),
-  ),
-)
+unfolding math_argument spread_argument named_argument argument_name eat_name
+proper-math-argument c names = search (proper_steps, proper-value, tame-math, tame-making) depth 40 fits 4000
 
 proper-math-arguments : (c : Scope) → Proper c math_arguments
 unfolding math_arguments math_argument_turn argument_end
-proper-math-arguments c = (
-  proper-node _ _ _ (tame-closed kind.MathArgs refl)
-      (proper-eat _, λ _. (λ names. (refl, λ _. (tt, (proper-math-argument _ names, λ _. ((refl, λ _. (proper-eat _, (tt, proper-expected _ _))), λ _. tt)))), λ _. proper-if _ _)),
-  λ _. tt,
-)
+proper-math-arguments c = search (proper_steps, proper-math-argument) depth 40 fits 4000
 
+ruleset math_parts = (proper-delimiter, proper-delimited, proper-attachments, proper-math-arguments)
+
+-- a production is opened here, or has a lemma among the parts
 proper-math-by : (c : Scope) (k : CharClasses) (h : MathHead) → Proper c (math_by k h)
-unfolding math_text root
+unfolding math_text root operand
 proper-math-by c k math_heads.Embedded = (proper-embedded _, λ _. tt)
-proper-math-by c k math_heads.Name = (proper-eat _, λ _. tt)
-proper-math-by c k math_heads.Delimited = (proper-delimited _, λ _. tt)
-proper-math-by c k math_heads.Closer = (proper-delimiter _, λ _. tt)
-proper-math-by c k math_heads.Plain = (proper-convert _ kind.MathText refl, λ _. tt)
-proper-math-by c k math_heads.Text = (proper-seeing _ _ (proper-eat _), λ _. tt)
-proper-math-by c k math_heads.Itself = (proper-eat _, λ _. tt)
-proper-math-by c k math_heads.Symbol = (proper-eat _, λ _. tt)
-proper-math-by c k math_heads.Root = (proper-node _ _ _ (λ _. refl) (proper-eat _, λ _. proper-operand _ _ _), λ _. tt)
-proper-math-by c k math_heads.Missing = (proper-expected _ _, λ _. tt)
+proper-math-by c k _ = search (proper_steps, math_parts) depth 40 fits 4000
 
 -- what stands after an expression
 proper-math-tail : (c : Scope) (stops : ChainSet) (t : MathTail) → Proper c (math_tail_by stops t)
-unfolding fraction primes
-proper-math-tail c stops math_tails.Call = (proper-math-arguments _, λ _. tt)
-proper-math-tail c stops math_tails.Delimited = (proper-delimited _, λ _. tt)
-proper-math-tail c stops math_tails.Fraction = ((proper-eat _, λ _. proper-operand _ _ _), λ _. tt)
-proper-math-tail c stops math_tails.Attachments = (proper-attachments _, λ _. tt)
-proper-math-tail c stops math_tails.Primes = ((proper-eat _, λ _. (refl, λ _. (tt, proper-attachments _))), λ _. tt)
-proper-math-tail c stops math_tails.Factorial = (proper-convert _ kind.MathText refl, λ _. tt)
+unfolding fraction primes operand
 proper-math-tail c stops math_tails.Nothing = tt
+proper-math-tail c stops _ = search (proper_steps, math_parts) depth 40 fits 4000
 
 gives-math-tail : (stops : ChainSet) (t : MathTail) → Gives (λ v. tame_if v.0 ≡ true) (math_tail_by stops t)
 gives-math-tail stops math_tails.Call = gives-all _ (λ _. refl) math_arguments

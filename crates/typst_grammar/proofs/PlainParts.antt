@@ -1,6 +1,5 @@
 -- The facts of markup and of patterns: each is proper, and what a token begins takes it first.
-use Rattle.std.proofs.Common.{◌≡◌, ℕ, Bool, true, false, ◌&&◌, if◌then◌else◌, List, [], ◌++◌, Option, Some, None, refl}
-use Rattle.std.specs.Prelude.{codes}
+use Rattle.std.proofs.Common.{◌≡◌, ℕ, Bool, true, false, if◌then◌else◌, List, ◌++◌, Option, Some, None, refl}
 use Rattle.typst_kinds.specs.Kinds.{same}
 use Rattle.typst_kinds.specs.declared.kind.SyntaxKind.{SyntaxKind}
 use Rattle.typst_kinds.specs.declared.kind.SyntaxKind.TheVariants as kind
@@ -12,8 +11,8 @@ use Rattle.typst_language.specs.declared.calls.AfterName.{AfterName}
 use Rattle.typst_language.specs.declared.calls.AfterName.TheVariants as after
 use Rattle.typst_code.specs.head.MarkupHead.{MarkupHead}
 use Rattle.typst_code.specs.head.MarkupHead.TheVariants as head
-use Rattle.typst_code.specs.Bindings.{bound_name as bound_function, bound_part, equals, bound_shape, binding, let_binding}
-use Rattle.typst_code.specs.Closures.{closure_shape, right_side, headed, name_shape, underscore_shape, after_name, after_underscore, named, placeholder}
+use Rattle.typst_code.specs.Bindings.{equals, bound_shape}
+use Rattle.typst_code.specs.Closures.{right_side}
 use Rattle.typst_code.specs.Embedded.{embedded_end, embedded_expr, embedded}
 use Rattle.typst_code.specs.Equations.{math_expression, math_item, math_turn, math_exprs, math, between_dollars, equation}
 use Rattle.typst_code.specs.Markup.{note_piece, markup_turn, markup_exprs, markup_run, markup, markup_is_empty, emphasized, delimited, heading, item, term_item, direct_content, markup_reading, ends_block, reference, markup_head, markup_by, markup_expr}
@@ -22,7 +21,7 @@ use Rattle.typst_code.specs.Parts.{separator}
 use Rattle.typst_code.specs.Patterns.{duplicate, bound_change, bound_name, pattern_leaf, sink, sink_shape, name_and_colon, key, key_or_pattern, named_shape, part, Found, destructuring_item, destructuring_turn, destructuring, pattern}
 use Rattle.typst_language.specs.Shape.{Shape, encloses}
 use Rattle.typst_language.specs.Shape.NodeChange.{stays, turns_wrong}
-use Rattle.typst_language.specs.Shape.Making.{itself, wanted}
+use Rattle.typst_language.specs.Shape.Making.{itself}
 use Rattle.typst_language.specs.Steps.{eat_making, eat, convert_and_eat, close_if, within, node, note}
 use Rattle.typst_language.specs.Syntax.{Parser, ◌>>=◌}
 use Rattle.typst_language.specs.Syntax.Op.{takes}
@@ -32,24 +31,21 @@ use Rattle.std.proofs.lemmas.Bool.{and_parts}
 use Rattle.typst_language.specs.declared.calls.Mark.TheVariants as mark
 use Rattle.typst_grammar.proofs.Fine.{tame, tame_change, tame_kind}
 use Rattle.typst_grammar.proofs.EatsFirst.{EatsFirst}
-use Rattle.typst_grammar.proofs.Proper.{Scope, unseen, Proper, bracket-there, proper-making, proper-eat, proper-convert, proper-if, proper-close, proper-unexpected, proper-expected, proper-expect, proper-within, proper-node, proper-trivia, proper-read, proper-seeing, proper-expects, tame-closed, proper-deep, proper-deeper}
+use Rattle.typst_grammar.proofs.Proper.{proper_steps, Scope, unseen, Proper, bracket-there, proper-eat, proper-if, proper-close, proper-within, proper-node, proper-trivia, proper-read, proper-expects, tame-closed, proper-deep, proper-deeper}
 
 -- ---- embedded code and formulas
 
 pub proper-embedded : (c : Scope) → Proper c embedded
 unfolding embedded embedded_expr embedded_end
-proper-embedded c =
-    proper-within _ _ _ (proper-eat _, λ _. (refl, λ _. (proper-expected _ _, (proper-deeper _ _ _, λ _. (refl, λ _. (proper-eat _, (proper-expected _ _, tt)))))))
+proper-embedded c = search proper_steps depth 40 fits 4000
 
 pub proper-exprs : (c : Scope) (stops : SyntaxKind → Bool) → Proper c (math_exprs stops)
 unfolding math_exprs math_turn math_item math_expression
-proper-exprs c stops =
-    (refl, λ _. ((proper-deep _ stops, λ _. tt), λ count. (refl, λ _. (tt, ((refl, λ _. (proper-deeper _ _ _, proper-unexpected _ [])), λ _. tt)))))
+proper-exprs c stops = search proper_steps depth 40 fits 4000
 
 pub proper-equation : (c : Scope) → Proper c equation
 unfolding equation between_dollars math
-proper-equation c =
-    (proper-node _ _ _ (tame-closed kind.Equation refl) (proper-within _ _ _ (proper-eat _, λ _. (proper-node _ _ _ (λ _. refl) (proper-exprs _ _, λ _. tt), λ _. proper-close _ _))), λ _. tt)
+proper-equation c = search (proper_steps, proper-exprs) depth 40 fits 4000
 
 -- ---- markup
 
@@ -95,25 +91,14 @@ inside_content = scoped (λ _. markup_reading) (do
 pub proper-inside-content : (c : Scope) → ((at_start : Bool) (nesting : ℕ) → c.notes (mark.Piece at_start nesting) ≡ true) → Proper c inside_content
 proper-inside-content c h = (refl, λ _. (proper-empty _ _ (proper-run _ _ h), λ _. proper-close _ _))
 
+ruleset markup_parts = (proper-embedded, proper-equation, proper-markup, proper-delimited)
+
+-- a production is opened here, or has a lemma among the parts
 proper-by : (c : Scope) (nesting : ℕ) (h : MarkupHead) → Proper c (markup_by nesting h)
 unfolding heading item term_item reference direct_content
-proper-by c nesting head.Itself = (proper-eat _, λ _. tt)
-proper-by c nesting head.Opening = (proper-convert _ kind.Text refl, λ _. tt)
-proper-by c nesting head.Closing = (proper-convert _ kind.Text refl, λ _. tt)
-proper-by c nesting head.Stray = (proper-unexpected _ _, λ _. tt)
-proper-by c nesting head.Strong = (proper-delimited _ _ _ _ _ _ refl, λ _. tt)
-proper-by c nesting head.Emph = (proper-delimited _ _ _ _ _ _ refl, λ _. tt)
-proper-by c nesting head.Heading = (proper-within _ _ _ (proper-node _ _ _ (λ _. refl) (proper-eat _, λ _. proper-markup _ _ _)), λ _. tt)
-proper-by c nesting head.ListItem = ((refl, λ _. proper-within _ _ _ (proper-node _ _ _ (λ _. refl) (proper-eat _, λ _. proper-markup _ _ _))), λ _. tt)
-proper-by c nesting head.EnumItem = ((refl, λ _. proper-within _ _ _ (proper-node _ _ _ (λ _. refl) (proper-eat _, λ _. proper-markup _ _ _))), λ _. tt)
-proper-by c nesting head.TermItem =
-    ((refl, λ _. proper-within _ _ _ (proper-node _ _ _ (λ _. refl) (proper-within _ _ _ (proper-eat _, λ _. proper-markup _ _ _), λ _. (proper-expect _ _ _, λ _. proper-markup _ _ _)))), λ _. tt)
 proper-by c nesting head.Reference =
     (proper-node _ _ _ (λ _. refl) (proper-eat _, λ _. (refl, λ a. (proper-read _ _ (λ g. bracket-there a.kind (and_parts _ _ g.1).0), tt))), λ _. tt)
-proper-by c nesting head.Embedded = (proper-embedded _, λ _. tt)
-proper-by c nesting head.Equation = (proper-equation _, λ _. tt)
-proper-by c nesting head.Plain = (proper-convert _ kind.Text refl, λ _. tt)
-proper-by c nesting head.Unexpected = (proper-unexpected _ _, λ _. tt)
+proper-by c nesting _ = search (proper_steps, markup_parts) depth 40 fits 4000
 
 pub proper-markup-expr : (c : Scope) (at_start : Bool) (nesting : ℕ) → Proper c (markup_expr at_start nesting)
 unfolding markup_expr
@@ -151,20 +136,7 @@ tame-bound role names (Some name) = on_both (λ change. tame_change change ≡ t
 
 proper-leaf : (c : Scope) (role : Role) (names : List (List ℕ)) → Proper c (pattern_leaf role names)
 unfolding pattern_leaf bound_name
-proper-leaf c role names = (
-  refl,
-  λ _. (
-    (proper-making _ false (wanted (codes "pattern")) refl, λ _. tt),
-    (
-      ((proper-deeper _ _ _, λ _. tt), (proper-node _ _ _ (λ name. tame-bound role names name) (proper-seeing _ _ (proper-deeper _ _ _), λ _. tt), λ _. tt)),
-      (proper-expected _ _, λ _. tt),
-    ),
-  ),
-)
-
-proper-sink : (c : Scope) (role : Role) (names : List (List ℕ)) → Proper c (sink role names)
-unfolding sink
-proper-sink c role names = (proper-eat _, λ _. (refl, λ _. (proper-leaf _ role names, tt)))
+proper-leaf c role names = search (proper_steps, tame-bound) depth 40 fits 4000
 
 tame-sink : (message : List ℕ) (again : Bool) → tame (sink_shape message again) ≡ true
 tame-sink message true = refl
@@ -177,26 +149,11 @@ tame-named (Some false) = refl
 
 proper-part : (c : Scope) (role : Role) (names : List (List ℕ)) → Proper c (part role names)
 unfolding part key_or_pattern key name_and_colon
-proper-part c role names = (
-  ((refl, λ _. (((proper-eat _, λ _. (refl, λ _. tt)), tt), tt)), λ _. ((tt, proper-deeper _ _ _), λ _. tt)),
-  λ _. (refl, λ _. ((proper-eat _, λ _. (proper-deeper _ _ _, λ _. tt)), tt)),
-)
+proper-part c role names = search proper_steps depth 40 fits 4000
 
 proper-destructuring-turn : (c : Scope) (role : Role) (found : Found) → Proper c (destructuring_turn role found)
-unfolding destructuring_turn destructuring_item
-proper-destructuring-turn c role found = (
-  refl,
-  λ _. (
-    tt,
-    (
-      (
-        (refl, λ _. ((proper-node _ _ _ (λ _. tame-sink _ _) (proper-sink _ _ _), λ _. tt), (proper-node _ _ _ (λ x. tame-named x.0) (proper-part _ _ _), λ _. tt))),
-        λ _. (proper-separator _, λ _. tt),
-      ),
-      (proper-unexpected _ [], λ _. tt),
-    ),
-  ),
-)
+unfolding destructuring_turn destructuring_item sink
+proper-destructuring-turn c role found = search (proper_steps, proper-separator, proper-leaf, proper-part, tame-sink, tame-named) depth 40 fits 4000
 
 tame-parts : (alone closed : Bool) → tame (encloses (if alone then kind.Parenthesized else kind.Destructuring) closed) ≡ true
 tame-parts true closed = tame-closed kind.Parenthesized refl closed
@@ -204,35 +161,21 @@ tame-parts false closed = tame-closed kind.Destructuring refl closed
 
 pub proper-destructuring : (c : Scope) (role : Role) (names : List (List ℕ)) → Proper c (destructuring role names)
 unfolding destructuring
-proper-destructuring c role names =
-    (proper-node _ _ _ (λ x. tame-parts (x.1.0.any && x.1.0.is_plain) x.0) (proper-within _ _ _ (proper-eat _, λ _. (λ found. proper-destructuring-turn _ _ found, λ _. (proper-if _ _, λ _. tt)))), λ _. tt)
+proper-destructuring c role names = search (proper_steps, proper-destructuring-turn, tame-parts) depth 40 fits 4000
 
 pub proper-pattern : (c : Scope) (role : Role) (names : List (List ℕ)) → Proper c (pattern role names)
 unfolding pattern
-proper-pattern c role names = (refl, λ _. ((proper-eat _, λ _. tt), (proper-destructuring _ role names, proper-leaf _ role names)))
+proper-pattern c role names = search (proper_steps, proper-destructuring, proper-leaf) depth 40 fits 4000
 
 -- ---- closures and bindings
 
 proper-param : (c : Scope) (so_far : Bool × List (List ℕ)) → Proper c (param so_far)
-unfolding param defaulted
-proper-param c so_far = (
-  refl,
-  λ _. (
-    (proper-node _ _ _ (λ _. tame-sink _ _) (proper-sink _ _ _), λ _. tt),
-    (
-      proper-node _ _ _ (λ x. tame-named x.0) (proper-seeing _ _ (proper-deeper _ _ _), λ _. (refl, λ _. (((proper-eat _, λ _. proper-deeper _ _ _), λ _. tt), tt))),
-      λ _. tt,
-    ),
-  ),
-)
+unfolding param defaulted sink
+proper-param c so_far = search (proper_steps, proper-leaf, tame-sink, tame-named) depth 40 fits 4000
 
 pub proper-params : (c : Scope) → Proper c params
 unfolding params param_turn
-proper-params c = (
-  proper-node _ _ _ (tame-closed kind.Params refl)
-      (proper-within _ _ _ (proper-eat _, λ _. (λ x. (refl, λ _. (tt, ((proper-param _ x, λ _. (proper-separator _, λ _. tt)), (proper-unexpected _ [], λ _. tt)))), λ _. proper-if _ _))),
-  λ _. tt,
-)
+proper-params c = search (proper_steps, proper-separator, proper-param) depth 40 fits 4000
 
 -- by what comes after a name
 pub tame-after : (f : AfterName → Shape) → tame (f after.Arrow) ≡ true → tame (f after.Eq) ≡ true → tame (f after.Nothing) ≡ true → (b : AfterName) → tame (f b) ≡ true
@@ -240,37 +183,15 @@ tame-after f x y z after.Arrow = x
 tame-after f x y z after.Eq = y
 tame-after f x y z after.Nothing = z
 
-proper-right : (c : Scope) (b : AfterName) → Proper c (right_side b)
-proper-right c after.Arrow = (proper-eat _, λ _. proper-deeper _ _ _)
-proper-right c after.Eq = (proper-eat _, λ _. proper-deeper _ _ _)
+pub proper-right : (c : Scope) (b : AfterName) → Proper c (right_side b)
 proper-right c after.Nothing = tt
+proper-right c _ = search proper_steps
 
-proper-headed : (c : Scope) (what : SyntaxKind → AfterName) (shape : AfterName → Shape) → ((b : AfterName) → tame (shape b) ≡ true) → Proper c (headed what shape)
-proper-headed c what shape e = (proper-node _ _ _ (tame-after closure_shape refl refl refl) (proper-node _ _ _ e (proper-eat _, λ _. (refl, λ _. tt)), λ b. (proper-right _ b, λ _. tt)), λ _. tt)
-
-pub proper-named : (c : Scope) → Proper c named
-unfolding named
-proper-named c = proper-headed c after_name name_shape (tame-after name_shape refl refl refl)
-
-pub proper-placeholder : (c : Scope) → Proper c placeholder
-unfolding placeholder
-proper-placeholder c = proper-headed c after_underscore underscore_shape (tame-after underscore_shape refl refl refl)
-
-proper-bound-part : (c : Scope) → Proper c bound_part
-unfolding bound_part bound_function
-proper-bound-part c = (refl, λ _. ((proper-eat _, λ _. (refl, λ _. ((proper-params _, λ _. tt), tt))), (proper-deeper _ _ _, λ _. tt)))
-
-tame-bound-shape : (b : Bound) → tame (bound_shape b) ≡ true
+pub tame-bound-shape : (b : Bound) → tame (bound_shape b) ≡ true
 tame-bound-shape bound.Name = refl
 tame-bound-shape bound.Function = refl
 tame-bound-shape bound.Names = refl
 
-proper-equals : (c : Scope) (b : Bound) → Proper c (equals b)
+pub proper-equals : (c : Scope) (b : Bound) → Proper c (equals b)
 proper-equals c bound.Name = proper-if _ _
-proper-equals c bound.Function = proper-expects _ _ _
-proper-equals c bound.Names = proper-expects _ _ _
-
-pub proper-let : (c : Scope) → Proper c let_binding
-unfolding let_binding binding
-proper-let c =
-    proper-node _ _ _ (λ _. refl) (proper-eat _, λ _. (proper-node _ _ _ tame-bound-shape (proper-bound-part _, λ b. (proper-equals _ b, λ comes. ((proper-deeper _ _ _, tt), λ _. tt))), λ _. tt))
+proper-equals c _ = proper-expects _ _ _

@@ -8,7 +8,10 @@ use Rattle.typst_language.specs.declared.calls.Block.{Block}
 use Rattle.typst_language.specs.declared.calls.Mark.{Mark}
 use Rattle.typst_language.specs.declared.calls.Way.{Way}
 use Rattle.typst_language.specs.declared.reading.Reading.{Reading}
+use Rattle.typst_language.specs.declared.calls.ChainSet.{ChainSet}
+use Rattle.typst_language.specs.declared.calls.Role.{Role}
 use Rattle.typst_language.specs.Calls.{Call, Answer}
+use Rattle.typst_language.specs.Calls.Call.{CodeExpr, MathExpr, Pattern}
 use Rattle.typst_language.specs.Depth.{anywhere, skip_one, too_deep, deeper, is_end}
 use Rattle.typst_language.specs.Expected.{expects, expect_identifier, seeing}
 use Rattle.typst_language.specs.Shape.{Making, Shape, encloses}
@@ -238,3 +241,16 @@ proper-deep c stops = (proper-node _ _ _ (λ _. refl) (proper-within _ _ _ (λ n
 pub proper-deeper : (c : Scope) (call : Call) (answer : Answer call) → Proper c (deeper call answer)
 unfolding deeper
 proper-deeper c call answer = (refl, λ _. ((proper-deep _ anywhere, λ _. tt), tt))
+
+-- calls, by their answers
+pub proper-code : (c : Scope) (atomic : Bool) (least : ℕ) → Proper c (deeper (CodeExpr atomic least) tt)
+proper-code c atomic least = proper-deeper c (CodeExpr atomic least) tt
+
+pub proper-math : (c : Scope) (least : ℕ) (stops : ChainSet) → Proper c (deeper (MathExpr least stops) tt)
+proper-math c least stops = proper-deeper c (MathExpr least stops) tt
+
+pub proper-names : (c : Scope) (role : Role) (names seen : List (List ℕ)) → Proper c (deeper (Pattern role names) seen)
+proper-names c role names seen = proper-deeper c (Pattern role names) seen
+
+-- the steps, for a search that proves of a production that it is proper
+pub ruleset proper_steps = (proper-making, proper-eat, proper-convert, proper-so, proper-if, proper-close, proper-unexpected, proper-expected, proper-expect, proper-within, proper-node, proper-nest, proper-seeing, proper-expects, proper-identifier, proper-deep, proper-code, proper-math, proper-names, tame-closed)
