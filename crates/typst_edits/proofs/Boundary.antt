@@ -303,10 +303,10 @@ from-both b z [] ks h i = i
 from-both b z (looked at look ∷ ls) ks h i = (h.0, from-both b z ls ks h.1 i)
 from-both b z (marked at gap fewer m s ∷ ls) ks h i = from-both b z ls ks h i
 
-pub from-second : (b : ℕ) (z : Place) (ls ks : List Ask) → AllFrom b z (ls ++ ks) → AllFrom b z ks
-from-second b z [] ks h = h
-from-second b z (looked at look ∷ ls) ks h = from-second b z ls ks h.1
-from-second b z (marked at gap fewer m s ∷ ls) ks h = from-second b z ls ks h
+pub split-from : (b : ℕ) (z : Place) (ls ks : List Ask) → AllFrom b z (ls ++ ks) → AllFrom b z ls × AllFrom b z ks
+split-from b z [] ks h = (tt, h)
+split-from b z (looked at look ∷ ls) ks h = let i = split-from b z ls ks h.1 in ((h.0, i.0), i.1)
+split-from b z (marked at gap fewer m s ∷ ls) ks h = split-from b z ls ks h
 
 -- ---- a note of a text, and what its numbers say of what was asked before it and after it
 

@@ -23,12 +23,12 @@ use Rattle.typst_language.proofs.Looks.{same_in-first, same_in-sunk}
 use Rattle.typst_language.proofs.Frame.{framed-done}
 use Rattle.typst_language.proofs.Backs.{left-empties}
 use Rattle.typst_language.proofs.Knot.{Sane, sane-run, sane-plain, sane-meaning, sane-block}
-use Rattle.typst_edits.specs.Spot.{Spot, around, Fits, unit_at, block_head, lowered, after_spot, sunk_spot, closed_spot, ended, last_node, here_spot}
+use Rattle.typst_edits.specs.Spot.{Spot, around, Fits, block_head, lowered, after_spot, sunk_spot, closed_spot, ended, last_node, here_spot}
 use Rattle.typst_edits.specs.Occurrences.{Spots, scoped_spot, bounded_spots, spots, call_spots, block_spots, level_spots}
 use Rattle.typst_edits.proofs.Every.{Every, every-map, every-if}
 use Rattle.typst_edits.proofs.Outcomes.{same-outcome, shift-zero, lowered-zero, sunk-lowered, sunk-shift, or-false}
 use Rattle.typst_edits.proofs.Inside.{Edits, Lawful, lawful-after}
-use Rattle.typst_edits.proofs.Spots.{Inside, if-true, if-false, lawful-same, joined-inside, value-same, inside-repeated, inside-wrapped, inside-nesting, edits-as}
+use Rattle.typst_edits.proofs.Spots.{Inside, if-true, if-false, lawful-same, lawful-by, joined-inside, value-same, inside-repeated, inside-wrapped, inside-nesting, edits-as}
 use Rattle.typst_edits.proofs.Grows.{inside-growing}
 
 -- ---- another way to read
@@ -37,13 +37,8 @@ edits-scoped : {A : Type 0} (outer : Reading) (z w : Place) (c : Spot A) (x : Tr
 edits-scoped outer z w c x e = edits-as z w c.value (left outer c.state) c.hole c x e
 
 lawful-scoped : {A : Type 0} (outer : Reading) (z w : Place) (o n : Outcome A) (c : Spot A) → Lawful z w o n c → Lawful z w (left_to outer o) (left_to outer n) (scoped_spot outer c)
-lawful-scoped outer z w o n c l = record {
-  old = ap (left_to outer) l.old;
-  fits = record { state = l.fits.state; back = l.fits.back; hints = l.fits.hints; nodes = l.fits.nodes; head = l.fits.head };
-  few = (let f = l.few in omega (arith, f, left-empties outer c.state));
-  solid = l.solid;
-  swaps = λ x e. ap (left_to outer) (l.swaps x (edits-scoped outer z w c x e));
-}
+lawful-scoped outer z w o n c l =
+    lawful-by (left_to outer) z w o n c (scoped_spot outer c) l (λ b x e. refl) (λ y. refl) refl (record { state = l.fits.state; back = l.fits.back; hints = l.fits.hints; nodes = l.fits.nodes; head = l.fits.head }) (let f = l.few in omega (arith, f, left-empties outer c.state)) l.solid (edits-scoped outer z w c)
 
 -- ---- one level deeper
 
@@ -67,13 +62,7 @@ sunk-around c b x =
     same-outcome c.value _ _ c.state c.state _ _ _ _ _ _ _ _ _ _ refl refl refl refl refl e refl
 
 lawful-sunk : {A : Type 0} (z w : Place) (o n : Outcome A) (c : Spot A) → Lawful z w o n c → Lawful z w (deeper_by_one o) (deeper_by_one n) (sunk_spot c)
-lawful-sunk z w o n c l = record {
-  old = ap deeper_by_one l.old ∙ sunk-around c (unit_at c z) c.node;
-  fits = record { state = l.fits.state; back = l.fits.back; hints = l.fits.hints; nodes = l.fits.nodes; head = l.fits.head };
-  few = l.few;
-  solid = l.solid;
-  swaps = λ x e. ap deeper_by_one (l.swaps x (edits-sunk z w c x e)) ∙ sunk-around c (unit_at c w) x;
-}
+lawful-sunk z w o n c l = lawful-by deeper_by_one z w o n c (sunk_spot c) l (λ b x e. sunk-around c b x) (λ y. refl) refl (record { state = l.fits.state; back = l.fits.back; hints = l.fits.hints; nodes = l.fits.nodes; head = l.fits.head }) l.few l.solid (edits-sunk z w c)
 
 -- ---- a block
 
@@ -130,13 +119,7 @@ closed-around b s c d x =
     (ap (λ u. marked 0 0 0 (mark.Opens b) (state_of s) ∷ u) (append_assoc c.before (own ++ shift m c.after) (end (c.at + (d.taken + c.rest)) ∷ []) ∙ ap (λ u. c.before ++ u) e)) refl
 
 lawful-closed : (b : Block) (s : Point) (z w : Place) (o n : Outcome (Unit {0})) (c : Spot (Unit {0})) → Lawful z w o n c → Lawful z w (closed b s o) (closed b s n) (closed_spot b s c)
-lawful-closed b s z w o n c l = record {
-  old = ap (closed b s) l.old ∙ closed-around b s c (unit_at c z) c.node;
-  fits = record { state = l.fits.state; back = l.fits.back; hints = l.fits.hints; nodes = l.fits.nodes; head = l.fits.head };
-  few = l.few;
-  solid = l.solid;
-  swaps = λ x e. ap (closed b s) (l.swaps x (edits-closed b s z w c x e)) ∙ closed-around b s c (unit_at c w) x;
-}
+lawful-closed b s z w o n c l = lawful-by (closed b s) z w o n c (closed_spot b s c) l (λ d x e. closed-around b s c d x) (λ y. refl) refl (record { state = l.fits.state; back = l.fits.back; hints = l.fits.hints; nodes = l.fits.nodes; head = l.fits.head }) l.few l.solid (edits-closed b s z w c)
 
 inside-bounded : (b : Block) (m : Meaning (Unit {0})) (sp : Spots (Unit {0})) → ((z : Place) (s : Point) → Ends b (m z s)) → Inside m sp → Inside (bounded b m) (bounded_spots b m sp)
 inside-bounded b m sp ends i z w s =

@@ -16,7 +16,7 @@ use Rattle.typst_edits.specs.Runs.{AllGo, End, asks_of}
 use Rattle.typst_edits.specs.Sequence.{Sequence, turn_of, first_of, first_end, then_of, then_end}
 use Rattle.typst_edits.specs.Splice.{noting, notes_in}
 use Rattle.typst_edits.specs.Spot.{lowered}
-use Rattle.typst_edits.proofs.Boundary.{Begins, begins-shift, looks_in, each-ends, made-add, go-add, from-first, from-both, noted-at}
+use Rattle.typst_edits.proofs.Boundary.{Begins, begins-shift, looks_in, each-ends, made-add, go-add, from-first, from-both, split-from, noted-at}
 use Rattle.typst_edits.proofs.Bytes.{AllFrom, both-end, end-first}
 use Rattle.typst_edits.proofs.EmptyRuns.{Never}
 use Rattle.typst_edits.proofs.Marks.{AllMarks}
@@ -47,11 +47,6 @@ at-lowered : (n a f : ℕ) (ls : List Ask) → AllAt n (shift a (lowered f ls)) 
 at-lowered n a f [] h = tt
 at-lowered n a f (looked at look ∷ ls) h = (h.0, at-lowered n a f ls h.1)
 at-lowered n a f (marked at gap fewer m s ∷ ls) h = at-lowered n a f ls h
-
-split-from : (b : ℕ) (z : Place) (ls ks : List Ask) → AllFrom b z (ls ++ ks) → AllFrom b z ls × AllFrom b z ks
-split-from b z [] ks h = (tt, h)
-split-from b z (looked at look ∷ ls) ks h = let i = split-from b z ls ks h.1 in ((h.0, i.0), i.1)
-split-from b z (marked at gap fewer m s ∷ ls) ks h = split-from b z ls ks h
 
 -- ---- the note
 

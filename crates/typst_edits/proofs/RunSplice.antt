@@ -29,7 +29,7 @@ use Rattle.typst_edits.specs.RunTrees.{run_mark}
 use Rattle.typst_edits.specs.Runs.{start, AllGo, asks_of, chain, lead, pieces, end_at, pieces_from, end_from, rest_from, tail, whole_of}
 use Rattle.typst_edits.specs.Sequence.{Sequence, turn_of}
 use Rattle.typst_edits.specs.Splice.{Noting, noting, notes_in}
-use Rattle.typst_edits.proofs.Boundary.{Begins, begins-append, looks_in, pieces-begin, from-both, from-second}
+use Rattle.typst_edits.proofs.Boundary.{Begins, begins-append, looks_in, pieces-begin, from-both, split-from}
 use Rattle.typst_edits.proofs.Edit.{before-same}
 use Rattle.typst_edits.proofs.EmptyRuns.{Knows, Never, hand-asks, hand-gap, passed-kind, onwards-looks, end-look, token_look, end-any}
 use Rattle.typst_edits.proofs.Every.{Every}
@@ -182,7 +182,7 @@ module _ (k : CharClasses) where
       let same : t.gap ≡ end = omega (arith, a.ends) in
       let all_last : hand ++ on ≡ shift end last = a.asks ∙ ap (λ d. shift d last) same in
       let behind : AllMarks Never on = bare-second hand on (subst (λ u. AllMarks Never u) (sym all_last) (bare-shift end last none)) in
-      let behind_too : AllFrom 0 z on = from-second 0 z hand on (subst (λ u. AllFrom 0 z u) (sym all_last) begun_last) in
+      let behind_too : AllFrom 0 z on = (split-from 0 z hand on (subst (λ u. AllFrom 0 z u) (sym all_last) begun_last)).1 in
       let still : shift 0 (shift 0 on) ≡ on = shift-zero (shift 0 on) ∙ shift-zero on in
       side-none max_depth z (end_note k 0 z) (own_asks k 0 0 z) (all_asks 0 0 z) (marks-append Never ls [] (lead-bare k z) tt)
       (subst (λ u. AllMarks Never (ls ++ u)) (sym still) (marks-append Never ls on (lead-bare k z) behind))

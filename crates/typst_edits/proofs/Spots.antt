@@ -1,5 +1,5 @@
 -- The law of an edit inside a block, for whatever the language can say.
-use Rattle.std.proofs.Common.{◌≡◌, ℕ, zero, suc, ◌+◌, ◌<◌, max, Bool, true, false, ◌&&◌, if◌then◌else◌, nat_lt, List, [], ◌∷◌, map, drop, refl, ap, sym, ◌∙◌, subst, arith}
+use Rattle.std.proofs.Common.{◌≡◌, ℕ, zero, suc, ◌+◌, ◌<◌, ◌≤◌, max, Bool, true, false, ◌&&◌, if◌then◌else◌, nat_lt, List, [], ◌∷◌, length, map, drop, refl, ap, sym, ◌∙◌, subst, arith}
 use Rattle.std.specs.List.{flat_map}
 use borrow.Author.Tests.{ltb-true}
 use Rattle.typst_tree.specs.Tree.{Tree}
@@ -15,11 +15,11 @@ use Rattle.typst_language.proofs.Within.{if-same, and-second, nest, turns-enough
 use Rattle.typst_language.proofs.Frame.{framed-turns, framed-nestings}
 use Rattle.typst_language.proofs.Backs.{backs-turns, tidy-nestings}
 use Rattle.typst_edits.specs.Hole.{Hole, plug, wrap_hole}
-use Rattle.typst_edits.specs.Spot.{Spot, around, unit_at, block_head, valued, then_spot, after_spot, rehole}
+use Rattle.typst_edits.specs.Spot.{Spot, Fits, around, unit_at, block_head, valued, then_spot, after_spot, rehole}
 use Rattle.typst_edits.specs.Occurrences.{Spots, joined_spots, goes, last_spot, turns_spots, repeated_spots, reshaped_spot, wrapped_spot, nestings_spots, nesting_spots}
 use Rattle.typst_edits.proofs.Every.{Every, every-append, every-map, every-flat, every-if}
 use Rattle.typst_edits.proofs.Outcomes.{same-outcome, seen-plug}
-use Rattle.typst_edits.proofs.Wrap.{Wraps, wraps-hole}
+use Rattle.typst_edits.proofs.Wrap.{Solid, Wraps, wraps-hole}
 use Rattle.typst_edits.proofs.Inside.{Edits, Lawful, edits-then, lawful-then, lawful-after}
 use Rattle.std.proofs.lemmas.List.{drop-map}
 use Rattle.std.proofs.lemmas.Bool.{lt-ltb}
@@ -38,6 +38,17 @@ if-false false x y h = refl
 
 pub lawful-same : {A : Type 0} (z w : Place) (o p n k : Outcome A) (c : Spot A) → p ≡ o → Lawful z w o n c → ((x : Tree) → Edits z w c x → k ≡ n) → Lawful z w p k c
 lawful-same z w o p n k c e l f = record { old = e ∙ l.old; fits = l.fits; few = l.few; solid = l.solid; swaps = λ x d. f x d ∙ l.swaps x d }
+
+-- What is made of an outcome, whatever a block in it gives, of a spot with the same block: with what its own state and hole say.
+pub lawful-by : {A B : Type 0} (f : Outcome A → Outcome B) (z w : Place) (o n : Outcome A) (c : Spot A) (d : Spot B) → Lawful z w o n c → ((b : Outcome (Unit {0})) (x : Tree) → x.head ≡ block_head c.name → f (around c b x) ≡ around d b x)
+    → ((y : Place) → unit_at c y ≡ unit_at d y) → c.node ≡ d.node → Fits d (unit_at d z) d.node → d.state.empties ≤ length d.hole.right → Solid d.hole.deep (block_head d.name) → ((x : Tree) → Edits z w d x → Edits z w c x) → Lawful z w (f o) (f n) d
+lawful-by f z w o n c d l same units node fits few solid edits = record {
+  old = ap f l.old ∙ same (unit_at c z) c.node l.fits.head ∙ ap (λ b. around d b c.node) (units z) ∙ ap (around d (unit_at d z)) node;
+  fits = fits;
+  few = few;
+  solid = solid;
+  swaps = λ x e. ap f (l.swaps x (edits x e)) ∙ same (unit_at c w) x (edits x e).fits.head ∙ ap (λ b. around d b x) (units w);
+}
 
 pub every-same : {A : Type 0} (z w : Place) (o p n k : Outcome A) (xs ys : List (Spot A)) → p ≡ o → k ≡ n → ys ≡ xs → Every (Lawful z w o n) xs → Every (Lawful z w p k) ys
 every-same z w o p n k xs ys e f g h = rw (e, f, g) h
@@ -71,13 +82,7 @@ abbrev pub second : {A B : Type 0} → Outcome (B × A) → Outcome A
 second o = answered o.value.1 o
 
 pub lawful-last : {A B : Type 0} (z w : Place) (o n : Outcome (B × A)) (c : Spot (B × A)) → Lawful z w o n c → Lawful z w (second o) (second n) (last_spot c)
-lawful-last z w o n c l = record {
-  old = ap second l.old;
-  fits = record { state = l.fits.state; back = l.fits.back; hints = l.fits.hints; nodes = l.fits.nodes; head = l.fits.head };
-  few = l.few;
-  solid = l.solid;
-  swaps = λ x e. ap second (l.swaps x (edits-last z w c x e));
-}
+lawful-last z w o n c l = lawful-by second z w o n c (last_spot c) l (λ b x e. refl) (λ y. refl) refl (record { state = l.fits.state; back = l.fits.back; hints = l.fits.hints; nodes = l.fits.nodes; head = l.fits.head }) l.few l.solid (edits-last z w c)
 
 -- ---- a loop
 
@@ -155,13 +160,9 @@ around-rehole shape n c g b x e f h = same-outcome c.value _ _ _ _ _ _ _ _ _ _ _
 
 pub lawful-reshaped : {A : Type 0} (shape : Shape) (n : ℕ) (z w : Place) (o p : Outcome A) (c : Spot A) (g : Hole) → Wraps shape (n + c.back) c.hole (block_head c.name) g
     → Lawful z w o p c → Lawful z w (reshaped shape n o) (reshaped shape n p) (rehole (wrap_state shape (n + c.back) c) c g)
-lawful-reshaped shape n z w o p c g h l = record {
-  old = ap (reshaped shape n) l.old ∙ around-rehole shape n c g (unit_at c z) c.node l.fits.head l.fits.head h;
-  fits = record { state = l.fits.state; back = l.fits.back; hints = l.fits.hints; nodes = l.fits.nodes; head = l.fits.head };
-  few = h.few c.node c.state l.fits.head l.few;
-  solid = h.solid;
-  swaps = λ x e. ap (reshaped shape n) (l.swaps x (edits-rehole z w _ c g x e)) ∙ around-rehole shape n c g (unit_at c w) x e.fits.head l.fits.head h;
-}
+lawful-reshaped shape n z w o p c g h l =
+    lawful-by (reshaped shape n) z w o p c (rehole (wrap_state shape (n + c.back) c) c g) l (λ b x e. around-rehole shape n c g b x e l.fits.head h) (λ y. refl) refl
+    (record { state = l.fits.state; back = l.fits.back; hints = l.fits.hints; nodes = l.fits.nodes; head = l.fits.head }) (h.few c.node c.state l.fits.head l.few) h.solid (edits-rehole z w _ c g)
 
 -- By a shape that may be another in the new text, unless the edit is inside.
 pub every-reshaped : {A : Type 0} (shape other : Shape) (n : ℕ) (z w : Place) (o p : Outcome A) (c : Spot A) → Lawful z w o p c → ((x : Tree) → Edits z w c x → other ≡ shape)
@@ -188,13 +189,9 @@ around-wrapped f n c g b x e h i =
 
 lawful-wrapped : {A : Type 0} (f : A → Shape) (n : ℕ) (z w : Place) (o p : Outcome A) (c : Spot A) (g : Hole) → Wraps (f c.value) (n + c.back) c.hole (block_head c.name) g
     → Lawful z w o p c → Lawful z w (wrapped f n o) (wrapped f n p) (valued (wrapped_value n c) (rehole (wrap_state (f c.value) (n + c.back) c) c g))
-lawful-wrapped f n z w o p c g h l = record {
-  old = ap (wrapped f n) l.old ∙ around-wrapped f n c g (unit_at c z) c.node l.fits.head l.fits.head h;
-  fits = record { state = l.fits.state; back = l.fits.back; hints = l.fits.hints; nodes = l.fits.nodes; head = l.fits.head };
-  few = h.few c.node c.state l.fits.head l.few;
-  solid = h.solid;
-  swaps = λ x e. ap (wrapped f n) (l.swaps x (edits-rehole z w _ c g x (edits-valued z w _ _ x e))) ∙ around-wrapped f n c g (unit_at c w) x e.fits.head l.fits.head h;
-}
+lawful-wrapped f n z w o p c g h l =
+    lawful-by (wrapped f n) z w o p c (valued (wrapped_value n c) (rehole (wrap_state (f c.value) (n + c.back) c) c g)) l (λ b x e. around-wrapped f n c g b x e l.fits.head h) (λ y. refl) refl
+    (record { state = l.fits.state; back = l.fits.back; hints = l.fits.hints; nodes = l.fits.nodes; head = l.fits.head }) (h.few c.node c.state l.fits.head l.few) h.solid (λ x e. edits-rehole z w _ c g x (edits-valued z w _ _ x e))
 
 map-both : {X Y Z : Type 0} (f : Y → Z) (g : X → Y) (xs : List X) → map f (map g xs) ≡ map (λ x. f (g x)) xs
 map-both f g [] = refl
