@@ -23,7 +23,7 @@ use Rattle.typst_language.proofs.Looks.{same_in-first, same_in-sunk}
 use Rattle.typst_language.proofs.Frame.{framed-done}
 use Rattle.typst_language.proofs.Backs.{left-empties}
 use Rattle.typst_language.proofs.Knot.{Sane, sane-run, sane-plain, sane-meaning, sane-block}
-use Rattle.typst_edits.specs.Spot.{Spot, around, Fits, unit_at, block_head, lowered, after_spot, sunk_spot, closed_spot, ended, last_node, here_spot}
+use Rattle.typst_edits.specs.Spot.{Spot, around, Fits, block_head, lowered, after_spot, sunk_spot, closed_spot, ended, last_node, here_spot}
 use Rattle.typst_edits.specs.Occurrences.{Spots, scoped_spot, bounded_spots, spots, call_spots, block_spots, level_spots}
 use Rattle.typst_edits.proofs.Every.{Every, every-map, every-if}
 use Rattle.typst_edits.proofs.Outcomes.{same-outcome, shift-zero, lowered-zero, sunk-lowered, sunk-shift, or-false}
