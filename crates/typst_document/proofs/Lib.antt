@@ -1,4 +1,5 @@
 mod Cuts
 mod Edits
+mod ReadAgain
 mod Records
 mod Walking

@@ -1,5 +1,5 @@
 -- What contracts see of an open document, and what changes make of its text.
-use Rattle.std.specs.Prelude.{◌≡◌, ℕ, ◌≤◌, min, max, true, List, [], ◌++◌, length, take, drop, slice_range, refl}
+use Rattle.std.specs.Prelude.{◌≡◌, ℕ, ◌≤◌, ⊤, min, max, true, List, [], ◌++◌, length, take, drop, slice_range, Option, None, Some, refl}
 use Rattle.std.specs.Str.{IsCharBoundary}
 use Rattle.std.specs.Coded.{Coded, code_by, coded×}
 use Rattle.std.specs.declared.ops.Range.{Range}
@@ -8,6 +8,7 @@ use Rattle.typst_lines.specs.declared.by_unicode.UnicodeClasses.{UnicodeClasses}
 use Rattle.typst_lines.specs.contracts.by_unicode.UnicodeClasses.{the_row as classes_row}
 use Rattle.typst_parser.specs.Headline.{Headline}
 use Rattle.typst_parser.specs.Held.{Held, held_code}
+use Rattle.typst_parser.specs.RootEdits.{IsRootEdit}
 use Rattle.typst_positions.specs.contracts.columns.Encoding.{the_row as encoding_row}
 use Rattle.typst_positions.specs.Positions.{byte_at}
 use Rattle.typst_positions.specs.Starts.{line_starts}
@@ -49,3 +50,9 @@ changed encoding text (ranged place new) = put_between text (byte_at encoding te
 pub record IsTextAt (text : List ℕ) (bytes : Range ℕ) (found : List ℕ) : Type 0 where
   pub within : bytes.start ≤ bytes.end → IsCharBoundary text bytes.start → IsCharBoundary text bytes.end → found ≡ slice_range text bytes.start bytes.end
   pub none : (bytes.start ≤ bytes.end → IsCharBoundary text bytes.start → ¬ (IsCharBoundary text bytes.end)) → found ≡ []
+
+-- these bytes of a changed document were read again, or it isn't known which: by what was read again some of the root's children gave
+-- way to others
+abbrev pub IsReadAgain : Opened → Opened → Option (Range ℕ) → Type 0
+IsReadAgain old new None = ⊤
+IsReadAgain old new (Some read) = IsRootEdit old.source.root new.source.root read

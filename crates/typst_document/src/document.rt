@@ -80,14 +80,20 @@ impl Document {
         self.encoding
     }
 
-    /// The document after a change. It is gone where the change is refused.
-    pub fn changed(self, alloc: Global, change: Change<'_>) -> Result<Document, Refusal>
-        ensures text { IfOk result (λ document. document.source.text ≡ spec.changed self.encoding self.source.text (edit_in change.entry)) }
-        ensures encoding { IfOk result (λ document. document.encoding ≡ self.encoding) }
-        ensures headline { IfOk result (λ document. Headline unicode_classes document.source) }
+    /// The document after a change, and the bytes of its text that were read again, if that is known. It is
+    /// gone where the change is refused.
+    pub fn changed(
+        self,
+        alloc: Global,
+        change: Change<'_>,
+    ) -> Result<(Document, Option<Range<usize>>), Refusal>
+        ensures text { IfOk result (λ kept. kept.0.source.text ≡ spec.changed self.encoding self.source.text (edit_in change.entry)) }
+        ensures encoding { IfOk result (λ kept. kept.0.encoding ≡ self.encoding) }
+        ensures headline { IfOk result (λ kept. Headline unicode_classes kept.0.source) }
+        ensures read { IfOk result (λ kept. spec.IsReadAgain self kept.0 kept.1) }
     {
         match change {
-            Change::Whole(text) => self.replaced(alloc, text),
+            Change::Whole(text) => Ok((self.replaced(alloc, text)?, None)),
             Change::Ranged(stretch, text) => {
                 let start = self.byte_of(stretch.start);
                 let end = self.byte_of(stretch.end);
@@ -120,14 +126,19 @@ impl Document {
         })
     }
 
-    /// The document with a text in the place of a range of bytes.
-    fn edited(self, replace: Range<usize>, with: &str) -> Result<Document, Refusal>
+    /// The document with a text in the place of a range of bytes, and the bytes that were read again.
+    fn edited(
+        self,
+        replace: Range<usize>,
+        with: &str,
+    ) -> Result<(Document, Option<Range<usize>>), Refusal>
         requires start { IsCharBoundary self.source.text replace.start }
         requires end { IsCharBoundary self.source.text replace.end }
         requires ordered { replace.start ≤ replace.end }
-        ensures text { IfOk result (λ document. document.source.text ≡ edited self.source.text replace with.now) }
-        ensures encoding { IfOk result (λ document. document.encoding ≡ self.encoding) }
-        ensures headline { IfOk result (λ document. Headline unicode_classes document.source) }
+        ensures text { IfOk result (λ kept. kept.0.source.text ≡ edited self.source.text replace with.now) }
+        ensures encoding { IfOk result (λ kept. kept.0.encoding ≡ self.encoding) }
+        ensures headline { IfOk result (λ kept. Headline unicode_classes kept.0.source) }
+        ensures read { IfOk result (λ kept. spec.IsReadAgain self kept.0 kept.1) }
     {
         let Document {
             mut source,
@@ -135,13 +146,17 @@ impl Document {
             encoding,
         } = self;
         let Range { start, end } = replace;
-        source.edit(start..end, with).map_err(refused)?;
+        let _was = source.text();
+        let Ok(read) = source.edit(start..end, with) else {
+            return Err(Refusal::OutOfMemory);
+        };
         positions.edit(source.text(), start..end, with.len())?;
-        Ok(Document {
+        let document = Document {
             source,
             positions,
             encoding,
-        })
+        };
+        Ok((document, Some(read)))
     }
 
     /// The byte of a position.

@@ -4,6 +4,7 @@ mod Encoding
 mod Growing
 mod Held
 mod Keeping
+mod KeptTokens
 mod Locating
 mod Occurring
 mod Publishing

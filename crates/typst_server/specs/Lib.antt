@@ -12,4 +12,5 @@ pub mod Results
 pub mod Sent
 pub mod Sessions
 pub mod Tokens
+pub mod Tracked
 pub mod Transcript

@@ -10,6 +10,7 @@ ghost use Rattle.typst_server.specs.Documents.{IsMissing, IsUnknown, Keeps, Keep
 ghost use Rattle.typst_server.specs.Left.{AreSame, AreUnknown};
 
 use crate::tokens::Sent;
+use crate::tracked::Tracked;
 use serde_json::Value;
 use std::alloc::{AllocError, Global};
 use std::mem;
@@ -21,7 +22,7 @@ use typst_protocol::{Change, Refusal, is_same};
 #[derive(Drop)]
 pub enum Held {
     /// Its text, and the tokens that were sent last.
-    Known(Document, Option<Sent>),
+    Known(Tracked, Option<Sent>),
     /// Nothing, since a change of it was refused.
     Lost,
 }
@@ -80,7 +81,7 @@ impl Documents {
     }
 
     /// The document with an address. It refuses where there is none, and where its text isn't known.
-    pub fn get(&self, uri: &str) -> Result<&Document, Refusal>
+    pub fn get(&self, uri: &str) -> Result<&Tracked, Refusal>
         ensures { MatchResult result (λ document. found uri.now self.now ≡ Some (Some document.now)) (IsMissing (found uri.now self.now)) }
     {
         let Some(entry) = self.entry_of(uri) else {
@@ -119,7 +120,7 @@ impl Documents {
         let mut all = Vec::new(self.alloc);
         for entry in &self.entries {
             if let Held::Known(document, _) = &entry.held {
-                all.push((entry.uri.as_str(), document))?;
+                all.push((entry.uri.as_str(), document.document()))?;
             }
         }
         Ok(all)
@@ -316,7 +317,8 @@ impl Entry {
         ensures known { known self.new.held ≡ known self.old.held }
         ensures sent { IsKept (Some (known self.old.held)) sent (last_of self.new.held) }
     {
-        if let Held::Known(_, last) = &mut self.held {
+        if let Held::Known(document, last) = &mut self.held {
+            document.mark_sent();
             *last = Some(sent);
         }
     }
@@ -355,14 +357,17 @@ impl Held {
         alloc: Global,
         change: Change<'_>,
         encoding: Encoding,
-    ) -> Result<(Document, Option<Sent>), Refusal>
+    ) -> Result<(Tracked, Option<Sent>), Refusal>
         ensures known { IfOk result (λ kept. Keeps encoding (λ text. next encoding text (Some (edit_in change.entry))) (Some (known self)) (Some (Some kept.0))) }
         ensures sent { IfOk result (λ kept. kept.1 ≡ last_of self) }
     {
         match self {
             Held::Known(document, sent) => Ok((document.changed(alloc, change)?, sent)),
             Held::Lost => match change {
-                Change::Whole(text) => Ok((Document::new(alloc, text, encoding)?, None)),
+                Change::Whole(text) => {
+                    let document = Document::new(alloc, text, encoding)?;
+                    Ok((Tracked::new(document), None))
+                }
                 Change::Ranged(_, _) => Err(Refusal::LostDocument),
             },
         }

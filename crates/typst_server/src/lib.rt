@@ -17,6 +17,7 @@ mod server;
 mod showing;
 mod streams;
 mod tokens;
+mod tracked;
 mod typing;
 mod workspace;
 

@@ -27,6 +27,7 @@ use crate::documents::Documents;
 use crate::reply::{News, Reply};
 use crate::requests::FoldingStyle;
 use crate::tokens::Sent;
+use crate::tracked::Tracked;
 use crate::{actions, links, naming, outline, requests, showing, tokens, typing, workspace};
 use serde_json::Value;
 use std::alloc::{AllocError, Global};
@@ -402,7 +403,7 @@ impl Server {
             Method::TokensDelta => {
                 self.fresh_tokens(document, uri, Some(params.previous_tokens()?))
             }
-            _ => alone(self.look_at(document, uri, method, params)),
+            _ => alone(self.look_at(document.document(), uri, method, params)),
         }
     }
 
@@ -410,7 +411,7 @@ impl Server {
     /// last.
     fn fresh_tokens<'a>(
         &self,
-        document: &Document,
+        document: &Tracked,
         uri: &'a str,
         previous: Option<&str>,
     ) -> Result<Made<'a>, Refusal>
@@ -573,7 +574,13 @@ impl Server {
             Ok(_) if self.standing.pulls => Reply::Nothing,
             Ok(document) => told(
                 self.alloc,
-                publish(self.alloc, document, self.standing.errors, uri, version),
+                publish(
+                    self.alloc,
+                    document.document(),
+                    self.standing.errors,
+                    uri,
+                    version,
+                ),
             ),
             Err(_) if is_new => Reply::News(self.lost(uri)),
             Err(_) => Reply::Nothing,

@@ -1,10 +1,12 @@
 //! The tokens of a document: what of it is shown how.
 ghost use Rattle.std.specs.Prelude.{◌≡◌, ◌^◌, ◌<◌, [], length, IfOk, OnOk, option_map};
 ghost use Rattle.std.specs.String.{string_bytes};
+ghost use Rattle.typst_document.specs.Document.{all_bytes};
 ghost use Rattle.typst_server.specs.Sent.{AreAll, IsSentAs, Leads, TellsOf, made_by};
 ghost use Rattle.typst_server.specs.Numbers.{IsAdded, all_shown, clipped, decoded, encoded, shown, shown_each};
 
 use crate::capabilities::{modifiers_of, number_of};
+use crate::tracked::Tracked;
 use std::alloc::{AllocError, Global};
 use std::ops::Range;
 use typst_document::{Document, Walk};
@@ -108,13 +110,25 @@ fn number(count: usize) -> u32
     u32::try_from(count).unwrap_or(u32::MAX)
 }
 
+/// All tokens of a document in these numbers: of those that are kept, or else they are made.
+fn all_numbers(alloc: Global, tracked: &Tracked) -> Result<Vec<u32>, AllocError>
+    ensures { length tracked.now.source.text < 2 ^ 32 → IfOk result (λ numbers. decoded 0 0 numbers.items ≡ all_shown tracked.now (all_bytes tracked.now)) }
+{
+    let opened = tracked.document();
+    let _text = opened.text();
+    match tracked.tokens() {
+        Some(tokens) => encode(alloc, opened, tokens.as_slice()),
+        None => numbers_of(alloc, opened, &opened.whole()),
+    }
+}
+
 /// The tokens of a document, to be sent under a number.
-pub fn fresh(alloc: Global, document: &Document, number: u64) -> Result<Sent, AllocError>
+pub fn fresh(alloc: Global, document: &Tracked, number: u64) -> Result<Sent, AllocError>
     ensures { IfOk result (IsSentAs document.now number) }
 {
     Ok(Sent {
         name: format!(in alloc; "{number}")?,
-        data: numbers_of(alloc, document, &document.whole())?,
+        data: all_numbers(alloc, document)?,
     })
 }
 

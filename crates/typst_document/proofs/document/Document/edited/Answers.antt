@@ -1,9 +1,12 @@
-use Rattle.std.proofs.Common.{rules, ◌≡◌, ◌≤◌, arith, length, subst, sym}
+use Rattle.std.proofs.Common.{rules, ◌≡◌, ◌≤◌, ap, arith, length, subst, sym}
+use Rattle.std.specs.Str.{IsUtf8}
 use Rattle.std.proofs.lemmas.Grind.{common_steps}
 use Rattle.typst_parser.specs.Headline.{edited}
 use Rattle.typst_positions.specs.Positions.{IsEdited}
 use Rattle.typst_positions.specs.Starts.{line_starts}
+use Rattle.typst_document.specs.Document.{Opened}
 use Rattle.typst_document.proofs.Edits.{is_edited}
+use Rattle.typst_document.proofs.ReadAgain.{read_again}
 use Rattle.typst_document.proofs.document.Document.edited.Goals as goal
 
 pub edit-requires-2 : goal.edit-requires-2
@@ -16,3 +19,10 @@ edit-requires-2 c =
     subst (λ t. IsEdited (line_starts c.args.self.source.text) t c.args.replace (length c.args.with.now)) (sym text)
     (is_edited c.args.self.source.text c.args.with.now c.args.replace c.requires.ordered within)
     )
+
+pub returns-clause-read : goal.returns-clause-read
+returns-clause-read c =
+    let old = c.self.inside.source in
+    let ok = c.in-Ok.ensures in
+    read_again c.args.self old c.edit.new.self c.args.replace c.args.with.now c.in-Ok.read (ap (λ (d : Opened). d.source) (sym c.self.view_is)) c.self.invariant.headline ok.headline (subst IsUtf8 c.text-was.ensures c.text-was.utf8)
+    c.utf8.with c.requires.start c.requires.end c.requires.ordered ok.text ok.answer c.self.invariant.recorded ok.within.0
