@@ -7,7 +7,6 @@ ghost use Rattle.typst_edits.specs.BlockModes.{ModeLaw};
 ghost use Rattle.typst_edits.specs.BlockRuns.{InnerLaw};
 ghost use Rattle.typst_edits.specs.BlockSplice.{BlockSpliceLaw};
 ghost use Rattle.typst_edits.specs.BlockPart.{BlockPartLaw, PartFitsLaw};
-ghost use Rattle.typst_edits.specs.BlockPart.{BlockPartLaw};
 ghost use Rattle.typst_edits.specs.BlockTest.{BlockTestLaw};
 ghost use Rattle.typst_edits.specs.BlockWorth.{BlockWorthLaw};
 ghost use Rattle.typst_edits.specs.Answer.{CandidateLaw};
@@ -58,16 +57,11 @@ ghost use Rattle.typst_edits.specs.RootPieces.{RootPiecesLaw};
 ghost use Rattle.typst_edits.specs.RunBytes.{RunDecisionLaw};
 ghost use Rattle.typst_edits.specs.RunNumbers.{InnerNumbersLaw, RunNumbersLaw};
 ghost use Rattle.typst_edits.specs.RunTrees.{RunTreeLaw};
-ghost use Rattle.typst_edits.specs.RunNumbers.{InnerNumbersLaw};
-ghost use Rattle.typst_edits.specs.RunTest.{InnerRunTestLaw};
-ghost use Rattle.typst_edits.specs.CandidateRuns.{InnerPiecesOfLaw};
 ghost use Rattle.typst_edits.specs.Runs.{RunLaw, StartLaw};
 ghost use Rattle.typst_edits.specs.Standing.{StandingLaw, UnnotedLaw};
 ghost use Rattle.typst_edits.specs.RunSplice.{RunSpliceLaw};
-ghost use Rattle.typst_edits.specs.RunTest.{OverLaw, RunTestLaw};
+ghost use Rattle.typst_edits.specs.RunTest.{InnerRunTestLaw, OverLaw, RunTestLaw};
 ghost use Rattle.typst_edits.specs.Served.{ServedLaw};
-ghost use Rattle.typst_edits.specs.RunNumbers.{RunNumbersLaw};
-ghost use Rattle.typst_edits.specs.CandidateRuns.{RootPiecesOfLaw};
 ghost use Rattle.typst_edits.specs.Splice.{SpliceLaw};
 ghost use Rattle.typst_edits.specs.SpliceExamples.{Splices};
 ghost use Rattle.typst_edits.specs.Unique.{OneAnswerLaw, UniqueLaw};
@@ -105,7 +99,8 @@ pub fn standing_law()
 /// new text has these in their place, and is the same before and after them. Where nothing is kept
 /// after them, as at the end of the run, the pieces before are kept by the first of these alone.
 /// The same holds of pieces of a content block's run, and then the edit passes the test of the block.
-/// In the tree and in the log of the text the new pieces' part stands in place of the old ones'.
+/// In the tree and in the log of the text the new pieces' part stands in place of the old ones'. No law below
+/// needs this one: `joint_law` goes without the same state.
 pub fn run_law()
     ensures pieces { RunLaw }
     ensures start { StartLaw }
@@ -392,7 +387,8 @@ pub fn inner_worth_law()
 
 /// Each candidate of an edit that passes its test is worth its new nodes: the new text's tree is the old one with
 /// them in its place, and the new text's units are the old ones with a part of them exchanged. So it is of blocks,
-/// of pieces of a text's own run and of those of content blocks.
+/// of pieces of a text's own run and of those of content blocks. Proofs of code use `answer_law` for the tree and
+/// the laws of tests for the units.
 pub fn candidate_law()
     ensures { CandidateLaw }
 {}
