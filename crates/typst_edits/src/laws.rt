@@ -98,7 +98,10 @@ pub fn standing_law()
 /// end at the shifted end, with what was carried there and in the same state, the reading of the
 /// new text has these in their place, and is the same before and after them. Where nothing is kept
 /// after them, as at the end of the run, the pieces before are kept by the first of these alone.
-/// The same holds of pieces of a content block's run, and then the edit passes the test of the block.
+/// In a content block's run the looks before pieces are also those before the block and at its bracket, and the looks
+/// after them those up to the block's end and after it. Where an edit inside some pieces of such a run passes this
+/// test, the reading of the block has the new pieces in their place and is the same before and after them, and the
+/// edit passes the test of the block.
 /// In the tree and in the log of the text the new pieces' part stands in place of the old ones'. No law below
 /// needs this one: `joint_law` goes without the same state.
 pub fn run_law()
@@ -218,10 +221,12 @@ pub fn block_test_law()
 /// the stretch from another note on, the units of the second text are those of the first with the ones between these
 /// notes exchanged for its own: no other entry changes, nor how far back is looked after the last note. This holds if
 /// an edit inside a block passes the test: the entries between the block's two notes, with the second, are exchanged.
-/// The same holds if an edit inside some pieces of a text's run does: the entries of the old pieces are exchanged for
-/// those of the new ones. Where no piece stands before them and none is read, the run has to end there.
-/// The same holds in a content block, where no trivia may stand after its bracket if no piece does; whatever stands
-/// there, the block's entries are exchanged.
+/// Where an edit inside some pieces of a text's run passes the test of the joint, the entries of the old pieces are
+/// exchanged for those of the new ones; if no piece stands before the joint, in the old text or in the new one, the
+/// run has to end there. Where an edit inside some pieces of a content block's run passes it, the pieces' entries are
+/// exchanged too; if no piece stands before the joint in one of the texts, no trivia may stand after the block's
+/// bracket there. Whatever stands there, the block's entries, those between its two notes and the second of them, are
+/// exchanged for those of the new block.
 pub fn splice_law()
     ensures units { SpliceLaw }
     ensures block { BlockSpliceLaw }
