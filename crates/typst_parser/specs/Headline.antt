@@ -8,14 +8,13 @@ use Rattle.typst_tree.specs.Order.{AreInOrder, numbers_of}
 use Rattle.typst_lines.specs.Classes.{CharClasses}
 use Rattle.typst_edits.specs.Grammar.{tree}
 use Rattle.typst_parser.specs.Held.{Held}
+-- The file in which a tree is numbered, and the tree numbered over all numbers of a file, if they are enough, or without numbers if
+-- there is no file.
+pub use Rattle.typst_edits.specs.Answer.{file_of, numbered_in}
 
 -- the text with another one in the place of a range of bytes
 abbrev pub edited : List ℕ → Range ℕ → List ℕ → List ℕ
 edited text range new = take range.start text ++ new ++ drop range.end text
-
--- the file in which a tree is numbered; and the tree numbered over all numbers of a file, if they are
--- enough, or without numbers if there is no file
-pub use Rattle.typst_edits.specs.Answer.{file_of, numbered_in}
 
 -- each node has a number of the file, above those of the nodes before it in preorder
 pub record IsNumberedIn (file : ℕ) (t : Tree) : Type 0 where
