@@ -1,4 +1,4 @@
-//! What is told of trees and texts.
+//! What is reported of trees and texts.
 
 ghost use Rattle.std.specs.Prelude.{◌≡◌, ◌-◌, ◌^◌, ◌<◌, IfErr, IfOk, OnOk, length};
 ghost use Rattle.typst_parser.specs.Tree.{nodes, saturated, text_of};

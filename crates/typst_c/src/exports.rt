@@ -349,7 +349,7 @@ pub extern "C" fn typst_source_byte(
     counted(answer, byte)
 }
 
-/// Gives a source to C, which only want of memory refuses. C may pass it on to another thread.
+/// Gives a source to C, which is refused only for lack of memory. C may pass it on to another thread.
 fn give(alloc: Global, kept: Kept, source: &mut *mut u8) -> u32
     ensures { (refusal : Refusal) → result ≡ spec.code_of refusal → refusal ≡ spec.no_memory }
 {

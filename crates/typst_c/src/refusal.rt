@@ -40,7 +40,7 @@ pub fn code_of(refusal: Refusal) -> u32
     }
 }
 
-/// Want of memory.
+/// Lack of memory.
 pub fn no_memory(_error: AllocError) -> Refusal
     ensures { result ≡ spec.no_memory }
 {

@@ -1,5 +1,5 @@
 -- Blocks of words that are passed over at once.
-use Rattle.std.proofs.Common.{◌≡◌, ℕ, zero, suc, ◌+◌, ◌-◌, ◌/◌, ◌%◌, ◌^◌, ◌≤◌, ◌<◌, ◌==◌, ◌&&◌, max, nat_le, Bool, true, false, if◌then◌else◌, List, [], ◌∷◌, ◌++◌, length, length-drop, map, take, drop, Option, None, Some, refl, ap, sym, subst, ◌∙◌, arith}
+use Rattle.std.proofs.Common.{◌≡◌, ℕ, zero, suc, ◌+◌, ◌-◌, ◌/◌, ◌%◌, ◌^◌, ◌≤◌, ◌<◌, ◌==◌, ◌&&◌, max, nat_le, Bool, true, false, if◌then◌else◌, List, [], ◌∷◌, ◌++◌, get_or, length, length-drop, map, take, drop, Option, None, Some, refl, ap, sym, subst, ◌∙◌, arith}
 use Rattle.std.proofs.lemmas.Bool.Decides.{nat_tests}
 use Rattle.std.proofs.lemmas.List.{drop-map, length-map, take-append-drop, take-map}
 use Rattle.std.proofs.lemmas.Nat.{mod_below, pow_pos}
@@ -8,7 +8,7 @@ use Rattle.typst_candidates.specs.declared.entry.Entry.{Entry}
 use Rattle.typst_candidates.specs.declared.entry.EntryKind.{EntryKind}
 use Rattle.typst_candidates.specs.declared.entry.EntryKind.TheVariants as entry_kind
 use Rattle.typst_candidates.specs.declared.packed.Packed.{Packed}
-use Rattle.typst_candidates.specs.Cursors.{AreNear}
+use Rattle.typst_candidates.specs.Cursors.{AreNear, EntryPlace, GoBack, back_after, start_at}
 use Rattle.typst_candidates.specs.Entries.{end_of, front_of, is_after, rear_of}
 use Rattle.typst_candidates.specs.Packed.{all_beside, beside, entry_by, entry_in, back_bits, filled, forth_bits, spans, entry_kinds, unpacked, wides, widths}
 use Rattle.typst_candidates.specs.Records.{is_opening, opening_of}
@@ -168,3 +168,93 @@ rear-block es at back n e here b near h =
     let whole = take-more n 16 es ∙ ap (λ us. take n es ++ us) block in
     ap (λ us. rear_of at 0 0 us back) whole
     ∙ rear-over at 0 0 (take n es) e (take 15 (drop (suc n) es)) back (ap (λ us. is_after at (end_of 0 us) back) (sym whole) ∙ b) (subst AreNear block near) h
+
+-- ---- far after a byte
+
+-- what goes no further back than one number goes no further back than a larger one
+pub back-more : (es : List Entry) (m n : ℕ) → m ≤ n → GoBack m es → GoBack n es
+back-more [] m n h a = tt
+back-more (e ∷ es) m n h a = let few = a.0 in (omega (arith, h, few), back-more es m n h a.1)
+
+-- the first of some entries, and one more
+pub back-take : (es : List Entry) (i most : ℕ) (z : Entry) → i < length es → GoBack most (take i es) → (get_or es i z).back ≤ most → GoBack most (take (suc i) es)
+back-take [] i most z h a b = absurd (omega (arith, h))
+back-take (e ∷ es) zero most z h a b = (b, tt)
+back-take (e ∷ es) (suc i) most z h a b = (a.0, back-take es i most z (omega (arith, h)) a.1 b)
+
+-- entries go no further back than those beside the words, or than words say
+pub back-words : (ps : List Packed) (ws : List Entry) (most : ℕ) → 2 ^ 4 ≤ most → GoBack most ws → GoBack most (unpacked ps ws)
+back-words [] ws most h a = tt
+back-words (p ∷ ps) ws most h a = step (entry_in p) ws (λ e. near-kind (slice_get entry_kinds (p.word % 2 ^ 4)) (p.word / 2 ^ 4) e) a (λ vs. back-words ps vs most h)
+  where
+    step : (o : Option Entry) (vs : List Entry) → ((e : Entry) → o ≡ Some e → IsNear e) → GoBack most vs → ((us : List Entry) → GoBack most us → GoBack most (unpacked ps us)) → GoBack most (filled (o ∷ map entry_in ps) vs)
+    step None [] f b rest = tt
+    step None (v ∷ vs) f b rest = (b.0, rest vs b.1)
+    step (Some e) vs f b rest = let near = f e refl in let few = near.1 in (omega (arith, h, few), rest vs b)
+
+-- also after a place
+pub back-after : (ps : List Packed) (ws : List Entry) (n passed most : ℕ) → n ≤ length ps → passed ≡ wides (take n ps) → wides ps ≡ length ws → 2 ^ 4 ≤ most → GoBack most (drop passed ws) → GoBack most (drop n (unpacked ps ws))
+back-after ps ws n passed most within is h far a =
+    let os = map entry_in ps in
+    let long : length os ≡ length ps = length-map ps entry_in in
+    let half = halves os ws n (omega (arith, within, long)) h in
+    let after : drop n os ≡ map entry_in (drop n ps) = drop-map entry_in n ps in
+    let same : all_beside (take n os) ≡ passed = ap all_beside (take-map entry_in n ps) ∙ sym is in
+    let rest : drop n (unpacked ps ws) ≡ unpacked (drop n ps) (drop passed ws) = half.back ∙ ap (λ us. filled us (drop (all_beside (take n os)) ws)) after ∙ ap (λ k. unpacked (drop n ps) (drop k ws)) same in
+    subst (GoBack most) (sym rest) (back-words (drop n ps) (drop passed ws) most far a)
+
+-- and further on
+back-next : (es : List Entry) (n most : ℕ) → GoBack most (drop n es) → GoBack most (drop (suc n) es)
+back-next [] zero most a = tt
+back-next [] (suc n) most a = tt
+back-next (e ∷ es) zero most a = a.1
+back-next (e ∷ es) (suc n) most a = back-next es n most a
+
+back-later : (es : List Entry) (n most k : ℕ) → GoBack most (drop n es) → GoBack most (drop (k + n) es)
+back-later es n most zero a = let none : n ≡ 0 + n = omega arith in subst (λ m. GoBack most (drop m es)) none a
+back-later es n most (suc k) a =
+    let one : suc (k + n) ≡ suc k + n = omega arith in
+    subst (λ m. GoBack most (drop m es)) one (back-next es (k + n) most (back-later es n most k a))
+
+pub back-on : (es : List Entry) (m n most : ℕ) → m ≤ n → GoBack most (drop m es) → GoBack most (drop n es)
+back-on es m n most h a = let sum : (n - m) + m ≡ n = omega (arith, h) in subst (λ k. GoBack most (drop k es)) sum (back-later es m most (n - m) a)
+
+far-by : (at start back most : ℕ) → at + most ≤ start → back ≤ most → is_after at start back ≡ true
+far-by at start back most h b = let less : at < suc start - back = omega (arith, h, b) in grind (arith, nat_tests, less)
+
+none-after : (at start count : ℕ) (ys : List Entry) (back most : ℕ) → at + most ≤ start → GoBack most ys → back ≤ most → rear_of at start count ys back ≡ 0
+none-after at start count [] back most h a b = ap (λ (t : Bool). if t then 0 else count) (far-by at start back most h b)
+none-after at start count (y ∷ ys) back most h a b =
+    let here = (start + y.step) + y.gap in
+    let rest = none-after at here (suc count) ys back most (omega (arith, h)) a.1 b in
+    let one : rear_of at start count (y ∷ ys) back ≡ max 0 (rear_of at here (suc count) ys back) = ap (most_by count (rear_of at here (suc count) ys back)) (far-by at start y.back most h a.0) in
+    omega (arith, one, rest)
+
+-- how far back the looks of the first of some entries begin, or `back` if there is none
+abbrev first_back : ℕ → List Entry → ℕ
+first_back back [] = back
+first_back back (y ∷ ys) = y.back
+
+rear-cut : (at start count : ℕ) (xs ys : List Entry) (back most : ℕ) → at + most ≤ end_of start xs → GoBack most ys → back ≤ most → rear_of at start count (xs ++ ys) back ≡ rear_of at start count xs (first_back back ys)
+rear-cut at start count [] [] back most h a b = refl
+rear-cut at start count [] (y ∷ ys) back most h a b =
+    let rest = none-after at ((start + y.step) + y.gap) (suc count) ys back most (omega (arith, h)) a.1 b in
+    omega (arith, rest)
+rear-cut at start count (x ∷ xs) ys back most h a b =
+    let here = (start + x.step) + x.gap in
+    ap (max (if is_after at start x.back then 0 else count)) (rear-cut at here (suc count) xs ys back most h a b)
+
+first-at : (es : List Entry) (n back : ℕ) → first_back back (drop n es) ≡ back_after back (record { entries = es; number = n })
+first-at [] zero back = refl
+first-at [] (suc n) back = refl
+first-at (e ∷ es) zero back = refl
+first-at (e ∷ es) (suc n) back = first-at es n back
+
+-- where a place is so far after a byte that no look after it reaches back to the byte, the rear is counted from there
+pub rear-from : (es : List Entry) (at back most : ℕ) (p : EntryPlace) → p.entries ≡ es → is_after at (start_at p) most ≡ true → GoBack most (drop p.number es) → back ≤ most → rear_of at 0 0 (take p.number es) (back_after back p) ≡ rear_of at 0 0 es back
+rear-from es at back most p is far a b =
+    let n = p.number in
+    let start : start_at p ≡ end_of 0 (take n es) = ap (λ us. end_of 0 (take n us)) is in
+    let less : at + most ≤ end_of 0 (take n es) = grind (arith, nat_tests, far, start) in
+    let first : back_after back p ≡ first_back back (drop n es) = ap (λ us. back_after back (record { entries = us; number = n })) is ∙ sym (first-at es n back) in
+    ap (rear_of at 0 0 (take n es)) first ∙ sym (rear-cut at 0 0 (take n es) (drop n es) back most less a b) ∙ ap (λ us. rear_of at 0 0 us back) (take-append-drop n es)

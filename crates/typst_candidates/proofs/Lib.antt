@@ -5,6 +5,7 @@
 --   next, back, cursor_at, piece_after, piece_before, top_run, run_in, closing   Cursors; Openings: run_in by opening
 --   the anchor, and what is looked up from it   Anchors; Starts: top_run, run_in by their first piece
 --   put, push, next, back of the words       Words
+--   upto, push, push_wide: the tally         Tallies
 --   start of a word cursor, put             Spans: by sums over words, Rounds: round the machine's numbers; pass_block   Blocks
 --   looks_law                        Looks: note by note
 --   nested_law                       Nested

@@ -51,6 +51,15 @@ abbrev pub AreNear : List Entry → Type 0
 AreNear [] = Unit {0}
 AreNear (e ∷ es) = (e.forth < 2 ^ 10) × (e.back < 2 ^ 4) × AreNear es
 
+-- the looks of some entries go at most so many bytes back
+abbrev pub GoBack : ℕ → List Entry → Type 0
+GoBack most [] = Unit {0}
+GoBack most (e ∷ es) = (e.back ≤ most) × GoBack most es
+
+-- how far back the looks of the entry after a place begin, or `back` if there is none
+abbrev pub back_after : ℕ → EntryPlace → ℕ
+back_after back p = elim (entry_after p) as (λ _. ℕ) [ None ↦ back | Some e ↦ e.back ]
+
 -- `new` is after the `block_len` entries that follow `old`. They take up `span` bytes, and their
 -- looks do not go far
 pub record PassesBlock (old new : EntryPlace) (span : ℕ) : Type 0 where

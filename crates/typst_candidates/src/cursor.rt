@@ -138,6 +138,23 @@ impl<'a> EntryCursor<'a> {
         true
     }
 
+    /// How many bytes back the looks of the entries after the place go at most, or `FARTHEST_BACK` if that is more.
+    pub(crate) fn farthest_back(&self) -> usize
+        ensures { spec.GoBack result (drop self.now.number self.now.entries) }
+    {
+        self.word_cursor.farthest_back()
+    }
+
+    /// How far back the looks of the entry after the place begin, or `back` if it is the last.
+    pub(crate) fn back_after(&self, back: usize) -> usize
+        ensures { result ≡ spec.back_after back self.now }
+    {
+        match self.copy().next() {
+            Some(entry) => entry.back,
+            None => back,
+        }
+    }
+
     /// How many entries are after the place.
     pub(crate) fn left(&self) -> usize
         ensures { result ≡ length self.now.entries - self.now.number }

@@ -1,7 +1,7 @@
 //! Entries in order, nearly all of them in words.
 
 ghost use Rattle.std.specs.Prelude.{ℕ, List, ◌≡◌, ◌+◌, ◌-◌, ◌%◌, ◌^◌, ◌++◌, ◌∷◌, [], ◌≤◌, ◌<◌, IfOk, IfSome, MatchOption, None, OnErr, OnOk, Some, length, drop, slice_get, suc, take, vec_capacity};
-ghost use Rattle.typst_candidates.specs.Cursors.{PassesBlock, PassesPiece, before, after, block_len, entry_before, entry_after, start_at};
+ghost use Rattle.typst_candidates.specs.Cursors.{GoBack, PassesBlock, PassesPiece, before, after, block_len, entry_before, entry_after, start_at};
 ghost use Rattle.typst_candidates.specs.Entries.{end_of};
 ghost use Rattle.typst_candidates.specs.Tallies.{IsTally};
 ghost use Rattle.typst_candidates.specs.Packed.{HasRoom, lengths, spans, wides};
@@ -336,6 +336,14 @@ impl<'a> WordCursor<'a> {
         Some(word.span() as usize)
     }
 
+    /// How many bytes back the looks of the entries after the place go at most, or `FARTHEST_BACK` if that is more.
+    /// Goes only through those beside the words, which are few: the looks of the others go less far back.
+    pub(crate) fn farthest_back(&self) -> usize
+        ensures { GoBack result (drop self.now.number self.now.entries) }
+    {
+        farthest_back(self.wide, self.passed)
+    }
+
     /// How many entries are after the place.
     pub(crate) fn left(&self) -> usize
         ensures { result ≡ length self.now.entries - self.now.number }
@@ -365,6 +373,19 @@ fn wide_at(wide: &[Entry], number: usize) -> Entry
     ensures { slice_get wide.now number ≡ Some result }
 {
     wide[number]
+}
+
+/// How many bytes back the looks of the entries from one on go at most, or `FARTHEST_BACK` if that is more.
+fn farthest_back(entries: &[Entry], from: usize) -> usize
+    requires { from ≤ length entries.now }
+    ensures least { 2 ^ 4 ≤ result }
+    ensures all { GoBack result (drop from entries.now) }
+{
+    let mut most = FARTHEST_BACK;
+    for entry in &entries[from..] {
+        most = most.max(entry.back);
+    }
+    most
 }
 
 /// How many entries are beside the first `number` words. Goes through those after the tally's, if it is of fewer,

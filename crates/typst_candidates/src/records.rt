@@ -1,18 +1,23 @@
 //! The units of a text, kept beside its tree.
 
-ghost use Rattle.std.specs.Prelude.{◌≡◌, ◌&&◌, ◌==◌, ◌↔◌, IsTrue, ℕ, Some, None, ◌≤◌, ◌<◌, ◌+◌, ◌-◌, ◌^◌, ◌++◌, ◌∷◌, [], suc, IfOk, IfSome, MatchOption, OnOk, OnErr, length};
-ghost use Rattle.typst_candidates.specs.Cursors.{PassesBlock};
+ghost use Rattle.std.specs.Prelude.{◌≡◌, ◌&&◌, ◌==◌, ◌↔◌, IsTrue, ℕ, Some, None, ◌≤◌, ◌<◌, ◌+◌, ◌-◌, ◌^◌, ◌++◌, ◌∷◌, [], suc, IfOk, IfSome, MatchOption, OnOk, OnErr, length, take, true};
+ghost use Rattle.typst_candidates.specs.Cursors.{PassesBlock, start_at};
 ghost use Rattle.typst_candidates.specs.Entries.{back_of, block_end, end_of, entries_by, entry_of, front_of, last_start, rear_of, spliced, units_by};
 ghost use Rattle.typst_candidates.specs.Entries as spec;
 ghost use Rattle.typst_candidates.specs.Packed.{HasRoom};
 ghost use Rattle.typst_candidates.specs.Records.{AllFit, is_opening, opening_of};
 
 use crate::anchor::Anchor;
+use crate::cursor::EntryCursor;
 use crate::entries::{BLOCK, Entries, FARTHEST_FORTH, WordCursor};
 use crate::entry::{self, Entry, EntryKind};
 use std::alloc::{AllocError, Global};
 use std::marker::Model;
 use typst_language::Note;
+
+/// How many bytes back the looks after an edit may go at most for `rear` to begin near the edit: it goes as far on
+/// from there. Nearly all looks begin in the line of their token.
+const MOST_BACK: usize = 1 << 12;
 
 /// The units of a text: an entry for each note of its reading, in order, and where the looks after the
 /// last note begin. None of it depends on where in a text an entry is, so an edit exchanges only the
@@ -232,14 +237,13 @@ impl Records {
     }
 
     /// From which note on all looks after it begin at the byte `at` or after it, where the last note's token begins
-    /// at the byte `last`; the number of notes if there is none. Goes back through these notes, from the last one,
-    /// and one more.
+    /// at the byte `last`; the number of notes if there is none. Goes through the notes from the anchor to a while after
+    /// the byte, and back; if looks of later notes go far back, back through these notes from the last one.
     pub fn rear(&self, at: usize, last: usize) -> usize
         requires { last ≡ end_of 0 self.now.units.entries }
         ensures { result ≡ rear_of at 0 0 self.now.units.entries self.now.units.back }
     {
-        let mut place = self.cursor_at_end(last);
-        let mut back = self.back;
+        let (mut place, mut back) = self.rear_place(at, last);
         let mut steps = 0;
         'entries: while is_after(at, place.start(), back) {
             if let Some(first) = place.pass_far_back(&mut steps, at) {
@@ -252,6 +256,24 @@ impl Records {
             back = entry.back;
         }
         place.number()
+    }
+
+    /// From which place on `rear` has to go back through the entries, and how far back the looks after it begin: the
+    /// first place from the anchor on that is so far after the byte `at` that no look after it reaches back to the byte, or
+    /// else the last.
+    fn rear_place(&self, at: usize, last: usize) -> (EntryCursor<'_>, usize)
+        requires { last ≡ end_of 0 self.now.units.entries }
+        ensures entries { result.0.entries ≡ self.now.units.entries }
+        ensures within { result.0.number ≤ length self.now.units.entries }
+        ensures later { rear_of at 0 0 (take result.0.number self.now.units.entries) result.1 ≡ rear_of at 0 0 self.now.units.entries self.now.units.back }
+    {
+        let mut place = self.cursor_from(self.anchor);
+        let most = place.farthest_back().max(self.back);
+        if most <= MOST_BACK && go_after(&mut place, at, most) {
+            let back = place.back_after(self.back);
+            return (place, back);
+        }
+        (self.cursor_at_end(last), self.back)
     }
 
     /// The number of the first entry at which a block begins whose token begins at the byte `at`. Goes
@@ -334,6 +356,23 @@ fn left_after(left: usize, entry: &Entry) -> Option<usize>
     ensures none { result ≡ None → left < entry.now.step + entry.now.gap }
 {
     left.checked_sub(entry.step)?.checked_sub(entry.gap)
+}
+
+/// Goes on to the first place whose token begins `most` bytes after the byte `at` or later; answers whether there
+/// is one.
+fn go_after(place: &mut EntryCursor<'_>, at: usize, most: usize) -> bool
+    requires { place.old.number ≤ length place.old.entries }
+    ensures entries { place.new.entries ≡ place.old.entries }
+    ensures on { place.old.number ≤ place.new.number }
+    ensures within { place.new.number ≤ length place.new.entries }
+    ensures after { result ≡ true → spec.is_after at (start_at place.new) most ≡ true }
+{
+    'entries: while !is_after(at, place.start(), most) {
+        if place.next().is_none() {
+            return false;
+        }
+    }
+    true
 }
 
 /// Whether looks that begin `back` bytes before the token at the byte `start` begin at the byte `at` or after it.

@@ -148,7 +148,7 @@ pub record Standing (q : Sequence) (i n : ℕ) : Type 0 where
   pub trivia : Trivia
   pub known : (then_end i n q).state.known ≡ Some trivia
 
--- The same holds of the pieces of a run with more.
+-- Where more pieces of a run go on, so do any of them, with known trivia after them.
 pub standing : (q : Sequence) (count i n : ℕ) → i + n ≤ count → AllGo (first_of count q) → ((m : ℕ) → AllGo (first_of m q) → KnownAt (first_end m q).state) → Standing q i n
 standing q count i n few go known =
     let sum : count ≡ (i + n) + (count - (i + n)) = omega (arith, few) in

@@ -331,7 +331,7 @@ inner-part-law k levels front old new rest s chosen name level (suc j) m some g 
       token = ap position (sym (moved-sum (opened_at k levels s w + e.taken) gap w) ∙ ap (λ n. moved n w) count);
     }
 
--- The same holds for the first pieces of a block.
+-- The law of a part for pieces of a block's run that follow no others.
 pub first-part : (k : CharClasses) (levels : ℕ) (front old new rest : List ℕ) (s : Spot (Unit {0})) (chosen : Among s (blocks_of_text k (front ++ (old ++ rest)))) (name : s.name ≡ block.Content) (level : max_depth - s.fewer ≡ suc levels)
     (m : ℕ) → Around front old rest s → EndsBefore k levels front old rest s 0 → AllGo (then_of 0 m (run_at k levels s (text_with front new rest)))
     → InnerPart k levels front old new rest s (cut_at (block_run s levels chosen name level) 0 (text_with front old rest)) 0 m

@@ -25,6 +25,10 @@ pub record Edits {A : Type 0} (z w : Place) (c : Spot A) (x : Tree) : Type 0 whe
   pub some : 0 < (unit_at c w).taken
   pub after : SameIn c.after (moved (c.at + (unit_at c z).taken) z) (moved (c.at + (unit_at c w).taken) w)
 
+-- What the law says of the spot of one block, in a whole that gives `o` in the old text, at `z`, and `n` in
+-- the new one, at `w`: `o` is the spot around what the block gives there; and if what was looked at around
+-- the block shows the same at `w`, `n` is the spot around what the block gives at `w`. (`Lawful` of
+-- `typst_language` says which laws hold of a parser.)
 pub record Lawful {A : Type 0} (z w : Place) (o n : Outcome A) (c : Spot A) : Type 0 where
   pub old : o ≡ around c (unit_at c z) c.node
   pub fits : Fits c (unit_at c z) c.node

@@ -33,7 +33,7 @@ use Rattle.typst_edits.proofs.BlockRuns.{first-same}
 
 -- ---- stretches of nodes
 
--- Several nodes begin with these.
+-- Several nodes begin with these. (`Leads` of Leading.antt says what a run is read by.)
 pub record Leads (first ts : List Tree) : Type 0 where
   pub rest : List Tree
   pub is : ts ≡ first ++ rest

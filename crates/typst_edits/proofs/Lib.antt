@@ -5,6 +5,7 @@
 --   complete_law                 Complete: word by word, by the notes of the log
 --   standing_law: blocks         StandingLevels: of a whole text; Standing: word by word; Seats: a spot at a position, and in what nodes become; Positions: what holds at each position; CleanTokens: what holds of each token's node
 --   standing_law: unnoted        UnnotedLevels: of a whole text; Unnoted: word by word
+--   (no other law needs run_law; pieces that are kept rest on joint_law, and on first-same of Root and BlockRuns)
 --   run_law                      Root: of a whole text; RunTrees: its tree and log; BlockRuns: of a content block; Runs: of any loop
 --   joint_law                    Joint: of a whole text; InnerJoint: of a content block; Meeting: any run; Turns: each head of markup, and how a run is read; Led: each word before a token is taken
 --   children_law                 Children: of a whole text; InnerChildren: of a content block; LeadingTrivia: without the trivia before the pieces
@@ -24,17 +25,16 @@
 --   block_test_law               BlockTest: entries and the block by itself; EntryNumbers: a block's two notes among the entries; CandidateBlocks: the candidate's node in a hole; BlockPlaces: the block there, by bytes; SecondPlaces: one that a reading that was given up covers
 --   pieces_test_law              ReadAlone: pieces read by themselves, of any run; PiecesTest: of a whole text
 --   inner_pieces_test_law        InnerPiecesTest
---   run_test_law, inner_run_test_law      AnyRun: any run; RunTest: of a whole text; InnerRunTest: of a content block; RunOver: the end of a run
+--   run_test_law, inner_run_test_law      AnyRun: any run; RunTest: of a whole text; InnerRunTest: of a content block; SameBlocks: two blocks at one path or byte are one; RunOver: the end of a run
 --   served_law                   AnyRun: any run; RootServed: of a whole text; InnerServed: of a content block
 --   run_numbers_law              RunNumbers: of a whole text; InnerRunNumbers: of a content block; FoundPieces: of any run; NestedPieces: of nested notes
 --   path_law                     Walk: the steps; SpotPlaces: where a block stands; Placed: what stands before it
 --   root_worth_law               RootWorth
---   root_pieces_law              RootPieces; RootCandidates: its candidates begin well; RunCandidates, CandidateEnds: of any run; QuietTrivia: what is known of trivia clings; MarkupCandidates: where candidates come from; InnerCuts: the cuts of a run
---   inner_candidate_law          InnerCandidates; MarkupCandidates: from which run a candidate comes; InnerCuts: the cuts of a block's run; CandidateEnds: where a stretch of children ends
---   pieces_worth_law             RootPieces: at the root; InnerPieces: in a content block; RootCandidates: candidates at the root begin well; CandidateEnds: of any run; QuietTrivia: what is known of trivia clings; MarkupCandidates: where candidates come from; InnerCuts: the cuts of a run
+--   pieces_worth_law             RootPieces: at the root; InnerPieces: in a content block
+--   piece_candidates_law         RootCandidates: at the root; InnerCandidates: in a content block; RunCandidates, CandidateEnds: of any run; QuietTrivia: what is known of trivia clings; MarkupCandidates: from which run a candidate comes; InnerCuts: the cuts of a block's run
 --   inner_worth_law              InnerWorth
 --   candidate_runs_law           RootRuns: at the root; InnerRuns: in a content block; CandidateRuns: of any run; MarkupPlaces: the node of a block in whose markup a candidate stands; SecondBlocks: it is a unit's; Deepest: a level is left in it; TokenNodes: its brackets are no markup; StartBytes: where it begins
---   candidate_law                CandidateWorth: each case of the test
+--   candidate_law                CandidateWorth: each case of the test (proofs of code use answer_law and the laws of tests)
 --   answer_law                   AnswerTree: the answer's tree; Unique: the nodes in a candidate's place, and so the answer, are one
 --   resume_law                   Resumed: pieces read again; PiecesLog: what is logged of them
 --   mode_law                     BlockModes: a block's first token, and what stands in it

@@ -42,7 +42,7 @@ read-as g s p a h = record {
       (either-way p.held.at_newline s.held.at_newline s.reading.at_newline g.at_newline h.rule (ap (λ (r : Reading). r.at_newline) a.held) (ap (λ (r : Reading). r.at_newline) a.reading));
 }
 
--- The same holds after any turns.
+-- After any number of turns tokens are still read so.
 pub read-made : {A : Type 0} (g : Reading) (m : A → Meaning (Bool × A)) → ((x : A) → Restful (m x)) → (n : ℕ) (x : A) (z : Place) (s : Point) → ReadAs g s → ReadAs g (end_of x s (made m n x z s)).state
 read-made g m rests zero x z s a = a
 read-made g m rests (suc n) x z s a =
@@ -92,6 +92,8 @@ module _ (r : Sequence) (taking : Taking r.level r.stops) where
   errors y e f t u g new same false o go mind =
       g.errors o (sym (ap (λ x. minds (markup_head x.0 x.1 new)) (g.value o) ∙ ap (λ k. minds (markup_head e.value.0 e.value.1 k)) same) ∙ mind)
 
+  -- WHY WHAT FOLLOWS STAYS: it shows the same after the trivia in both texts, so by the frame law
+  -- it is read the same there.
   pub met : (y v : Place) (e f : End (Bool × ℕ)) (t u : Trivia) → Meets r y e f t u → ReadAs markup_reading e.state → ReadAs markup_reading f.state
       → SameIn (onwards r e.value (moved t.gap y) (passed t e.state)).asks (moved t.gap y) (moved u.gap v) → Met r y v e f t u
   unfolding hand_at

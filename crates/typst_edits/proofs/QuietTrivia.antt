@@ -67,7 +67,7 @@ Known_quiet k m known z = Every Quiet (pending known)
 stays : Stays Known_quiet
 stays = record { none = λ k m z. tt; ask = λ k held known z h. hand-quiet k held known z h; flush = λ k held known z h. tt }
 
--- The same holds where pieces end.
+-- Trivia that are known where pieces end are quiet, if those are that are known where they begin.
 made-quiet : {A : Type 0} (m : A → Meaning (Bool × A)) → ((x : A) (z : Place) (s : Point) → Every Quiet (pending s.known) → Every Quiet (pending (m x z s).state.known)) → (n : ℕ) (x : A) (z : Place) (s : Point) → Every Quiet (pending s.known)
     → Every Quiet (pending (end_of x s (made m n x z s)).state.known)
 made-quiet m keeps zero x z s h = h

@@ -266,7 +266,7 @@ module _ (k : CharClasses) (levels : ℕ) (z : Place) (s : Point) (i : ℕ) wher
   block-known g =
       known-made (inner k levels) ends_block i (true, 0) block_run.place block_run.point (record { trivia = _; is = refl }) g
 
-  -- The same holds at the end of more of them.
+  -- What is known of trivia at the end of m more pieces of the block's run.
   pub block-then-known : (m : ℕ) → AllGo (first_of i block_run) → AllGo (then_of i m block_run) → KnownAt (then_end i m block_run).state
   unfolding run
   block-then-known m g h =
@@ -331,7 +331,7 @@ module _ (k : CharClasses) (levels : ℕ) (z : Place) (s : Point) where
       let held : p.held ≡ markup_reading = start-read.held in
       ap (λ h. (run (inner k levels) peek first_place_of (record { reading = p.reading; held = h; empties = p.empties; is_after_error = p.is_after_error; known = None })).state.known) held
 
-  -- The same is looked at there.
+  -- What is looked at where a block's run begins is what a reading looks at that begins there.
   pub start-asks : (inner_lead k levels z s).asks ≡ (run (inner k levels) peek first_place_of (start_point markup_reading)).asks
   unfolding run
   start-asks =

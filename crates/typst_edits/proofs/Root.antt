@@ -69,6 +69,7 @@ module _ (k : CharClasses) where
   unfolding run
   framed-rest x = (sane-at (rules k) k max_depth (repeat (markup_turn true is_end) x)).framed
 
+  -- By the frame law what follows is the same where it shows the same.
   rest-again : (f g : End (Bool × ℕ)) (v y : Place) → g.value ≡ f.value → g.state ≡ f.state → SameIn (repeated (piece_at k) f.value v f.state).asks v y → repeated (piece_at k) g.value y g.state ≡ repeated (piece_at k) f.value v f.state
   rest-again f g v y e d same = ap (λ x. repeated (piece_at k) x y g.state) e ∙ ap (λ s. repeated (piece_at k) f.value y s) d ∙ framed-rest f.value v y f.state same
 

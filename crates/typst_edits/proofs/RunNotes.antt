@@ -151,7 +151,7 @@ module _ (k : CharClasses) (text : List ℕ) (r : Sequence) (first : Point) (ls 
           placed_after = (let n = length text in at-second n (low rest) after (at-second n (low next) (low rest ++ after) t.placed));
         }
 
-    -- The same where n pieces after the first i end.
+    -- The note where the n pieces after the first i end.
     pub note-both : (i n : ℕ) → AllGo (first_of i r) → AllGo (then_of i n r) → (let f = then_end i n r in NoteIn (i + n) (record f { taken = (first_end i r).taken + f.taken }))
     note-both i n g h =
         subst (NoteIn (i + n)) (made-add (turn_of r) (looks_in r) (each-ends r) i n (true, 0) r.place r.point) (note-in (i + n) (go-add (turn_of r) (looks_in r) (each-ends r) i n (true, 0) r.place r.point g h))

@@ -149,7 +149,7 @@ splice-sides lv front xs ys first p own all own_new all_new behind back ends not
     ∙ ap (λ part. spliced from to part (record { entries = es ++ (fs ++ behind); back = back })) (sym part_is)
     ∙ ap (spliced from to (entries_from (token_start w p) (logged lv w no_log own_new).notes)) (sym was)
 
--- The same for the readings of both texts.
+-- Two texts are read alike up to a note, and from a later one on: the units of the second are those of the first with the entries between these two notes exchanged for its own.
 pub splice-texts : (k : CharClasses) (front old new rest : List ℕ) (first : List Ask) (p q : Noting) (own all own_new all_new : List Ask) (behind : List Entry) (back from count : ℕ)
     → (parsed k max_depth (front ++ (old ++ rest))).asks ≡ first ++ noting p ∷ all → (parsed k max_depth (front ++ (new ++ rest))).asks ≡ first ++ noting p ∷ all_new → q ≡ p → AllEndBy (length front) first
     → Side max_depth (text_with front old rest) p own all behind back → Side max_depth (text_with front new rest) q own_new all_new behind back → notes_in first ≡ from → notes_in own ≡ count

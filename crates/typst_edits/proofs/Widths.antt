@@ -43,7 +43,7 @@ pub far-by : (at n : ℕ) (front more : List ℕ) → at ≤ length (front ++ mo
 unfolding far position width
 far-by at n front more l h = ends-by at n [] front more l (omega (arith, h))
 
--- The same the other way round.
+-- As many characters as stand before a place, or fewer, take no more bytes than all before it.
 pub stretch-to : (n : ℕ) (front more : List ℕ) → n ≤ length front → stretch n (front ++ more) ≤ width front
 unfolding stretch width
 stretch-to zero front more h = omega arith
@@ -93,7 +93,7 @@ pub near-by : (n m : ℕ) (early rest : List ℕ) → m ≤ length rest → widt
 unfolding near position
 near-by n m early rest l h = begins-late n m early rest l (omega (arith, h))
 
--- The same the other way round.
+-- It does so in bytes if it does in characters.
 begins-early : (n m : ℕ) (early rest : List ℕ) → n ≤ m → m ≤ length rest → stretch n (moved_from m early rest).before + width early ≤ width (moved_from m early rest).before
 begins-early n m early rest h l =
     let s = since m early rest l in

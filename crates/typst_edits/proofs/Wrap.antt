@@ -176,7 +176,7 @@ pub record Wraps (shape : Shape) (k : ℕ) (hole : Hole) (h : Head) (g : Hole) :
   pub few : (x : Tree) (s : Point) → x.head ≡ h → s.empties ≤ length hole.right → (after_shape shape (drop k (plug hole x)) s).empties ≤ length g.right
   pub solid : Solid g.deep h
 
--- The same if the first nodes are kept apart.
+-- The hole of what nodes become, given the nodes before them that stay.
 record WrapsIn (shape : Shape) (kept left : List Tree) (d : Deep) (right : List Tree) (h : Head) (g : Hole) : Type 0 where
   nodes : (x : Tree) → x.head ≡ h → kept ++ shaped shape (left ++ fill d x ∷ right) ≡ plug g x
   state : (x y : Tree) (s : Point) → x.head ≡ h → y.head ≡ h → after_shape shape (left ++ fill d x ∷ right) s ≡ after_shape shape (left ++ fill d y ∷ right) s

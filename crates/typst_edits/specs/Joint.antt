@@ -54,7 +54,7 @@ pub record Exchanged {A : Type 0} (t u : Trivia) (o n : Outcome A) : Type 0 wher
 abbrev pub is_over_at : Sequence → Place → End (Bool × ℕ) → Bool
 is_over_at r z e = ends r.stops e.value.1 (hand_of r.level z e.state).kind
 
--- What has to agree where pieces end, before the expressions that follow: what is carried, unless the expressions end there in both texts; neither the trivia nor the errors before them.
+-- What has to agree where pieces end, before the expressions that follow: what is carried, unless the expressions end there in both texts; neither the trivia nor the errors before them. (`Meets` of RunTest.antt says so of entries.)
 pub record Meets (r : Sequence) (z : Place) (e f : End (Bool × ℕ)) (t u : Trivia) : Type 0 where
   pub known : e.state.known ≡ Some t
   pub known_now : f.state.known ≡ Some u

@@ -7,7 +7,6 @@ ghost use Rattle.typst_edits.specs.BlockModes.{ModeLaw};
 ghost use Rattle.typst_edits.specs.BlockRuns.{InnerLaw};
 ghost use Rattle.typst_edits.specs.BlockSplice.{BlockSpliceLaw};
 ghost use Rattle.typst_edits.specs.BlockPart.{BlockPartLaw, PartFitsLaw};
-ghost use Rattle.typst_edits.specs.BlockPart.{BlockPartLaw};
 ghost use Rattle.typst_edits.specs.BlockTest.{BlockTestLaw};
 ghost use Rattle.typst_edits.specs.BlockWorth.{BlockWorthLaw};
 ghost use Rattle.typst_edits.specs.Answer.{CandidateLaw};
@@ -58,16 +57,11 @@ ghost use Rattle.typst_edits.specs.RootPieces.{RootPiecesLaw};
 ghost use Rattle.typst_edits.specs.RunBytes.{RunDecisionLaw};
 ghost use Rattle.typst_edits.specs.RunNumbers.{InnerNumbersLaw, RunNumbersLaw};
 ghost use Rattle.typst_edits.specs.RunTrees.{RunTreeLaw};
-ghost use Rattle.typst_edits.specs.RunNumbers.{InnerNumbersLaw};
-ghost use Rattle.typst_edits.specs.RunTest.{InnerRunTestLaw};
-ghost use Rattle.typst_edits.specs.CandidateRuns.{InnerPiecesOfLaw};
 ghost use Rattle.typst_edits.specs.Runs.{RunLaw, StartLaw};
 ghost use Rattle.typst_edits.specs.Standing.{StandingLaw, UnnotedLaw};
 ghost use Rattle.typst_edits.specs.RunSplice.{RunSpliceLaw};
-ghost use Rattle.typst_edits.specs.RunTest.{OverLaw, RunTestLaw};
+ghost use Rattle.typst_edits.specs.RunTest.{InnerRunTestLaw, OverLaw, RunTestLaw};
 ghost use Rattle.typst_edits.specs.Served.{ServedLaw};
-ghost use Rattle.typst_edits.specs.RunNumbers.{RunNumbersLaw};
-ghost use Rattle.typst_edits.specs.CandidateRuns.{RootPiecesOfLaw};
 ghost use Rattle.typst_edits.specs.Splice.{SpliceLaw};
 ghost use Rattle.typst_edits.specs.SpliceExamples.{Splices};
 ghost use Rattle.typst_edits.specs.Unique.{OneAnswerLaw, UniqueLaw};
@@ -104,8 +98,12 @@ pub fn standing_law()
 /// end at the shifted end, with what was carried there and in the same state, the reading of the
 /// new text has these in their place, and is the same before and after them. Where nothing is kept
 /// after them, as at the end of the run, the pieces before are kept by the first of these alone.
-/// The same holds of pieces of a content block's run, and then the edit passes the test of the block.
-/// In the tree and in the log of the text the new pieces' part stands in place of the old ones'.
+/// In a content block's run the looks before pieces are also those before the block and at its bracket, and the looks
+/// after them those up to the block's end and after it. Where an edit inside some pieces of such a run passes this
+/// test, the reading of the block has the new pieces in their place and is the same before and after them, and the
+/// edit passes the test of the block.
+/// In the tree and in the log of the text the new pieces' part stands in place of the old ones'. No law below
+/// needs this one: `joint_law` goes without the same state.
 pub fn run_law()
     ensures pieces { RunLaw }
     ensures start { StartLaw }
@@ -223,10 +221,12 @@ pub fn block_test_law()
 /// the stretch from another note on, the units of the second text are those of the first with the ones between these
 /// notes exchanged for its own: no other entry changes, nor how far back is looked after the last note. This holds if
 /// an edit inside a block passes the test: the entries between the block's two notes, with the second, are exchanged.
-/// The same holds if an edit inside some pieces of a text's run does: the entries of the old pieces are exchanged for
-/// those of the new ones. Where no piece stands before them and none is read, the run has to end there.
-/// The same holds in a content block, where no trivia may stand after its bracket if no piece does; whatever stands
-/// there, the block's entries are exchanged.
+/// Where an edit inside some pieces of a text's run passes the test of the joint, the entries of the old pieces are
+/// exchanged for those of the new ones; if no piece stands before the joint, in the old text or in the new one, the
+/// run has to end there. Where an edit inside some pieces of a content block's run passes it, the pieces' entries are
+/// exchanged too; if no piece stands before the joint in one of the texts, no trivia may stand after the block's
+/// bracket there. Whatever stands there, the block's entries, those between its two notes and the second of them, are
+/// exchanged for those of the new block.
 pub fn splice_law()
     ensures units { SpliceLaw }
     ensures block { BlockSpliceLaw }
@@ -392,7 +392,8 @@ pub fn inner_worth_law()
 
 /// Each candidate of an edit that passes its test is worth its new nodes: the new text's tree is the old one with
 /// them in its place, and the new text's units are the old ones with a part of them exchanged. So it is of blocks,
-/// of pieces of a text's own run and of those of content blocks.
+/// of pieces of a text's own run and of those of content blocks. Proofs of code use `answer_law` for the tree and
+/// the laws of tests for the units.
 pub fn candidate_law()
     ensures { CandidateLaw }
 {}

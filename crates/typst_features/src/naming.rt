@@ -110,7 +110,7 @@ pub fn label_name(node: &SyntaxNode) -> Option<&str>
     name_in_label(node.kind(), node.leaf_text())
 }
 
-/// The same of a node of a kind with a text.
+/// The name of a label, by a node's kind and its text. Other nodes have none.
 fn name_in_label(kind: SyntaxKind, text: &str) -> Option<&str>
     ensures { option_map (λ name. name.now) result ≡ spec.label_name kind text.now }
 {

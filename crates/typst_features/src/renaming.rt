@@ -110,7 +110,7 @@ fn name_named(
     }
 }
 
-/// The same of a name by its place.
+/// The name with this index in the list, with what binds it and its uses, if the list has such a name.
 fn bound_named(
     alloc: Global,
     text: &str,

@@ -71,7 +71,7 @@ pub fn span_of(bits: u64) -> Span
     Span::new(file, number)
 }
 
-/// What is told of a node by single bits.
+/// What single bits say of a node.
 pub(crate) fn flags(node: &SyntaxNode) -> u8
     ensures { result ≡ spec.flags_of node.now.head }
 {

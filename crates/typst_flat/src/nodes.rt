@@ -53,7 +53,7 @@ pub struct StretchNodes<'t> {
 }
 
 impl<'t> StretchNodes<'t> {
-    /// All nodes of a tree, but for some that end before a stretch.
+    /// All nodes of a tree, except some that end before a stretch.
     pub fn new(alloc: Global, root: &'t SyntaxNode, stretch: Stretch) -> StretchNodes<'t>
         requires { nodes root.now < 2 ^ 64 - 1 }
         ensures root { result.root.now ≡ root.now }

@@ -30,7 +30,7 @@ pub struct Waiting<'t> {
     /// Where the first of them begins, in bytes.
     start: usize,
     level: Level,
-    /// What the end of the span of the node before them is told.
+    /// What is passed to the end of the span of the node before them.
     pub kept: Option<Tag>,
 }
 

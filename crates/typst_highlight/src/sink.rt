@@ -22,7 +22,7 @@ pub trait Sink {
     // what each step makes of it
     ghost outlet: { walk.Outlet Self };
 
-    /// Begins the span of a node, if it has one, and answers what its end is to be told.
+    /// Begins the span of a node, if it has one, and answers what is to be passed to its end.
     fn begin(&mut self, span: Option<Tag>) -> Result<Option<Tag>, AllocError>
         ensures begun { OnOk result (self.new ≡ outlet.begun self.old span) }
         ensures kept { IfOk result (λ kept. kept ≡ outlet.kept self.old span) };
@@ -35,7 +35,7 @@ pub trait Sink {
     fn leaf(&mut self, span: Option<Tag>, text: &str) -> Result<(), AllocError>
         ensures { OnOk result (self.new ≡ outlet.ended (outlet.given (outlet.begun self.old span) text.now) (outlet.kept self.old span)) };
 
-    /// Ends the span of a node, told what its beginning answered.
+    /// Ends the span of a node, by what its beginning answered.
     fn close(&mut self, kept: Option<Tag>) -> Result<(), AllocError>
         ensures { OnOk result (self.new ≡ outlet.ended self.old kept) };
 }

@@ -14,7 +14,7 @@ use Rattle.typst_edits.specs.Grammar.{tree}
 use Rattle.typst_candidates.specs.Entries.{Units}
 use Rattle.typst_parser.specs.Held.{Held}
 use Rattle.typst_parser.specs.Headline.{file_of, Headline, AreNumbered, AreOrdered, numbered_in}
-use Rattle.typst_parser.specs.Records.{AreUnits, IsPlaced, IsPlacedBy, Records}
+use Rattle.typst_parser.specs.Records.{AreUnits, IsPlaced, IsPlacedBy, KeepsRecords}
 use Rattle.typst_parser.proofs.Replaced.{IsOf, IsDetached, placed-span, numbered-spans, numbered-head}
 
 -- ---- a tree without numbers
@@ -96,7 +96,7 @@ placed-new (Some file) t u is inner numbered = let h = numbered-head file t u is
 
 -- what a source keeps whose whole text was read
 pub records-new : {C : Type 0} (k : CharClasses) (s : Held C) (file : Option ℕ) (units : Units) (text : List ℕ) → text ≡ s.text → numbered_in file (tree k (chars text)) ≡ Some s.root → text_of s.root ≡ text → AreNumbered file s.root
-    → IsPlaced file s.root → AreUnits k text units → Records k s units
+    → IsPlaced file s.root → AreUnits k text units → KeepsRecords k s units
 records-new k s file units text e is leaves numbers placed are =
     let numbered : numbered_in file (tree k (chars s.text)) ≡ Some s.root = subst (λ t. numbered_in file (tree k (chars t)) ≡ Some s.root) e is in
     record {

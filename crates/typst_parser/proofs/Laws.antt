@@ -1,4 +1,4 @@
--- The laws of runs that this crate rests on, each by what it goes by.
+-- The laws of runs that this crate uses, each applied to the laws that it needs.
 use Rattle.typst_edits.specs.RunTest.{InnerRunTestLaw, RunTestLaw}
 use Rattle.typst_edits.specs.Served.{ServedLaw}
 use Rattle.typst_edits.proofs.InOrder.{in-order-law}

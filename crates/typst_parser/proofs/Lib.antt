@@ -2,9 +2,9 @@
 --   the headline's tree, leaves and numbers   Fresh: fresh-bare, fresh-text, fresh-file, fresh-numbers
 --   a node is found by its own span           Own: finds-own
 --   a node's bytes by its own number          Own: gives-own
---   what a call of a source answers          Answered: not-found, looked-for, part-given, replaced, same-file
+--   what a call of a source answers           Answered: not-found, looked-for, part-given, replaced, same-file
 --   an edit in bytes is one of characters     Changed: before, after, makes
---   what an edit leaves of a tree            Reparsed: records-again, edits-again; Replaced: spans and numbers of a tree of which children were replaced
+--   why the tree after an edit is right       Reparsed: records-again, edits-again, by takes-it of Answering; Replaced: spans and numbers of a tree of which children were replaced
 pub mod Replaced
 pub mod Fresh
 pub mod Changed
@@ -16,7 +16,9 @@ pub mod Answered
 --   read: blocks                 Blocks, BlockSteps
 --   read: a run                  Paths: where its block begins; ReadSteps: its entry
 --   read: pieces                 PieceReading: up to a byte; Serving: from candidate to candidate; Runs, RunSteps: of any run; Inner: of a content block
---   reparse                      Answering, Turns: the candidates one after the other
+--   reparse                      Answering, Turns: the candidates one after the other; takes-it and part-taken of Answering: tree and units after the one that is taken
+--   all of these                 Laws: what `typst_edits` says of runs; Places: characters and bytes
+-- For `typst_document`: RootEdits: an edit's answer as an edit of the root's children.
 mod Laws
 mod Places
 mod Paths

@@ -32,17 +32,11 @@ use Rattle.typst_parser.specs.declared.replacement.Replacement.{Replacement}
 use Rattle.typst_parser.specs.Held.{Held}
 use Rattle.typst_parser.specs.Headline.{AreNumbered, AreOrdered, file_of, numbered_in}
 use Rattle.typst_parser.specs.Answers.{Answers, change_of}
-use Rattle.typst_parser.specs.Records.{Edits, IsEdited, IsPlaced, IsPlacedBy, ReadsWhole, Records}
+use Rattle.typst_parser.specs.Records.{Edits, IsEdited, IsPlaced, IsPlacedBy, KeepsRecords, ReadsWhole}
 use Rattle.typst_parser.specs.Tried.{change_by}
 use Rattle.typst_parser.proofs.Changed.{after, before, long-now, makes, utf8-now, width-chars}
 use Rattle.typst_parser.proofs.Fresh.{fresh-file, fresh-numbers, placed-new}
 use Rattle.typst_parser.proofs.Replaced.{Stays, replaced-stays, few-nodes}
-
--- ---- a fresh tree is numbered as an answer's is
-
-pub numbered-same : (file : Option ℕ) (t : Tree) → answer.numbered_in file t ≡ numbered_in file t
-numbered-same None t = refl
-numbered-same (Some file) t = refl
 
 -- ---- numbers after an answer
 
@@ -123,11 +117,10 @@ module _ (k : CharClasses) (front old new rest : List ℕ) (was now : Tree) (ran
   held (whole refused is bytes) order numbers placed =
       let file = file_of was in
       let text = front ++ (new ++ rest) in
-      let numbered = sym (numbered-same file (tree k text)) ∙ is in
       record {
-        file = fresh-file file (tree k text) now numbered;
-        numbers = fresh-numbers file (tree k text) now numbered (ordered-whole file was now order placed);
-        placed = placed-new file (tree k text) now numbered (tree-inner k text) (placed-whole file was now order placed);
+        file = fresh-file file (tree k text) now is;
+        numbers = fresh-numbers file (tree k text) now is (ordered-whole file was now order placed);
+        placed = placed-new file (tree k text) now is (tree-inner k text) (placed-whole file was now order placed);
       }
 
   -- ---- its range
@@ -154,7 +147,7 @@ module _ (k : CharClasses) (front old new rest : List ℕ) (was now : Tree) (ran
 
 -- ---- a source whose text was edited
 
-module _ {C : Type 0} (k : CharClasses) (old now : Held C) (e : Replacement) (h : IsEdited old.text now.text e) (units : Units) (had : Records k old units) where
+module _ {C : Type 0} (k : CharClasses) (old now : Held C) (e : Replacement) (h : IsEdited old.text now.text e) (units : Units) (had : KeepsRecords k old units) where
   abbrev c : TextReplacement
   c = change_by h
 
@@ -190,7 +183,7 @@ module _ {C : Type 0} (k : CharClasses) (old now : Held C) (e : Replacement) (h 
       held-again = held k c.front c.old c.new c.rest old.root now.root range tree-was takes.tree_is takes.answer order had.headline.numbers had.placed
 
       -- the records are those of the text now
-      pub records-again : Records k now units_now
+      pub records-again : KeepsRecords k now units_now
       records-again = record {
         headline = record {
           tree = tree-again;
@@ -237,7 +230,7 @@ module _ {C : Type 0} (k : CharClasses) (old now : Held C) (with : List ℕ) (r 
       let text = after old.text lines (record { start = r.start; old_end = r.end; new_end = n }) h in
       let long = long-now old.text lines (record { start = r.start; old_end = r.end; new_end = n }) h in
       whole none
-      (numbered-same (file_of old.root) (tree k (text_after (change_by h))) ∙ ap (λ s. numbered_in (file_of old.root) (tree k s)) (sym text) ∙ w.root)
+      (ap (λ s. numbered_in (file_of old.root) (tree k s)) (sym text) ∙ w.root)
       (w.range_is ∙ ap (λ m. record { start = 0; end = m }) (sym long))
 
   -- the whole was read

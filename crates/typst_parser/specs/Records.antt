@@ -28,8 +28,9 @@ pub record AreUnits (k : CharClasses) (text : List ℕ) (units : Units) : Type 0
   pub are : units ≡ units_of (log k (chars text))
   pub fits : length text < 2 ^ 64 - 1
 
--- The headline holds, and the units are those of the text's reading.
-pub record Records {C : Type 0} (k : CharClasses) (s : Held C) (units : Units) : Type 0 where
+-- What a source with records keeps to: the headline holds, its numbers lie where an edit may put others between
+-- them, and the units are those of the text's reading.
+pub record KeepsRecords {C : Type 0} (k : CharClasses) (s : Held C) (units : Units) : Type 0 where
   pub headline : Headline k s
   pub placed : IsPlaced (file_of s.root) s.root
   pub are : AreUnits k s.text units

@@ -43,7 +43,7 @@ pub struct Source<C: Classes> {
 impl<C: Classes> Model for Source<C> {
     ghost use Rattle.std.specs.Prelude.{◌≡◌, true};
     ghost use Rattle.typst_parser.specs.Held.{Held, held_code};
-    ghost use Rattle.typst_parser.specs.Records.{Records};
+    ghost use Rattle.typst_parser.specs.Records.{KeepsRecords};
 
     ghost Value = { Held C };
 
@@ -51,7 +51,7 @@ impl<C: Classes> Model for Source<C> {
 
     ghost view = { λ a. record { id = a.id; text = a.lines; root = a.root; classes = a.classes; has_records = a.has_records } };
 
-    ghost invariant = { λ a. a.has_records ≡ true → Records (C.classes a.classes) (record { id = a.id; text = a.lines; root = a.root; classes = a.classes; has_records = a.has_records }) a.records.units };
+    ghost invariant = { λ a. a.has_records ≡ true → KeepsRecords (C.classes a.classes) (record { id = a.id; text = a.lines; root = a.root; classes = a.classes; has_records = a.has_records }) a.records.units };
 }
 
 /// Numbers a tree over all numbers of a file, or takes its numbers away if there is no file.

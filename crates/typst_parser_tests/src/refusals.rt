@@ -13,7 +13,7 @@ const TEXT: &str = "*a* #b";
 /// `TEXT` with `_c_` in the place of its third character.
 const NEW: &str = "*a_c_ #b";
 
-/// Whether a source is made, or refused for want of memory and made the next time.
+/// Whether a source is made, or refused for lack of memory and made the next time.
 fn is_made_again(alloc: Global) -> Option<bool> {
     let source = match detached(alloc, TEXT) {
         Ok(source) => source,
@@ -53,14 +53,14 @@ fn is_as_before(alloc: Global, source: &mut Unicode, copy: &mut Unicode, way: Wa
     }
 }
 
-/// Whether a change is made, or refused for want of memory with nothing changed.
+/// Whether a change is made, or refused for lack of memory with nothing changed.
 fn changes_or_stays(alloc: Global, way: Way) -> Option<bool> {
     let mut source = detached(alloc, TEXT).ok()?;
     let mut copy = source.try_clone().ok()?;
     is_changed(alloc, &mut source, &mut copy, way)
 }
 
-/// Whether a change of a source is made, or refused for want of memory with nothing changed, as its copy shows.
+/// Whether a change of a source is made, or refused for lack of memory with nothing changed, as its copy shows.
 fn is_changed(alloc: Global, source: &mut Unicode, copy: &mut Unicode, way: Way) -> Option<bool> {
     let is_well = match change(source, way) {
         Ok(read) => read.is_some(),

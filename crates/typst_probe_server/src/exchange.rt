@@ -116,7 +116,7 @@ impl Session {
         body_of(frames.split_once(HEAD).map_or(frames, |(first, _)| first))
     }
 
-    /// Whether the person is warned about the message of a number, and nothing is told after that except that
+    /// Whether the person is warned about the message of a number, and nothing is reported after that except that
     /// documents have no errors and warnings.
     pub fn tells_loss(&self, number: usize) -> bool {
         let Some((_, rest)) = self

@@ -72,7 +72,7 @@ fn occurrences(
     Ok(found)
 }
 
-/// The same of a byte.
+/// The definitions and uses of the label or the name at a byte: labels and references with their marks.
 fn occurrences_at(
     alloc: Global,
     document: &Document,
@@ -131,7 +131,7 @@ fn bound_at(alloc: Global, document: &Document, byte: usize) -> Result<Vec<Occur
     }
 }
 
-/// The same of a name, by its place.
+/// The binding that the name with this index in the list means, and the uses that mean it.
 fn bound_by(
     alloc: Global,
     text: &str,

@@ -94,7 +94,7 @@ impl Tracked {
     }
 }
 
-/// A window of this part of a text or more isn't made anew.
+/// Where a window is this part of a text or more, its tokens aren't made again.
 const PART: usize = 8;
 
 /// All tokens of a document after an edit, by those before it; or if there are none, and they are `wanted`, made.

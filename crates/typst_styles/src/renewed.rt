@@ -12,7 +12,7 @@ use typst_tree::SyntaxNode;
 /// All tokens of a text after an edit, from all those before it, `was`, of a text of `was_len` bytes: what
 /// `semantic_tokens` gives for the whole text. It makes those of the window, which is what `token_window` gives
 /// for the bytes that the edit answered as read again, puts them in the place of the old ones, and moves those
-/// behind them.
+/// after them.
 pub fn renewed_tokens(
     alloc: Global,
     root: &SyntaxNode,
@@ -31,8 +31,8 @@ pub fn renewed_tokens(
     Ok(tokens)
 }
 
-/// Puts tokens in the place of those that begin from byte `start` to byte `end`, and moves those behind, so that
-/// they are as far after `to`. It finds where by halves: the tokens stand in order.
+/// Puts tokens in the place of those that begin from byte `start` to byte `end`, and moves those after them, so
+/// that they are as far after `to`. It finds where by halves: the tokens stand in order.
 fn replace(
     tokens: &mut Vec<Token>,
     start: usize,

@@ -30,7 +30,7 @@ pub struct Wanted<'t> {
 #[derive(Drop)]
 struct Row<'t> {
     nodes: &'t [SyntaxNode],
-    /// The same nodes by their places in the tree.
+    /// Where these nodes stand in the tree: a place for each, in the same order.
     places: LinkedChildren<'t>,
     /// Where the first of them begins, in bytes.
     start: usize,

@@ -77,7 +77,7 @@ pub(crate) fn numbered(mut node: SyntaxNode, end: u64) -> Option<SyntaxNode> {
     Some(node)
 }
 
-/// `replace_at` where the path leads to such children, or want of memory.
+/// `replace_at` where the path leads to such children, or lack of memory.
 pub(crate) fn replace(
     node: &mut SyntaxNode,
     path: &[usize],

@@ -29,8 +29,8 @@ pub mod SpelledNumbers
 pub mod RawTexts
 -- Which lemma gives which clause:
 --   Reads text, regard text_step          Texts
---   is_plain                              PairBits
---   passes_before                         PairBits
+--   is_plain                              PairBits.table-tells, by Tables
+--   passes_before                         PairBits.tables-tell, by Tables
 --   Reads link, link_laws.LinkIsPrefix         Links.link-is, Links.link-prefix-is
 --   Reads ref_marker                      References
 --   goes_on (typst_lexer)                 MarkupEats.markup-eats

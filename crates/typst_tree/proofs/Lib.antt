@@ -7,8 +7,10 @@
 --   spanless_eq                                 SpansAside: parts_from_bare, bare_from_parts, same_at, same_but
 --   synthesize                                  LastChild: mapped_more, mapped_all; Forests: forest_synthesized; ChildlessLeaves: whole_synthesized
 --   convert_child_to_kind                       Forests: forest_set, at_tree_past; ChildlessLeaves: whole_kind
---   numberize: its numbers                      LastChild: counted_more, counted_all
+--   numberize: its numbers                      LastChild: counted_more, counted_all; Numbering: next_at, next_fits, numbered_more, numbered_vec
+--   numberize: the same tree, spans aside       Numbering: numbered_bare, text_numbered, nodes_numbered
 --   numberize: distinct and in order            NumbersInOrder: numbered_is, numbers_in_order
+--   counts of nodes (len, descendants, ..)      Numbering: nodes_at, some_nodes, count_bare
 --   reaches, and the path of replace_at         PutAt: reaches_there, reaches_from; StepDown: replaced_on
 --   replace_at along a long path                PutAt: put_moved, replaced_back, put_back, refused_there
 --   replace_at: equal ones set aside            SameTree: front_more, front_none; SetAside
@@ -19,7 +21,7 @@
 --   law replaces_children, law replaces_text    ReplacesChildren: replaces_children, replaces_text
 --   law keeps_others                            KeepsOthers: replaced_keeps; AlongPath: along
 --   law refuses_full                            RefusesFull: replaced_full; AlongPath: refused_along
--- Texts serves the crates above.
+-- Texts and Numbering serve the crates above.
 pub mod AddedChildren
 pub mod AlongPath
 pub mod ChildlessLeaves

@@ -104,7 +104,7 @@ pub fn source(
     Source::detached(alloc, text, UnicodeClasses).map_err(as_anyhow)
 }
 
-/// Holds a source's tree, of which it is told what it is, against the one that is newly parsed.
+/// Holds a source's tree, which `what` names, against the one that is newly parsed.
 pub fn hold_tree(
     alloc: Global,
     source: &Source<UnicodeClasses>,
