@@ -1,5 +1,5 @@
 -- On the way down to the replaced bytes and back.
-use Rattle.std.proofs.Common.{◌≡◌, ℕ, zero, suc, ◌+◌, ◌^◌, ◌<◌, ◌≤◌, Bool, true, false, List, [], ◌∷◌, ◌++◌, length, take, get_or, refl, ap, sym, subst, ◌∙◌, arith, append_assoc, if◌then◌else◌, Option, Some, None}
+use Rattle.std.proofs.Common.{◌≡◌, ℕ, zero, suc, ◌+◌, ◌^◌, ◌<◌, ◌≤◌, Bool, true, false, List, [], ◌∷◌, ◌++◌, length, take, drop, get_or, refl, ap, sym, subst, ◌∙◌, arith, append_assoc, length-append, if◌then◌else◌, Option, Some, None}
 use Rattle.std.specs.Prelude.{◌==◌, option_and_then, slice_get}
 use Rattle.std.proofs.lemmas.Bool.Decides.{nat_tests}
 use Rattle.std.proofs.lemmas.List.{append-nil, length-take, take-append-le, take-take}
@@ -15,9 +15,10 @@ use Rattle.typst_candidates.specs.declared.enclosing.Enclosing.TheVariants as en
 use Rattle.typst_candidates.specs.declared.enclosing.RunAt.{RunAt}
 use Rattle.typst_candidates.specs.declared.enclosing.Stop.{Stop}
 use Rattle.typst_candidates.specs.declared.entry.Entry.{Entry}
+use Rattle.typst_candidates.specs.declared.children.Edge.{Edge}
 use Rattle.typst_candidates.specs.declared.children.Near.{Near}
 use Rattle.typst_candidates.specs.Candidates.{Candidate, laid, of_block, of_children, of_run, of_child_ranges, run_in, child_ranges, candidates_at}
-use Rattle.typst_candidates.specs.Edges.{IsNear, below, is_covered, pieces_at, spelled}
+use Rattle.typst_candidates.specs.Edges.{IsEdge, IsNear, LeadsBy, below, is_covered, pieces_at, spelled}
 use Rattle.typst_candidates.specs.Stops.{block_of, covering, found_in, found_in_all, inside, kids, run_of}
 use Rattle.typst_candidates.proofs.Edges.{trees_forest}
 use Rattle.typst_candidates.proofs.Found.{below_else, below_none, child_fits, deeper, fewer, fits_of, forest_trees, node_is, path_front}
@@ -64,6 +65,9 @@ pub no-block : (path : List ℕ) (at : ℕ) (ts : List Tree) (i : ℕ) (k : Synt
 no-block path at ts i k cs none = rw none refl
 
 -- ---- the children near the replaced bytes
+
+pub edge-moved : (a b : ℕ) (ts us : List Tree) (e : Edge) → a ≡ b → ts ≡ us → IsEdge a ts e → IsEdge b us e
+edge-moved a b ts us e at same is = subst (λ (vs : List Tree). IsEdge b vs e) same (subst (λ (n : ℕ). IsEdge n ts e) at is)
 
 pub near-moved : (a b : ℕ) (ts us : List Tree) (rs re : ℕ) (near : Near) → a ≡ b → ts ≡ us → IsNear a ts rs re near → IsNear b us rs re near
 near-moved a b ts us rs re near e f is = subst (λ (vs : List Tree). IsNear b vs rs re near) f (subst (λ (n : ℕ). IsNear n ts rs re near) e is)
@@ -175,6 +179,20 @@ pub front-longer : (p q r : List ℕ) (i : ℕ) → take (length p) q ≡ p → 
 front-longer p q r i front e =
     let less : length p ≤ length q = omega (arith, ap (λ (xs : List ℕ). length xs) front, length-take (length p) q) in
     ap (take (length p)) e ∙ (take-append-le (length p) q (i ∷ []) less ∙ front)
+
+-- a path that was made longer goes on as it did, whichever step comes next
+pub steps-on : (p q r : List ℕ) (first i j : ℕ) → take (length p) q ≡ p → r ≡ q ++ i ∷ [] → take (suc (length p)) (q ++ i ∷ []) ≡ p ++ first ∷ [] → take (suc (length p)) (r ++ j ∷ []) ≡ p ++ first ∷ []
+steps-on p q r first i j front e way =
+    let less : suc (length p) ≤ length r = omega (arith, ap (λ (xs : List ℕ). length xs) front, length-take (length p) q, ap (λ (xs : List ℕ). length xs) e, length-append q (i ∷ [])) in
+    take-append-le (suc (length p)) r (j ∷ []) less ∙ (ap (take (suc (length p))) e ∙ way)
+
+-- so it leads to the first child from there
+pub steps-lead : (first i : ℕ) (p q : List ℕ) → take (suc (length p)) (q ++ i ∷ []) ≡ p ++ first ∷ [] → LeadsBy first (drop (length p) q)
+steps-lead first i [] [] way = tt
+steps-lead first i [] (j ∷ q) way = cc
+steps-lead first i (x ∷ p) [] way = tt
+steps-lead first i (x ∷ p) (y ∷ q) way =
+    let further : take (suc (length p)) (q ++ i ∷ []) ≡ p ++ first ∷ [] = cc in steps-lead first i p q further
 
 -- those of what is around are added after those further in
 regroup : (inner run block outer deeper outermost all below : List Candidate) → below ≡ (inner ++ run) ++ block → deeper ≡ run ++ outermost → outermost ≡ block ++ outer → below ++ outer ≡ all → inner ++ deeper ≡ all

@@ -1,4 +1,4 @@
--- Places between the children of a node (for private clauses).
+-- Places between the children of a node (mostly for private clauses).
 use Rattle.std.specs.Prelude.{◌≡◌, ℕ, ◌+◌, ◌-◌, ◌^◌, ◌<◌, ◌≤◌, Option, Some, None, List, [], ◌∷◌, ◌++◌, length, take, filter, ◌==◌, ◌&&◌, Bool, nat_lt, nat_le, suc, if◌then◌else◌}
 use Rattle.typst_language.specs.declared.calls.Note.{Note}
 use Rattle.typst_tree.specs.Tree.{Tree, forest, trees}
@@ -19,6 +19,15 @@ use Rattle.typst_candidates.specs.Units.{after_first}
 pub record IsEdge (at : ℕ) (ts : List Tree) (e : Edge) : Type 0 where
   pub within : e.index ≤ length ts
   pub byte : e.byte ≡ begins at ts e.index
+
+-- a place between the children of a tree's root
+abbrev pub IsRootEdge : Tree → Edge → Type 0
+IsRootEdge t e = IsEdge (length t.head.text) (trees t.kids) e
+
+-- a path that has steps goes to the child of an index first
+abbrev pub LeadsBy : ℕ → List ℕ → Type 0
+LeadsBy i [] = Unit {0}
+LeadsBy i (j ∷ path) = j ≡ i
 
 -- where the last child ends is a number of the machine
 abbrev pub Fits : ℕ → List Tree → Type 0

@@ -1,18 +1,18 @@
 //! The first candidates of an edit, in order.
 
-ghost use Rattle.std.specs.Prelude.{◌≡◌, ℕ, List, ◌+◌, ◌-◌, ◌<◌, ◌≤◌, ◌^◌, ◌++◌, ◌∷◌, [], IfOk, IfSome, OnOk, length, map, option_and_then, suc, take};
+ghost use Rattle.std.specs.Prelude.{◌≡◌, ℕ, List, ◌+◌, ◌-◌, ◌<◌, ◌≤◌, ◌^◌, ◌++◌, ◌∷◌, [], IfOk, IfSome, OnOk, drop, length, map, option_and_then, suc, take};
 ghost use Rattle.typst_language.specs.declared.calls.Note.{Note};
 ghost use Rattle.typst_tree.specs.Tree.{forest, text_of};
 ghost use Rattle.typst_candidates.specs.declared.entry.Entry.{Entry};
 ghost use Rattle.typst_candidates.specs.Candidates.{laid, child_ranges, of_block, of_child_ranges, candidates, candidates_at};
 ghost use Rattle.typst_candidates.specs.Entries.{end_of};
 ghost use Rattle.typst_candidates.specs.Nested.{Written};
-ghost use Rattle.typst_candidates.specs.Edges.{IsEdge, IsNear, IsRun, IsWhole, Fits, below, bytes_of, pieces_at, spelled, within};
+ghost use Rattle.typst_candidates.specs.Edges.{IsEdge, IsNear, IsRootEdge, IsRun, IsWhole, LeadsBy, Fits, below, bytes_of, pieces_at, spelled, within};
 ghost use Rattle.typst_candidates.specs.Stops.{block_of, covering, found_in, found_in_all, inside, kids, run_of};
 ghost use Rattle.typst_candidates.specs.Units.{top_cuts};
 
 use crate::enclosing::{Enclosing, RunAt, Stop, run_of_child};
-use crate::{ChildRange, Children, Cuts, Near, Records, Window};
+use crate::{ChildRange, Children, Cuts, Edge, Near, Records, Window};
 use std::alloc::{AllocError, Global};
 use typst_kinds::SyntaxKind;
 use typst_tree::SyntaxNode;
@@ -40,17 +40,21 @@ pub struct Candidates {
     /// The index of the child at each step down. A candidate's own path is as much of it, from the front, as its
     /// depth says.
     pub path: Vec<usize>,
+    /// The place before the first of the root's children near the replaced bytes. The path leads to this child, if
+    /// it has steps.
+    pub first: Edge,
     /// The candidates, in order.
     pub items: Vec<Candidate>,
     /// How many of the first were asked for in the end. If there are fewer, these are all.
     pub most: usize,
 }
 
-/// The units of the text, the replaced bytes, how many candidates are asked for, and where pieces of runs are
-/// looked up.
+/// The units of the text, the known place between the root's children, the replaced bytes, how many candidates are
+/// asked for, and where pieces of runs are looked up.
 #[derive(Clone, Copy)]
 struct CandidateSearch<'a> {
     records: &'a Records,
+    known: Edge,
     start: usize,
     end: usize,
     most: usize,
@@ -155,6 +159,26 @@ fn add_pieces(
 }
 
 impl CandidateSearch<'_> {
+    /// The stop at the root, whose children near the replaced bytes are looked for from the known place.
+    fn top<'t>(&self, root: &'t SyntaxNode) -> Stop<'t>
+        requires order { self.now.start ≤ self.now.end }
+        requires fits { length (text_of root.now) < 2 ^ 64 }
+        requires edge { IsRootEdge root.now self.now.known }
+        ensures node { result.node.now ≡ root.now }
+        ensures at { result.at ≡ 0 }
+        ensures depth { result.depth ≡ 0 }
+        ensures near { IsNear (inside result) (kids result) self.now.start self.now.end result.near }
+    {
+        let children = Children::of(root, 0);
+        let near = children.near_from(self.known, self.start, self.end);
+        Stop {
+            node: root,
+            at: 0,
+            near,
+            depth: 0,
+        }
+    }
+
     /// The stop at a node that begins at byte `at`, `depth` steps below the root.
     fn stop<'t>(&self, node: &'t SyntaxNode, at: usize, depth: usize) -> Stop<'t>
         requires order { self.now.start ≤ self.now.end }
@@ -199,6 +223,7 @@ impl CandidateSearch<'_> {
         requires near { IsNear (inside top) (kids top) self.now.start self.now.end top.near }
         requires depth { top.depth ≡ length path.old.items }
         ensures path { OnOk result (take (length path.old.items) path.new.items ≡ path.old.items) }
+        ensures way { OnOk result (LeadsBy top.entry.near.first.index (drop (length path.old.items) path.new.items)) }
         ensures found { IfOk result (λ around. (ns : List Note) → Written self.now.records.now.units.entries ns → found_in_all self.now.records.now.units.entries path.new.items around.items ≡ below ns self.now.start self.now.end path.old.items top.entry.at top.entry.node.now) }
     {
         let mut around = Vec::new(alloc);
@@ -307,22 +332,23 @@ impl CandidateSearch<'_> {
         Ok(found)
     }
 
-    /// The first candidates of a text. The steps down to the deepest node that covers the replaced bytes are added
-    /// to the path.
+    /// The first candidates of a text, by the stop at its root. The steps down to the deepest node that covers the
+    /// replaced bytes are added to the path.
     fn candidates(
         &self,
         alloc: Global,
-        root: &SyntaxNode,
+        top: Stop<'_>,
         path: &mut Vec<usize>,
     ) -> Result<Found, AllocError>
         requires order { self.now.start ≤ self.now.end }
-        requires fits { length (text_of root.now) < 2 ^ 64 }
+        requires near { IsNear (inside top) (kids top) self.now.start self.now.end top.near }
+        requires depth { top.depth ≡ length path.old.items }
         requires places { end_of 0 self.now.records.now.units.entries < 2 ^ 64 }
-        ensures found { IfOk result (λ found. (ns : List Note) → Written self.now.records.now.units.entries ns → map (spelled path.new.items) found.items.items ≡ take found.most (candidates_at ns self.now.start self.now.end path.old.items (top_cuts ns) 0 0 (forest (root.now ∷ [])))) }
+        ensures found { IfOk result (λ found. (ns : List Note) → Written self.now.records.now.units.entries ns → map (spelled path.new.items) found.items.items ≡ take found.most (candidates_at ns self.now.start self.now.end path.old.items (top_cuts ns) 0 top.entry.at (forest (top.entry.node.now ∷ [])))) }
+        ensures way { OnOk result (LeadsBy top.entry.near.first.index (drop (length path.old.items) path.new.items)) }
         ensures most { IfOk result (λ found. found.most ≤ self.now.most) }
         ensures whole { IsWhole self.now.window → IfOk result (λ found. found.most ≡ self.now.most) }
     {
-        let top = self.stop(root, 0, path.len());
         let around = self.below(alloc, top, path)?;
         let mut found = self.found_in_all(alloc, around)?;
         self.add(alloc, Enclosing::Run(top, RunAt::Text), &mut found)?;
@@ -331,10 +357,57 @@ impl CandidateSearch<'_> {
 }
 
 /// The first `most` candidates of replacing the bytes `start..end` of a text, by its tree and the units of
-/// its reading, in order; all with `usize::MAX`. The pieces of a run are looked up only where what comes
+/// its reading, in order; all with `usize::MAX`. The root's children near these bytes are looked for from the
+/// place `known` between them, or from an end that is nearer. The pieces of a run are looked up only where what comes
 /// before them leaves room, and only up to `reach` bytes on each side of the replaced ones: the candidates before
 /// the first that reaches farther are all that are given, and `most` says how many these are. With `usize::MAX`
 /// none reaches farther.
+pub fn find_candidates_from(
+    alloc: Global,
+    root: &SyntaxNode,
+    known: Edge,
+    records: &Records,
+    start: usize,
+    end: usize,
+    most: usize,
+    reach: usize,
+) -> Result<Candidates, AllocError>
+    requires order { start ≤ end }
+    requires fits { length (text_of root.now) < 2 ^ 64 }
+    requires edge { IsRootEdge root.now known }
+    requires places { end_of 0 records.now.units.entries < 2 ^ 64 }
+    ensures found { IfOk result (λ found. (ns : List Note) → Written records.now.units.entries ns → map (spelled found.path.items) found.items.items ≡ take found.most (candidates ns start end root.now)) }
+    ensures first { IfOk result (λ found. IsRootEdge root.now found.first) }
+    ensures way { IfOk result (λ found. LeadsBy found.first.index found.path.items) }
+    ensures most { IfOk result (λ found. found.most ≤ most) }
+    ensures whole { reach ≡ 2 ^ 64 - 1 → IfOk result (λ found. found.most ≡ most) }
+{
+    let window = Window {
+        from: start.saturating_sub(reach),
+        to: end.saturating_add(reach),
+    };
+    let search = CandidateSearch {
+        records,
+        known,
+        start,
+        end,
+        most,
+        window,
+    };
+    let top = search.top(root);
+    let mut path = Vec::new(alloc);
+    let found = search.candidates(alloc, top, &mut path)?;
+    let Found { items, most } = found;
+    Ok(Candidates {
+        path,
+        first: top.near.first,
+        items,
+        most,
+    })
+}
+
+/// The first `most` candidates of replacing the bytes `start..end` of a text, as `find_candidates_from` gives them;
+/// the root's children near these bytes are looked for from the nearer end.
 pub fn find_candidates(
     alloc: Global,
     root: &SyntaxNode,
@@ -351,19 +424,6 @@ pub fn find_candidates(
     ensures most { IfOk result (λ found. found.most ≤ most) }
     ensures whole { reach ≡ 2 ^ 64 - 1 → IfOk result (λ found. found.most ≡ most) }
 {
-    let window = Window {
-        from: start.saturating_sub(reach),
-        to: end.saturating_add(reach),
-    };
-    let search = CandidateSearch {
-        records,
-        start,
-        end,
-        most,
-        window,
-    };
-    let mut path = Vec::new(alloc);
-    let found = search.candidates(alloc, root, &mut path)?;
-    let Found { items, most } = found;
-    Ok(Candidates { path, items, most })
+    let front = Edge::front_of(root);
+    find_candidates_from(alloc, root, front, records, start, end, most, reach)
 }

@@ -3,7 +3,7 @@
 ghost use Rattle.std.specs.Prelude.{◌≡◌, ◌+◌, ◌-◌, ◌<◌, ◌≤◌, ◌^◌, ◌||◌, ◌&&◌, nat_le, not, min, length};
 ghost use Rattle.typst_tree.specs.Tree.{trees, text_of};
 ghost use Rattle.typst_candidates.specs.Candidates.{laid, begins, first_near, end_near, clings, is_hash, is_sign, leads, holds_at, back_past, on_past, with_hash, around, is_all};
-ghost use Rattle.typst_candidates.specs.Edges.{IsEdge, IsNear, Fits, bytes_of, indices, is_covered};
+ghost use Rattle.typst_candidates.specs.Edges.{IsEdge, IsNear, IsRootEdge, Fits, bytes_of, indices, is_covered};
 
 use crate::{Cuts, Window};
 use typst_kinds::SyntaxKind;
@@ -39,6 +39,18 @@ pub struct Children<'a> {
     pub at: usize,
     pub end: usize,
     ghost ends: { Fits at kids.now → end ≡ begins at kids.now (length kids.now) },
+}
+
+impl Edge {
+    /// The place before all children of a tree's root.
+    pub fn front_of(root: &SyntaxNode) -> Edge
+        ensures { IsRootEdge root.now result }
+    {
+        Edge {
+            index: 0,
+            byte: root.leaf_text().len(),
+        }
+    }
 }
 
 impl Near {
@@ -171,29 +183,61 @@ impl<'a> Children<'a> {
         }
     }
 
-    /// The last child that begins before the byte, or else the first. Goes to it from the nearer end.
-    fn last_begun(&self, byte: usize) -> Edge
+    /// The end that is nearer to the byte.
+    fn nearer_end(&self, byte: usize) -> Edge
         requires { Fits self.now.at self.now.kids.now }
-        ensures index { result.index ≡ first_near byte (laid self.now.at self.now.kids.now) }
-        ensures edge { IsEdge self.now.at self.now.kids.now result }
-        ensures before { 0 < result.index → result.byte < byte }
+        ensures { IsEdge self.now.at self.now.kids.now result }
     {
         if byte.saturating_sub(self.at) < self.end.saturating_sub(byte) {
-            self.on_to_begun(byte)
+            self.front()
         } else {
-            self.back_to_begun(byte)
+            self.rear()
         }
     }
 
-    /// The last child that begins before the byte, or else the first. Goes from the first child on.
-    fn on_to_begun(&self, byte: usize) -> Edge
-        requires { Fits self.now.at self.now.kids.now }
+    /// The known place, or an end that is nearer to the byte.
+    fn nearest(&self, known: Edge, byte: usize) -> Edge
+        requires fits { Fits self.now.at self.now.kids.now }
+        requires edge { IsEdge self.now.at self.now.kids.now known }
+        ensures { IsEdge self.now.at self.now.kids.now result }
+    {
+        let end = self.nearer_end(byte);
+        if end.byte.abs_diff(byte) < known.byte.abs_diff(byte) {
+            end
+        } else {
+            known
+        }
+    }
+
+    /// The last child that begins before the byte, or else the first. Goes to it from the known place, or from an
+    /// end that is nearer.
+    fn last_begun(&self, known: Edge, byte: usize) -> Edge
+        requires fits { Fits self.now.at self.now.kids.now }
+        requires edge { IsEdge self.now.at self.now.kids.now known }
         ensures index { result.index ≡ first_near byte (laid self.now.at self.now.kids.now) }
         ensures edge { IsEdge self.now.at self.now.kids.now result }
         ensures before { 0 < result.index → result.byte < byte }
     {
-        let mut last = self.front();
-        let mut next = last;
+        let from = self.nearest(known, byte);
+        if from.index < self.kids.len() && from.byte < byte {
+            self.on_to_begun(from, byte)
+        } else {
+            self.back_to_begun(from, byte)
+        }
+    }
+
+    /// The last child that begins before the byte. Goes on from one that does.
+    fn on_to_begun(&self, from: Edge, byte: usize) -> Edge
+        requires fits { Fits self.now.at self.now.kids.now }
+        requires edge { IsEdge self.now.at self.now.kids.now from }
+        requires more { from.index < length self.now.kids.now }
+        requires begun { from.byte < byte }
+        ensures index { result.index ≡ first_near byte (laid self.now.at self.now.kids.now) }
+        ensures edge { IsEdge self.now.at self.now.kids.now result }
+        ensures before { result.byte < byte }
+    {
+        let mut last = from;
+        let mut next = self.after(from);
         while next.index < self.kids.len() && next.byte < byte {
             last = next;
             next = self.after(next);
@@ -201,14 +245,17 @@ impl<'a> Children<'a> {
         last
     }
 
-    /// The last child that begins before the byte, or else the first. Goes back from the last child.
-    fn back_to_begun(&self, byte: usize) -> Edge
-        requires { Fits self.now.at self.now.kids.now }
+    /// The last child that begins before the byte, or else the first. Goes back from a place after which none
+    /// does.
+    fn back_to_begun(&self, from: Edge, byte: usize) -> Edge
+        requires fits { Fits self.now.at self.now.kids.now }
+        requires edge { IsEdge self.now.at self.now.kids.now from }
+        requires after { from.index < length self.now.kids.now → byte ≤ from.byte }
         ensures index { result.index ≡ first_near byte (laid self.now.at self.now.kids.now) }
         ensures edge { IsEdge self.now.at self.now.kids.now result }
         ensures before { 0 < result.index → result.byte < byte }
     {
-        let mut edge = self.rear();
+        let mut edge = from;
         while edge.index > 0 {
             edge = self.before(edge);
             if edge.byte < byte {
@@ -243,7 +290,18 @@ impl<'a> Children<'a> {
         requires order { start ≤ end }
         ensures { IsNear self.now.at self.now.kids.now start end result }
     {
-        let first = self.last_begun(start);
+        self.near_from(self.front(), start, end)
+    }
+
+    /// The children near the bytes `start..end`, which are looked for from a known place, or from an end that is
+    /// nearer.
+    pub fn near_from(&self, known: Edge, start: usize, end: usize) -> Near
+        requires fits { Fits self.now.at self.now.kids.now }
+        requires edge { IsEdge self.now.at self.now.kids.now known }
+        requires order { start ≤ end }
+        ensures { IsNear self.now.at self.now.kids.now start end result }
+    {
+        let first = self.last_begun(known, start);
         Near {
             first,
             end: self.first_ended(first, end),

@@ -19,7 +19,7 @@ mod packed;
 mod records;
 mod run;
 
-pub use candidate::{Candidate, Candidates, find_candidates};
+pub use candidate::{Candidate, Candidates, find_candidates, find_candidates_from};
 pub use children::{ChildRange, Children, Edge, Near};
 pub use cursor::EntryCursor;
 pub use cuts::{Cuts, Window};

@@ -1,9 +1,8 @@
 -- From candidates that are asked one after the other to the answer of an edit.
-use Rattle.std.proofs.Common.{◌≡◌, ℕ, zero, suc, ◌+◌, ◌-◌, ◌≤◌, ◌<◌, ◌^◌, Bool, true, false, IsTrue, List, [], ◌∷◌, ◌++◌, length, take, drop, map, Option, Some, None, Ok, Err, option_map, refl, ap, sym, subst, ◌∙◌, arith}
-use Rattle.std.proofs.lemmas.Option.{same_Some, slice_get-map}
+use Rattle.std.proofs.Common.{◌≡◌, ℕ, zero, suc, ◌≤◌, ◌<◌, ◌^◌, Bool, IsTrue, List, [], ◌∷◌, ◌++◌, length, take, drop, Option, Some, None, Ok, Err, refl, ap, sym, subst, ◌∙◌, arith}
+use Rattle.std.proofs.lemmas.Option.{same_Some}
 use Rattle.std.specs.List.{slice_get}
 use Rattle.std.specs.Prelude.{IfOk, IfSome, Result}
-use Rattle.std.specs.Str.{IsUtf8, chars}
 use Rattle.std.specs.declared.alloc.AllocError.{AllocError}
 use Rattle.std.specs.declared.ops.Range.{Range}
 use Rattle.typst_lines.specs.Classes.{CharClasses}
@@ -12,12 +11,10 @@ use Rattle.typst_tokens.specs.Sight.{width}
 use Rattle.typst_tree.specs.Tree.{Tree, bare, text_of}
 use Rattle.typst_tree.specs.Replace.{At, Reaches, kids_of, replaced_at}
 use Rattle.typst_tree.proofs.Numbering.{joined_bare}
-use Rattle.typst_candidates.specs.declared.candidate.Candidate as found
 use Rattle.typst_candidates.specs.declared.entry.Entry.{Entry}
 use Rattle.typst_candidates.specs.Candidates as candidate
 use Rattle.typst_candidates.specs.Candidates.{Candidate}
-use Rattle.typst_candidates.specs.Entries.{Units, end_of, front_of, rear_of, spliced, units_of}
-use Rattle.typst_candidates.specs.Edges.{spelled}
+use Rattle.typst_candidates.specs.Entries.{Units, end_of, spliced}
 use Rattle.typst_edits.specs.Grammar.{log, tree}
 use Rattle.typst_edits.proofs.Whole.{leaves}
 use Rattle.typst_edits.specs.Answer.{IsAnswer, Refused}
@@ -26,21 +23,21 @@ use Rattle.typst_edits.specs.BlockTest.{entries_in}
 use Rattle.typst_edits.specs.CandidatePlaces.{StandsIn}
 use Rattle.typst_edits.specs.Edit.{Among}
 use Rattle.typst_edits.specs.Every.{Every}
-use Rattle.typst_edits.specs.Frame.{Gives}
 use Rattle.typst_edits.specs.PieceNotes.{listed}
-use Rattle.typst_edits.proofs.AnswerTree.{answer-tree-law, chosen-of}
+use Rattle.typst_edits.proofs.AnswerTree.{answer-tree-law}
 use Rattle.typst_edits.proofs.CandidatePlaces.{candidate-places-law}
 use Rattle.typst_edits.proofs.CandidateWorth.{in-order, tree-inner}
 use Rattle.typst_edits.proofs.Edit.{among}
 use Rattle.typst_edits.proofs.OpensApart.{opens-apart-law}
 use Rattle.typst_edits.proofs.Unique.{unique-law}
-use Rattle.typst_parser.specs.Attempt.{Fails, IsPart, Speaks, at_path}
-use Rattle.typst_parser.specs.TextReplacement.{TextReplacement, Holds, Makes, candidates, text_after, text_before}
+use Rattle.typst_parser.specs.Attempt.{Fails, IsPart, Speaks}
+use Rattle.typst_parser.specs.TextReplacement.{TextReplacement, Holds, Makes, candidates, text_before}
 use Rattle.typst_parser.specs.Reparse.{HasTaken, NonePassesOf, Takes, TakesFirst}
 use Rattle.typst_parser.specs.declared.attempt.Asked.{Asked}
 use Rattle.typst_parser.specs.declared.attempt.ReparsedPart.{ReparsedPart}
+use Rattle.typst_parser.specs.declared.edited.Reread.{Reread}
 use Rattle.typst_parser.specs.declared.replacement.Replacement.{Replacement}
-use Rattle.typst_parser.proofs.Numbers.{entries-end, entries-written}
+use Rattle.typst_parser.proofs.Numbers.{entries-end}
 use Rattle.typst_parser.proofs.Places.{bytes-width}
 
 -- ---- lists
@@ -167,11 +164,11 @@ module _ (k : CharClasses) (c : TextReplacement) (root : Tree) (units : Units) (
   none-still n h = subst (λ x. NonePassesOf k c x n) (sym r_is) h
 
   -- what was taken of it is taken of the tree before
-  pub taken-before : (now : Tree) (units_now : Units) (n : ℕ) (o : Result (Option (Range ℕ)) AllocError) → IfOk o (λ x. TakesFirst k c r now units_now n x) → IfOk o (λ x. IfSome x (λ range. Takes k c root now units_now range))
+  pub taken-before : (now : Tree) (units_now : Units) (n : ℕ) (o : Result (Option Reread) AllocError) → IfOk o (λ x. TakesFirst k c r now units_now n x) → IfOk o (λ x. IfSome x (λ read. Takes k c root now units_now read.range))
   taken-before now units_now n (Ok None) h = tt
-  taken-before now units_now n (Ok (Some range)) h = subst (λ x. Takes k c x now units_now range) r_is h
+  taken-before now units_now n (Ok (Some read)) h = subst (λ x. Takes k c x now units_now read.range) r_is h
   taken-before now units_now n (Err e) h = tt
 
   -- where nothing was taken of it, there is none among so many
-  pub none-of : (now : Tree) (units_now : Units) (n : ℕ) (o : Result (Option (Range ℕ)) AllocError) → o ≡ Ok None → IfOk o (λ x. TakesFirst k c r now units_now n x) → NonePassesOf k c r n
-  none-of now units_now n o e h = subst (λ (p : Result (Option (Range ℕ)) AllocError). IfOk p (λ x. TakesFirst k c r now units_now n x)) e h
+  pub none-of : (now : Tree) (units_now : Units) (n : ℕ) (o : Result (Option Reread) AllocError) → o ≡ Ok None → IfOk o (λ x. TakesFirst k c r now units_now n x) → NonePassesOf k c r n
+  none-of now units_now n o e h = subst (λ (p : Result (Option Reread) AllocError). IfOk p (λ x. TakesFirst k c r now units_now n x)) e h

@@ -1,7 +1,6 @@
 -- Blocks that are read by themselves.
-use Rattle.std.proofs.Common.{◌≡◌, ◌↔◌, ℕ, suc, ◌+◌, ◌-◌, ◌≤◌, ◌<◌, ◌^◌, Bool, true, List, [], ◌∷◌, ◌++◌, length, take, drop, Option, Some, None, refl, ap, sym, subst, ◌∙◌, arith}
-use Rattle.std.proofs.lemmas.Option.{same_Some, slice_get_within}
-use Rattle.std.specs.List.{slice_get}
+use Rattle.std.proofs.Common.{◌≡◌, ℕ, suc, ◌+◌, ◌-◌, ◌≤◌, ◌<◌, true, List, [], ◌∷◌, ◌++◌, length, drop, Some, None, ap, sym, subst, ◌∙◌, arith}
+use Rattle.std.proofs.lemmas.Option.{slice_get_within}
 use Rattle.typst_kinds.specs.declared.mode.SyntaxMode.{SyntaxMode}
 use Rattle.typst_lines.specs.Classes.{CharClasses}
 use Rattle.typst_lines.specs.Place.{Place, moved}
@@ -16,7 +15,7 @@ use Rattle.typst_candidates.specs.Cursors.{closing_of}
 use Rattle.typst_candidates.specs.Entries.{Units, block_end, entries_by, last_start, spliced, units_of}
 use Rattle.typst_candidates.specs.Records.{opening_of}
 use Rattle.typst_edits.specs.ReadPart.{ReadPart}
-use Rattle.typst_edits.specs.Grammar.{log, start_of}
+use Rattle.typst_edits.specs.Grammar.{log}
 use Rattle.typst_edits.specs.Part.{IsBlock, block_alone}
 use Rattle.typst_edits.specs.BlockTest.{FoundBlock, PassesAlone, SaysBlock, entries_alone, entries_in, front_in, rear_in}
 use Rattle.typst_edits.specs.Edit.{Among, text_with}
@@ -24,7 +23,7 @@ use Rattle.typst_edits.specs.Frame.{Gives}
 use Rattle.typst_edits.specs.PieceNotes.{listed}
 use Rattle.typst_edits.proofs.BlockTest.{block-test-law}
 use Rattle.typst_parser.specs.Attempt.{Fails, IsPart}
-use Rattle.typst_parser.specs.TextReplacement.{TextReplacement, Holds, Makes, candidates, text_after, text_before}
+use Rattle.typst_parser.specs.TextReplacement.{TextReplacement, Holds, Makes, candidates, text_before}
 use Rattle.typst_parser.specs.Steps.{entries_of}
 use Rattle.typst_parser.specs.declared.attempt.ReparsedPart.{ReparsedPart}
 use Rattle.typst_parser.specs.declared.replacement.Replacement.{Replacement}

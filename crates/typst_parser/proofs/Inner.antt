@@ -1,19 +1,16 @@
 -- Pieces of a content block's run.
-use Rattle.std.proofs.Common.{◌≡◌, ◌↔◌, ℕ, suc, ◌+◌, ◌-◌, ◌≤◌, ◌<◌, ◌^◌, Bool, true, List, [], ◌∷◌, ◌++◌, length, take, drop, Option, Some, None, refl, ap, sym, subst, ◌∙◌, arith}
+use Rattle.std.proofs.Common.{◌≡◌, ℕ, suc, ◌+◌, ◌-◌, ◌≤◌, ◌<◌, List, length, ap, sym, subst, ◌∙◌, arith}
 use Rattle.std.specs.Global.{Vec}
-use Rattle.typst_kinds.specs.declared.mode.SyntaxMode.{SyntaxMode}
 use Rattle.typst_lines.specs.Classes.{CharClasses}
 use Rattle.typst_lines.specs.Place.{Place, moved}
 use Rattle.typst_tokens.specs.Sight.{position, width}
 use Rattle.typst_tree.specs.Tree.{Tree}
-use Rattle.typst_tree.specs.Laws.{start_at}
 use Rattle.typst_tree.specs.Replace.{replaced_at}
 use Rattle.typst_edits.specs.Block.TheVariants as block
 use Rattle.typst_candidates.specs.declared.entry.Entry.{Entry}
 use Rattle.typst_candidates.specs.Candidates.{Candidate}
 use Rattle.typst_candidates.specs.Entries.{spliced, units_of}
 use Rattle.typst_edits.specs.ReadPart.{ReadPart}
-use Rattle.typst_edits.specs.RunKind.TheVariants as of
 use Rattle.typst_edits.specs.Grammar.{log}
 use Rattle.typst_edits.specs.Part.{IsBlock}
 use Rattle.typst_edits.specs.BlockTest.{SaysBlock, entries_in}
@@ -21,8 +18,8 @@ use Rattle.typst_edits.specs.Edit.{text_with}
 use Rattle.typst_edits.specs.Frame.{Gives}
 use Rattle.typst_edits.specs.RunTest.{FoundInner, FoundRun}
 use Rattle.typst_parser.specs.Attempt.{IsPart}
-use Rattle.typst_parser.specs.TextReplacement.{TextReplacement, text_after, text_before}
-use Rattle.typst_parser.specs.Steps.{IsRunOf, IsWithBlock, entries_of}
+use Rattle.typst_parser.specs.TextReplacement.{TextReplacement, text_before}
+use Rattle.typst_parser.specs.Steps.{IsRunOf, IsWithBlock}
 use Rattle.typst_parser.specs.declared.attempt.ReparsedPart.{ReparsedPart}
 use Rattle.typst_parser.specs.declared.attempt.Run.{Run}
 use Rattle.typst_parser.proofs.Blocks.{alone-entries, says-after, says-within}

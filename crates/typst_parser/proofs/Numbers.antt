@@ -1,12 +1,11 @@
 -- Numbers of entries.
-use Rattle.std.proofs.Common.{◌≡◌, ℕ, zero, suc, ◌+◌, ◌-◌, ◌≤◌, ◌<◌, ◌==◌, ◌&&◌, ◌^◌, max, Bool, true, false, if◌then◌else◌, List, [], ◌∷◌, ◌++◌, length, length-drop, take, drop, Option, Some, None, refl, ap, sym, subst, ◌∙◌, arith}
+use Rattle.std.proofs.Common.{◌≡◌, ℕ, suc, ◌+◌, ◌-◌, ◌≤◌, ◌<◌, ◌==◌, ◌&&◌, ◌^◌, max, Bool, true, false, if◌then◌else◌, List, [], ◌∷◌, length, length-drop, take, drop, Option, Some, None, refl, ap, ◌∙◌, arith}
 use Rattle.std.proofs.lemmas.Option.{same_Some}
 use Rattle.typst_lines.specs.Classes.{CharClasses}
 use Rattle.typst_tokens.specs.Sight.{width}
 use Rattle.typst_edits.specs.Note.{Note}
 use Rattle.typst_edits.specs.Log.{Log}
 use Rattle.typst_candidates.specs.declared.entry.Entry.{Entry}
-use Rattle.typst_candidates.specs.declared.entry.EntryKind.{EntryKind}
 use Rattle.typst_candidates.specs.Cursors.{closing_of, inside_after, leads, piece_of, token_at}
 use Rattle.typst_candidates.specs.Entries.{end_of, entries_by, is_after, last_start, rear_of, units_of}
 use Rattle.typst_candidates.specs.Nested.{Written}

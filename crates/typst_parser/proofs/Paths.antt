@@ -3,7 +3,7 @@ use Rattle.std.proofs.Common.{◌≡◌, ℕ, zero, suc, ◌+◌, ◌≤◌, ◌
 use Rattle.std.proofs.lemmas.List.{at_drop_more}
 use Rattle.std.proofs.lemmas.Option.{slice_get_read}
 use Rattle.std.specs.List.{slice_get}
-use Rattle.typst_tree.specs.Tree.{Tree, Forest, none, more, forest, trees, joined, saturated, text_of}
+use Rattle.typst_tree.specs.Tree.{Tree, Forest, forest, trees, joined, saturated, text_of}
 use Rattle.typst_tree.specs.Replace.{At, kids_of}
 use Rattle.typst_tree.specs.Laws.{AtPath, or_none, start_at, start_in}
 use Rattle.typst_tree.proofs.SpansAside.{trees_forest, forest_trees}

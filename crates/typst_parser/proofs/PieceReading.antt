@@ -1,5 +1,5 @@
 -- Pieces that are read one after the other up to a byte.
-use Rattle.std.proofs.Common.{◌≡◌, ◌↔◌, ◌⊎◌, inl, inr, ℕ, suc, ◌+◌, ◌-◌, ◌≤◌, ◌<◌, ◌^◌, Bool, true, false, List, [], Option, Some, None, refl, ap, sym, subst, ◌∙◌, arith}
+use Rattle.std.proofs.Common.{◌≡◌, ◌⊎◌, inl, inr, ℕ, ◌+◌, ◌≤◌, ◌<◌, Bool, true, List, refl, ap, sym, subst, ◌∙◌, arith}
 use Rattle.std.proofs.lemmas.Bool.{cases_lt}
 use Rattle.typst_lines.specs.Classes.{CharClasses}
 use Rattle.typst_lines.specs.Place.{Place, moved}
@@ -7,8 +7,7 @@ use Rattle.typst_tokens.specs.Sight.{position}
 use Rattle.typst_edits.specs.Point.{Point, gap_of}
 use Rattle.typst_candidates.specs.declared.entry.Entry.{Entry}
 use Rattle.typst_edits.specs.PieceReader.{PieceReader}
-use Rattle.typst_edits.specs.ReadPart.{ReadPart}
-use Rattle.typst_edits.specs.Part.{ArePieces, HasRead, IsOver}
+use Rattle.typst_edits.specs.Part.{HasRead, IsOver}
 use Rattle.typst_edits.specs.Pieces.{AllGo, end_on, run_level, stops_of}
 use Rattle.typst_edits.specs.RunTest.{Reading, byte_after, carried_by, read_by}
 use Rattle.typst_edits.specs.Served.{MeetsOn}

@@ -1,9 +1,9 @@
 -- Places of a text in characters and in bytes.
-use Rattle.std.proofs.Common.{◌≡◌, ℕ, zero, suc, ◌+◌, ◌≤◌, ◌<◌, ◌^◌, ◌-◌, List, [], ◌∷◌, ◌++◌, length, take, drop, take-append-drop, append_assoc, append-nil, reverse, refl, ap, sym, subst, ◌∙◌, Some, arith}
+use Rattle.std.proofs.Common.{◌≡◌, ℕ, zero, suc, ◌+◌, ◌≤◌, ◌<◌, ◌^◌, ◌-◌, List, [], ◌∷◌, ◌++◌, length, take, drop, append_assoc, append-nil, reverse, refl, ap, sym, ◌∙◌, arith}
 use Rattle.std.specs.Str.{chars, IsUtf8, IsCharBoundary}
 use Rattle.std.proofs.lemmas.List.{reverse-append}
 use Rattle.typst_lines.specs.Lines.{bytes}
-use Rattle.typst_lines.specs.Place.{Place, char_width, moved, moved_from, place_at}
+use Rattle.typst_lines.specs.Place.{Place, moved, moved_from, place_at}
 use Rattle.typst_lines.proofs.LineTable.{bytes-text, chars-split, front-ahead, front-boundary, front-chars}
 use Rattle.typst_tokens.specs.Sight.{position, width}
 use Rattle.typst_edits.specs.Ask.{Ask}

@@ -9,7 +9,6 @@ use Rattle.typst_tree.specs.Replace.{At, Reaches, kids_of}
 use Rattle.typst_candidates.specs.declared.candidate.Candidate as code
 use Rattle.typst_candidates.specs.declared.entry.Entry.{Entry}
 use Rattle.typst_candidates.specs.Records.{opening_of}
-use Rattle.typst_edits.specs.RunKind.{RunKind}
 use Rattle.typst_edits.specs.RunKind.TheVariants as of
 use Rattle.typst_edits.specs.BlockTest.{entries_in}
 use Rattle.typst_edits.specs.Edit.{Among}
@@ -18,7 +17,7 @@ use Rattle.typst_edits.specs.Served.{RunOf}
 use Rattle.typst_edits.specs.Served.RunOf.{inner, own}
 use Rattle.typst_parser.specs.Attempt.{IsReady, at_path}
 use Rattle.typst_parser.specs.TextReplacement.{TextReplacement, candidates, text_before}
-use Rattle.typst_parser.specs.Steps.{IsRunOf, Reads, ReadsInner, ServesFor}
+use Rattle.typst_parser.specs.Steps.{Reads, ReadsInner, ServesFor}
 use Rattle.typst_parser.specs.declared.attempt.Attempt.{Attempt}
 use Rattle.typst_parser.specs.declared.attempt.Run.{Run}
 use Rattle.typst_parser.specs.declared.attempt.Serving.{Serving}

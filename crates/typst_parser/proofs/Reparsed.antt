@@ -26,8 +26,11 @@ use Rattle.typst_edits.proofs.CandidateWorth.{tree-inner}
 use Rattle.typst_edits.proofs.Whole.{leaves}
 use Rattle.typst_edits.proofs.Widths.{width-append}
 use Rattle.typst_parser.specs.TextReplacement.{TextReplacement, text_before, text_after, Makes, Holds, candidates}
+use Rattle.typst_candidates.specs.declared.children.Edge.{Edge}
+use Rattle.typst_candidates.specs.Edges.{IsRootEdge}
 use Rattle.typst_candidates.specs.Entries.{Units, units_of}
 use Rattle.typst_parser.specs.Reparse.{NonePasses, Takes}
+use Rattle.typst_parser.specs.declared.edited.Reread.{Reread}
 use Rattle.typst_parser.specs.declared.replacement.Replacement.{Replacement}
 use Rattle.typst_parser.specs.Held.{Held}
 use Rattle.typst_parser.specs.Headline.{AreNumbered, AreOrdered, file_of, numbered_in}
@@ -147,7 +150,7 @@ module _ (k : CharClasses) (front old new rest : List ℕ) (was now : Tree) (ran
 
 -- ---- a source whose text was edited
 
-module _ {C : Type 0} (k : CharClasses) (old now : Held C) (e : Replacement) (h : IsEdited old.text now.text e) (units : Units) (had : KeepsRecords k old units) where
+module _ {C : Type 0} (k : CharClasses) (old now : Held C) (e : Replacement) (h : IsEdited old.text now.text e) (units : Units) (edge : Edge) (had : KeepsRecords k old units edge) where
   abbrev c : TextReplacement
   c = change_by h
 
@@ -165,13 +168,14 @@ module _ {C : Type 0} (k : CharClasses) (old now : Held C) (e : Replacement) (h 
     makes-text = subst (λ t. Makes c t e) (sym is) (makes old.text now.text e h had.are.fits fits)
 
     -- where a part was read
-    module _ (units_now : Units) (range : Range ℕ) (read : Option (Range ℕ)) (some : read ≡ Some range)
-        (part : (x : TextReplacement) → Makes x text e → Holds k x old.root units → IfSome read (λ r. Takes k x old.root now.root units_now r)) (ordered : IfSome read (λ r. KeepsNumbers old.root now.root)) where
-      takes : Takes k c old.root now.root units_now range
-      takes = subst (λ o. IfSome o (λ r. Takes k c old.root now.root units_now r)) some (part c makes-text holds)
+    module _ (units_now : Units) (read : Reread) (outcome : Option Reread) (some : outcome ≡ Some read)
+        (part : (x : TextReplacement) → Makes x text e → Holds k x old.root units → IfSome outcome (λ r. Takes k x old.root now.root units_now r.range)) (ordered : IfSome outcome (λ r. KeepsNumbers old.root now.root))
+        (between : IfSome outcome (λ r. IsRootEdge now.root r.edge)) where
+      takes : Takes k c old.root now.root units_now read.range
+      takes = subst (λ (o : Option Reread). IfSome o (λ r. Takes k c old.root now.root units_now r.range)) some (part c makes-text holds)
 
       order : KeepsNumbers old.root now.root
-      order = subst (λ (o : Option (Range ℕ)). IfSome o (λ r. KeepsNumbers old.root now.root)) some ordered
+      order = subst (λ (o : Option Reread). IfSome o (λ r. KeepsNumbers old.root now.root)) some ordered
 
       tree-again : bare now.root ≡ bare (tree k (chars now.text))
       tree-again = takes.tree_is ∙ ap (λ s. bare (tree k s)) (sym (after old.text now.text e h))
@@ -180,10 +184,10 @@ module _ {C : Type 0} (k : CharClasses) (old now : Held C) (e : Replacement) (h 
       leaves-again = sym (text_bare now.root) ∙ ap text_of tree-again ∙ text_bare (tree k (chars now.text)) ∙ leaves k (chars now.text) ∙ encodes-chars now.text (utf8-now old.text now.text e h)
 
       held-again : IsHeldAs old.root now.root
-      held-again = held k c.front c.old c.new c.rest old.root now.root range tree-was takes.tree_is takes.answer order had.headline.numbers had.placed
+      held-again = held k c.front c.old c.new c.rest old.root now.root read.range tree-was takes.tree_is takes.answer order had.headline.numbers had.placed
 
       -- the records are those of the text now
-      pub records-again : KeepsRecords k now units_now
+      pub records-again : KeepsRecords k now units_now read.edge
       records-again = record {
         headline = record {
           tree = tree-again;
@@ -192,15 +196,16 @@ module _ {C : Type 0} (k : CharClasses) (old now : Held C) (e : Replacement) (h 
         };
         placed = subst (λ f. IsPlaced f now.root) (sym held-again.file) held-again.placed;
         are = record { are = takes.units_are ∙ ap (λ s. units_of (log k s)) (sym (after old.text now.text e h)); fits = fits };
+        between = subst (λ (o : Option Reread). IfSome o (λ r. IsRootEdge now.root r.edge)) some between;
       }
 
-      range-again : Lies k c.front c.old c.new c.rest old.root now.root range tree-was takes.tree_is (width (text_after c))
+      range-again : Lies k c.front c.old c.new c.rest old.root now.root read.range tree-was takes.tree_is (width (text_after c))
       range-again =
-          lies k c.front c.old c.new c.rest old.root now.root range tree-was takes.tree_is takes.answer
+          lies k c.front c.old c.new c.rest old.root now.root read.range tree-was takes.tree_is takes.answer
           (ap length had.headline.leaves ∙ sym (width-chars old.text h.utf8_old) ∙ ap width (sym (before old.text now.text e h)))
           (ap length leaves-again ∙ sym (long-now old.text now.text e h))
 
-      pub edits-again : now.id ≡ old.id → now.classes ≡ old.classes → now.has_records ≡ true → Edits k old now now.text range
+      pub edits-again : now.id ≡ old.id → now.classes ≡ old.classes → now.has_records ≡ true → Edits k old now now.text read.range
       edits-again id classes has = record {
         text_is = refl;
         headline = records-again.headline;
@@ -212,7 +217,7 @@ module _ {C : Type 0} (k : CharClasses) (old now : Held C) (e : Replacement) (h 
         within = omega (arith, range-again.within, long-now old.text now.text e h);
       }
 
-      pub answer-again : IsAnswer k c.front c.old c.new c.rest (candidates k c old.root) old.root now.root range
+      pub answer-again : IsAnswer k c.front c.old c.new c.rest (candidates k c old.root) old.root now.root read.range
       answer-again = takes.answer
 
 -- ---- what an edit of a source answers

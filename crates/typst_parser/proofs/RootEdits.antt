@@ -28,7 +28,6 @@ use Rattle.typst_edits.proofs.CandidateWorth.{in-order, tree-inner}
 use Rattle.typst_edits.proofs.Edit.{among}
 use Rattle.typst_edits.proofs.RunTrees.{tree-is}
 use Rattle.typst_edits.proofs.Widths.{width-append}
-use Rattle.typst_candidates.specs.Candidates as candidate
 use Rattle.typst_parser.specs.Answers.{Answers}
 use Rattle.typst_parser.specs.TextReplacement.{TextReplacement, candidates, text_after, text_before}
 use Rattle.typst_parser.specs.Headline.{Headline, edited}

@@ -1,5 +1,5 @@
 -- What is asked of the candidates of an edit, one after the other.
-use Rattle.std.proofs.Common.{◌≡◌, ℕ, zero, suc, ◌+◌, ◌-◌, ◌≤◌, ◌<◌, ◌^◌, List, [], ◌∷◌, ◌++◌, length, min, take, map, Option, Some, None, option_map, refl, ap, sym, subst, ◌∙◌, arith}
+use Rattle.std.proofs.Common.{◌≡◌, ℕ, zero, suc, ◌<◌, List, [], ◌∷◌, ◌++◌, length, min, take, map, Option, Some, option_map, ap, sym, subst, ◌∙◌, arith}
 use Rattle.std.proofs.lemmas.Option.{same_Some, slice_get-map}
 use Rattle.std.proofs.lemmas.List.{length-map, length-take, take_all, take_min}
 use Rattle.std.specs.List.{slice_get}
@@ -10,14 +10,12 @@ use Rattle.typst_tokens.specs.Sight.{width}
 use Rattle.typst_tree.specs.Tree.{Tree}
 use Rattle.typst_edits.specs.Note.{Note}
 use Rattle.typst_candidates.specs.declared.candidate.Candidate as code
-use Rattle.typst_candidates.specs.declared.entry.Entry.{Entry}
 use Rattle.typst_candidates.specs.Candidates as candidate
 use Rattle.typst_candidates.specs.Candidates.{Candidate}
 use Rattle.typst_candidates.specs.Entries.{Units, front_of, rear_of}
 use Rattle.typst_candidates.specs.Nested.{Written}
 use Rattle.typst_candidates.specs.Edges.{spelled}
 use Rattle.typst_edits.specs.Grammar.{log}
-use Rattle.typst_edits.specs.BlockTest.{entries_in}
 use Rattle.typst_edits.specs.Edit.{Among}
 use Rattle.typst_edits.specs.Edit.Among.{this, that}
 use Rattle.typst_edits.specs.PieceNotes.{listed}

@@ -16,7 +16,6 @@ use Rattle.typst_parser.specs.TextReplacement.{TextReplacement, text_before, tex
 use Rattle.typst_parser.specs.declared.attempt.Asked.{Asked}
 use Rattle.typst_parser.specs.declared.attempt.Attempt.{Attempt}
 use Rattle.typst_parser.specs.declared.attempt.ReparsedPart.{ReparsedPart}
-use Rattle.typst_parser.specs.declared.replacement.Replacement.{Replacement}
 
 -- A candidate of the code, whose children are those of the node at the end of a path.
 abbrev pub at_path : List ℕ → found.Candidate → Candidate

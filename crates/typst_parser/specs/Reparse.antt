@@ -1,5 +1,5 @@
 -- What an edit answers for which a part of the new text is read.
-use Rattle.std.specs.Prelude.{◌≡◌, ℕ, ◌+◌, Bool, true, false, List, length, map, take, Option, Some, None}
+use Rattle.std.specs.Prelude.{◌≡◌, ℕ, ◌+◌, Bool, true, false, List, [], ◌∷◌, length, map, take, Option, Some, None}
 use Rattle.std.specs.declared.ops.Range.{Range}
 use Rattle.typst_lines.specs.Classes.{CharClasses}
 use Rattle.typst_tokens.specs.Sight.{width}
@@ -7,9 +7,10 @@ use Rattle.typst_tree.specs.Tree.{Tree, bare}
 use Rattle.typst_tree.specs.Replace.{replaced_at}
 use Rattle.typst_candidates.specs.declared.candidate.Candidate as code
 use Rattle.typst_candidates.specs.declared.candidate.Candidates.{Candidates}
+use Rattle.typst_candidates.specs.declared.children.Edge.{Edge}
 use Rattle.typst_candidates.specs.Candidates.{Candidate}
 use Rattle.typst_candidates.specs.Entries.{Units, spliced, units_of}
-use Rattle.typst_candidates.specs.Edges.{spelled}
+use Rattle.typst_candidates.specs.Edges.{IsRootEdge, LeadsBy, spelled}
 use Rattle.typst_edits.specs.Answer.{IsAnswer, Refused}
 use Rattle.typst_edits.specs.Edit.{Among}
 use Rattle.typst_edits.specs.Every.{Every}
@@ -21,6 +22,7 @@ use Rattle.typst_parser.specs.Steps.{ServesFor}
 use Rattle.typst_parser.specs.declared.attempt.Asked.{Asked}
 use Rattle.typst_parser.specs.declared.attempt.ReparsedPart.{ReparsedPart}
 use Rattle.typst_parser.specs.declared.attempt.Serving.{Serving}
+use Rattle.typst_parser.specs.declared.edited.Reread.{Reread}
 
 -- The first candidate that passes and whose nodes find numbers was put in its place, in the tree
 -- and in the units; the tree is that of the new text, spans aside.
@@ -39,11 +41,14 @@ NonePasses k c was = Every (Refused k c.front c.old c.new c.rest was) (candidate
 abbrev pub AreFirst : CharClasses → TextReplacement → Tree → Candidates → Type 0
 AreFirst k c root found = map (spelled found.path.items) found.items.items ≡ take (length found.items.items) (candidates k c root)
 
--- These candidates are the first of the edit that is asked of them.
+-- These candidates are the first of the edit that is asked of them, and their path leads to the child after the place
+-- that they name.
 pub record CanTakeFirst {C : Type 0} (k : CharClasses) (q : Asked C) (root : Tree) (units : Units) (found : Candidates) : Type 0 where
   pub change : TextReplacement
   pub speaks : Speaks k change q root units
   pub first : AreFirst k change root found
+  pub edge : IsRootEdge root found.first
+  pub way : LeadsBy found.first.index found.path.items
 
 -- Among the first n candidates none passes whose nodes find numbers.
 abbrev pub NonePassesOf : CharClasses → TextReplacement → Tree → ℕ → Type 0
@@ -51,9 +56,9 @@ NonePassesOf k c was n = Every (Refused k c.front c.old c.new c.rest was) (take 
 
 -- The first candidate that passes and whose nodes find numbers was put in its place, or there is none among the
 -- first n.
-abbrev pub TakesFirst : CharClasses → TextReplacement → Tree → Tree → Units → ℕ → Option (Range ℕ) → Type 0
+abbrev pub TakesFirst : CharClasses → TextReplacement → Tree → Tree → Units → ℕ → Option Reread → Type 0
 TakesFirst k c was now units n None = NonePassesOf k c was n
-TakesFirst k c was now units n (Some range) = Takes k c was now units range
+TakesFirst k c was now units n (Some read) = Takes k c was now units read.range
 
 -- ---- one candidate (for private clauses)
 
@@ -81,3 +86,9 @@ TakesPlace k c d was now units (Some end) = HasTaken k c d was now units end
 abbrev pub Puts : List ℕ → ℕ → ℕ → ReparsedPart → Tree → Tree → Units → Units → Bool → Type 0
 Puts path from to p was now units units_now true = (replaced_at path from to p.nodes.items was ≡ Some now) × (units_now ≡ spliced p.from_entry p.to_entry p.entries.units.entries units)
 Puts path from to p was now units units_now false = (replaced_at path from to p.nodes.items was ≡ None) × (now ≡ was) × (units_now ≡ units)
+
+-- The place before the first of the root's children that a candidate changes, by the path to its parent and the place
+-- before the child to which this path leads.
+abbrev pub edge_before : List ℕ → code.Candidate → Edge → Edge
+edge_before [] d step = record { index = d.from; byte = d.start }
+edge_before (i ∷ path) d step = step

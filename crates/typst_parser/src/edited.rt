@@ -3,17 +3,18 @@
 ghost use Rattle.std.specs.Prelude.{◌≡◌, ℕ, ◌<◌, ◌≤◌, ◌^◌, Some, None, IfOk, IfSome, OnOk, OnErr, List, length, take, true};
 ghost use Rattle.typst_tree.specs.Order.{AreInOrder, IsNumbered, numbers_of};
 ghost use Rattle.typst_tree.specs.Replace.{Reaches};
+ghost use Rattle.typst_candidates.specs.Edges.{IsRootEdge};
 ghost use Rattle.typst_edits.specs.Edit.{Among};
 ghost use Rattle.typst_parser.specs.Attempt.{Speaks, at_path};
 ghost use Rattle.typst_parser.specs.TextReplacement.{TextReplacement, Makes, Holds, candidates};
 ghost use Rattle.typst_parser.specs.Steps.{GoesOn, ServesFor, ServesOr};
-ghost use Rattle.typst_parser.specs.Reparse.{AreFirst, CanTake, CanTakeFirst, NonePasses, NonePassesOf, Puts, Takes, TakesFirst, TakesPlace};
+ghost use Rattle.typst_parser.specs.Reparse.{AreFirst, CanTake, CanTakeFirst, NonePasses, NonePassesOf, Puts, Takes, TakesFirst, TakesPlace, edge_before};
 
 use crate::attempt::{Asked, Attempt, ReparsedPart, Serving};
 use crate::replacement::Replacement;
 use std::alloc::{AllocError, Global};
 use std::ops::Range;
-use typst_candidates::{Candidate, Candidates, Records, find_candidates};
+use typst_candidates::{Candidate, Candidates, Edge, Records, find_candidates_from};
 use typst_kinds::SourceError;
 use typst_lines::Classes;
 use typst_tree::SyntaxNode;
@@ -26,26 +27,39 @@ const FEW: usize = 4;
 /// few hundred bytes; the further pieces of a long run cost more than all else that an edit does.
 const REACH: usize = 1000;
 
+/// What was read again of an edited text.
+#[derive(Drop)]
+pub struct Reread {
+    /// Its range in the new text, in bytes.
+    pub range: Range<usize>,
+    /// The place before the first of the root's children that were read again, at least in part.
+    pub edge: Edge,
+}
+
 /// Reads of an edited text the first candidate that passes and whose nodes find numbers, and puts its
-/// nodes and units in place. Answers its range in the new text, in bytes, or `None` if there is
-/// none: then the tree and the units stay as they were.
+/// nodes and units in place. Answers what was read, or `None` if there is none: then the tree and the units stay as
+/// they were. The root's children near the edit are looked for from the place `edge` between them, or from an end
+/// that is nearer.
 pub fn reparse<C: Classes>(
     alloc: Global,
     root: &mut SyntaxNode,
     records: &mut Records,
+    edge: Edge,
     new: &str,
     edit: Replacement,
     classes: &C,
-) -> Result<Option<Range<usize>>, AllocError>
-    requires { (c : TextReplacement) × (Makes c new.now edit × Holds (C.classes classes.now) c root.old records.old.units) }
-    ensures part { (c : TextReplacement) → Makes c new.now edit → Holds (C.classes classes.now) c root.old records.old.units → IfOk result (λ r. IfSome r (λ range. Takes (C.classes classes.now) c root.old root.new records.new.units range)) }
+) -> Result<Option<Reread>, AllocError>
+    requires edits { (c : TextReplacement) × (Makes c new.now edit × Holds (C.classes classes.now) c root.old records.old.units) }
+    requires edge { IsRootEdge root.old edge }
+    ensures part { (c : TextReplacement) → Makes c new.now edit → Holds (C.classes classes.now) c root.old records.old.units → IfOk result (λ r. IfSome r (λ read. Takes (C.classes classes.now) c root.old root.new records.new.units read.range)) }
     ensures none { (c : TextReplacement) → Makes c new.now edit → Holds (C.classes classes.now) c root.old records.old.units → result ≡ Ok None → NonePasses (C.classes classes.now) c root.old }
     ensures undone { result ≡ Ok None → (root.new ≡ root.old) × (records.new.units ≡ records.old.units) }
     ensures err { OnErr result ((root.new ≡ root.old) × (records.new.units ≡ records.old.units)) }
+    ensures edge { IfOk result (λ r. IfSome r (λ read. IsRootEdge root.new read.edge)) }
     ensures ordered { IfOk result (λ r. IfSome r (λ _. IsNumbered root.old → IsNumbered root.new × AreInOrder (numbers_of root.new))) }
 {
     records.go_near(edit.start);
-    reparse_near(alloc, root, records, new, edit, classes)
+    reparse_near(alloc, root, records, edge, new, edit, classes)
 }
 
 /// Does what `reparse` does, from where the records have their anchor.
@@ -53,15 +67,18 @@ fn reparse_near<C: Classes>(
     alloc: Global,
     root: &mut SyntaxNode,
     records: &mut Records,
+    edge: Edge,
     new: &str,
     edit: Replacement,
     classes: &C,
-) -> Result<Option<Range<usize>>, AllocError>
-    requires { (c : TextReplacement) × (Makes c new.now edit × Holds (C.classes classes.now) c root.old records.old.units) }
-    ensures part { (c : TextReplacement) → Makes c new.now edit → Holds (C.classes classes.now) c root.old records.old.units → IfOk result (λ r. IfSome r (λ range. Takes (C.classes classes.now) c root.old root.new records.new.units range)) }
+) -> Result<Option<Reread>, AllocError>
+    requires edits { (c : TextReplacement) × (Makes c new.now edit × Holds (C.classes classes.now) c root.old records.old.units) }
+    requires edge { IsRootEdge root.old edge }
+    ensures part { (c : TextReplacement) → Makes c new.now edit → Holds (C.classes classes.now) c root.old records.old.units → IfOk result (λ r. IfSome r (λ read. Takes (C.classes classes.now) c root.old root.new records.new.units read.range)) }
     ensures none { (c : TextReplacement) → Makes c new.now edit → Holds (C.classes classes.now) c root.old records.old.units → result ≡ Ok None → NonePasses (C.classes classes.now) c root.old }
     ensures undone { result ≡ Ok None → (root.new ≡ root.old) × (records.new.units ≡ records.old.units) }
     ensures err { OnErr result ((root.new ≡ root.old) × (records.new.units ≡ records.old.units)) }
+    ensures edge { IfOk result (λ r. IfSome r (λ read. IsRootEdge root.new read.edge)) }
     ensures ordered { IfOk result (λ r. IfSome r (λ _. IsNumbered root.old → IsNumbered root.new × AreInOrder (numbers_of root.new))) }
 {
     let last = records.last_token();
@@ -72,17 +89,27 @@ fn reparse_near<C: Classes>(
         rear: records.rear(edit.old_end, last),
         classes,
     };
-    let few = find_candidates(alloc, root, records, edit.start, edit.old_end, FEW, REACH)?;
-    if let Some(range) = take_first(alloc, root, records, &asked, &few, 0)? {
-        return Ok(Some(range));
+    let few = find_candidates_from(
+        alloc,
+        root,
+        edge,
+        records,
+        edit.start,
+        edit.old_end,
+        FEW,
+        REACH,
+    )?;
+    if let Some(read) = take_first(alloc, root, records, &asked, &few, 0)? {
+        return Ok(Some(read));
     }
     let tried = few.items.len();
     if tried < few.most {
         return Ok(None);
     }
-    let all = find_candidates(
+    let all = find_candidates_from(
         alloc,
         root,
+        edge,
         records,
         edit.start,
         edit.old_end,
@@ -93,8 +120,8 @@ fn reparse_near<C: Classes>(
 }
 
 /// Puts what takes the place of the first candidate there that passes and whose nodes find numbers, among those
-/// from the one numbered `from` on; answers its range in the new text, in bytes, or `None` if there is none. In
-/// that case, and if memory is refused, nothing changes.
+/// from the one numbered `from` on; answers what was read, or `None` if there is none. In that case, and if memory is
+/// refused, nothing changes.
 fn take_first<C: Classes>(
     alloc: Global,
     root: &mut SyntaxNode,
@@ -102,12 +129,13 @@ fn take_first<C: Classes>(
     asked: &Asked<'_, C>,
     found: &Candidates,
     from: usize,
-) -> Result<Option<Range<usize>>, AllocError>
+) -> Result<Option<Reread>, AllocError>
     requires some { CanTakeFirst (C.classes asked.now.classes.now) asked.now root.old records.old.units found.now }
     requires within { from ≤ length found.now.items.items }
-    ensures first { (c : TextReplacement) → Speaks (C.classes asked.now.classes.now) c asked.now root.old records.old.units → AreFirst (C.classes asked.now.classes.now) c root.old found.now → NonePassesOf (C.classes asked.now.classes.now) c root.old from → IfOk result (λ range. TakesFirst (C.classes asked.now.classes.now) c root.old root.new records.new.units (length found.now.items.items) range) }
+    ensures first { (c : TextReplacement) → Speaks (C.classes asked.now.classes.now) c asked.now root.old records.old.units → AreFirst (C.classes asked.now.classes.now) c root.old found.now → NonePassesOf (C.classes asked.now.classes.now) c root.old from → IfOk result (λ read. TakesFirst (C.classes asked.now.classes.now) c root.old root.new records.new.units (length found.now.items.items) read) }
     ensures undone { result ≡ Ok None → (root.new ≡ root.old) × (records.new.units ≡ records.old.units) }
     ensures err { OnErr result ((root.new ≡ root.old) × (records.new.units ≡ records.old.units)) }
+    ensures edge { IfOk result (λ r. IfSome r (λ read. IsRootEdge root.new read.edge)) }
     ensures ordered { IfOk result (λ r. IfSome r (λ _. IsNumbered root.old → IsNumbered root.new × AreInOrder (numbers_of root.new))) }
 {
     let steps = &found.path;
@@ -117,10 +145,26 @@ fn take_first<C: Classes>(
         serving = serving_of(serving, *candidate);
         let end = take_place(alloc, root, records, asked, *candidate, path, &mut serving)?;
         if let Some(end) = end {
-            return Ok(Some(candidate.start..end));
+            let range = candidate.start..end;
+            let edge = edge_before(path, *candidate, found.first);
+            return Ok(Some(Reread { range, edge }));
         }
     }
     Ok(None)
+}
+
+/// The place before the first of the root's children that a candidate changes, by the path to its parent and the
+/// place before the child to which this path leads.
+fn edge_before(path: &[usize], candidate: Candidate, step: Edge) -> Edge
+    ensures { result ≡ edge_before path.now candidate step }
+{
+    if path.is_empty() {
+        return Edge {
+            index: candidate.from,
+            byte: candidate.start,
+        };
+    }
+    step
 }
 
 /// The reading, if it can go on for a candidate.

@@ -16,7 +16,7 @@ use std::alloc::{AllocError, Global};
 use std::fmt;
 use std::marker::Model;
 use std::ops::Range;
-use typst_candidates::Records;
+use typst_candidates::{Edge, Records};
 use typst_kinds::{FileId, SourceError, Span, SpanNumber, SubRange};
 use typst_lines::{Classes, Lines};
 use typst_tree::{LinkedNode, SyntaxNode};
@@ -38,6 +38,9 @@ pub struct Source<C: Classes> {
     has_records: bool,
     /// The units of the text's reading.
     records: Records,
+    /// A place between the root's children, from which those near the next edit are looked for: where the last one
+    /// began to read, since the next edit is mostly near.
+    edge: Edge,
 }
 
 impl<C: Classes> Model for Source<C> {
@@ -51,7 +54,7 @@ impl<C: Classes> Model for Source<C> {
 
     ghost view = { λ a. record { id = a.id; text = a.lines; root = a.root; classes = a.classes; has_records = a.has_records } };
 
-    ghost invariant = { λ a. a.has_records ≡ true → KeepsRecords (C.classes a.classes) (record { id = a.id; text = a.lines; root = a.root; classes = a.classes; has_records = a.has_records }) a.records.units };
+    ghost invariant = { λ a. a.has_records ≡ true → KeepsRecords (C.classes a.classes) (record { id = a.id; text = a.lines; root = a.root; classes = a.classes; has_records = a.has_records }) a.records.units a.edge };
 }
 
 /// Numbers a tree over all numbers of a file, or takes its numbers away if there is no file.
@@ -117,6 +120,7 @@ impl<C: Classes + Drop> Source<C> {
             return Err(SourceError::OutOfMemory);
         };
         let made = parse_whole(alloc, lines.text(), Some(id), &classes)?;
+        let edge = Edge::front_of(&made.root);
         Ok(Source {
             alloc,
             id,
@@ -125,6 +129,7 @@ impl<C: Classes + Drop> Source<C> {
             classes,
             has_records: true,
             records: made.records,
+            edge,
         })
     }
 
@@ -154,6 +159,7 @@ impl<C: Classes + Drop> Source<C> {
         ensures { IfOk result (λ s. (s.id ≡ id) × (s.text ≡ string_bytes text) × (s.root ≡ root) × (s.classes ≡ classes) × (s.has_records ≡ false)) }
     {
         let lines = Lines::new(alloc, text)?;
+        let edge = Edge::front_of(&root);
         Ok(Source {
             alloc,
             id,
@@ -162,6 +168,7 @@ impl<C: Classes + Drop> Source<C> {
             classes,
             has_records: false,
             records: Records::new(alloc),
+            edge,
         })
     }
 }
@@ -325,13 +332,15 @@ impl<C: Classes> Source<C> {
             self.alloc,
             &mut self.root,
             &mut self.records,
+            self.edge,
             text,
             edit,
             &self.classes,
         ) {
-            Ok(Some(range)) => {
+            Ok(Some(read)) => {
                 self.lines = edited.keep();
-                Ok(Some(range))
+                self.edge = read.edge;
+                Ok(Some(read.range))
             }
             Ok(None) => {
                 self.lines = edited.take_back();
@@ -367,6 +376,7 @@ impl<C: Classes> Source<C> {
         };
         let end = edited.text().len();
         self.lines = edited.keep();
+        self.edge = Edge::front_of(&made.root);
         self.root = made.root;
         self.records = made.records;
         self.has_records = true;
@@ -409,6 +419,7 @@ impl<C: Classes + Copy> Source<C> {
             classes: self.classes,
             has_records: self.has_records,
             records: self.records.try_clone(self.alloc)?,
+            edge: self.edge,
         })
     }
 }

@@ -6,12 +6,12 @@ use Rattle.typst_parser.proofs.Answering.{places-fit}
 use Rattle.typst_parser.proofs.edited.reparse.Goals as goal
 
 pub go_near-requires : goal.go_near-requires
-go_near-requires g c = places-fit (g.C.Classes.classes c.args.classes.now) c.requires.0 c.args.root.now c.args.records.now.units c.requires.1.1 c.args.new.now c.args.edit c.requires.1.0
+go_near-requires g c = places-fit (g.C.Classes.classes c.args.classes.now) c.requires.edits.0 c.args.root.now c.args.records.now.units c.requires.edits.1.1 c.args.new.now c.args.edit c.requires.edits.1.0
 
-pub reparse_near-requires : goal.reparse_near-requires
-reparse_near-requires g c =
+pub reparse_near-requires-clause-edits : goal.reparse_near-requires-clause-edits
+reparse_near-requires-clause-edits g c =
     let k = g.C.Classes.classes c.args.classes.now in
-    (c.requires.0, (c.requires.1.0, subst (λ (r : Kept). Holds k c.requires.0 c.args.root.now r.units) (sym c.go_near.ensures) c.requires.1.1))
+    (c.requires.edits.0, (c.requires.edits.1.0, subst (λ (r : Kept). Holds k c.requires.edits.0 c.args.root.now r.units) (sym c.go_near.ensures) c.requires.edits.1.1))
 
 pub returns-clause-part : goal.returns-clause-part
 returns-clause-part g c = λ ch makes holds.

@@ -1,7 +1,7 @@
-use Rattle.std.proofs.Common.{◌≡◌, ℕ, ◌+◌, ◌<◌, ◌≤◌, ◌^◌, List, length, min, take, Option, None, Some, Ok, refl, sym, ap, ◌∙◌, subst, arith}
+use Rattle.std.proofs.Common.{◌≡◌, ◌<◌, ◌≤◌, length, Ok, refl, sym, ap, subst, arith}
 use Rattle.std.specs.Prelude.{map}
 use Rattle.typst_tree.specs.Tree.{Tree}
-use Rattle.typst_candidates.specs.Edges.{spelled}
+use Rattle.typst_candidates.specs.Edges.{IsRootEdge, spelled}
 use Rattle.typst_edits.specs.Answer.{Refused}
 use Rattle.typst_edits.specs.Every.{Every}
 use Rattle.typst_parser.specs.TextReplacement.{candidates}
@@ -11,14 +11,14 @@ use Rattle.typst_parser.proofs.Answering.{each-fewer, edit-order, holds-still, n
 use Rattle.typst_parser.proofs.Turns.{are-all, as-many, asked-speaks, counted, found-first}
 use Rattle.typst_parser.proofs.edited.reparse_near.Goals as goal
 
-pub find_candidates-requires-clause-order : goal.find_candidates-requires-clause-order
-find_candidates-requires-clause-order g c = edit-order (g.C.Classes.classes c.args.classes.now) c.requires.0 c.args.root.now c.args.records.now.units c.requires.1.1 c.args.new.now c.args.edit c.requires.1.0
+pub find_candidates_from-requires-clause-order : goal.find_candidates_from-requires-clause-order
+find_candidates_from-requires-clause-order g c = edit-order (g.C.Classes.classes c.args.classes.now) c.requires.edits.0 c.args.root.now c.args.records.now.units c.requires.edits.1.1 c.args.new.now c.args.edit c.requires.edits.1.0
 
-pub find_candidates-requires-clause-fits : goal.find_candidates-requires-clause-fits
-find_candidates-requires-clause-fits g c = root-fits (g.C.Classes.classes c.args.classes.now) c.requires.0 c.args.root.now c.args.records.now.units c.requires.1.1 c.args.new.now c.args.edit c.requires.1.0
+pub find_candidates_from-requires-clause-fits : goal.find_candidates_from-requires-clause-fits
+find_candidates_from-requires-clause-fits g c = root-fits (g.C.Classes.classes c.args.classes.now) c.requires.edits.0 c.args.root.now c.args.records.now.units c.requires.edits.1.1 c.args.new.now c.args.edit c.requires.edits.1.0
 
 pub last_token-last-requires : goal.last_token-last-requires
-last_token-last-requires g c = places-fit (g.C.Classes.classes c.args.classes.now) c.requires.0 c.args.root.now c.args.records.now.units c.requires.1.1 c.args.new.now c.args.edit c.requires.1.0
+last_token-last-requires g c = places-fit (g.C.Classes.classes c.args.classes.now) c.requires.edits.0 c.args.root.now c.args.records.now.units c.requires.edits.1.1 c.args.new.now c.args.edit c.requires.edits.1.0
 
 pub take_first-requires-clause-some : goal.take_first-requires-clause-some
 take_first-requires-clause-some g c =
@@ -26,15 +26,15 @@ take_first-requires-clause-some g c =
     let root = c.args.root.now in
     let units = c.args.records.now.units in
     let q : Asked g.row.C.Denot = record { new = c.args.new; edit = c.args.edit; front = c.front.result; rear = c.rear.result; classes = c.args.classes } in
-    let ch = c.requires.0 in
-    let makes = c.requires.1.0 in
-    let holds = c.requires.1.1 in
+    let ch = c.requires.edits.0 in
+    let makes = c.requires.edits.1.0 in
+    let holds = c.requires.edits.1.1 in
     let path = c.in_ok-few.few.path.items in
     let items = c.in_ok-few.few.items.items in
     let cs = candidates k ch root in
     let speaks = asked-speaks k ch root units holds q makes c.utf8.new c.front.ensures c.rear.ensures in
     let few = found-first k ch root units holds q makes c.in_ok-few.few.most (map (spelled path) items) c.in_ok-few.ensures.found in
-    record { change = ch; speaks = speaks; first = as-many path items c.in_ok-few.few.most cs few }
+    record { change = ch; speaks = speaks; first = as-many path items c.in_ok-few.few.most cs few; edge = c.in_ok-few.ensures.first; way = c.in_ok-few.ensures.way }
 
 pub returns-in-Some-clause-part : goal.returns-in-Some-clause-part
 returns-in-Some-clause-part g c = λ ch makes holds.
@@ -47,7 +47,7 @@ returns-in-Some-clause-part g c = λ ch makes holds.
     let cs = candidates k ch root in
     let speaks = asked-speaks k ch root units holds q makes c.utf8.new c.front.ensures c.rear.ensures in
     let few = found-first k ch root units holds q makes c.in_ok-few.few.most (map (spelled path) items) c.in_ok-few.ensures.found in
-    let begun = c.in_ok-range.ensures.first ch speaks (as-many path items c.in_ok-few.few.most cs few) tt in
+    let begun = c.in_ok-read.ensures.first ch speaks (as-many path items c.in_ok-few.few.most cs few) tt in
     subst (TakesFirst k ch root c.take_first.new.root c.take_first.new.records.units (length items)) c.in-Some.is begun
 
 pub returns-then-tried-few-clause-none : goal.returns-then-tried-few-clause-none
@@ -61,29 +61,34 @@ returns-then-tried-few-clause-none g c = λ ch makes holds e.
     let cs = candidates k ch root in
     let speaks = asked-speaks k ch root units holds q makes c.utf8.new c.front.ensures c.rear.ensures in
     let few = found-first k ch root units holds q makes c.in_ok-few.few.most (map (spelled path) items) c.in_ok-few.ensures.found in
-    let begun = c.in_ok-range.ensures.first ch speaks (as-many path items c.in_ok-few.few.most cs few) tt in
+    let begun = c.in_ok-read.ensures.first ch speaks (as-many path items c.in_ok-few.few.most cs few) tt in
     let none : NonePassesOf k ch root (length items) = subst (TakesFirst k ch root c.take_first.new.root c.take_first.new.records.units (length items)) c.in_default.is begun in
     let fewer : length items < c.in_ok-few.few.most = omega (arith, c.if-tried-few.true, c.len-tried.ensures, c.in_ok-few.few.items.ok.0) in
     subst (Every (Refused k ch.front ch.old ch.new ch.rest root)) (are-all path items c.in_ok-few.few.most cs few fewer) none
 
 -- ---- all
 
-pub find_candidates-requires-2-clause-order : goal.find_candidates-requires-2-clause-order
-find_candidates-requires-2-clause-order g c = edit-order (g.C.Classes.classes c.args.classes.now) c.requires.0 c.args.root.now c.args.records.now.units c.requires.1.1 c.args.new.now c.args.edit c.requires.1.0
+pub find_candidates_from-requires-2-clause-order : goal.find_candidates_from-requires-2-clause-order
+find_candidates_from-requires-2-clause-order g c = edit-order (g.C.Classes.classes c.args.classes.now) c.requires.edits.0 c.args.root.now c.args.records.now.units c.requires.edits.1.1 c.args.new.now c.args.edit c.requires.edits.1.0
 
-pub find_candidates-requires-2-clause-fits : goal.find_candidates-requires-2-clause-fits
-find_candidates-requires-2-clause-fits g c =
+pub find_candidates_from-requires-2-clause-fits : goal.find_candidates_from-requires-2-clause-fits
+find_candidates_from-requires-2-clause-fits g c =
     let k = g.C.Classes.classes c.args.classes.now in
     let root = c.args.root.now in
     let units = c.args.records.now.units in
-    let ch = c.requires.0 in
-    let makes = c.requires.1.0 in
-    let holds = c.requires.1.1 in
-    let same = c.in_ok-range.ensures.undone (ap (λ o. Ok o) c.in_default.is) in
+    let ch = c.requires.edits.0 in
+    let makes = c.requires.edits.1.0 in
+    let holds = c.requires.edits.1.1 in
+    let same = c.in_ok-read.ensures.undone (ap (λ o. Ok o) c.in_default.is) in
     let r = c.take_first.new.root in
     let u = c.take_first.new.records.units in
     let there = holds-still k ch root units r same.0 u same.1 holds in
     root-fits k ch r u there c.args.new.now c.args.edit makes
+
+pub find_candidates_from-requires-2-clause-edge : goal.find_candidates_from-requires-2-clause-edge
+find_candidates_from-requires-2-clause-edge g c =
+    let same = c.in_ok-read.ensures.undone (ap (λ o. Ok o) c.in_default.is) in
+    subst (λ (t : Tree). IsRootEdge t c.args.edge) (sym same.0) c.requires.edge
 
 pub take_first-requires-2-clause-some : goal.take_first-requires-2-clause-some
 take_first-requires-2-clause-some g c =
@@ -91,10 +96,10 @@ take_first-requires-2-clause-some g c =
     let root = c.args.root.now in
     let units = c.args.records.now.units in
     let q : Asked g.row.C.Denot = record { new = c.args.new; edit = c.args.edit; front = c.front.result; rear = c.rear.result; classes = c.args.classes } in
-    let ch = c.requires.0 in
-    let makes = c.requires.1.0 in
-    let holds = c.requires.1.1 in
-    let same = c.in_ok-range.ensures.undone (ap (λ o. Ok o) c.in_default.is) in
+    let ch = c.requires.edits.0 in
+    let makes = c.requires.edits.1.0 in
+    let holds = c.requires.edits.1.1 in
+    let same = c.in_ok-read.ensures.undone (ap (λ o. Ok o) c.in_default.is) in
     let r = c.take_first.new.root in
     let u = c.take_first.new.records.units in
     let there = holds-still k ch root units r same.0 u same.1 holds in
@@ -103,7 +108,7 @@ take_first-requires-2-clause-some g c =
     let all = found-first k ch r u there q makes c.in_ok-all.all.most (map (spelled way) more) c.in_ok-all.ensures.found in
     let first = as-many way more c.in_ok-all.all.most (candidates k ch r) all in
     let speaks = asked-speaks k ch root units holds q makes c.utf8.new c.front.ensures c.rear.ensures in
-    record { change = ch; speaks = speaks-still k ch root units r same.0 u same.1 q speaks; first = first }
+    record { change = ch; speaks = speaks-still k ch root units r same.0 u same.1 q speaks; first = first; edge = c.in_ok-all.ensures.first; way = c.in_ok-all.ensures.way }
 
 pub take_first-requires-2-clause-within : goal.take_first-requires-2-clause-within
 take_first-requires-2-clause-within g c =
@@ -111,15 +116,15 @@ take_first-requires-2-clause-within g c =
     let root = c.args.root.now in
     let units = c.args.records.now.units in
     let q : Asked g.row.C.Denot = record { new = c.args.new; edit = c.args.edit; front = c.front.result; rear = c.rear.result; classes = c.args.classes } in
-    let ch = c.requires.0 in
-    let makes = c.requires.1.0 in
-    let holds = c.requires.1.1 in
+    let ch = c.requires.edits.0 in
+    let makes = c.requires.edits.1.0 in
+    let holds = c.requires.edits.1.1 in
     let path = c.in_ok-few.few.path.items in
     let items = c.in_ok-few.few.items.items in
     let cs = candidates k ch root in
     let speaks = asked-speaks k ch root units holds q makes c.utf8.new c.front.ensures c.rear.ensures in
     let few = found-first k ch root units holds q makes c.in_ok-few.few.most (map (spelled path) items) c.in_ok-few.ensures.found in
-    let same = c.in_ok-range.ensures.undone (ap (λ o. Ok o) c.in_default.is) in
+    let same = c.in_ok-read.ensures.undone (ap (λ o. Ok o) c.in_default.is) in
     let r = c.take_first.new.root in
     let u = c.take_first.new.records.units in
     let there = holds-still k ch root units r same.0 u same.1 holds in
@@ -144,9 +149,9 @@ returns-clause-part g c = λ ch makes holds.
     let cs = candidates k ch root in
     let speaks = asked-speaks k ch root units holds q makes c.utf8.new c.front.ensures c.rear.ensures in
     let few = found-first k ch root units holds q makes c.in_ok-few.few.most (map (spelled path) items) c.in_ok-few.ensures.found in
-    let begun = c.in_ok-range.ensures.first ch speaks (as-many path items c.in_ok-few.few.most cs few) tt in
+    let begun = c.in_ok-read.ensures.first ch speaks (as-many path items c.in_ok-few.few.most cs few) tt in
     let none : NonePassesOf k ch root (length items) = subst (TakesFirst k ch root c.take_first.new.root c.take_first.new.records.units (length items)) c.in_default.is begun in
-    let same = c.in_ok-range.ensures.undone (ap (λ o. Ok o) c.in_default.is) in
+    let same = c.in_ok-read.ensures.undone (ap (λ o. Ok o) c.in_default.is) in
     let r = c.take_first.new.root in
     let u = c.take_first.new.records.units in
     let there = holds-still k ch root units r same.0 u same.1 holds in
@@ -170,9 +175,9 @@ returns-clause-none g c = λ ch makes holds e.
     let cs = candidates k ch root in
     let speaks = asked-speaks k ch root units holds q makes c.utf8.new c.front.ensures c.rear.ensures in
     let few = found-first k ch root units holds q makes c.in_ok-few.few.most (map (spelled path) items) c.in_ok-few.ensures.found in
-    let begun = c.in_ok-range.ensures.first ch speaks (as-many path items c.in_ok-few.few.most cs few) tt in
+    let begun = c.in_ok-read.ensures.first ch speaks (as-many path items c.in_ok-few.few.most cs few) tt in
     let none : NonePassesOf k ch root (length items) = subst (TakesFirst k ch root c.take_first.new.root c.take_first.new.records.units (length items)) c.in_default.is begun in
-    let same = c.in_ok-range.ensures.undone (ap (λ o. Ok o) c.in_default.is) in
+    let same = c.in_ok-read.ensures.undone (ap (λ o. Ok o) c.in_default.is) in
     let r = c.take_first.new.root in
     let u = c.take_first.new.records.units in
     let there = holds-still k ch root units r same.0 u same.1 holds in

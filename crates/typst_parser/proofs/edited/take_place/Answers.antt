@@ -1,4 +1,4 @@
-use Rattle.std.proofs.Common.{◌≡◌, ◌<◌, ◌≤◌, length, true, false, None, Some, sym, ap, ◌∙◌, refl, arith, subst, List}
+use Rattle.std.proofs.Common.{length, ap, arith, subst, List}
 use Rattle.typst_candidates.specs.declared.entry.Entry.{Entry}
 use Rattle.typst_parser.specs.Attempt.{Decides, IsPart, at_path}
 use Rattle.typst_parser.specs.Reparse.{Puts}

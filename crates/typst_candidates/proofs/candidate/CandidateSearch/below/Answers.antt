@@ -1,11 +1,11 @@
-use Rattle.std.proofs.Common.{◌≡◌, ◌++◌, List, length, take, ap, sym, refl, ◌∙◌, arith}
+use Rattle.std.proofs.Common.{◌≡◌, ◌++◌, ◌∷◌, [], suc, List, length, length-append, take, ap, sym, refl, ◌∙◌, arith}
 use Rattle.std.proofs.lemmas.List.{append-nil, take_all}
 use Rattle.typst_candidates.specs.Candidates.{Candidate, of_block, run_in}
 use Rattle.typst_candidates.specs.declared.enclosing.Enclosing.{Enclosing}
 use Rattle.typst_candidates.specs.Edges.{below}
 use Rattle.typst_candidates.specs.Stops.{found_in_all, inside, kids}
 use Rattle.typst_candidates.proofs.Nested.{piece-run}
-use Rattle.typst_candidates.proofs.Stops.{alone, covered, covered-fewer, covered-fits, down, front-longer, none-below, shorter}
+use Rattle.typst_candidates.proofs.Stops.{alone, covered, covered-fewer, covered-fits, down, front-longer, none-below, shorter, steps-lead, steps-on}
 use Rattle.typst_candidates.proofs.candidate.CandidateSearch.below.Goals as goal
 
 pub loop-child-init : goal.loop-child-init
@@ -16,6 +16,7 @@ loop-child-init c =
       near = c.requires.near;
       depth = c.requires.depth;
       path = take_all (length path) path (omega arith);
+      way = take_all (suc (length path)) (path ++ c.args.top.near.first.index ∷ []) (omega (arith, length-append path (c.args.top.near.first.index ∷ [])));
       found = λ ns w final front.
           (let all = below ns c.args.self.now.start c.args.self.now.end path c.args.top.at c.args.top.node.now in
           ap (λ (around : List Enclosing). all ++ found_in_all es final around) c.new-around.ensures.items ∙ append-nil all);
@@ -57,6 +58,7 @@ loop-child-preserved c =
       near = c.stop-stop.ensures.near;
       depth = long;
       path = front-longer c.args.path.now.items c.loop-child.path.items c.push.new.self.items s.near.first.index c.loop-child.invariant.path way;
+      way = steps-on c.args.path.now.items c.loop-child.path.items c.push.new.self.items c.args.top.near.first.index s.near.first.index u.near.first.index c.loop-child.invariant.path way c.loop-child.invariant.way;
       found = λ ns w final front.
           (let kind = c.run_of_child-run.ensures es ∙ (piece-run es ns s.at c.kind-in-Some.result c.kind-in-Some-2.result w ∙ (λ k. run_in ns s.at (c.kind-in-Some.ensures k) (c.kind-in-Some-2.ensures k))) in
           let nearer = shorter es ns rs re s u t c.loop-child.path.items c.push.new.self.items final c.run_of_child-run.result c.loop-child.invariant.near c.stop-stop.ensures.near is c.stop-stop.ensures.node c.stop-stop.ensures.at c.loop-child.invariant.depth long way front kind in
@@ -64,3 +66,6 @@ loop-child-preserved c =
           (found_in_all es final c.loop-child.around.items) (found_in_all es final c.push_block.new.around.items) (found_in_all es final c.push_run.new.around.items) _ _
           (ap (of_block (take s.depth final) (inside s) (kids s) s.near.first.index) c.kind.ensures) (c.in_ok-push_block.ensures es final) (c.in_ok-push_run.ensures es final) (c.loop-child.invariant.found ns w final nearer));
     }
+
+pub returns-clause-way : goal.returns-clause-way
+returns-clause-way c = steps-lead c.args.top.near.first.index c.loop-child.stop.near.first.index c.args.path.now.items c.loop-child.path.items c.loop-child.invariant.way

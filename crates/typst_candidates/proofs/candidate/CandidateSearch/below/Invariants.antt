@@ -1,4 +1,4 @@
-use Rattle.std.proofs.Common.{◌≡◌, ◌++◌, ℕ, List, length, take}
+use Rattle.std.proofs.Common.{◌≡◌, ◌++◌, ◌∷◌, [], ℕ, suc, List, length, take}
 use Rattle.typst_language.specs.declared.calls.Note.{Note}
 use Rattle.typst_tree.specs.Tree.{nodes}
 use Rattle.typst_candidates.specs.Nested.{Written}
@@ -12,6 +12,7 @@ invariant-loop-child l = record {
   near : IsNear (inside l.stop) (kids l.stop) l.self.start l.self.end l.stop.near;
   depth : l.stop.depth ≡ length l.path.items;
   path : take (length l.fn.path.items) l.path.items ≡ l.fn.path.items;
+  way : take (suc (length l.fn.path.items)) (l.path.items ++ l.stop.near.first.index ∷ []) ≡ l.fn.path.items ++ l.top.near.first.index ∷ [];
   found : (ns : List Note) → Written l.self.records.now.units.entries ns → (final : List ℕ) → take (length l.path.items) final ≡ l.path.items
       → below ns l.self.start l.self.end l.path.items l.stop.at l.stop.node.now ++ found_in_all l.self.records.now.units.entries final l.around.items ≡ below ns l.self.start l.self.end l.fn.path.items l.top.at l.top.node.now;
 }

@@ -21,11 +21,11 @@ returns-clause-found c = λ ns w.
     let rs = c.args.self.now.start in
     let re = c.args.self.now.end in
     let path = c.below.new.path.items in
-    let top = c.stop-top.result in
+    let top = c.args.top in
     let own = run_of path top (pieces_at es run.Text) in
-    let way : take top.depth path ≡ c.args.path.now.items = ap (λ (n : ℕ). take n path) (c.stop-top.ensures.depth ∙ c.len.ensures ∙ c.args.path.now.ok.0) ∙ c.in_ok-around.ensures.path in
+    let way : take top.depth path ≡ c.args.path.now.items = ap (λ (n : ℕ). take n path) c.requires.depth ∙ c.in_ok-around.ensures.path in
     added_last c.add.new.found.most c.in_ok-found.found.most (map (spelled path) c.in_ok-found.found.items.items) (found_in_all es path c.in_ok-around.around.items) own (map (spelled path) c.add.new.found.items.items)
-    (candidates_at ns rs re c.args.path.now.items _ 0 0 (forest (c.args.root.now ∷ [])))
+    (candidates_at ns rs re c.args.path.now.items _ 0 top.at (forest (top.node.now ∷ [])))
     (c.in_ok-add.ensures.found path) (c.in_ok-found.ensures.found path) c.in_ok-add.ensures.most
-    (ap (λ (xs : List Candidate). xs ++ own) (c.in_ok-around.ensures.found ns w) ∙ stop-is ns rs re c.args.path.now.items path top (pieces_at es run.Text) c.stop-top.ensures.near way
-    ∙ (λ k. candidates_at ns rs re c.args.path.now.items (top-run es ns w k) 0 (c.stop-top.ensures.at k) (forest (c.stop-top.ensures.node k ∷ []))))
+    (ap (λ (xs : List Candidate). xs ++ own) (c.in_ok-around.ensures.found ns w) ∙ stop-is ns rs re c.args.path.now.items path top (pieces_at es run.Text) c.requires.near way
+    ∙ (λ k. candidates_at ns rs re c.args.path.now.items (top-run es ns w k) 0 top.at (forest (top.node.now ∷ []))))

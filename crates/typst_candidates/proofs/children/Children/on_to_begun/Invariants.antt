@@ -11,6 +11,6 @@ invariant-loop-next l = record {
   edge : IsEdge l.self.at l.self.kids.now l.next;
   last : IsEdge l.self.at l.self.kids.now l.last;
   index : l.last.index ≡ l.next.index - 1;
-  before : 0 < l.last.index → l.last.byte < l.byte;
+  before : l.last.byte < l.byte;
   begun : Begun l.byte l.self.at l.self.kids.now l.next.index;
 }

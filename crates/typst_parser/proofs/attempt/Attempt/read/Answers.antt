@@ -1,4 +1,4 @@
-use Rattle.std.proofs.Common.{◌≡◌, ◌-◌, ◌<◌, ◌^◌, true, false, List, [], length, take, None, Some, refl, sym, subst, ◌∙◌}
+use Rattle.std.proofs.Common.{refl, sym, subst}
 use Rattle.std.specs.Prelude.{IfOk, Option}
 use Rattle.typst_edits.specs.Edit.{Among}
 use Rattle.typst_parser.specs.Attempt.{Decides, at_path}

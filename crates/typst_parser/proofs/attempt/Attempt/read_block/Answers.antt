@@ -1,4 +1,4 @@
-use Rattle.std.proofs.Common.{◌≡◌, ◌+◌, ◌<◌, ◌≤◌, ◌^◌, ◌-◌, ℕ, suc, List, length, Option, Some, None, true, false, sym, subst, ap, ◌∙◌, refl, arith}
+use Rattle.std.proofs.Common.{◌+◌, sym, ap, ◌∙◌, refl, arith}
 use Rattle.typst_parser.specs.Attempt.{at_path}
 use Rattle.typst_parser.proofs.Blocks.{unopened}
 use Rattle.typst_parser.proofs.BlockSteps.{end-no, looks-no, no-end, none-read, part-of, read-few, read-fits, start-boundary, starts-few}

@@ -1,5 +1,4 @@
-use Rattle.std.proofs.Common.{◌≡◌, ◌<◌, true, false, [], None, Some, sym, ◌∙◌, refl, arith, subst}
-use Rattle.typst_edits.specs.RunKind.TheVariants as of
+use Rattle.std.proofs.Common.{[], subst}
 use Rattle.typst_parser.specs.Steps.{Settles}
 use Rattle.typst_parser.proofs.ReadSteps.{top-reads, top_run}
 use Rattle.typst_parser.proofs.RunSteps.{passing-few, passing-part, passing-start}

@@ -1,4 +1,4 @@
-use Rattle.std.proofs.Common.{◌≡◌, ◌∙◌, ◌-◌, length, None, ap, subst, refl}
+use Rattle.std.proofs.Common.{◌∙◌, ◌-◌, length, ap, subst, refl}
 use Rattle.typst_parser.specs.Answers.{change_of}
 use Rattle.typst_parser.specs.Headline.{edited}
 use Rattle.typst_parser.specs.Held.{Held}

@@ -1,4 +1,4 @@
-use Rattle.std.proofs.Common.{◌≡◌, ◌∙◌, ◌-◌, ◌<◌, ◌^◌, ◌++◌, List, ℕ, true, take, drop, length, None, Some, Ok, ap, sym, subst, refl, arith}
+use Rattle.std.proofs.Common.{◌≡◌, ◌∙◌, ◌-◌, ◌<◌, ◌^◌, List, ℕ, true, length, None, Ok, ap, sym, subst, refl, arith}
 use Rattle.std.specs.Str.{IsCharBoundary}
 use Rattle.typst_parser.specs.TextReplacement.{candidates}
 use Rattle.typst_edits.specs.Answer.{IsAnswer}
@@ -12,8 +12,8 @@ use Rattle.typst_parser.proofs.Changed.{edited-by}
 use Rattle.typst_parser.proofs.Reparsed.{answer-again, edits-again, holds, makes-text, records-again}
 use Rattle.typst_parser.proofs.source.Source.read_part.Goals as goal
 
-pub reparse-requires : goal.reparse-requires
-reparse-requires g c =
+pub reparse-requires-clause-edits : goal.reparse-requires-clause-edits
+reparse-requires-clause-edits g c =
     let i = c.self.inside in
     let k = g.C.Classes.classes i.classes in
     let r = c.args.replace in
@@ -24,7 +24,10 @@ reparse-requires g c =
     (subst (λ t. IsCharBoundary t r.start) (sym at) c.requires.start) (subst (λ t. IsCharBoundary t r.end) (sym at) c.requires.end) c.requires.ordered (c.in-Ok.ensures.after) c.saturating_sub-after.ensures (ap length (c.text-text.ensures)) c.saturating_sub.ensures in
     let had = c.self.invariant c.if-not-self.false in
     let fits : length now.text < 2 ^ 64 - 1 = omega (arith, c.if-text.false, ap length (c.text-text.ensures)) in
-    (change_by h, (makes-text k old now (record { start = r.start; old_end = r.end; new_end = c.saturating_sub.result }) h i.records.units had c.text-text.result.now c.text-text.ensures fits, holds k old now (record { start = r.start; old_end = r.end; new_end = c.saturating_sub.result }) h i.records.units had))
+    (change_by h, (makes-text k old now (record { start = r.start; old_end = r.end; new_end = c.saturating_sub.result }) h i.records.units i.edge had c.text-text.result.now c.text-text.ensures fits, holds k old now (record { start = r.start; old_end = r.end; new_end = c.saturating_sub.result }) h i.records.units i.edge had))
+
+pub reparse-requires-clause-edge : goal.reparse-requires-clause-edge
+reparse-requires-clause-edge g c = (c.self.invariant c.if-not-self.false).between
 
 pub invariant_of-self-in-Ok-Some : goal.invariant_of-self-in-Ok-Some
 invariant_of-self-in-Ok-Some g c = λ has. (
@@ -38,7 +41,7 @@ invariant_of-self-in-Ok-Some g c = λ has. (
     (subst (λ t. IsCharBoundary t r.start) (sym at) c.requires.start) (subst (λ t. IsCharBoundary t r.end) (sym at) c.requires.end) c.requires.ordered (c.keep.ensures ∙ c.in-Ok.ensures.after) c.saturating_sub-after.ensures (ap length (c.text-text.ensures ∙ sym c.keep.ensures)) c.saturating_sub.ensures in
     let had = c.self.invariant c.if-not-self.false in
     let fits : length now.text < 2 ^ 64 - 1 = omega (arith, c.if-text.false, ap length (c.text-text.ensures ∙ sym c.keep.ensures)) in
-    records-again k old now (record { start = r.start; old_end = r.end; new_end = c.saturating_sub.result }) h i.records.units had c.text-text.result.now (c.text-text.ensures ∙ sym c.keep.ensures) fits c.reparse.new.records.units c.in-Ok-Some.range c.in-Ok-Some.field-0 c.in-Ok-Some.field-0-is c.in-Ok-Some.ensures.part c.in-Ok-Some.ensures.ordered)
+    records-again k old now (record { start = r.start; old_end = r.end; new_end = c.saturating_sub.result }) h i.records.units i.edge had c.text-text.result.now (c.text-text.ensures ∙ sym c.keep.ensures) fits c.reparse.new.records.units c.in-Ok-Some.read c.in-Ok-Some.field-0 c.in-Ok-Some.field-0-is c.in-Ok-Some.ensures.part c.in-Ok-Some.ensures.ordered c.in-Ok-Some.ensures.edge)
 
 pub returns-in-Ok-Some-clause-tried : goal.returns-in-Ok-Some-clause-tried
 returns-in-Ok-Some-clause-tried g c =
@@ -53,8 +56,8 @@ returns-in-Ok-Some-clause-tried g c =
     let had = c.self.invariant c.if-not-self.false in
     let fits : length now.text < 2 ^ 64 - 1 = omega (arith, c.if-text.false, ap length (c.text-text.ensures ∙ sym c.keep.ensures)) in
     let text : now.text ≡ edited i.lines r c.args.with.now = c.keep.ensures ∙ c.in-Ok.ensures.after in
-    let edits = edits-again k old now (record { start = r.start; old_end = r.end; new_end = c.saturating_sub.result }) h i.records.units had c.text-text.result.now (c.text-text.ensures ∙ sym c.keep.ensures) fits c.reparse.new.records.units c.in-Ok-Some.range c.in-Ok-Some.field-0 c.in-Ok-Some.field-0-is c.in-Ok-Some.ensures.part c.in-Ok-Some.ensures.ordered refl refl c.if-not-self.false in
-    subst (λ (s : Held g.row.C.Denot). Edits (g.C.Classes.classes s.classes) s now (edited s.text r c.args.with.now) c.in-Ok-Some.range) c.self.view_is (subst (λ (t : List ℕ). Edits k old now t c.in-Ok-Some.range) text edits)
+    let edits = edits-again k old now (record { start = r.start; old_end = r.end; new_end = c.saturating_sub.result }) h i.records.units i.edge had c.text-text.result.now (c.text-text.ensures ∙ sym c.keep.ensures) fits c.reparse.new.records.units c.in-Ok-Some.read c.in-Ok-Some.field-0 c.in-Ok-Some.field-0-is c.in-Ok-Some.ensures.part c.in-Ok-Some.ensures.ordered c.in-Ok-Some.ensures.edge refl refl c.if-not-self.false in
+    subst (λ (s : Held g.row.C.Denot). Edits (g.C.Classes.classes s.classes) s now (edited s.text r c.args.with.now) c.in-Ok-Some.read.range) c.self.view_is (subst (λ (t : List ℕ). Edits k old now t c.in-Ok-Some.read.range) text edits)
 
 pub returns-in-Ok-Some-clause-decided : goal.returns-in-Ok-Some-clause-decided
 returns-in-Ok-Some-clause-decided g c =
@@ -68,8 +71,8 @@ returns-in-Ok-Some-clause-decided g c =
     (subst (λ t. IsCharBoundary t r.start) (sym at) c.requires.start) (subst (λ t. IsCharBoundary t r.end) (sym at) c.requires.end) c.requires.ordered (c.keep.ensures ∙ c.in-Ok.ensures.after) c.saturating_sub-after.ensures (ap length (c.text-text.ensures ∙ sym c.keep.ensures)) c.saturating_sub.ensures in
     let had = c.self.invariant c.if-not-self.false in
     let fits : length now.text < 2 ^ 64 - 1 = omega (arith, c.if-text.false, ap length (c.text-text.ensures ∙ sym c.keep.ensures)) in
-    let answer = answer-again k old now (record { start = r.start; old_end = r.end; new_end = c.saturating_sub.result }) h i.records.units had c.text-text.result.now (c.text-text.ensures ∙ sym c.keep.ensures) fits c.reparse.new.records.units c.in-Ok-Some.range c.in-Ok-Some.field-0 c.in-Ok-Some.field-0-is c.in-Ok-Some.ensures.part c.in-Ok-Some.ensures.ordered in
-    subst (λ (s : Held g.row.C.Denot). (s.has_records ≡ true) × (let ch = change_of s.text r c.args.with.now in IsAnswer (g.C.Classes.classes s.classes) ch.front ch.old ch.new ch.rest (candidates (g.C.Classes.classes s.classes) ch s.root) s.root c.reparse.new.root c.in-Ok-Some.range)) c.self.view_is
+    let answer = answer-again k old now (record { start = r.start; old_end = r.end; new_end = c.saturating_sub.result }) h i.records.units i.edge had c.text-text.result.now (c.text-text.ensures ∙ sym c.keep.ensures) fits c.reparse.new.records.units c.in-Ok-Some.read c.in-Ok-Some.field-0 c.in-Ok-Some.field-0-is c.in-Ok-Some.ensures.part c.in-Ok-Some.ensures.ordered c.in-Ok-Some.ensures.edge in
+    subst (λ (s : Held g.row.C.Denot). (s.has_records ≡ true) × (let ch = change_of s.text r c.args.with.now in IsAnswer (g.C.Classes.classes s.classes) ch.front ch.old ch.new ch.rest (candidates (g.C.Classes.classes s.classes) ch s.root) s.root c.reparse.new.root c.in-Ok-Some.read.range)) c.self.view_is
     (c.if-not-self.false, answer)
 
 pub returns-in-Ok-None-clause-decided : goal.returns-in-Ok-None-clause-decided
@@ -85,5 +88,5 @@ returns-in-Ok-None-clause-decided g c =
     let had = c.self.invariant c.if-not-self.false in
     let fits : length now.text < 2 ^ 64 - 1 = omega (arith, c.if-text.false, ap length (c.text-text.ensures)) in
     let is : c.reparse.result ≡ Ok None = c.in-Ok-None.is ∙ ap (λ o. Ok o) c.in-Ok-None.field-0-is in
-    let none = c.reparse.ensures.none (change_by h) (makes-text k old now (record { start = r.start; old_end = r.end; new_end = c.saturating_sub.result }) h i.records.units had c.text-text.result.now c.text-text.ensures fits) (holds k old now (record { start = r.start; old_end = r.end; new_end = c.saturating_sub.result }) h i.records.units had) is in
+    let none = c.reparse.ensures.none (change_by h) (makes-text k old now (record { start = r.start; old_end = r.end; new_end = c.saturating_sub.result }) h i.records.units i.edge had c.text-text.result.now c.text-text.ensures fits) (holds k old now (record { start = r.start; old_end = r.end; new_end = c.saturating_sub.result }) h i.records.units i.edge had) is in
     subst (λ (s : Held g.row.C.Denot). s.has_records ≡ true → length (edited s.text r c.args.with.now) < 2 ^ 64 - 1 → NonePasses (g.C.Classes.classes s.classes) (change_of s.text r c.args.with.now) s.root) c.self.view_is (λ _ _. none)
