@@ -1,5 +1,5 @@
 -- The line table of a text in which a stretch was replaced: lines that start before it stay, those behind it move.
-use Rattle.std.proofs.Common.{◌≡◌, ℕ, zero, suc, ◌+◌, ◌-◌, ◌^◌, ◌<◌, ◌≤◌, min, Bool, true, false, nat_le, List, [], ◌∷◌, ◌++◌, length, map, filter, take, drop, take_at, drop_at, take_all, length-drop, append_assoc, slice_get, Some, refl, ap, sym, subst, ◌∙◌, arith}
+use Rattle.std.proofs.Common.{◌≡◌, ℕ, zero, suc, ◌+◌, ◌-◌, ◌%◌, ◌^◌, ◌<◌, ◌≤◌, Bool, true, false, nat_le, List, [], ◌∷◌, ◌++◌, length, map, filter, take, drop, take_at, drop_at, take_all, length-drop, append_assoc, slice_get, Some, refl, ap, sym, subst, ◌∙◌, arith}
 use Rattle.std.proofs.lemmas.Bool.Decides.{nat_tests}
 use Rattle.std.specs.Prelude.{slice_range}
 use Rattle.std.specs.Str.{chars, IsUtf8, IsCharBoundary}
@@ -7,12 +7,12 @@ use Rattle.std.proofs.lemmas.Str.{chars-append, IsUtf8-take, IsCharBoundary-star
 use Rattle.typst_lines.specs.Newline.{ends_line}
 use Rattle.typst_lines.specs.Place.{char_width, place_at}
 use Rattle.typst_lines.specs.Lines.{utf16_len, units, bytes, line_table, lines_after, utf16_before, line_of}
-use Rattle.typst_lines.specs.Edited.{IsEdit, units_at, moved_line}
+use Rattle.typst_lines.specs.Edited.{IsEdit, distance, units_at, moved_line}
 use Rattle.typst_lines.specs.Pending.{UpTo}
 use Rattle.typst_lines.specs.declared.lines.Line.{Line}
 use Rattle.typst_lines.proofs.LineTable.{line_at, onto_if, starts_from, line_table-starts, width-positive, units-le, units-front, bytes-append, bytes-text, bytes-front, chars-split, chars-range, front-boundary, front-ahead, front-chars}
 use Rattle.typst_lines.proofs.LinesFromLaw.{after, later-line, earlier-line, after-starts, none-before, table-after}
-use Rattle.typst_lines.proofs.TableOrder.{rising, table-bytes, many, none-upto, line_of-many}
+use Rattle.typst_lines.proofs.TableOrder.{rising, rising-bytes, rising-lower, rising-units, table-bytes, many, none-upto, line_of-many}
 
 -- ---- lines that start in or behind some characters start behind the first
 
@@ -156,18 +156,35 @@ starts-small b u (c ∷ cs) h k =
     small-onto (ends_line c (slice_get cs 0)) (line_at (char_width c + b) (utf16_len c + u)) _ (omega (arith, h)) (omega (arith, k))
     (starts-small (char_width c + b) (utf16_len c + u) cs (omega (arith, h)) (omega (arith, k)))
 
-small-moved : (b c u v : ℕ) (ls ms : List Line) → ms ≡ map (plainly b c u v) ls → Small ms → map (moved_line b c u v) ls ≡ ms
-small-moved b c u v [] ms e h = sym e
-small-moved b c u v (l ∷ ls) [] e h = absurd (cc)
-small-moved b c u v (l ∷ ls) (m ∷ ms) e h =
+first-small : (ls : List Line) → Small ls → units_at ls < 2 ^ 64
+first-small [] h = omega arith
+first-small (l ∷ ls) h = h.1
+
+first-units : (low : ℕ) (ls : List Line) → rising (λ l. l.utf16_idx) low ls → rising (λ l. l.utf16_idx) (units_at ls) ls
+first-units low [] r = tt
+first-units low (l ∷ ls) r = (omega arith, r.1)
+
+-- a number moved by a distance that wraps round is as far after `to` as it was after `from`, where a word holds that
+moved-by : (from to at : ℕ) → from < 2 ^ 64 → from ≤ at → at - from + to < 2 ^ 64 → (at + distance from to) % 2 ^ 64 ≡ at - from + to
+moved-by from to at small le short = omega (arith, small, le, short)
+
+small-moved : (b c u v : ℕ) (ls ms : List Line) → b < 2 ^ 64 → u < 2 ^ 64 → rising (λ l. l.byte_idx) b ls → rising (λ l. l.utf16_idx) u ls → ms ≡ map (plainly b c u v) ls → Small ms
+    → map (moved_line b c u v) ls ≡ ms
+small-moved b c u v [] ms b_small u_small bytes_rise units_rise e h = sym e
+small-moved b c u v (l ∷ ls) [] b_small u_small bytes_rise units_rise e h = absurd (cc)
+small-moved b c u v (l ∷ ls) (m ∷ ms) b_small u_small bytes_rise units_rise e h =
     let first : m ≡ plainly b c u v l = cc in
     let rest : ms ≡ map (plainly b c u v) ls = cc in
-    let byte = ap (λ (n : Line). n.byte_idx) first in
-    let unit = ap (λ (n : Line). n.utf16_idx) first in
+    let byte : m.byte_idx ≡ l.byte_idx - b + c = ap (λ (n : Line). n.byte_idx) first in
+    let unit : m.utf16_idx ≡ l.utf16_idx - u + v = ap (λ (n : Line). n.utf16_idx) first in
     let low = h.0 in
     let short = h.1 in
-    let same : moved_line b c u v l ≡ m = line-is (min (l.byte_idx - b + c) (2 ^ 64 - 1)) m.byte_idx (min (l.utf16_idx - u + v) (2 ^ 64 - 1)) m.utf16_idx (omega (arith, byte, low)) (omega (arith, unit, short)) in
-    ap (λ n. n ∷ map (moved_line b c u v) ls) same ∙ ap (λ ns. m ∷ ns) (small-moved b c u v ls ms rest h.2)
+    let byte_moved = moved-by b c l.byte_idx b_small bytes_rise.0 (omega (arith, byte, low)) in
+    let unit_moved = moved-by u v l.utf16_idx u_small units_rise.0 (omega (arith, unit, short)) in
+    let same : moved_line b c u v l ≡ m = line-is ((l.byte_idx + distance b c) % 2 ^ 64) m.byte_idx ((l.utf16_idx + distance u v) % 2 ^ 64) m.utf16_idx (byte_moved ∙ sym byte) (unit_moved ∙ sym unit) in
+    let later_bytes = rising-lower (λ n. n.byte_idx) b l.byte_idx ls bytes_rise.0 bytes_rise.1 in
+    let later_units = rising-lower (λ n. n.utf16_idx) u l.utf16_idx ls units_rise.0 units_rise.1 in
+    ap (λ n. n ∷ map (moved_line b c u v) ls) same ∙ ap (λ ns. m ∷ ns) (small-moved b c u v ls ms b_small u_small later_bytes later_units rest h.2)
 
 -- ---- lines up to a byte and those behind it
 
@@ -337,10 +354,10 @@ module _ (s new : List ℕ) (u : IsUtf8 s) (v : IsUtf8 new) (start end new_end :
   unfolding lines_after
   behind-is = ap (λ n. drop n (line_table s)) (line_of-many end s) ∙ sym (dropped end 0 (line_table s) (table-bytes s)) ∙ old-behind
 
-  pub settled : length new < 2 ^ 64 → (lines : List Line) (y : Line) (ys : List Line) → lines ++ y ∷ ys ≡ line_table new → UpTo new_end lines → new_end < y.byte_idx
+  pub settled : length s < 2 ^ 64 → length new < 2 ^ 64 → (lines : List Line) (y : Line) (ys : List Line) → lines ++ y ∷ ys ≡ line_table new → UpTo new_end lines → new_end < y.byte_idx
       → lines ++ map (moved_line end new_end (units_at behind) y.utf16_idx) behind ≡ line_table new
   unfolding lines_after
-  settled short lines y ys is few late_line =
+  settled fits short lines y ys is few late_line =
       let order = subst (rising (λ n. n.byte_idx) 0) (sym is) (table-bytes new) in
       let later : y ∷ ys ≡ starts_from new_end (utf16_before new new_end) rest = sym (behind-are new_end 0 lines y ys few late_line order) ∙ ap (filter (after new_end)) is ∙ new-behind in
       let old = starts_from end (utf16_before s end) rest in
@@ -348,7 +365,12 @@ module _ (s new : List ℕ) (u : IsUtf8 s) (v : IsUtf8 new) (start end new_end :
       let whole : bytes rest + new_end ≡ length new = let a = ap bytes split-there in let b = bytes-append (front ++ with) rest in let c = bytes-text new v in let d = ap bytes (ap (take count) split-there ∙ take_at (front ++ with) rest count refl) in omega (arith, a, b, c, d, end-size) in
       let unit_few = units-front new v new_end end-boundary in
       let small = subst Small (sym later) (starts-small new_end (utf16_before new new_end) rest (omega (arith, whole, short)) (omega (arith, units-le rest, whole, short, unit_few))) in
-      let all : map (moved_line end new_end (units_at old) y.utf16_idx) old ≡ y ∷ ys = small-moved end new_end (units_at old) y.utf16_idx old (y ∷ ys) moves small in
+      let old_whole : bytes rest + end ≡ length s = let a = ap bytes (chars-split s u end e.ends) in let b = bytes-append (chars (take end s)) rest in let c = bytes-text s u in let d = bytes-front s u end e.ends in omega (arith, a, b, c, d) in
+      let old_few = units-front s u end e.ends in
+      let old_small = starts-small end (utf16_before s end) rest (omega (arith, old_whole, fits)) (omega (arith, units-le rest, old_whole, fits, old_few)) in
+      let units_rise = first-units (utf16_before s end) old (rising-units end (utf16_before s end) rest) in
+      let all : map (moved_line end new_end (units_at old) y.utf16_idx) old ≡ y ∷ ys =
+      small-moved end new_end (units_at old) y.utf16_idx old (y ∷ ys) (omega (arith, old_whole, fits)) (first-small old old_small) (rising-bytes end (utf16_before s end) rest) units_rise moves small in
       ap (λ ls. lines ++ map (moved_line end new_end (units_at ls) y.utf16_idx) ls) behind-is ∙ ap (λ ls. lines ++ ls) all ∙ is
 
   -- where no line starts behind the stretch now, none did

@@ -81,21 +81,21 @@ module _ (s new : List ℕ) (u : IsUtf8 s) (v : IsUtf8 new) (start end new_end :
       omega (arith, whole, more, a, r, b, le, high)
 
   -- what stays, what starts in the stretch now, and what starts behind it, moved
-  settled-with : length new < 2 ^ 64 → (lines fresh next : List Line) (w : ℕ) → lines ++ (fresh ++ next) ≡ line_table new → UpTo new_end lines → UpTo new_end fresh → IsNext new_end w next
+  settled-with : length s < 2 ^ 64 → length new < 2 ^ 64 → (lines fresh next : List Line) (w : ℕ) → lines ++ (fresh ++ next) ≡ line_table new → UpTo new_end lines → UpTo new_end fresh → IsNext new_end w next
       → lines ++ (fresh ++ map (moved_line end new_end (units_at behind) w) behind) ≡ line_table new
   unfolding lines_after
-  settled-with short lines fresh [] w is few more h =
+  settled-with fits short lines fresh [] w is few more h =
       let nothing : lines_after new new_end ≡ [] = ap (filter (after new_end)) (sym is) ∙ none-after new_end (lines ++ (fresh ++ [])) (upto-both new_end lines (fresh ++ []) few (upto-both new_end fresh [] more tt)) in
       ap (λ ls. lines ++ (fresh ++ map (moved_line end new_end (units_at ls) w) ls)) (none-behind s new u v start end new_end e nothing) ∙ is
-  settled-with short lines fresh (y ∷ ys) w is few more h =
+  settled-with fits short lines fresh (y ∷ ys) w is few more h =
       ap (λ n. lines ++ (fresh ++ map (moved_line end new_end (units_at behind) n) behind)) h.1
       ∙ sym (append_assoc lines fresh (map (moved_line end new_end (units_at behind) y.utf16_idx) behind))
-      ∙ settled s new u v start end new_end e short (lines ++ fresh) y ys (append_assoc lines fresh (y ∷ ys) ∙ is) (upto-both new_end lines fresh few more) h.0
+      ∙ settled s new u v start end new_end e fits short (lines ++ fresh) y ys (append_assoc lines fresh (y ∷ ys) ∙ is) (upto-both new_end lines fresh few more) h.0
 
-  pub pending : (before : List ℕ) → before ≡ s → length new < 2 ^ 64 → (n : ℕ) (l : Line) → slice_get (line_table s) n ≡ Some l → n ≡ line_of s (start - 1) → l.byte_idx ≤ start - 1 → n < length (line_table s) → line_of s end < length (line_table s)
+  pub pending : (before : List ℕ) → before ≡ s → length s < 2 ^ 64 → length new < 2 ^ 64 → (n : ℕ) (l : Line) → slice_get (line_table s) n ≡ Some l → n ≡ line_of s (start - 1) → l.byte_idx ≤ start - 1 → n < length (line_table s) → line_of s end < length (line_table s)
       → (old lines : List Line) (w k b m : ℕ) → old ≡ line_table s → AddsStarts (lines_after new l.byte_idx) new_end w old lines → k ≡ suc n → b ≡ suc (line_of s end) → m ≡ length (line_table s)
       → IsPending before new lines (record { start = start; end = end; new_end = new_end; kept = k; behind = b; known = m; utf16_idx = w })
-  pending before same short n l at which le low high old lines w k b m table a ek eb em =
+  pending before same fits short n l at which le low high old lines w k b m table a ek eb em =
       let t = line_table s in
       let j = suc (line_of s end) in
       let front = kept-front s new u v start end new_end e n l at le in
@@ -114,7 +114,7 @@ module _ (s new : List ℕ) (u : IsUtf8 s) (v : IsUtf8 new) (start end new_end :
         settled = ap (λ xs. xs ++ (drop m lines ++ map (moved_line end new_end (units_at (slice_range lines b m)) w) (slice_range lines b m))) stays
             ∙ ap (λ xs. take (suc n) t ++ (xs ++ map (moved_line end new_end (units_at (slice_range lines b m)) w) (slice_range lines b m))) starts
             ∙ ap (λ xs. take (suc n) t ++ (a.fresh ++ map (moved_line end new_end (units_at xs) w) xs)) rear
-            ∙ settled-with short (take (suc n) t) a.fresh a.next w whole front.upto a.upto a.next_is;
+            ∙ settled-with fits short (take (suc n) t) a.fresh a.next w whole front.upto a.upto a.next_is;
         kept = omega (arith, ek, eb, which, grows);
         behind = omega (arith, eb, em, high);
         known = omega (arith, long, em);

@@ -1,7 +1,8 @@
 -- The table of an edited text, once the lines of its stretch and those behind it have changed places.
-use Rattle.std.proofs.Common.{◌≡◌, ℕ, zero, suc, ◌+◌, ◌-◌, ◌<◌, ◌≤◌, List, [], ◌∷◌, ◌++◌, get_or, refl, length, map, take, drop, take_at, drop_at, take-append-drop, append_assoc, length-append, length-drop, length-take-le, ap, sym, ◌∙◌, arith}
+use Rattle.std.proofs.Common.{◌≡◌, ℕ, zero, suc, ◌+◌, ◌-◌, ◌<◌, ◌≤◌, List, [], ◌∷◌, ◌++◌, get_or, refl, length, map, take, drop, take_all, take_at, drop_at, take-append-drop, take-take, append_assoc, length-append, length-drop, length-take-le, ap, sym, ◌∙◌, arith}
 use Rattle.std.proofs.Math.Seq.{take-append_seam, drop-append_seam}
 use Rattle.std.proofs.Math.ListN.{set}
+use lib.Seq.{paste}
 use Rattle.std.proofs.lemmas.List.{take-append-le, length-map}
 use Rattle.std.proofs.lemmas.List.Edits.{map_over_more}
 use Rattle.std.specs.Prelude.{slice_range}
@@ -64,6 +65,36 @@ settled-is st old both one two more after count gone low high within e m h n k f
     let split : both ≡ A ++ ((G ++ M) ++ P) = e ∙ ap (λ xs. xs ++ (M ++ P)) (between old st.kept st.behind low (omega (arith, high, within))) ∙ append_assoc A G (M ++ P) ∙ ap (λ xs. A ++ xs) (sym (append_assoc G M P)) in
     brought A P (G ++ M) both one two st.kept more after count gone split (sym a) (m ∙ sym p) h (omega (arith, n, k, a, all, c, d, p, low, high, within)) (omega (arith, all, d, k)) f g
     ∙ ap (λ xs. A ++ (P ++ xs)) (ap (λ i. drop i (G ++ M)) (k ∙ sym d) ∙ drop-append_seam G M)
+
+-- where as many lines start in the stretch as before, they are written over those
+pub written-over : (st : Stretch) (old both over : List Line) → st.kept ≤ st.behind → st.behind ≤ st.known → st.known ≤ length old → length old - st.known ≡ st.behind - st.kept
+    → both ≡ take st.behind old ++ (map (moved_line st.end st.new_end (units_at (lines_behind st old)) st.utf16_idx) (lines_behind st old) ++ drop st.known old)
+    → over ≡ paste both st.kept (drop st.known both) (length old - st.known)
+    → take (length old - (st.behind - st.kept)) over ≡ settled_lines st old
+written-over st old both over low high within same e f =
+    let A = take st.kept old in
+    let F = take st.behind old in
+    let M = map (moved_line st.end st.new_end (units_at (lines_behind st old)) st.utf16_idx) (lines_behind st old) in
+    let P = drop st.known old in
+    let a : length A ≡ st.kept = length-take-le st.kept old (omega (arith, low, high, within)) in
+    let in_front : length F ≡ st.behind = length-take-le st.behind old (omega (arith, high, within)) in
+    let p : length P ≡ length old - st.known = length-drop st.known old in
+    let r : length (drop st.behind old) ≡ length old - st.behind = length-drop st.behind old in
+    let b : length (lines_behind st old) ≡ st.known - st.behind = length-take-le (st.known - st.behind) (drop st.behind old) (omega (arith, r, high, within)) in
+    let m : length M ≡ st.known - st.behind = length-map (lines_behind st old) _ ∙ b in
+    let front : take st.kept both ≡ A = ap (take st.kept) e ∙ take-append-le st.kept F (M ++ P) (omega (arith, low, in_front)) ∙ take-take st.kept st.behind old low in
+    let there : st.known ≡ length (F ++ M) = omega (arith, length-append F M, in_front, m, high) in
+    let put : drop st.known both ≡ P = ap (drop st.known) (e ∙ sym (append_assoc F M P)) ∙ ap (λ n. drop n ((F ++ M) ++ P)) there ∙ drop-append_seam (F ++ M) P in
+    let whole : take (length old - st.known) P ≡ P = take_all (length old - st.known) P (omega (arith, p)) in
+    let after : st.kept + (length old - st.known) ≡ length F = omega (arith, same, in_front, low) in
+    let rear : drop (st.kept + (length old - st.known)) both ≡ M ++ P = ap (drop (st.kept + (length old - st.known))) e ∙ ap (λ n. drop n (F ++ (M ++ P))) after ∙ drop-append_seam F (M ++ P) in
+    let over_is : over ≡ ((A ++ P) ++ M) ++ P =
+    f ∙ ap (λ xs. (xs ++ take (length old - st.known) (drop st.known both)) ++ drop (st.kept + (length old - st.known)) both) front
+    ∙ ap (λ xs. (A ++ take (length old - st.known) xs) ++ drop (st.kept + (length old - st.known)) both) put
+    ∙ ap (λ xs. (A ++ xs) ++ drop (st.kept + (length old - st.known)) both) whole
+    ∙ ap (λ xs. (A ++ P) ++ xs) rear ∙ sym (append_assoc (A ++ P) M P) in
+    let count : length old - (st.behind - st.kept) ≡ length ((A ++ P) ++ M) = omega (arith, length-append (A ++ P) M, length-append A P, a, p, m, low, high, within) in
+    ap (take (length old - (st.behind - st.kept))) over_is ∙ ap (λ n. take n (((A ++ P) ++ M) ++ P)) count ∙ take-append_seam ((A ++ P) ++ M) P ∙ append_assoc A P M
 
 -- ---- a line written over the one that it is made of
 

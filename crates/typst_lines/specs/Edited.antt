@@ -1,5 +1,5 @@
 -- The lines of a text in which a stretch was replaced.
-use Rattle.std.specs.Prelude.{◌≡◌, ℕ, ◌+◌, ◌-◌, ◌^◌, ◌≤◌, min, List, [], ◌∷◌, ◌++◌, length, take, drop}
+use Rattle.std.specs.Prelude.{◌≡◌, ℕ, ◌+◌, ◌-◌, ◌%◌, ◌^◌, ◌≤◌, List, [], ◌∷◌, ◌++◌, length, take, drop}
 use Rattle.std.specs.Str.{IsUtf8, IsCharBoundary}
 use Rattle.typst_lines.specs.declared.lines.Line.{Line}
 
@@ -19,7 +19,14 @@ abbrev pub units_at : List Line → ℕ
 units_at [] = 0
 units_at (l ∷ ls) = l.utf16_idx
 
--- the line as far after byte c and unit v as it was after byte b and unit u, in numbers that a
--- machine word holds
+-- how far it is from one number to another, in a machine's numbers, which wrap round
+abbrev pub distance : ℕ → ℕ → ℕ
+distance from to = (to + (2 ^ 64 - from)) % 2 ^ 64
+
+-- the line so many bytes and units on, in a machine's numbers
+abbrev pub shifted_line : ℕ → ℕ → Line → Line
+shifted_line bytes units l = record { byte_idx = (l.byte_idx + bytes) % 2 ^ 64; utf16_idx = (l.utf16_idx + units) % 2 ^ 64 }
+
+-- the line as far after byte c and unit v as it was after byte b and unit u
 abbrev pub moved_line : ℕ → ℕ → ℕ → ℕ → Line → Line
-moved_line b c u v l = record { byte_idx = min (l.byte_idx - b + c) (2 ^ 64 - 1); utf16_idx = min (l.utf16_idx - u + v) (2 ^ 64 - 1) }
+moved_line b c u v l = shifted_line (distance b c) (distance u v) l

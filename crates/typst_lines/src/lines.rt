@@ -9,7 +9,7 @@ ghost use Rattle.std.specs.Cmp.Rules.{hashing};
 ghost use Rattle.std.specs.Hash as fed;
 ghost use Rattle.std.proofs.Common.{rules};
 ghost use Rattle.typst_lines.specs.Blocks.{IsSharedEnd, IsSharedFront, is_plain_byte};
-ghost use Rattle.typst_lines.specs.Edited.{moved_line, units_at};
+ghost use Rattle.typst_lines.specs.Edited.{moved_line, shifted_line, units_at};
 ghost use Rattle.typst_lines.specs.Newline.{is_newline, ends_line};
 ghost use Rattle.typst_lines.specs.Pending.{AddsStarts, lines_behind, settled_lines};
 ghost use Rattle.typst_lines.specs.Place.{char_width, place_at, scout};
@@ -76,17 +76,13 @@ impl Line {
         self.utf16_idx
     }
 
-    /// Moves the line: it is as far after byte `new_end` and unit `utf16_idx` as it was after byte `end` and unit
-    /// `base`.
+    /// Moves the line by so many bytes and UTF-16 units, which wrap round where it moves back.
     #[inline]
-    fn shift(&mut self, end: usize, new_end: usize, base: usize, utf16_idx: usize)
-        ensures { self.new ≡ moved_line end new_end base utf16_idx self.old }
+    fn shift(&mut self, bytes: usize, units: usize)
+        ensures { self.new ≡ shifted_line bytes units self.old }
     {
-        self.byte_idx = self.byte_idx.saturating_sub(end).saturating_add(new_end);
-        self.utf16_idx = self
-            .utf16_idx
-            .saturating_sub(base)
-            .saturating_add(utf16_idx);
+        self.byte_idx = self.byte_idx.wrapping_add(bytes);
+        self.utf16_idx = self.utf16_idx.wrapping_add(units);
     }
 }
 
@@ -791,18 +787,26 @@ fn add_starts(
     Ok(0)
 }
 
-/// Makes the table that of the edited text: the lines after the old table take the place of those that started in
-/// the stretch, which come to the end, and the lines after the stretch are moved.
+/// Makes the table that of the edited text, with lines of no use after it: the lines after the old table take the
+/// place of those that started in the stretch, and the lines after the stretch are moved. Where as many lines start
+/// in the stretch as before, as at nearly every keystroke, they are written over those, and no line changes its place
+/// in the table; otherwise rotations make place, which go through all lines after them.
 fn settle(lines: &mut [Line], stretch: Stretch)
     requires kept { stretch.kept ≤ stretch.behind }
     requires behind { stretch.behind ≤ stretch.known }
     requires known { stretch.known ≤ length lines.old }
     ensures { take (length lines.old - (stretch.behind - stretch.kept)) lines.new ≡ settled_lines stretch lines.old }
 {
-    let fresh = lines.len() - stretch.known;
+    let count = lines.len();
+    let fresh = count - stretch.known;
+    let gone = stretch.behind - stretch.kept;
     move_behind(lines, stretch);
+    if fresh == gone {
+        lines.copy_within(stretch.known..count, stretch.kept);
+        return;
+    }
     bring_forward(lines, stretch.kept, fresh);
-    bring_back(lines, stretch.kept + fresh, stretch.behind - stretch.kept);
+    bring_back(lines, stretch.kept + fresh, gone);
 }
 
 /// Moves the lines that start after a stretch to where they start in the edited text.
@@ -817,6 +821,9 @@ fn move_behind(lines: &mut [Line], stretch: Stretch)
 
 /// Moves lines that start after byte `end` so that they start as far after byte `new_end`, and the first of them
 /// has so many UTF-16 units before it.
+///
+/// A keystroke goes through all lines after it here, so the loop makes two sums a line and tests nothing: all lines
+/// move by the same bytes and units, found once, which wrap round where they move back.
 fn move_lines(lines: &mut [Line], end: usize, new_end: usize, utf16_idx: usize)
     ensures { lines.new ≡ map (moved_line end new_end (units_at lines.old) utf16_idx) lines.old }
 {
@@ -824,8 +831,10 @@ fn move_lines(lines: &mut [Line], end: usize, new_end: usize, utf16_idx: usize)
         Some(line) => line.utf16_idx,
         None => 0,
     };
+    let bytes = new_end.wrapping_sub(end);
+    let units = utf16_idx.wrapping_sub(base);
     for line in lines.iter_mut() {
-        line.shift(end, new_end, base, utf16_idx);
+        line.shift(bytes, units);
     }
 }
 

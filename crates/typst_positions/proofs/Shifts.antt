@@ -12,6 +12,10 @@ starts-alike : (t u : List ℕ) (a b : ℕ) → get_or t a 0 ≡ get_or u b 0 �
 starts-alike t u a b e f =
     ap (λ c. c == 10 || (c == 13 && not (get_or t (suc a) 0 == 10))) e ∙ ap (λ d. get_or u b 0 == 10 || (get_or u b 0 == 13 && not (d == 10))) f
 
+-- a number moved by a distance that wraps round is as far after `to` as it was after `from`, where 64 bits hold that
+shifted-is : (from to at n : ℕ) → from < 2 ^ 64 → from ≤ at → n + from ≡ at + to → n < 2 ^ 64 → shifted from to at ≡ n
+shifted-is from to at n small le e short = omega (arith, small, le, e, short)
+
 module _ (old new : List ℕ) (r : Range ℕ) (len : ℕ) (edit : IsEdit old new r len) where
   get-front : (k : ℕ) → k < r.start → get_or old k 0 ≡ get_or new k 0
   get-front k h = sym (get_or-take r.start old k 0 h) ∙ ap (λ xs. get_or xs k 0) (sym edit.front) ∙ get_or-take r.start new k 0 h
@@ -37,14 +41,14 @@ module _ (old new : List ℕ) (r : Range ℕ) (len : ℕ) (edit : IsEdit old new
       let cut : length new - (r.start + len) ≡ length old - r.end = sym (length-drop (r.start + len) new) ∙ ap length edit.back ∙ length-drop r.end old in
       omega (arith, cut, edit.fits, edit.within)
 
-  edited : (before : ℕ) → before ≡ r.start - 1 → length new < 2 ^ 64
+  edited : (before : ℕ) → before ≡ r.start - 1 → r.end < 2 ^ 64 → length new < 2 ^ 64
       → line_starts new ≡ starts_between old 0 before ++ (starts_between new (before + 1) (r.start + len) ++ map (shifted r.end (r.start + len)) (starts_between old (r.end + 1) (length old)))
   unfolding line_starts
-  edited before b short =
+  edited before b small short =
       let to = r.start + len in
       let fits = edit.fits in
       let front = between-same old new 0 before (λ k lo hi. same-front before k b hi) in
-      let back = between-moved old new (shifted r.end to) (r.end + 1) (length old) (to + 1) (length new) (omega (arith, lengths)) (λ k m lo hi e. (moved-back k m lo e, omega (arith, lengths, e, hi, short))) in
+      let back = between-moved old new (shifted r.end to) (r.end + 1) (length old) (to + 1) (length new) (omega (arith, lengths)) (λ k m lo hi e. (moved-back k m lo e, shifted-is r.end to k m small (omega (arith, lo)) (omega (arith, e)) (omega (arith, lengths, e, hi, short)))) in
       between-split new 0 before (length new) (omega arith) (omega (arith, fits, b))
       ∙ ap (λ xs. xs ++ starts_between new (before + 1) (length new)) (sym front)
       ∙ ap (λ xs. starts_between old 0 before ++ xs) (between-split new (before + 1) to (length new) (omega (arith, b)) fits)
@@ -74,8 +78,8 @@ module _ (old new : List ℕ) (r : Range ℕ) (len : ℕ) (edit : IsEdit old new
       ∙ length-append (starts_between old 0 before) (starts_between old (before + 1) r.end)
 
   -- the table of the old text with what starts in the new stretch in its middle is that of the new one
-  pub replaced-is : (before : ℕ) → before ≡ r.start - 1 → length new < 2 ^ 64 → replaced before r.end (r.start + len) (starts_between new (before + 1) (r.start + len)) (line_starts old) ≡ line_starts new
-  replaced-is before b short =
+  pub replaced-is : (before : ℕ) → before ≡ r.start - 1 → r.end < 2 ^ 64 → length new < 2 ^ 64 → replaced before r.end (r.start + len) (starts_between new (before + 1) (r.start + len)) (line_starts old) ≡ line_starts new
+  replaced-is before b small short =
       let front = starts_between old 0 before in
       let middle = starts_between old (before + 1) r.end in
       let back = starts_between old (r.end + 1) (length old) in
@@ -88,7 +92,7 @@ module _ (old new : List ℕ) (r : Range ℕ) (len : ℕ) (edit : IsEdit old new
       let move = shifted r.end (r.start + len) in
       ap (λ xs. xs ++ (put ++ map move (drop (count_by (λ k. nat_le k r.end) (line_starts old)) (line_starts old)))) fronts
       ∙ ap (λ xs. front ++ (put ++ map move xs)) backs
-      ∙ sym (edited before b short)
+      ∙ sym (edited before b small short)
 
 -- what is put into a list, with all behind it moved
 pub put-moved : (f : ℕ → ℕ) (xs ys zs : List ℕ) (i j k : ℕ) → i ≤ length xs → k ≡ i + length ys → zs ≡ take i xs ++ (ys ++ drop j xs) → take k zs ++ map f (drop k zs) ≡ take i xs ++ (ys ++ map f (drop j xs))

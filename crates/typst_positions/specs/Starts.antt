@@ -1,5 +1,5 @@
 -- Where the lines of a text start.
-use Rattle.std.specs.Prelude.{ℕ, zero, suc, ◌+◌, ◌-◌, ◌^◌, min, Bool, true, ◌&&◌, ◌||◌, ◌==◌, not, nat_le, List, ◌++◌, filter, map, length, take, drop, slice_index, count_by}
+use Rattle.std.specs.Prelude.{ℕ, zero, suc, ◌+◌, ◌-◌, ◌%◌, ◌^◌, Bool, true, ◌&&◌, ◌||◌, ◌==◌, not, nat_le, List, ◌++◌, filter, map, length, take, drop, slice_index, count_by}
 use Rattle.std.specs.List.{range_with_len, take_while}
 
 -- a line starts at the text's start, after an LF, and after a CR that no LF follows
@@ -23,9 +23,9 @@ is_line_end c = c == 10 || c == 13
 unfoldable pub line_at : List ℕ → ℕ → List ℕ
 line_at text start = take_while (λ c. not (is_line_end c)) (drop start text)
 
--- a number moved so that it is as far after `to` as it was after `from`, as far as it fits 64 bits
+-- a number moved so that it is as far after `to` as it was after `from`, in a machine's numbers, which wrap round
 abbrev pub shifted : ℕ → ℕ → ℕ → ℕ
-shifted from to at = min (at - from + to) (2 ^ 64 - 1)
+shifted from to at = (at + (to + (2 ^ 64 - from)) % 2 ^ 64) % 2 ^ 64
 
 -- some starts with others put between: those up to `before` stay, and those past `end` are moved so
 -- that they are as far after `to`

@@ -116,7 +116,8 @@ pub(crate) fn replace(
     Ok(())
 }
 
-/// Puts numbers in the place of those from one index to another, or changes nothing.
+/// Puts numbers in the place of those from one index to another, or changes nothing. As many, as at nearly every
+/// keystroke, are written over those, and the numbers after them stay in their places.
 fn splice(
     starts: &mut Vec<usize>,
     first: usize,
@@ -128,6 +129,10 @@ fn splice(
     ensures ok { OnOk result (starts.new.items ≡ take first starts.old.items ++ (between.items ++ drop last starts.old.items)) }
     ensures err { OnErr result (starts.new.items ≡ starts.old.items) }
 {
+    if between.len() == last - first {
+        starts[first..last].copy_from_slice(between.as_slice());
+        return Ok(());
+    }
     let _ = starts.splice(first..last, between)?;
     Ok(())
 }
@@ -147,16 +152,13 @@ fn shift_behind(starts: &mut [usize], first: usize, from: usize, to: usize)
     shift_all(&mut starts[first..], from, to);
 }
 
+/// Moves numbers. A keystroke goes through all lines after it here, so the loop makes one sum a line and tests
+/// nothing: all move by the same distance, found once, which wraps round where they move back.
 fn shift_all(starts: &mut [usize], from: usize, to: usize)
     ensures { starts.new ≡ map (spec.shifted from to) starts.old }
 {
+    let distance = to.wrapping_sub(from);
     for at in starts.iter_mut() {
-        *at = moved(*at, from, to);
+        *at = at.wrapping_add(distance);
     }
-}
-
-fn moved(at: usize, from: usize, to: usize) -> usize
-    ensures { result ≡ spec.shifted from to at }
-{
-    at.saturating_sub(from).saturating_add(to)
 }

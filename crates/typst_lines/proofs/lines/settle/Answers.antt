@@ -1,6 +1,10 @@
 use Rattle.std.proofs.Common.{length, ◌+◌, ◌-◌, refl}
-use Rattle.typst_lines.proofs.Settled.{settled-is}
+use Rattle.typst_lines.proofs.Settled.{settled-is, written-over}
 use Rattle.typst_lines.proofs.lines.settle.Goals as goal
+
+pub returns-then-fresh-gone : goal.returns-then-fresh-gone
+returns-then-fresh-gone c =
+    written-over c.args.stretch c.args.lines.now c.move_behind.new.lines c.copy_within.new.self c.requires.kept c.requires.behind c.requires.known c.if-fresh-gone.true c.move_behind.ensures c.copy_within.ensures.after
 
 pub returns : goal.returns
 returns c =

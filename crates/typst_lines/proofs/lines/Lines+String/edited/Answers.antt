@@ -87,6 +87,7 @@ invariant_of-result-2 c =
     let gone = ap length cut in
     let was = ap length (c.reserve.ensures.bytes ∙ c.self.view_is) in
     let long = ap length c.as_str.ensures.value in
+    let text = ap length c.text.ensures in
     let added = subst (λ t. AddsStarts (lines_after t c.line_before-first.result.byte_idx) end c.in-Ok-add_starts.utf16_idx c.self.inside.lines.items c.add_starts.new.lines.items) c.as_str.ensures.value c.in-Ok-add_starts.ensures.ok in (
       record {
         start = start-boundary s new u v c.args.start c.args.end end e;
@@ -94,7 +95,7 @@ invariant_of-result-2 c =
         ordered = omega arith;
         room = omega (arith, c.in-Ok-reserve.ensures.ok, c.put_text.ensures.capacity, size, gone, was);
       },
-      pending s new u v c.args.start c.args.end end e _ (back-is s new u v c.args.start c.args.end end e (string_bytes c.in-Ok.removed) cut) (omega (arith, long)) n c.line_before-first.result c.line_before-first.ensures.at (ap (line_of s) c.saturating_sub-before.ensures)
+      pending s new u v c.args.start c.args.end end e _ (back-is s new u v c.args.start c.args.end end e (string_bytes c.in-Ok.removed) cut) (omega (arith, text)) (omega (arith, long)) n c.line_before-first.result c.line_before-first.ensures.at (ap (line_of s) c.saturating_sub-before.ensures)
           (omega (arith, c.line_before-first.ensures.before, c.saturating_sub-before.ensures)) (omega (arith, c.line_holding-kept.ensures.value, c.line_holding-kept.ensures.within)) (omega (arith, c.line_holding-behind.ensures.value, c.line_holding-behind.ensures.within)) c.self.inside.lines.items c.add_starts.new.lines.items c.in-Ok-add_starts.utf16_idx _ _ _ table added
           (omega (arith, c.line_holding-kept.ensures.value)) (omega (arith, c.line_holding-behind.ensures.value)) (omega (arith, all)),
     )

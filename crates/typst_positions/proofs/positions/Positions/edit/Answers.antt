@@ -17,6 +17,7 @@ returns-clause-ok c =
     let range = c.args.range in
     let before = c.saturating_sub-before.result in
     let to = range.start + c.args.len in
+    let small : range.end < 2 ^ 64 = first_of (omega arith, search rules) in
     let short : length text < 2 ^ 64 = first_of (omega arith, search rules) in
     let table : c.self.inside.starts.items ≡ line_starts c.requires.old = c.self.view_is ∙ c.requires.table in
     let between : c.push_starts.new.starts.items ≡ starts_between text (before + 1) to =
@@ -24,4 +25,4 @@ returns-clause-ok c =
     on_ok_weaker c.replace.result (λ e. e
     ∙ ap (λ xs. replaced before range.end to xs c.self.inside.starts.items) between
     ∙ ap (replaced before range.end to (starts_between text (before + 1) to)) table
-    ∙ replaced-is c.requires.old text range c.args.len c.requires.edit before c.saturating_sub-before.ensures short) c.replace.ensures.ok
+    ∙ replaced-is c.requires.old text range c.args.len c.requires.edit before c.saturating_sub-before.ensures small short) c.replace.ensures.ok
