@@ -3,15 +3,21 @@
 --   what is passed over              Passed: outside
 --   StretchNodes                     Placing: stays_behind, stays_below, stays_back, stays_sought, comes_from
 --   settled_end                      Endings
+--   code_next                        FixedCodes
+--   flags                            Marks
+--   fill_met: numbers of small trees Small
 --   the array                        Filling: filled_more, filled_full
 --   all nodes                        Whole
 --   remarks                          Sayings
 --   kinds and tags by numbers        Numbered
 pub mod Endings
 pub mod Filling
+pub mod FixedCodes
+pub mod Marks
 pub mod Numbered
 pub mod Passed
 pub mod Placing
 pub mod Sayings
+pub mod Small
 pub mod Steps
 pub mod Whole

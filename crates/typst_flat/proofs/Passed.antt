@@ -39,7 +39,7 @@ start_behind root k h ks r front back up s =
     omega (arith, starts root k front _ s.whole s.number, starts root (k + (1 + count ks)) (front ++ places (tree_of h ks)) _ w.whole w.number, ap length (texts_append front (places (tree_of h ks))), length-append (texts front) (texts (places (tree_of h ks))), ap length (texts_places (tree_of h ks)))
 
 -- the nodes of trees that stand side by side lie within the trees' bytes
-inside : (root : Tree) (k j : ℕ) (f : Forest) (front back : List Tree) (up : Option ℕ) → Stand root k f front back up → k ≤ j → j < k + count f → Within root j (start_of (at root k)) (start_of (at root k) + length (joined f))
+pub inside : (root : Tree) (k j : ℕ) (f : Forest) (front back : List Tree) (up : Option ℕ) → Stand root k f front back up → k ≤ j → j < k + count f → Within root j (start_of (at root k)) (start_of (at root k) + length (joined f))
 inside root k j none front back up s l m = absurd (omega (arith, l, m))
 inside root k j (more h ks r) front back up s l m =
     let t : Tree = tree_of h ks in

@@ -24,12 +24,11 @@ use Rattle.typst_highlight.proofs.Leaves.{ahead_at, ahead_is, first_law, offset_
 use Rattle.typst_highlight.proofs.Contexts.{Fits, fits_below, fits_behind, fits_root, passed_here}
 use Rattle.typst_highlight.proofs.Trees.{tag_law}
 use Rattle.typst_highlight.proofs.Nears.{Alike, Near, past_near, passed_near, same_context, tag_near, within_near}
-use Rattle.typst_flat.specs.Codes.{cut}
+use Rattle.typst_flat.specs.Codes.{cut, tag_code}
 use Rattle.typst_flat.specs.Records.{meets, number_if}
 use Rattle.typst_flat.specs.Walk.{ahead_from, up_number}
-use Rattle.typst_flat.specs.Placed.{AreReady, Comes, EndsIn, IsBehind, IsPlaced, IsRecord, IsSought, Moves, Passes, RowFits, Stays}
+use Rattle.typst_flat.specs.Placed.{AreReady, Comes, EndsIn, IsBehind, IsPlaced, IsSought, Moves, Passes, RowFits, Stays}
 use Rattle.typst_flat.specs.declared.placed.PlacedNode.{PlacedNode}
-use Rattle.typst_flat.specs.declared.nodes.PlacedRecord.{PlacedRecord}
 use Rattle.typst_flat.specs.declared.nodes.StretchNodes.{StretchNodes}
 use Rattle.typst_flat.specs.declared.records.Stretch.{Stretch}
 use Rattle.typst_flat.proofs.Endings.{no_kids}
@@ -138,7 +137,7 @@ tag_is w t r s e =
     ∙ tag_law w.root.now w.number t.head t.kids (forest r) f.front f.back f.up f.context f.stands f.fits
 
 -- it is given as it is
-pub is_placed : (w : StretchNodes) (t : Tree) (r : List Tree) (g : PlacedNode) → Stays w → w.nodes.now ≡ t ∷ r → g.node.now ≡ t → g.start ≡ (joined w.progress).offset → g.end ≡ saturated (g.start + length (text_of t)) → g.number ≡ w.number → g.parent ≡ w.parent → g.tag ≡ tag (joined w.progress) t (forest r) → IsPlaced (at w.root.now w.number) g
+pub is_placed : (w : StretchNodes) (t : Tree) (r : List Tree) (g : PlacedNode) → Stays w → w.nodes.now ≡ t ∷ r → g.node.now ≡ t → g.start ≡ (joined w.progress).offset → g.end ≡ saturated (g.start + length (text_of t)) → g.number ≡ w.number → g.parent ≡ w.parent → g.tag ≡ tag_code (tag (joined w.progress) t (forest r)) → IsPlaced (at w.root.now w.number) g
 is_placed w t r g s e node start ends number up own =
     let f = first_of w t r s e in
     let is : node_of (at w.root.now w.number) ≡ t = here w.root.now w.number t f.front _ f.stands.whole f.stands.number in
@@ -149,7 +148,8 @@ is_placed w t r g s e node start ends number up own =
       end = omega (arith, ends, begins, ap (λ u. length (text_of u)) is);
       number = number;
       parent = up ∙ sym (ap (λ p. cut (number_if p)) (parent_here w.root.now w.number t.head t.kids (forest r) f.front f.back f.up f.stands) ∙ (ap cut (up_of w.root.now f.up) ∙ f.above));
-      tag = own ∙ tag_is w t r s e;
+      tag = own ∙ ap tag_code (tag_is w t r s e);
+      within = omega (arith, is_within w t r s e, ap nodes is);
     }
 
 -- past a node without children
@@ -403,10 +403,10 @@ moves_by v u w less root stretch number p s =
       stays = s;
     }
 
--- a walk that went back over rows that are done gives the record of the next node
-pub comes_from : (v u w : StretchNodes) (g : PlacedRecord) → u.root.now ≡ v.root.now → u.stretch ≡ v.stretch → u.number ≡ v.number → IsRecord (at u.root.now u.number) g → Moves u w → Comes v (Some g) w
+-- a walk that went back over rows that are done gives the next node
+pub comes_from : (v u w : StretchNodes) (g : PlacedNode) → u.root.now ≡ v.root.now → u.stretch ≡ v.stretch → u.number ≡ v.number → IsPlaced (at u.root.now u.number) g → Moves u w → Comes v (Some g) w
 comes_from v u w g root stretch number placed m = (
-  subst (λ a. IsRecord a g) (λ i. at (root i) (number i)) placed,
+  subst (λ a. IsPlaced a g) (λ i. at (root i) (number i)) placed,
   record {
     within = omega (arith, m.within, number, ap nodes root);
     onward = omega (arith, m.onward, number);

@@ -5,6 +5,8 @@ use Rattle.typst_kinds.specs.Head.{Head}
 use Rattle.typst_kinds.specs.Span.{SpanValue}
 use Rattle.typst_highlight.specs.declared.tags.Tag.{Tag}
 use Rattle.typst_highlight.specs.declared.tags.Tag.TheVariants as tag
+use Rattle.typst_highlight.specs.declared.rules.Rule.{Rule}
+use Rattle.typst_highlight.specs.declared.rules.Rule.TheVariants as rule
 
 -- at most the largest number of 32 bits
 abbrev pub cut : ℕ → ℕ
@@ -35,6 +37,11 @@ tag_code (Some tag.String) = 19
 tag_code (Some tag.Function) = 20
 tag_code (Some tag.Interpolated) = 21
 tag_code (Some tag.Error) = 22
+
+-- the number of the tag of nodes of a rule, where it depends on nothing else, and 255 elsewhere
+abbrev pub fixed_code : Rule → ℕ
+fixed_code (rule.Fixed t) = tag_code t
+fixed_code _ = 255
 
 -- 1 for an inner node, 2 for an error, and 4 for a node with diagnostics
 abbrev pub flags_of : Head → ℕ

@@ -14,11 +14,10 @@ use Rattle.typst_highlight.proofs.Rows.{Stand}
 use Rattle.typst_highlight.proofs.Leaves.{kind_up}
 use Rattle.typst_highlight.proofs.Contexts.{Fits, outer_at}
 use Rattle.typst_highlight.proofs.Nears.{Near}
-use Rattle.typst_flat.specs.Codes.{cut}
-use Rattle.typst_flat.specs.Records.{node_record, number_if}
+use Rattle.typst_flat.specs.Codes.{cut, tag_code}
+use Rattle.typst_flat.specs.Records.{number_if}
 use Rattle.typst_flat.specs.Walk.{ahead_from, up_number}
 use Rattle.typst_flat.specs.declared.placed.PlacedNode.{PlacedNode}
-use Rattle.typst_flat.specs.declared.nodes.PlacedRecord.{PlacedRecord}
 use Rattle.typst_flat.specs.declared.nodes.StretchNodes.{StretchNodes}
 
 -- a node as it is given
@@ -28,13 +27,8 @@ pub record IsPlaced (a : At) (g : PlacedNode) : Type 0 where
   pub end : g.end ≡ end_of a
   pub number : g.number ≡ a.number
   pub parent : g.parent ≡ cut (number_if (parent a))
-  pub tag : g.tag ≡ tag_of a
-
--- its record
-pub record IsRecord (a : At) (g : PlacedRecord) : Type 0 where
-  pub start : g.start ≡ offset_of a
-  pub end : g.end ≡ end_of a
-  pub node : g.node ≡ node_record a
+  pub tag : g.tag ≡ tag_code (tag_of a)
+  pub within : a.number + nodes (node_of a) ≤ nodes a.root
 
 -- nodes that a walk comes back to, the first of which has the number n, below the node of the number `above`
 pub record RowFits (root : Tree) (n : ℕ) (w : Waiting) (above : ℕ) : Type 0 where
@@ -79,10 +73,10 @@ pub record Moves (v w : StretchNodes) : Type 0 where
   pub left : ahead_from v.stretch v.root.now (v.number + 1) ≡ ahead_from v.stretch v.root.now w.number
   pub stays : Stays w
 
--- a walk gives the record of the next node, or comes to its end
-abbrev pub Comes : StretchNodes → Option PlacedRecord → StretchNodes → Type 0
+-- a walk gives the next node, or comes to its end
+abbrev pub Comes : StretchNodes → Option PlacedNode → StretchNodes → Type 0
 Comes v None w = v.number ≡ nodes v.root.now
-Comes v (Some g) w = IsRecord (at v.root.now v.number) g × Moves v w
+Comes v (Some g) w = IsPlaced (at v.root.now v.number) g × Moves v w
 
 -- the last node among a node and those below it
 pub record EndsWith (t last : Tree) : Type 0 where
@@ -122,3 +116,15 @@ pub record IsBehind (w : StretchNodes) (t : Tree) (row : List Tree) (end n : ℕ
   pub ends : end ≡ saturated (start + length (text_of t))
   pub early : end < w.stretch.start
   pub number : n ≡ first + nodes t
+
+-- the bytes and the nodes of a tree are counted in 32 bits
+pub record IsSmall (root : Tree) : Type 0 where
+  pub bytes : length (text_of root) < 2 ^ 32
+  pub nodes : nodes root < 2 ^ 32
+
+-- so are those before a node
+pub record IsNarrow (g : PlacedNode) : Type 0 where
+  pub start : g.start < 2 ^ 32
+  pub end : g.end < 2 ^ 32
+  pub number : g.number < 2 ^ 32
+  pub nodes : nodes g.node.now < 2 ^ 32

@@ -1,6 +1,6 @@
 //! Kinds, tags and flags as numbers.
 
-ghost use Rattle.std.specs.Prelude.{◌≡◌};
+ghost use Rattle.std.specs.Prelude.{◌≡◌, ◌^◌, ◌<◌, IsTrue, true, if◌then◌else◌};
 ghost use Rattle.typst_kinds.specs.Members.{place_of};
 ghost use Rattle.typst_kinds.specs.Span.{packed};
 ghost use Rattle.typst_flat.specs.Codes as spec;
@@ -72,6 +72,7 @@ pub fn span_of(bits: u64) -> Span
 }
 
 /// What single bits say of a node.
+#[inline(never)]
 pub(crate) fn flags(node: &SyntaxNode) -> u8
     ensures { result ≡ spec.flags_of node.now.head }
 {
@@ -79,6 +80,19 @@ pub(crate) fn flags(node: &SyntaxNode) -> u8
     let error = if node.kind().is_error() { 2 } else { 0 };
     let remarked = if node.diagnostics().is_empty() { 0 } else { 4 };
     inner + error + remarked
+}
+
+/// Whether a node is no error, and has no diagnostics at it and below it, as most. Of such a node single bits tell
+/// no more than whether it is an inner one.
+#[tactic(auto, using(crate::proofs::Marks::usual_flags))]
+#[inline(always)]
+pub(crate) fn is_usual(node: &SyntaxNode) -> bool
+    ensures { IsTrue result → spec.flags_of node.now.head ≡ (if node.now.head.is_inner then 1 else 0) }
+{
+    if node.has_diagnostics() {
+        return false;
+    }
+    !node.kind().is_error()
 }
 
 /// A number in 32 bits.
@@ -90,4 +104,13 @@ pub(crate) fn narrow(n: usize) -> u32
     } else {
         4_294_967_295
     }
+}
+
+/// A number in 32 bits. Of one that is known to fit that isn't asked.
+#[inline(always)]
+pub(crate) fn narrow_known(n: usize, fits: bool) -> u32
+    requires { fits ≡ true → n < 2 ^ 32 }
+    ensures { result ≡ spec.cut n }
+{
+    if fits { n as u32 } else { narrow(n) }
 }

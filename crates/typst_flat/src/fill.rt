@@ -1,13 +1,18 @@
 //! Arrays of records of nodes.
 
-ghost use Rattle.std.specs.Prelude.{◌≡◌, ◌-◌, ◌^◌, ◌<◌, IfOk, OnOk, length};
+ghost use Rattle.std.specs.Prelude.{◌≡◌, ◌-◌, ◌^◌, ◌<◌, IfOk, IsTrue, OnOk, length, true};
 ghost use Rattle.typst_tree.specs.Tree.{nodes};
+ghost use Rattle.typst_flat.specs.Placed.{IsSmall};
 ghost use Rattle.typst_flat.specs.Records.{filled, records, records_in};
 
 use crate::nodes::StretchNodes;
+use crate::placed::record;
 use crate::{Node, Stretch};
 use std::alloc::{AllocError, Global};
 use typst_tree::SyntaxNode;
+
+/// Bytes and nodes of a tree that has fewer are counted in 32 bits.
+const LARGE: usize = 0x1_0000_0000;
 
 /// Puts the records of all nodes of a tree into an array, in preorder, as many as fit, and tells how many
 /// nodes there are. Where memory is refused, the array may hold some of them.
@@ -40,6 +45,51 @@ pub fn fill_nodes_in(
     ensures count { IfOk result (λ count. count ≡ length (records_in stretch root.now)) }
     ensures room { OnOk result (room.new ≡ filled (records_in stretch root.now) room.old) }
 {
+    if is_small(root) {
+        let count = fill_met(alloc, root, stretch, room, true)?;
+        return Ok(count);
+    }
+    let count = fill_large(alloc, root, stretch, room)?;
+    Ok(count)
+}
+
+/// Whether the bytes and the nodes of a tree are so few that records count them in 32 bits.
+fn is_small(root: &SyntaxNode) -> bool
+    ensures { IsTrue result → IsSmall root.now }
+{
+    root.len() < LARGE && root.descendants() < LARGE
+}
+
+/// Does what `fill_nodes_in` does, whatever the size of the tree.
+#[inline(never)]
+fn fill_large(
+    alloc: Global,
+    root: &SyntaxNode,
+    stretch: Stretch,
+    room: &mut [Node],
+) -> Result<usize, AllocError>
+    requires { nodes root.now < 2 ^ 64 - 1 }
+    ensures count { IfOk result (λ count. count ≡ length (records_in stretch root.now)) }
+    ensures room { OnOk result (room.new ≡ filled (records_in stretch root.now) room.old) }
+{
+    let count = fill_met(alloc, root, stretch, room, false)?;
+    Ok(count)
+}
+
+/// Does what `fill_nodes_in` does. Of a small tree it doesn't ask whether each number fits.
+#[inline(always)]
+fn fill_met(
+    alloc: Global,
+    root: &SyntaxNode,
+    stretch: Stretch,
+    room: &mut [Node],
+    is_small: bool,
+) -> Result<usize, AllocError>
+    requires counted { nodes root.now < 2 ^ 64 - 1 }
+    requires small { is_small ≡ true → IsSmall root.now }
+    ensures count { IfOk result (λ count. count ≡ length (records_in stretch root.now)) }
+    ensures room { OnOk result (room.new ≡ filled (records_in stretch root.now) room.old) }
+{
     let mut walk = StretchNodes::new(alloc, root, stretch);
     let mut count = 0;
     'nodes: while let Some(placed) = walk.next()? {
@@ -50,7 +100,7 @@ pub fn fill_nodes_in(
             continue 'nodes;
         }
         if count < room.len() {
-            room[count] = placed.node;
+            room[count] = record(&placed, is_small);
         }
         count += 1;
     }

@@ -14,6 +14,7 @@ mod nodes;
 mod placed;
 mod records;
 mod said;
+mod tags;
 mod walk;
 
 pub use bytes::fill_text;

@@ -1,4 +1,4 @@
-//! The records of a tree's nodes, one after the other.
+//! The nodes of a tree with their places, one after the other.
 
 ghost use Rattle.std.specs.Prelude.{◌≡◌, ◌+◌, ◌∷◌, ◌-◌, ◌^◌, ◌<◌, IfOk, IfSome, None, OnOk, true, false, if◌then◌else◌};
 ghost use Rattle.typst_tree.specs.Tree.{forest, nodes};
@@ -8,28 +8,18 @@ ghost use Rattle.typst_highlight.specs.Rules.{is_name};
 ghost use Rattle.typst_highlight.specs.Walk as walk;
 ghost use Rattle.typst_flat.specs.Placed as spec;
 
+use crate::Stretch;
 use crate::codes::narrow;
-use crate::placed::{PlacedNode, node_count, record};
-use crate::{Node, Stretch};
+use crate::placed::{PlacedNode, node_count, own_len};
+use crate::tags::code_next;
 use std::alloc::{AllocError, Global};
 use std::slice;
-use typst_highlight::{Progress, Tag, is_childless, is_dot, is_name, is_skipped, tag_next};
+use typst_highlight::{Progress, Tag, is_childless, is_dot, is_name, is_skipped};
 use typst_kinds::SyntaxKind;
 use typst_tree::SyntaxNode;
 
 /// For so many bytes before a stretch a walk looks first for a place to begin at.
 const NEAR: usize = 1024;
-
-/// The record of a node, with its place as a walk counts it.
-#[derive(Clone, Copy)]
-pub struct PlacedRecord {
-    /// Where the node begins, in bytes.
-    pub start: usize,
-    /// Where it ends, in bytes.
-    pub end: usize,
-    /// Its record.
-    pub node: Node,
-}
 
 /// The nodes of a tree that a walk has still to come to, each before its children.
 ///
@@ -72,9 +62,9 @@ impl<'t> StretchNodes<'t> {
         }
     }
 
-    /// The record of the next node, or none at the end. After a refused request for memory the walk can't go on.
+    /// The next node with its place, or none at the end. After a refused request for memory the walk can't go on.
     #[inline(always)]
-    pub fn next(&mut self) -> Result<Option<PlacedRecord>, AllocError>
+    pub fn next(&mut self) -> Result<Option<PlacedNode<'t>>, AllocError>
         requires { spec.Stays self.old }
         ensures root { OnOk result (self.new.root.now ≡ self.old.root.now) }
         ensures stretch { OnOk result (self.new.stretch ≡ self.old.stretch) }
@@ -96,42 +86,37 @@ impl<'t> StretchNodes<'t> {
         }
     }
 
-    /// Gives the record of the next node, and goes on to the one after it in preorder that has to be visited.
-    // The record is made before anything is written, so that the node is read once.
+    /// Gives the next node with its place, and goes on to the one after it in preorder that has to be visited.
     #[inline(always)]
     fn visit(
         &mut self,
         node: &'t SyntaxNode,
         later: &'t [SyntaxNode],
-    ) -> Result<PlacedRecord, AllocError>
+    ) -> Result<PlacedNode<'t>, AllocError>
         requires ready { spec.Stays self.old }
         requires row { self.old.nodes.now ≡ node.now ∷ later.now }
         ensures root { OnOk result (self.new.root.now ≡ self.old.root.now) }
         ensures stretch { OnOk result (self.new.stretch ≡ self.old.stretch) }
         ensures moves { OnOk result (spec.Moves self.old self.new) }
-        ensures placed { IfOk result (λ placed. spec.IsRecord (at self.old.root.now self.old.number) placed) }
+        ensures placed { IfOk result (λ placed. spec.IsPlaced (at self.old.root.now self.old.number) placed) }
     {
         let start = self.progress.offset();
         let end = start.saturating_add(node.len());
-        let next = tag_next(node, later, &self.progress)?;
-        let made = record(&PlacedNode {
+        let next = code_next(node, later, &self.progress)?;
+        let placed = PlacedNode {
             node,
             start,
             end,
             number: self.number,
             parent: self.parent,
-            tag: next.tag,
-        });
+            tag: next.code,
+        };
         if is_childless(node) {
             self.pass(node, later, end, next.name);
         } else {
             self.enter(node, later)?;
         }
-        Ok(PlacedRecord {
-            start,
-            end,
-            node: made,
-        })
+        Ok(placed)
     }
 
     /// Goes past the next node, which has no children, and ends there, and whose tag is known if it is a name.
@@ -180,8 +165,7 @@ impl<'t> StretchNodes<'t> {
         ensures number { OnOk result (self.new.number ≡ self.old.number + 1) }
         ensures ready { OnOk result (spec.Stays self.new) }
     {
-        let text = node.leaf_text();
-        self.progress.enter(node, later, text.len(), None)?;
+        self.progress.enter(node, later, own_len(node), None)?;
         self.parents.push(self.parent)?;
         self.parent = narrow(self.number);
         self.number += 1;

@@ -1,17 +1,18 @@
 //! Nodes with their places.
 
-ghost use Rattle.std.specs.Prelude.{◌≡◌};
+ghost use Rattle.std.specs.Prelude.{◌≡◌, length, true};
 ghost use Rattle.typst_tree.specs.Tree.{nodes, saturated};
 ghost use Rattle.typst_tree.specs.Steps.{At};
-ghost use Rattle.typst_flat.specs.Placed.{IsPlaced};
+ghost use Rattle.typst_flat.specs.Codes.{flags_of};
+ghost use Rattle.typst_flat.specs.Placed.{IsNarrow, IsPlaced};
 ghost use Rattle.typst_flat.specs.Records.{node_record};
 
 use crate::Node;
-use crate::codes::{flags, kind_code, narrow, span_code, tag_code};
-use typst_highlight::{Tag, is_childless};
+use crate::codes::{flags, is_usual, kind_code, narrow_known, span_code};
+use typst_highlight::is_childless;
 use typst_tree::SyntaxNode;
 
-/// A node with its place in a tree, and its tag.
+/// A node with its place in a tree, and the number of its tag.
 #[derive(Clone, Copy)]
 pub struct PlacedNode<'t> {
     pub node: &'t SyntaxNode,
@@ -23,26 +24,61 @@ pub struct PlacedNode<'t> {
     pub number: usize,
     /// The number of its parent, as records have it; of the root 0.
     pub parent: u32,
-    pub tag: Option<Tag>,
+    /// Its tag, by `tag_code`.
+    pub tag: u8,
 }
 
-/// The record of a node.
+/// The record of a node. Of a node of a small tree it isn't asked whether its numbers fit into 32 bits.
 #[inline(always)]
-pub fn record(placed: &PlacedNode) -> Node
+pub fn record(placed: &PlacedNode, is_small: bool) -> Node
+    requires { is_small ≡ true → IsNarrow placed.now }
     ensures { (a : At) → IsPlaced a placed.now → result ≡ node_record a }
 {
     let node = placed.node;
+    let told = tell(node);
     Node {
         span: span_code(node.span()),
-        start: narrow(placed.start),
-        end: narrow(placed.end),
-        number: narrow(placed.number),
-        nodes: narrow(node_count(node)),
+        start: narrow_known(placed.start, is_small),
+        end: narrow_known(placed.end, is_small),
+        number: narrow_known(placed.number, is_small),
+        nodes: narrow_known(told.nodes, is_small),
         parent: placed.parent,
         kind: kind_code(node.kind()),
-        tag: tag_code(placed.tag),
-        flags: flags(node),
+        tag: placed.tag,
+        flags: told.flags,
         spare: 0,
+    }
+}
+
+/// How many nodes there are of a node and below it, and what is told of it by single bits.
+#[derive(Clone, Copy)]
+struct Told {
+    nodes: usize,
+    flags: u8,
+}
+
+/// Tells both of a node. Of a usual one it is asked once, and first, whether it is an inner node: the compiler then
+/// sees where the count lies.
+#[inline(always)]
+fn tell(node: &SyntaxNode) -> Told
+    ensures nodes { result.nodes ≡ saturated (nodes node.now) }
+    ensures flags { result.flags ≡ flags_of node.now.head }
+{
+    if !is_usual(node) {
+        return Told {
+            nodes: node.descendants(),
+            flags: flags(node),
+        };
+    }
+    if node.is_inner() {
+        return Told {
+            nodes: node.descendants(),
+            flags: 1,
+        };
+    }
+    Told {
+        nodes: node_count(node),
+        flags: 0,
     }
 }
 
@@ -56,4 +92,26 @@ pub fn node_count(node: &SyntaxNode) -> usize
     } else {
         node.descendants()
     }
+}
+
+/// The length of the text of a node itself, which only a leaf has.
+// Of an inner node without diagnostics at it and below it the compiler sees that the length is 0, and reads none.
+#[inline(always)]
+pub fn own_len(node: &SyntaxNode) -> usize
+    ensures { result ≡ length node.now.head.text }
+{
+    if !node.has_diagnostics() && node.is_inner() {
+        let text = node.leaf_text();
+        return text.len();
+    }
+    own_len_apart(node)
+}
+
+/// The length of the text of any node itself.
+#[inline(never)]
+fn own_len_apart(node: &SyntaxNode) -> usize
+    ensures { result ≡ length node.now.head.text }
+{
+    let text = node.leaf_text();
+    text.len()
 }

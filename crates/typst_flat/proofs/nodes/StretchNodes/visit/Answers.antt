@@ -1,5 +1,4 @@
 use Rattle.std.proofs.Common.{sym, ◌∙◌, refl, arith}
-use Rattle.typst_tree.specs.Steps.{at}
 use Rattle.typst_flat.specs.declared.placed.PlacedNode.{PlacedNode}
 use Rattle.typst_flat.proofs.Placing.{is_placed}
 use Rattle.typst_flat.proofs.nodes.StretchNodes.visit.Goals as goal
@@ -16,16 +15,8 @@ pass-requires-clause-ends c = omega (arith, c.saturating_add-end.ensures, c.len.
 pub enter-requires-clause-inner : goal.enter-requires-clause-inner
 enter-requires-clause-inner c = sym c.is_childless.ensures ∙ c.if-is_childless.false
 
-pub returns-then-is_childless-clause-placed : goal.returns-then-is_childless-clause-placed
-returns-then-is_childless-clause-placed c =
+pub returns-clause-placed : goal.returns-clause-placed
+returns-clause-placed c =
     let v = c.args.self.now in
-    let g : PlacedNode = record { node = c.args.node; start = c.offset-start.result; end = c.saturating_add-end.result; number = v.number; parent = v.parent; tag = c.in_ok-next.next.tag } in
-    let placed = is_placed v c.args.node.now c.args.later.now g c.requires.ready c.requires.row refl c.offset-start.ensures (omega (arith, c.saturating_add-end.ensures, c.len.ensures)) refl refl c.in_ok-next.ensures.tag in
-    record { start = placed.start; end = placed.end; node = c.record-made.ensures (at v.root.now v.number) placed }
-
-pub returns-in_ok-enter-clause-placed : goal.returns-in_ok-enter-clause-placed
-returns-in_ok-enter-clause-placed c =
-    let v = c.args.self.now in
-    let g : PlacedNode = record { node = c.args.node; start = c.offset-start.result; end = c.saturating_add-end.result; number = v.number; parent = v.parent; tag = c.in_ok-next.next.tag } in
-    let placed = is_placed v c.args.node.now c.args.later.now g c.requires.ready c.requires.row refl c.offset-start.ensures (omega (arith, c.saturating_add-end.ensures, c.len.ensures)) refl refl c.in_ok-next.ensures.tag in
-    record { start = placed.start; end = placed.end; node = c.record-made.ensures (at v.root.now v.number) placed }
+    let g : PlacedNode = record { node = c.args.node; start = c.offset-start.result; end = c.saturating_add-end.result; number = v.number; parent = v.parent; tag = c.in_ok-next.next.code } in
+    is_placed v c.args.node.now c.args.later.now g c.requires.ready c.requires.row refl c.offset-start.ensures (omega (arith, c.saturating_add-end.ensures, c.len.ensures)) refl refl c.in_ok-next.ensures.code

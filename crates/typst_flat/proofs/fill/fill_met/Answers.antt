@@ -2,14 +2,15 @@ use Rattle.std.proofs.Common.{◌≡◌, ◌+◌, ◌<◌, ◌≤◌, ◌∷◌,
 use Rattle.typst_tree.specs.Tree.{nodes}
 use Rattle.typst_tree.specs.Steps.{At, at, offset_of, end_of}
 use Rattle.typst_flat.specs.Records.{filled, met_in, node_record}
-use Rattle.typst_flat.specs.Placed.{Comes}
+use Rattle.typst_flat.specs.Placed.{Comes, IsSmall}
 use Rattle.typst_flat.specs.Walk.{ahead_from}
 use Rattle.typst_flat.proofs.Filling.{first_left, left_next, length_mapped, none_left, step_fits, step_full}
 use Rattle.typst_flat.proofs.Placing.{goes_on, one_meets, one_passes}
+use Rattle.typst_flat.proofs.Small.{small_numbers}
 use Rattle.typst_flat.proofs.Steps.{beyond, ended}
 use Rattle.typst_flat.proofs.Whole.{ahead_first, met_most}
-use Rattle.typst_flat.proofs.fill.fill_nodes_in.Goals as goal
-use Rattle.typst_flat.proofs.fill.fill_nodes_in.Goals.{then-count-room, else-count-room}
+use Rattle.typst_flat.proofs.fill.fill_met.Goals as goal
+use Rattle.typst_flat.proofs.fill.fill_met.Goals.{then-count-room, else-count-room}
 
 pub nodes-init : goal.nodes-init
 nodes-init c =
@@ -76,7 +77,7 @@ overflow_add-count c =
     let begins : c.args.stretch.start ≤ end_of (at v.root.now v.number) = omega (arith, c.if-stretch-placed.false, placed.end) in
     let here = c.nodes.invariant.left ∙ one_meets c.args.stretch v.root.now v.number comes.1.within reaches begins in
     let first = first_left c.nodes.count (met_in c.args.stretch c.args.root.now) (at v.root.now v.number) (ahead_from c.args.stretch v.root.now (v.number + 1)) here in
-    omega (arith, first.within, met_most c.args.stretch c.args.root.now, c.requires)
+    omega (arith, first.within, met_most c.args.stretch c.args.root.now, c.requires.counted)
 
 pub nodes-preserved : goal.nodes-preserved
 nodes-preserved c =
@@ -98,7 +99,7 @@ nodes-preserved c =
       left = left_next c.nodes.count met a rest here ∙ goes_on c.args.stretch v w c.nodes.invariant.stretch c.in_ok-placed.ensures.root comes.1;
       short = omega (arith, first.within);
       room = elim c.if-count-room.branch [
-        | then-count-room b ↦ b.room-is ∙ step_fits node_record c.nodes.count met a rest c.nodes.room c.args.room.now _ here c.nodes.invariant.room placed.node (omega (arith, b.if-count-room.true))
+        | then-count-room b ↦ b.room-is ∙ step_fits node_record c.nodes.count met a rest c.nodes.room c.args.room.now _ here c.nodes.invariant.room (b.record.ensures a placed) (omega (arith, b.if-count-room.true))
         | else-count-room b ↦ b.room-is ∙ step_full node_record c.nodes.count met a rest c.nodes.room c.args.room.now here c.nodes.invariant.room (omega (arith, b.if-count-room.false))
       ];
     }
@@ -124,3 +125,9 @@ returns-clause-room c =
     let comes : Comes v None c.next.new.self = subst (λ o. Comes v o c.next.new.self) c.in_default.is c.in_ok-placed.ensures.comes in
     let all = none_left c.nodes.count met (c.nodes.invariant.left ∙ ended c.args.stretch v.root.now v.number comes) c.nodes.invariant.short in
     c.nodes.invariant.room ∙ ap (λ xs. filled (map node_record xs) c.args.room.now) all.0
+
+pub record-requires : goal.record-requires
+record-requires c = λ e.
+    let v = c.nodes.walk in
+    let comes : Comes v (Some c.in-Some.placed) c.next.new.self = subst (λ o. Comes v o c.next.new.self) c.in-Some.is c.in_ok-placed.ensures.comes in
+    small_numbers v.root.now v.number c.in-Some.placed comes.1.within (subst IsSmall (sym c.nodes.invariant.root) (c.requires.small e)) comes.0

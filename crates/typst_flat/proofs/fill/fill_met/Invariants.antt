@@ -3,7 +3,7 @@ use Rattle.typst_tree.specs.Tree.{nodes}
 use Rattle.typst_flat.specs.Records.{filled, met_in, node_record}
 use Rattle.typst_flat.specs.Placed.{Stays}
 use Rattle.typst_flat.specs.Walk.{ahead_from}
-use Rattle.typst_flat.proofs.fill.fill_nodes_in.Given as goal
+use Rattle.typst_flat.proofs.fill.fill_met.Given as goal
 
 abbrev pub invariant-nodes : goal.invariant-nodes
 invariant-nodes l = record {

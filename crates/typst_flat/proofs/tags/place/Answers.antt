@@ -1,0 +1,7 @@
+use Rattle.std.proofs.Common.{refl}
+use Rattle.typst_kinds.specs.Members.{place_of}
+use Rattle.typst_flat.proofs.tags.place.Goals as goal
+
+pub returns-clause-place : goal.returns-clause-place
+unfolding place_of
+returns-clause-place c = refl
