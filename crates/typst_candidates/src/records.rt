@@ -237,8 +237,8 @@ impl Records {
     }
 
     /// From which note on all looks after it begin at the byte `at` or after it, where the last note's token begins
-    /// at the byte `last`; the number of notes if there is none. Goes through the notes from the anchor to a while after
-    /// the byte, and back; if looks of later notes go far back, back through these notes from the last one.
+    /// at the byte `last`; the number of notes if there is none. Goes through the notes from the anchor to a while
+    /// after the byte, and back; if looks of later notes go far back, back through these notes from the last one.
     pub fn rear(&self, at: usize, last: usize) -> usize
         requires { last ≡ end_of 0 self.now.units.entries }
         ensures { result ≡ rear_of at 0 0 self.now.units.entries self.now.units.back }
@@ -259,8 +259,8 @@ impl Records {
     }
 
     /// From which place on `rear` has to go back through the entries, and how far back the looks after it begin: the
-    /// first place from the anchor on that is so far after the byte `at` that no look after it reaches back to the byte, or
-    /// else the last.
+    /// first place from the anchor on that is so far after the byte `at` that no look after it reaches back to the
+    /// byte, or else the last.
     fn rear_place(&self, at: usize, last: usize) -> (EntryCursor<'_>, usize)
         requires { last ≡ end_of 0 self.now.units.entries }
         ensures entries { result.0.entries ≡ self.now.units.entries }
