@@ -2,6 +2,7 @@
 ghost use Rattle.std.specs.Prelude.{◌≡◌, ◌≤◌, IfOk};
 ghost use Rattle.std.specs.Str.{IsCharBoundary};
 ghost use Rattle.typst_lines.specs.UnicodeTables.{unicode_classes};
+ghost use Rattle.typst_parser.specs.Boundaries.{IsBoundary};
 ghost use Rattle.typst_parser.specs.Headline.{Headline, edited};
 ghost use Rattle.typst_positions.specs.Positions.{byte_at, position_of};
 ghost use Rattle.typst_protocol.specs.Parameters.{edit_in};
@@ -11,7 +12,7 @@ ghost use Rattle.typst_document.specs.Document.{IsTextAt, all_bytes};
 use std::alloc::Global;
 use std::marker::Model;
 use std::ops::Range;
-use typst_parser::{Source, SourceError, SyntaxNode, UnicodeClasses};
+use typst_parser::{Boundary, Source, SourceError, SyntaxNode, UnicodeClasses};
 use typst_positions::{Encoding, Position, Positions};
 use typst_protocol::values::Place;
 use typst_protocol::{Change, Refusal};
@@ -71,6 +72,13 @@ impl Document {
         ensures headline { Headline unicode_classes self.now.source }
     {
         self.source.root()
+    }
+
+    /// A place between the root's children: before those that the last change read again, or before all.
+    pub fn boundary(&self) -> Boundary
+        ensures { IsBoundary self.now.source.root result }
+    {
+        self.source.boundary()
     }
 
     /// In what columns are counted.

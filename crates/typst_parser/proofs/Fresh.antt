@@ -11,8 +11,6 @@ use Rattle.typst_tree.proofs.Numbering.{numbered_bare, text_numbered, nodes_numb
 use Rattle.std.specs.Str.{chars}
 use Rattle.typst_lines.specs.Classes.{CharClasses}
 use Rattle.typst_edits.specs.Grammar.{tree}
-use Rattle.typst_candidates.specs.declared.children.Edge.{Edge}
-use Rattle.typst_candidates.specs.Edges.{IsRootEdge}
 use Rattle.typst_candidates.specs.Entries.{Units}
 use Rattle.typst_parser.specs.Held.{Held}
 use Rattle.typst_parser.specs.Headline.{file_of, Headline, AreNumbered, AreOrdered, numbered_in}
@@ -97,13 +95,12 @@ placed-new None t u is inner numbered = tt
 placed-new (Some file) t u is inner numbered = let h = numbered-head file t u is inner in (numbered, h.0, h.1)
 
 -- what a source keeps whose whole text was read
-pub records-new : {C : Type 0} (k : CharClasses) (s : Held C) (file : Option ℕ) (units : Units) (edge : Edge) (text : List ℕ) → text ≡ s.text → numbered_in file (tree k (chars text)) ≡ Some s.root → text_of s.root ≡ text → AreNumbered file s.root
-    → IsPlaced file s.root → AreUnits k text units → IsRootEdge s.root edge → KeepsRecords k s units edge
-records-new k s file units edge text e is leaves numbers placed are between =
+pub records-new : {C : Type 0} (k : CharClasses) (s : Held C) (file : Option ℕ) (units : Units) (text : List ℕ) → text ≡ s.text → numbered_in file (tree k (chars text)) ≡ Some s.root → text_of s.root ≡ text → AreNumbered file s.root
+    → IsPlaced file s.root → AreUnits k text units → KeepsRecords k s units
+records-new k s file units text e is leaves numbers placed are =
     let numbered : numbered_in file (tree k (chars s.text)) ≡ Some s.root = subst (λ t. numbered_in file (tree k (chars t)) ≡ Some s.root) e is in
     record {
       headline = headline-new k s file numbered (leaves ∙ e) numbers;
       placed = subst (λ f. IsPlaced f s.root) (sym (fresh-file file (tree k (chars s.text)) s.root numbered)) placed;
       are = subst (λ t. AreUnits k t units) e are;
-      between = between;
     }

@@ -26,8 +26,6 @@ use Rattle.typst_edits.proofs.CandidateWorth.{tree-inner}
 use Rattle.typst_edits.proofs.Whole.{leaves}
 use Rattle.typst_edits.proofs.Widths.{width-append}
 use Rattle.typst_parser.specs.TextReplacement.{TextReplacement, text_before, text_after, Makes, Holds, candidates}
-use Rattle.typst_candidates.specs.declared.children.Edge.{Edge}
-use Rattle.typst_candidates.specs.Edges.{IsRootEdge}
 use Rattle.typst_candidates.specs.Entries.{Units, units_of}
 use Rattle.typst_parser.specs.Reparse.{NonePasses, Takes}
 use Rattle.typst_parser.specs.declared.edited.Reread.{Reread}
@@ -150,7 +148,7 @@ module _ (k : CharClasses) (front old new rest : List ℕ) (was now : Tree) (ran
 
 -- ---- a source whose text was edited
 
-module _ {C : Type 0} (k : CharClasses) (old now : Held C) (e : Replacement) (h : IsEdited old.text now.text e) (units : Units) (edge : Edge) (had : KeepsRecords k old units edge) where
+module _ {C : Type 0} (k : CharClasses) (old now : Held C) (e : Replacement) (h : IsEdited old.text now.text e) (units : Units) (had : KeepsRecords k old units) where
   abbrev c : TextReplacement
   c = change_by h
 
@@ -169,8 +167,7 @@ module _ {C : Type 0} (k : CharClasses) (old now : Held C) (e : Replacement) (h 
 
     -- where a part was read
     module _ (units_now : Units) (read : Reread) (outcome : Option Reread) (some : outcome ≡ Some read)
-        (part : (x : TextReplacement) → Makes x text e → Holds k x old.root units → IfSome outcome (λ r. Takes k x old.root now.root units_now r.range)) (ordered : IfSome outcome (λ r. KeepsNumbers old.root now.root))
-        (between : IfSome outcome (λ r. IsRootEdge now.root r.edge)) where
+        (part : (x : TextReplacement) → Makes x text e → Holds k x old.root units → IfSome outcome (λ r. Takes k x old.root now.root units_now r.range)) (ordered : IfSome outcome (λ r. KeepsNumbers old.root now.root)) where
       takes : Takes k c old.root now.root units_now read.range
       takes = subst (λ (o : Option Reread). IfSome o (λ r. Takes k c old.root now.root units_now r.range)) some (part c makes-text holds)
 
@@ -187,7 +184,7 @@ module _ {C : Type 0} (k : CharClasses) (old now : Held C) (e : Replacement) (h 
       held-again = held k c.front c.old c.new c.rest old.root now.root read.range tree-was takes.tree_is takes.answer order had.headline.numbers had.placed
 
       -- the records are those of the text now
-      pub records-again : KeepsRecords k now units_now read.edge
+      pub records-again : KeepsRecords k now units_now
       records-again = record {
         headline = record {
           tree = tree-again;
@@ -196,7 +193,6 @@ module _ {C : Type 0} (k : CharClasses) (old now : Held C) (e : Replacement) (h 
         };
         placed = subst (λ f. IsPlaced f now.root) (sym held-again.file) held-again.placed;
         are = record { are = takes.units_are ∙ ap (λ s. units_of (log k s)) (sym (after old.text now.text e h)); fits = fits };
-        between = subst (λ (o : Option Reread). IfSome o (λ r. IsRootEdge now.root r.edge)) some between;
       }
 
       range-again : Lies k c.front c.old c.new c.rest old.root now.root read.range tree-was takes.tree_is (width (text_after c))

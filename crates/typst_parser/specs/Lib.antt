@@ -23,6 +23,7 @@ pub use Rattle.typst_lines.specs.Lines
 pub use Rattle.typst_lines.specs.Newline
 pub use Rattle.typst_lines.specs.UnicodeTables
 pub use Rattle.typst_lines.specs.declared.lines.Line
+pub use Rattle.typst_tree.specs.Boundaries
 pub use Rattle.typst_tree.specs.Diagnostic
 pub use Rattle.typst_tree.specs.Preorder
 pub use Rattle.typst_tree.specs.Tree

@@ -4,10 +4,10 @@ use Rattle.std.specs.Str.{chars, IsUtf8, IsCharBoundary}
 use Rattle.std.specs.declared.ops.Range.{Range}
 use Rattle.typst_kinds.specs.Span.{number_of}
 use Rattle.typst_tree.specs.Tree.{Tree}
+use Rattle.typst_tree.specs.Boundaries.{IsBoundary}
 use Rattle.typst_tree.specs.Order.{IsNumbered, upper_at}
+use Rattle.typst_tree.specs.declared.boundary.Boundary.{Boundary}
 use Rattle.typst_lines.specs.Classes.{CharClasses}
-use Rattle.typst_candidates.specs.declared.children.Edge.{Edge}
-use Rattle.typst_candidates.specs.Edges.{IsRootEdge}
 use Rattle.typst_candidates.specs.Entries.{Units, units_of}
 use Rattle.typst_edits.specs.Grammar.{log, tree}
 use Rattle.typst_parser.specs.declared.replacement.Replacement.{Replacement}
@@ -31,12 +31,17 @@ pub record AreUnits (k : CharClasses) (text : List ℕ) (units : Units) : Type 0
   pub fits : length text < 2 ^ 64 - 1
 
 -- What a source with records keeps to: the headline holds, its numbers lie where an edit may put others between
--- them, the units are those of the text's reading, and the edge is between the root's children.
-pub record KeepsRecords {C : Type 0} (k : CharClasses) (s : Held C) (units : Units) (edge : Edge) : Type 0 where
+-- them, and the units are those of the text's reading.
+pub record KeepsRecords {C : Type 0} (k : CharClasses) (s : Held C) (units : Units) : Type 0 where
   pub headline : Headline k s
   pub placed : IsPlaced (file_of s.root) s.root
   pub are : AreUnits k s.text units
-  pub between : IsRootEdge s.root edge
+
+-- What a source keeps to: its boundary is one between the root's children, and if it has records, it keeps to what
+-- they say.
+pub record Keeps {C : Type 0} (k : CharClasses) (s : Held C) (units : Units) (boundary : Boundary) : Type 0 where
+  pub records : s.has_records ≡ true → KeepsRecords k s units
+  pub between : IsBoundary s.root boundary
 
 -- A stretch of a text was replaced by another text, between character boundaries.
 pub record IsEdited (old new : List ℕ) (e : Replacement) : Type 0 where

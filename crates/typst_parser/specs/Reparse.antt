@@ -7,7 +7,6 @@ use Rattle.typst_tree.specs.Tree.{Tree, bare}
 use Rattle.typst_tree.specs.Replace.{replaced_at}
 use Rattle.typst_candidates.specs.declared.candidate.Candidate as code
 use Rattle.typst_candidates.specs.declared.candidate.Candidates.{Candidates}
-use Rattle.typst_candidates.specs.declared.children.Edge.{Edge}
 use Rattle.typst_candidates.specs.Candidates.{Candidate}
 use Rattle.typst_candidates.specs.Entries.{Units, spliced, units_of}
 use Rattle.typst_candidates.specs.Edges.{IsRootEdge, LeadsBy, spelled}
@@ -87,8 +86,8 @@ abbrev pub Puts : List ℕ → ℕ → ℕ → ReparsedPart → Tree → Tree �
 Puts path from to p was now units units_now true = (replaced_at path from to p.nodes.items was ≡ Some now) × (units_now ≡ spliced p.from_entry p.to_entry p.entries.units.entries units)
 Puts path from to p was now units units_now false = (replaced_at path from to p.nodes.items was ≡ None) × (now ≡ was) × (units_now ≡ units)
 
--- The place before the first of the root's children that a candidate changes, by the path to its parent and the place
--- before the child to which this path leads.
-abbrev pub edge_before : List ℕ → code.Candidate → Edge → Edge
-edge_before [] d step = record { index = d.from; byte = d.start }
-edge_before (i ∷ path) d step = step
+-- The index of the first of the root's children that a candidate changes, by the path to its parent and the index of
+-- the child to which this path leads.
+abbrev pub first_changed : List ℕ → code.Candidate → ℕ → ℕ
+first_changed [] d step = d.from
+first_changed (i ∷ path) d step = step

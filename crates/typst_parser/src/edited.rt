@@ -1,6 +1,8 @@
 //! Reads of an edited text what the edit may have changed.
 
 ghost use Rattle.std.specs.Prelude.{◌≡◌, ℕ, ◌<◌, ◌≤◌, ◌^◌, Some, None, IfOk, IfSome, OnOk, OnErr, List, length, take, true};
+ghost use Rattle.typst_tree.specs.Tree.{Tree, text_of, trees};
+ghost use Rattle.typst_tree.specs.Boundaries.{IsBoundary};
 ghost use Rattle.typst_tree.specs.Order.{AreInOrder, IsNumbered, numbers_of};
 ghost use Rattle.typst_tree.specs.Replace.{Reaches};
 ghost use Rattle.typst_candidates.specs.Edges.{IsRootEdge};
@@ -8,7 +10,7 @@ ghost use Rattle.typst_edits.specs.Edit.{Among};
 ghost use Rattle.typst_parser.specs.Attempt.{Speaks, at_path};
 ghost use Rattle.typst_parser.specs.TextReplacement.{TextReplacement, Makes, Holds, candidates};
 ghost use Rattle.typst_parser.specs.Steps.{GoesOn, ServesFor, ServesOr};
-ghost use Rattle.typst_parser.specs.Reparse.{AreFirst, CanTake, CanTakeFirst, NonePasses, NonePassesOf, Puts, Takes, TakesFirst, TakesPlace, edge_before};
+ghost use Rattle.typst_parser.specs.Reparse.{AreFirst, CanTake, CanTakeFirst, NonePasses, NonePassesOf, Puts, Takes, TakesFirst, TakesPlace, first_changed};
 
 use crate::attempt::{Asked, Attempt, ReparsedPart, Serving};
 use crate::replacement::Replacement;
@@ -17,7 +19,7 @@ use std::ops::Range;
 use typst_candidates::{Candidate, Candidates, Edge, Records, find_candidates_from};
 use typst_kinds::SourceError;
 use typst_lines::Classes;
-use typst_tree::SyntaxNode;
+use typst_tree::{Boundary, SyntaxNode};
 
 /// How many candidates are looked up at first. The first one nearly always passes, and these few are found
 /// around the edit; to find all goes from there to the ends of each run that the edit is in.
@@ -32,34 +34,34 @@ const REACH: usize = 1000;
 pub struct Reread {
     /// Its range in the new text, in bytes.
     pub range: Range<usize>,
-    /// The place before the first of the root's children that were read again, at least in part.
-    pub edge: Edge,
+    /// A place between the root's children, before those that were read again, at least in part.
+    pub boundary: Boundary,
 }
 
 /// Reads of an edited text the first candidate that passes and whose nodes find numbers, and puts its
 /// nodes and units in place. Answers what was read, or `None` if there is none: then the tree and the units stay as
-/// they were. The root's children near the edit are looked for from the place `edge` between them, or from an end
-/// that is nearer.
+/// they were. The root's children near the edit are looked for from the place `boundary` between them, or from an
+/// end that is nearer.
 pub fn reparse<C: Classes>(
     alloc: Global,
     root: &mut SyntaxNode,
     records: &mut Records,
-    edge: Edge,
+    boundary: Boundary,
     new: &str,
     edit: Replacement,
     classes: &C,
 ) -> Result<Option<Reread>, AllocError>
     requires edits { (c : TextReplacement) × (Makes c new.now edit × Holds (C.classes classes.now) c root.old records.old.units) }
-    requires edge { IsRootEdge root.old edge }
+    requires boundary { IsBoundary root.old boundary }
     ensures part { (c : TextReplacement) → Makes c new.now edit → Holds (C.classes classes.now) c root.old records.old.units → IfOk result (λ r. IfSome r (λ read. Takes (C.classes classes.now) c root.old root.new records.new.units read.range)) }
     ensures none { (c : TextReplacement) → Makes c new.now edit → Holds (C.classes classes.now) c root.old records.old.units → result ≡ Ok None → NonePasses (C.classes classes.now) c root.old }
     ensures undone { result ≡ Ok None → (root.new ≡ root.old) × (records.new.units ≡ records.old.units) }
     ensures err { OnErr result ((root.new ≡ root.old) × (records.new.units ≡ records.old.units)) }
-    ensures edge { IfOk result (λ r. IfSome r (λ read. IsRootEdge root.new read.edge)) }
+    ensures boundary { IfOk result (λ r. IfSome r (λ read. IsBoundary root.new read.boundary)) }
     ensures ordered { IfOk result (λ r. IfSome r (λ _. IsNumbered root.old → IsNumbered root.new × AreInOrder (numbers_of root.new))) }
 {
     records.go_near(edit.start);
-    reparse_near(alloc, root, records, edge, new, edit, classes)
+    reparse_near(alloc, root, records, boundary, new, edit, classes)
 }
 
 /// Does what `reparse` does, from where the records have their anchor.
@@ -67,18 +69,18 @@ fn reparse_near<C: Classes>(
     alloc: Global,
     root: &mut SyntaxNode,
     records: &mut Records,
-    edge: Edge,
+    boundary: Boundary,
     new: &str,
     edit: Replacement,
     classes: &C,
 ) -> Result<Option<Reread>, AllocError>
     requires edits { (c : TextReplacement) × (Makes c new.now edit × Holds (C.classes classes.now) c root.old records.old.units) }
-    requires edge { IsRootEdge root.old edge }
+    requires boundary { IsBoundary root.old boundary }
     ensures part { (c : TextReplacement) → Makes c new.now edit → Holds (C.classes classes.now) c root.old records.old.units → IfOk result (λ r. IfSome r (λ read. Takes (C.classes classes.now) c root.old root.new records.new.units read.range)) }
     ensures none { (c : TextReplacement) → Makes c new.now edit → Holds (C.classes classes.now) c root.old records.old.units → result ≡ Ok None → NonePasses (C.classes classes.now) c root.old }
     ensures undone { result ≡ Ok None → (root.new ≡ root.old) × (records.new.units ≡ records.old.units) }
     ensures err { OnErr result ((root.new ≡ root.old) × (records.new.units ≡ records.old.units)) }
-    ensures edge { IfOk result (λ r. IfSome r (λ read. IsRootEdge root.new read.edge)) }
+    ensures boundary { IfOk result (λ r. IfSome r (λ read. IsBoundary root.new read.boundary)) }
     ensures ordered { IfOk result (λ r. IfSome r (λ _. IsNumbered root.old → IsNumbered root.new × AreInOrder (numbers_of root.new))) }
 {
     let last = records.last_token();
@@ -89,6 +91,7 @@ fn reparse_near<C: Classes>(
         rear: records.rear(edit.old_end, last),
         classes,
     };
+    let edge = edge_of(boundary);
     let few = find_candidates_from(
         alloc,
         root,
@@ -99,7 +102,7 @@ fn reparse_near<C: Classes>(
         FEW,
         REACH,
     )?;
-    if let Some(read) = take_first(alloc, root, records, &asked, &few, 0)? {
+    if let Some(read) = take_first(alloc, root, records, boundary, &asked, &few, 0)? {
         return Ok(Some(read));
     }
     let tried = few.items.len();
@@ -116,55 +119,82 @@ fn reparse_near<C: Classes>(
         usize::MAX,
         usize::MAX,
     )?;
-    take_first(alloc, root, records, &asked, &all, tried)
+    take_first(alloc, root, records, boundary, &asked, &all, tried)
+}
+
+/// The place by its index and its byte.
+fn edge_of(boundary: Boundary) -> Edge
+    ensures { (root : Tree) → IsBoundary root boundary → IsRootEdge root result }
+{
+    Edge {
+        index: boundary.index,
+        byte: boundary.bytes,
+    }
 }
 
 /// Puts what takes the place of the first candidate there that passes and whose nodes find numbers, among those
 /// from the one numbered `from` on; answers what was read, or `None` if there is none. In that case, and if memory is
-/// refused, nothing changes.
+/// refused, nothing changes. Before each attempt, while the tree is the old one, it goes from the known place to the
+/// one before the children that the attempt would change.
 fn take_first<C: Classes>(
     alloc: Global,
     root: &mut SyntaxNode,
     records: &mut Records,
+    known: Boundary,
     asked: &Asked<'_, C>,
     found: &Candidates,
     from: usize,
 ) -> Result<Option<Reread>, AllocError>
     requires some { CanTakeFirst (C.classes asked.now.classes.now) asked.now root.old records.old.units found.now }
     requires within { from ≤ length found.now.items.items }
+    requires known { IsBoundary root.old known }
     ensures first { (c : TextReplacement) → Speaks (C.classes asked.now.classes.now) c asked.now root.old records.old.units → AreFirst (C.classes asked.now.classes.now) c root.old found.now → NonePassesOf (C.classes asked.now.classes.now) c root.old from → IfOk result (λ read. TakesFirst (C.classes asked.now.classes.now) c root.old root.new records.new.units (length found.now.items.items) read) }
     ensures undone { result ≡ Ok None → (root.new ≡ root.old) × (records.new.units ≡ records.old.units) }
     ensures err { OnErr result ((root.new ≡ root.old) × (records.new.units ≡ records.old.units)) }
-    ensures edge { IfOk result (λ r. IfSome r (λ read. IsRootEdge root.new read.edge)) }
+    ensures boundary { IfOk result (λ r. IfSome r (λ read. IsBoundary root.new read.boundary)) }
     ensures ordered { IfOk result (λ r. IfSome r (λ _. IsNumbered root.old → IsNumbered root.new × AreInOrder (numbers_of root.new))) }
 {
     let steps = &found.path;
     let mut serving = None;
+    let mut boundary = known;
     for candidate in &found.items[from..] {
         let path = front_of(steps, candidate.depth);
         serving = serving_of(serving, *candidate);
+        let index = first_changed(path, *candidate, found.first.index);
+        boundary = place_before(root, boundary, index);
         let end = take_place(alloc, root, records, asked, *candidate, path, &mut serving)?;
         if let Some(end) = end {
             let range = candidate.start..end;
-            let edge = edge_before(path, *candidate, found.first);
-            return Ok(Some(Reread { range, edge }));
+            return Ok(Some(Reread { range, boundary }));
         }
     }
     Ok(None)
 }
 
-/// The place before the first of the root's children that a candidate changes, by the path to its parent and the
-/// place before the child to which this path leads.
-fn edge_before(path: &[usize], candidate: Candidate, step: Edge) -> Edge
-    ensures { result ≡ edge_before path.now candidate step }
+/// The index of the first of the root's children that a candidate changes, by the path to its parent and the index of
+/// the child to which this path leads.
+fn first_changed(path: &[usize], candidate: Candidate, step: usize) -> usize
+    ensures { result ≡ first_changed path.now candidate step }
 {
     if path.is_empty() {
-        return Edge {
-            index: candidate.from,
-            byte: candidate.start,
-        };
+        return candidate.from;
     }
     step
+}
+
+/// The place before the root's child of an index, or the one before all where the tree's nodes can't be counted. Goes
+/// there from a known place, or from an end that is nearer.
+fn place_before(root: &SyntaxNode, known: Boundary, index: usize) -> Boundary
+    requires fits { length (text_of root.now) < 2 ^ 64 }
+    requires known { IsBoundary root.now known }
+    requires within { index ≤ length (trees root.now.kids) }
+    ensures index { result.index ≤ index }
+    ensures boundary { IsBoundary root.now result }
+{
+    if root.descendants() == usize::MAX {
+        return Boundary::front_of(root);
+    }
+    known.nearest(root, index).moved_to(root, index)
 }
 
 /// The reading, if it can go on for a candidate.

@@ -6,7 +6,7 @@
 //!   [`parse_noted`] gives a text's [`Noted`]: its tree with what was looked at for it, and a [`Note`] for
 //!   each [`Mark`] at which a piece or a [`Block`] begins or ends.
 //! - A tree is a [`SyntaxNode`] of some [`SyntaxKind`], with its [`Diagnostic`]s and its [`Span`];
-//!   [`LinkedNode`] is a node that knows what is around it.
+//!   [`LinkedNode`] is a node that knows what is around it. A [`Boundary`] is a place between the root's children.
 //! - [`highlight`] gives the [`Tag`] that a node is shown by, and [`highlight_html`] writes a tree's text
 //!   as HTML. [`tag_stretches`] gives the text as stretches, each a [`Tagged`] with its tag.
 //! - A [`Source`] holds a text with its lines and its numbered tree from edit to edit, finds nodes by
@@ -39,4 +39,6 @@ pub use typst_lines::{
     Classes, Line, Lines, MathClass, Text, UnicodeClasses, is_id_continue, is_id_start, is_ident,
     is_newline, is_valid_label_literal_id, link_prefix, split_newlines,
 };
-pub use typst_tree::{LinkedChildren, LinkedNode, Preorder, SyntaxNode, Visit, is_ordered};
+pub use typst_tree::{
+    Boundary, LinkedChildren, LinkedNode, Preorder, SyntaxNode, Visit, is_ordered,
+};

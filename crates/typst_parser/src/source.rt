@@ -3,6 +3,7 @@ ghost use Rattle.std.specs.Prelude.{◌≡◌, ◌+◌, ◌-◌, ◌^◌, ◌<�
 ghost use Rattle.std.specs.Str.{IsCharBoundary, chars};
 ghost use Rattle.std.specs.String.{string_bytes};
 ghost use Rattle.typst_tree.specs.Tree.{text_of, bare, nodes};
+ghost use Rattle.typst_tree.specs.Boundaries.{IsBoundary};
 ghost use Rattle.typst_edits.specs.Grammar.{tree};
 ghost use Rattle.typst_parser.specs.Headline.{Headline, edited, file_of, AreNumbered, AreOrdered, numbered_in};
 ghost use Rattle.typst_parser.specs.Tried.{AnswersEdit, Tries};
@@ -16,10 +17,10 @@ use std::alloc::{AllocError, Global};
 use std::fmt;
 use std::marker::Model;
 use std::ops::Range;
-use typst_candidates::{Edge, Records};
+use typst_candidates::Records;
 use typst_kinds::{FileId, SourceError, Span, SpanNumber, SubRange};
 use typst_lines::{Classes, Lines};
-use typst_tree::{LinkedNode, SyntaxNode};
+use typst_tree::{Boundary, LinkedNode, SyntaxNode};
 
 /// The numbers that nodes can have.
 const NUMBERS: Range<u64> = 2..1 << 47;
@@ -38,15 +39,14 @@ pub struct Source<C: Classes> {
     has_records: bool,
     /// The units of the text's reading.
     records: Records,
-    /// A place between the root's children, from which those near the next edit are looked for: where the last one
-    /// began to read, since the next edit is mostly near.
-    edge: Edge,
+    /// A place between the root's children, from which those near the next edit are looked for: before those that the
+    /// last one read again, since the next edit is mostly near.
+    boundary: Boundary,
 }
 
 impl<C: Classes> Model for Source<C> {
-    ghost use Rattle.std.specs.Prelude.{◌≡◌, true};
     ghost use Rattle.typst_parser.specs.Held.{Held, held_code};
-    ghost use Rattle.typst_parser.specs.Records.{KeepsRecords};
+    ghost use Rattle.typst_parser.specs.Records.{Keeps};
 
     ghost Value = { Held C };
 
@@ -54,7 +54,7 @@ impl<C: Classes> Model for Source<C> {
 
     ghost view = { λ a. record { id = a.id; text = a.lines; root = a.root; classes = a.classes; has_records = a.has_records } };
 
-    ghost invariant = { λ a. a.has_records ≡ true → KeepsRecords (C.classes a.classes) (record { id = a.id; text = a.lines; root = a.root; classes = a.classes; has_records = a.has_records }) a.records.units a.edge };
+    ghost invariant = { λ a. Keeps (C.classes a.classes) (record { id = a.id; text = a.lines; root = a.root; classes = a.classes; has_records = a.has_records }) a.records.units a.boundary };
 }
 
 /// Numbers a tree over all numbers of a file, or takes its numbers away if there is no file.
@@ -120,7 +120,7 @@ impl<C: Classes + Drop> Source<C> {
             return Err(SourceError::OutOfMemory);
         };
         let made = parse_whole(alloc, lines.text(), Some(id), &classes)?;
-        let edge = Edge::front_of(&made.root);
+        let boundary = Boundary::front_of(&made.root);
         Ok(Source {
             alloc,
             id,
@@ -129,7 +129,7 @@ impl<C: Classes + Drop> Source<C> {
             classes,
             has_records: true,
             records: made.records,
-            edge,
+            boundary,
         })
     }
 
@@ -159,7 +159,7 @@ impl<C: Classes + Drop> Source<C> {
         ensures { IfOk result (λ s. (s.id ≡ id) × (s.text ≡ string_bytes text) × (s.root ≡ root) × (s.classes ≡ classes) × (s.has_records ≡ false)) }
     {
         let lines = Lines::new(alloc, text)?;
-        let edge = Edge::front_of(&root);
+        let boundary = Boundary::front_of(&root);
         Ok(Source {
             alloc,
             id,
@@ -168,7 +168,7 @@ impl<C: Classes + Drop> Source<C> {
             classes,
             has_records: false,
             records: Records::new(alloc),
-            edge,
+            boundary,
         })
     }
 }
@@ -183,6 +183,13 @@ impl<C: Classes> Source<C> {
         ensures headline { self.now.has_records ≡ true → Headline (C.classes self.now.classes) self.now }
     {
         &self.root
+    }
+
+    /// A place between the root's children: before those that the last edit read again, or before all.
+    pub fn boundary(&self) -> Boundary
+        ensures { IsBoundary self.now.root result }
+    {
+        self.boundary
     }
 
     /// The file that the text is of.
@@ -332,14 +339,14 @@ impl<C: Classes> Source<C> {
             self.alloc,
             &mut self.root,
             &mut self.records,
-            self.edge,
+            self.boundary,
             text,
             edit,
             &self.classes,
         ) {
             Ok(Some(read)) => {
                 self.lines = edited.keep();
-                self.edge = read.edge;
+                self.boundary = read.boundary;
                 Ok(Some(read.range))
             }
             Ok(None) => {
@@ -376,7 +383,7 @@ impl<C: Classes> Source<C> {
         };
         let end = edited.text().len();
         self.lines = edited.keep();
-        self.edge = Edge::front_of(&made.root);
+        self.boundary = Boundary::front_of(&made.root);
         self.root = made.root;
         self.records = made.records;
         self.has_records = true;
@@ -419,7 +426,7 @@ impl<C: Classes + Copy> Source<C> {
             classes: self.classes,
             has_records: self.has_records,
             records: self.records.try_clone(self.alloc)?,
-            edge: self.edge,
+            boundary: self.boundary,
         })
     }
 }

@@ -50,6 +50,8 @@ pub mod Waiting
 -- Where the clauses are proved. A function that isn't named here needs no lemma.
 --   get, range, children                 NodesOfStretch: node_here, stands_row; WalksInPreorder: length_places
 --   LinkedChildren::next                 NodesOfStretch: row, stands_same
+--   LinkedChildren::from_boundary        Boundaries: stands_behind, left_behind
+--   Boundary                             Boundaries: rear, onward, backward
 --   the place in a long row              Forks: holds_behind, open_child, placed_first, tops, ends_by
 --   parent                               Parents: parent_is; Branches: above_is, no_parent
 --   next_sibling                         Siblings: find_past, find_here; Branches: behind_above; Rows: beside
@@ -60,7 +62,8 @@ pub mod Waiting
 --   find, find_number from `ordered`     RisingNumbers: none_past, found_only
 --   is_ordered                           OrderBelow: nodes_within, order_own, order_child, order_node_but
 --   Preorder                             LeftRows; next_marked: ok_marked; next_diagnosed: diagnosed_next, diagnosed_same
--- For crates above: Inside; LastLeaf: last_append, last_none; PassesOver: no_child_before, no_child_after; RisingNumbers: rising_from; SingleNodes; WalksInPreorder.
+-- For crates above: Boundaries: shared; Inside; LastLeaf: last_append, last_none; PassesOver: no_child_before, no_child_after; RisingNumbers: rising_from; SingleNodes; WalksInPreorder.
+pub mod Boundaries
 pub mod Branches
 pub mod FindsOwnSpan
 pub mod Forks

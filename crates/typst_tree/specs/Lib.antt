@@ -6,6 +6,7 @@ pub mod Same
 pub mod Replace
 pub mod Order
 pub mod Laws
+pub mod Boundaries
 pub mod Branches
 pub mod Follows
 pub mod Found

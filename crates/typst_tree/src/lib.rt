@@ -5,6 +5,7 @@
 #![tactic(auto)]
 
 mod back;
+mod boundary;
 mod items;
 mod known;
 pub mod laws;
@@ -16,6 +17,7 @@ mod preorder;
 mod replace;
 mod search;
 
+pub use boundary::Boundary;
 pub use linked::{LinkedChildren, LinkedNode};
 pub use node::SyntaxNode;
 pub use order::is_ordered;

@@ -9,6 +9,7 @@ ghost use Rattle.typst_tree.specs.Walks.{Stands};
 
 use crate::SyntaxNode;
 use crate::back::{Found, last_leaf_in};
+use crate::boundary::Boundary;
 use crate::known::{Known, LONG, Reach};
 use crate::order::find_in;
 use crate::search::{Kid, Passed, Search, Spot, child_at, child_over, from_index, holds_byte};
@@ -646,6 +647,32 @@ impl<'a> Parent<'a> {
         let numbers = number - self.number;
         let bytes = offset - self.offset;
         self.known.of_child(self.is_long, index, numbers, bytes)
+    }
+}
+
+impl<'a> LinkedChildren<'a> {
+    ghost use Rattle.std.specs.Prelude.{◌≡◌, ◌^◌, ◌<◌, ◌-◌, drop};
+    ghost use Rattle.typst_tree.specs.Tree.{nodes};
+    ghost use Rattle.typst_tree.specs.Boundaries.{IsBoundary};
+    ghost use Rattle.typst_tree.specs.Steps.{at, children};
+    ghost use Rattle.typst_tree.specs.Linked.{left};
+
+    /// The children of a tree's root after a place between them. The call and each child take a constant time.
+    #[inline]
+    pub fn from_boundary(root: &'a SyntaxNode, boundary: Boundary) -> LinkedChildren<'a>
+        requires counted { nodes root.now < 2 ^ 64 - 1 }
+        requires boundary { IsBoundary root.now boundary }
+        ensures { left result ≡ drop boundary.index (children (at root.now 0)) }
+    {
+        let top = LinkedNode::new(root);
+        LinkedChildren {
+            root,
+            rest: from_index(root.children(), boundary.index),
+            number: boundary.nodes + 1,
+            offset: boundary.bytes,
+            index: boundary.index,
+            parent: top.as_parent(),
+        }
     }
 }
 

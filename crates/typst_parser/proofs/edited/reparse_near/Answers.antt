@@ -1,7 +1,8 @@
 use Rattle.std.proofs.Common.{◌≡◌, ◌<◌, ◌≤◌, length, Ok, refl, sym, ap, subst, arith}
 use Rattle.std.specs.Prelude.{map}
 use Rattle.typst_tree.specs.Tree.{Tree}
-use Rattle.typst_candidates.specs.Edges.{IsRootEdge, spelled}
+use Rattle.typst_tree.specs.Boundaries.{IsBoundary}
+use Rattle.typst_candidates.specs.Edges.{spelled}
 use Rattle.typst_edits.specs.Answer.{Refused}
 use Rattle.typst_edits.specs.Every.{Every}
 use Rattle.typst_parser.specs.TextReplacement.{candidates}
@@ -16,6 +17,9 @@ find_candidates_from-requires-clause-order g c = edit-order (g.C.Classes.classes
 
 pub find_candidates_from-requires-clause-fits : goal.find_candidates_from-requires-clause-fits
 find_candidates_from-requires-clause-fits g c = root-fits (g.C.Classes.classes c.args.classes.now) c.requires.edits.0 c.args.root.now c.args.records.now.units c.requires.edits.1.1 c.args.new.now c.args.edit c.requires.edits.1.0
+
+pub find_candidates_from-requires-clause-edge : goal.find_candidates_from-requires-clause-edge
+find_candidates_from-requires-clause-edge g c = c.edge_of-edge.ensures c.args.root.now c.requires.boundary
 
 pub last_token-last-requires : goal.last_token-last-requires
 last_token-last-requires g c = places-fit (g.C.Classes.classes c.args.classes.now) c.requires.edits.0 c.args.root.now c.args.records.now.units c.requires.edits.1.1 c.args.new.now c.args.edit c.requires.edits.1.0
@@ -88,7 +92,7 @@ find_candidates_from-requires-2-clause-fits g c =
 pub find_candidates_from-requires-2-clause-edge : goal.find_candidates_from-requires-2-clause-edge
 find_candidates_from-requires-2-clause-edge g c =
     let same = c.in_ok-read.ensures.undone (ap (λ o. Ok o) c.in_default.is) in
-    subst (λ (t : Tree). IsRootEdge t c.args.edge) (sym same.0) c.requires.edge
+    c.edge_of-edge.ensures c.take_first.new.root (subst (λ (t : Tree). IsBoundary t c.args.boundary) (sym same.0) c.requires.boundary)
 
 pub take_first-requires-2-clause-some : goal.take_first-requires-2-clause-some
 take_first-requires-2-clause-some g c =
@@ -109,6 +113,11 @@ take_first-requires-2-clause-some g c =
     let first = as-many way more c.in_ok-all.all.most (candidates k ch r) all in
     let speaks = asked-speaks k ch root units holds q makes c.utf8.new c.front.ensures c.rear.ensures in
     record { change = ch; speaks = speaks-still k ch root units r same.0 u same.1 q speaks; first = first; edge = c.in_ok-all.ensures.first; way = c.in_ok-all.ensures.way }
+
+pub take_first-requires-2-clause-known : goal.take_first-requires-2-clause-known
+take_first-requires-2-clause-known g c =
+    let same = c.in_ok-read.ensures.undone (ap (λ o. Ok o) c.in_default.is) in
+    subst (λ (t : Tree). IsBoundary t c.args.boundary) (sym same.0) c.requires.boundary
 
 pub take_first-requires-2-clause-within : goal.take_first-requires-2-clause-within
 take_first-requires-2-clause-within g c =

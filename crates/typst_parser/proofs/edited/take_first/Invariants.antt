@@ -1,4 +1,5 @@
 use Rattle.std.proofs.Common.{◌≡◌, ◌+◌}
+use Rattle.typst_tree.specs.Boundaries.{IsBoundary}
 use Rattle.typst_parser.specs.Attempt.{Speaks}
 use Rattle.typst_parser.specs.TextReplacement.{TextReplacement}
 use Rattle.typst_parser.specs.Reparse.{AreFirst, NonePassesOf}
@@ -13,4 +14,5 @@ invariant-loop-candidate g l = record {
       → NonePassesOf (g.C.Classes.classes l.asked.classes.now) c l.fn.root l.from → NonePassesOf (g.C.Classes.classes l.asked.classes.now) c l.fn.root (l.from + l.candidate-index);
   serves : (c : TextReplacement) → Speaks (g.C.Classes.classes l.asked.classes.now) c l.asked l.fn.root l.fn.records.units → AreFirst (g.C.Classes.classes l.asked.classes.now) c l.fn.root l.found
       → ServesAt (g.C.Classes.classes l.asked.classes.now) c l.fn.root l.steps.items l.serving;
+  between : IsBoundary l.root l.boundary;
 }

@@ -1,0 +1,7 @@
+use Rattle.std.proofs.Common.{subst}
+use Rattle.typst_parser.specs.Boundaries.{IsBoundary}
+use Rattle.typst_document.specs.Document.{Opened}
+use Rattle.typst_document.proofs.document.Document.boundary.Goals as goal
+
+pub returns : goal.returns
+returns c = subst (λ (d : Opened). IsBoundary d.source.root c.boundary.result) c.self.view_is c.boundary.ensures
