@@ -12,7 +12,7 @@ use typst_highlight::tag_stretches;
 use typst_kinds::Severity;
 use typst_lines::UnicodeClasses;
 use typst_styles::{Token, TokenKind, edit_between, semantic_tokens};
-use typst_tree::SyntaxNode;
+use typst_tree::{Boundary, SyntaxNode};
 
 /// The outline of a text: a line for each entry with its depth, its kind, its name and its range.
 pub fn outline(alloc: Global, text: &str) -> Result<String, AllocError> {
@@ -141,7 +141,8 @@ pub fn reported(alloc: Global, text: &str) -> Result<String, AllocError> {
 pub fn tokens(alloc: Global, text: &str) -> Result<String, AllocError> {
     let root = parse(alloc, text, &UnicodeClasses)?;
     let mut shown = String::new(alloc);
-    for token in &semantic_tokens(alloc, &root, text, &(0..text.len()))? {
+    let near = Boundary::front_of(&root);
+    for token in &semantic_tokens(alloc, &root, text, &(0..text.len()), near)? {
         show_token(&mut shown, token)?;
     }
     Ok(shown)
@@ -152,10 +153,11 @@ pub fn tokens(alloc: Global, text: &str) -> Result<String, AllocError> {
 pub fn tokens_in(alloc: Global, text: &str) -> Result<String, AllocError> {
     let (ranges, text) = text.split_once('\n').unwrap_or((text, ""));
     let root = parse(alloc, text, &UnicodeClasses)?;
+    let near = Boundary::front_of(&root);
     let mut shown = String::new(alloc);
     for range in ranges.split(' ') {
         writeln!(shown, "{range}")?;
-        for token in &semantic_tokens(alloc, &root, text, &range_named(range))? {
+        for token in &semantic_tokens(alloc, &root, text, &range_named(range), near)? {
             show_token(&mut shown, token)?;
         }
     }

@@ -3,20 +3,23 @@
 --   add_lines                                   TokenLines: lines_ended, lines_going, lines_over
 --   line_tokens                                 TokenTurns: stretch-added
 --   semantic_tokens: clause ordered             TokenOrder: stretches-ordered, touching-ordered, merged-ordered
---   Wanted::top                                 SoughtRows: top_is, top_tokens, by TokensByNode: by_node
+--   Row::pass_to                                SoughtRows: whole_is, on_is; SoughtSteps: from_near, by TokensTouching: row-from
 --   Row: take, pass                             SoughtRows: takes, takes_none, has_place; passes, passes_none, left_after; fewer
 --   Row::seek                                   SoughtSteps: sought, sought_fewer; skipped, over, by TokensTouching: node-ended, row-begun
---   enter, take_next, tokens_near               SoughtSteps: entered; taken, dropped; popped_left, popped_rows, popped_steps
---   token_window                                WindowEdges: window_is
---   nodes_before, last_edge, edge_before        WindowEdges: bytes_with; begins_one; begins_before
---   edge_after                                  WindowEdges: bytes_with, ends_one
+--   enter, take_next, tokens_near               SoughtSteps: entered; taken, dropped; begun, popped_left, popped_rows, popped_steps
+--   tokens_near: the root                       SoughtRows: top_is, whole_from; top_tokens, by TokensByNode: by_node
+--   token_window                                WindowEdges: begins_before, window_is
+--   nodes_before                                WindowEdges: ended
+--   last_edge, edge_after                       WindowEdges: bytes_with; begins_one; ends_one
 --   window_law                                  WindowTokens: window_law, by what these say:
 --     the tokens, as a walk meets them          TokensByWalk: all_shown; shown_bare: spans aside
 --     those on each side of an edge             TokensApart: shown_before, shown_after
 --     those on each side of a line's start      TokenSeams: all_off, split; merged_moved
 --   renewed_tokens                              RenewedTokens: renewed
 --   replace, count_before                       RenewedTokens: put_between; parting, parted
--- For `typst_server`: tokens_ordered of RenewedTokens.
+--   read_by_both                                JoinedEdits: of_both
+--   tokens_outside                              RenewedTokens: outside
+-- For `typst_server`: tokens_ordered, window_shift of RenewedTokens; sides of WindowSides.
 pub mod DataEditsMade
 pub mod SoughtRows
 pub mod SoughtSteps
@@ -28,6 +31,8 @@ pub mod TokensTouching
 pub mod TokenSeams
 pub mod TokensApart
 pub mod TokensByWalk
+pub mod JoinedEdits
 pub mod WindowEdges
 pub mod WindowTokens
 pub mod RenewedTokens
+pub mod WindowSides

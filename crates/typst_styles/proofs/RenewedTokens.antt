@@ -1,17 +1,18 @@
 -- The tokens that an edit leaves as they were, picked from all by where they begin.
-use Rattle.std.proofs.Common.{◌≡◌, ℕ, zero, suc, ◌+◌, ◌-◌, ◌^◌, ◌<◌, ◌≤◌, ◌⊎◌, max, Bool, true, false, List, [], ◌∷◌, ◌++◌, length, map, take, drop, get_or, Some, refl, ap, sym, subst, ◌∙◌, arith, inl, inr, cond, append_assoc, length-append, length-take-le, take_at, drop_at}
+use Rattle.std.proofs.Common.{◌≡◌, ℕ, zero, suc, ◌+◌, ◌-◌, ◌%◌, ◌^◌, ◌<◌, ◌≤◌, ◌⊎◌, max, Bool, true, false, List, [], ◌∷◌, ◌++◌, length, map, take, drop, get_or, Some, refl, ap, sym, subst, ◌∙◌, arith, inl, inr, cond, append_assoc, length-append, length-drop, length-take-le, take_at, drop_at}
 use Rattle.std.specs.Prelude.{nat_lt, nat_le}
 use Rattle.std.specs.List.Sorted.{IsNonDecreasingBy, IsPartitionPoint, IsPartitionedBy}
 use Rattle.std.specs.declared.ops.Range.{Range}
 use Rattle.std.proofs.lemmas.Bool.{false≢true, le-leb, lt-leb, lt-ltb, ltb-false, ltb-true}
 use Rattle.std.proofs.lemmas.Bool.Decides.{nat_tests}
 use Rattle.std.proofs.lemmas.List.Sorted.{IsPartitionedBy-ltb}
-use Rattle.typst_tree.specs.Tree.{Tree, bare_forest, saturated, text_of}
+use Rattle.typst_tree.specs.Tree.{Tree, bare_forest, text_of}
 use Rattle.typst_highlight.specs.RootEdits.{bytes_of}
 use Rattle.typst_highlight.proofs.Cases.{and_first}
-use Rattle.typst_styles.specs.Renewed.{AreRenewed, IsParted, begun_before, begun_from, carried, replaced}
+use Rattle.typst_styles.specs.Renewed.{AreOutside, AreRenewed, IsOutside, IsParted, begun_before, begun_from, carried, replaced}
 use Rattle.typst_styles.specs.Tokens.{AreOrdered, all_tokens, both, continues, end_of, merged, merged_after, tokens_in, touches, touching}
 use Rattle.typst_styles.specs.Windows.{IsEdit, IsWindow, StartsBehind, Stays, moved, range_of}
+use Rattle.typst_styles.specs.declared.renewed.Outside.{Outside}
 use Rattle.typst_styles.specs.declared.tokens.Token.{Token}
 use Rattle.typst_styles.proofs.TokenOrder.{merged-ordered, touching-ordered}
 use Rattle.typst_styles.proofs.TokenSeams.{AllFrom, is_less, merged_from, not_less, touching_from}
@@ -81,7 +82,7 @@ start_from : (text : List ℕ) (root : Tree) (m b : ℕ) → Between 0 (length t
 start_from text root m b between (inl zero_is) = subst (λ z. AllFrom z (tokens_in (range_of z b) text root)) (sym zero_is) (from_zero (tokens_in (range_of 0 b) text root))
 start_from text root m b between (inr line) = line_from text root m b line.0 line.1 between
 
-end_from : (text : List ℕ) (root : Tree) (m : ℕ) → Between 0 (length text) (all_tokens text root) → ((m ≡ length text) ⊎ ((0 < m) × (get_or text (m - 1) 0 ≡ 10))) → AllFrom m (tokens_in (range_of m (length text)) text root)
+pub end_from : (text : List ℕ) (root : Tree) (m : ℕ) → Between 0 (length text) (all_tokens text root) → ((m ≡ length text) ⊎ ((0 < m) × (get_or text (m - 1) 0 ≡ 10))) → AllFrom m (tokens_in (range_of m (length text)) text root)
 end_from text root m between (inl whole) = subst (AllFrom m) (sym (no_end text root m between whole)) tt
 end_from text root m between (inr line) = line_from text root m (length text) line.0 line.1 between
 
@@ -113,14 +114,19 @@ all_behind : (a : ℕ) (xs ys : List Token) → AllUnder a xs → AllFrom a ys �
 all_behind a [] ys v w = rest_begun a ys w
 all_behind a (t ∷ xs) ys v w = ap (λ p. cond p (t ∷ begun_from a (xs ++ ys)) (begun_from a (xs ++ ys))) (not_le a t.start v.0) ∙ all_behind a xs ys v.1 w
 
+-- a distance that wraps round leads from a byte to the one that is as far after `to` as it was after `from`, where 64 bits hold that
+wrapped_is : (from to at n : ℕ) → from < 2 ^ 64 → from ≤ at → n + from ≡ at + to → n < 2 ^ 64 → (at + (to + (2 ^ 64 - from)) % 2 ^ 64) % 2 ^ 64 ≡ n
+wrapped_is from to at n small le e short = omega (arith, small, le, e, short)
+
 -- a token is moved as far, whichever bytes tell how far
-carried_moved : (from to m n e : ℕ) (ts : List Token) → m ≤ from → to + m ≡ from + n → e - from + to ≤ 2 ^ 64 - 1 → AllFrom from ts → AllUnder e ts → map (carried from to) ts ≡ map (moved m n) ts
-carried_moved from to m n e [] low by few v w = refl
-carried_moved from to m n e (t ∷ ts) low by few v w =
+carried_moved : (from to m n e : ℕ) (ts : List Token) → from < 2 ^ 64 → m ≤ from → to + m ≡ from + n → e - from + to ≤ 2 ^ 64 - 1 → AllFrom from ts → AllUnder e ts → map (carried from to) ts ≡ map (moved m n) ts
+carried_moved from to m n e [] small low by few v w = refl
+carried_moved from to m n e (t ∷ ts) small low by few v w =
     let first = v.0 in
     let last = w.0 in
-    let same : saturated (t.start - from + to) ≡ t.start - m + n = omega (arith, low, by, few, first, last) in
-    let rest = carried_moved from to m n e ts low by few v.1 w.1 in
+    let same : (t.start + (to + (2 ^ 64 - from)) % 2 ^ 64) % 2 ^ 64 ≡ t.start - m + n =
+    wrapped_is from to t.start (t.start - m + n) small first (omega (arith, low, by, first)) (omega (arith, low, by, few, first, last)) in
+    let rest = carried_moved from to m n e ts small low by few v.1 w.1 in
     λ i. (record t { start = same i }) ∷ rest i
 
 -- ---- the law
@@ -146,12 +152,25 @@ rest_fits text was_text was now read e w (inr s) =
     omega (arith, ap length w.whole_was, root_bytes was (f ++ (w.edit.old ++ w.edit.back)) w.edit.text_was w.edit.before, bytes_append f (w.edit.old ++ w.edit.back), bytes_append w.edit.old w.edit.back) in
     omega (arith, behind, later, bytes_append out.between (b ∷ r), list_length b r, long, long_was)
 
-pub renewed_law : (text was_text : List ℕ) (was now : Tree) (read window : Range ℕ) (from : ℕ) (ts : List Token) → IsEdit text was_text was now read → IsWindow now text read window → from ≡ length was_text - (length text - window.end)
-    → ts ≡ tokens_in (range_of 0 (length was_text)) was_text was → (window.start ≤ from) × (replaced window.start from window.end (tokens_in window text now) ts ≡ tokens_in (range_of 0 (length text)) text now)
-renewed_law text was_text was now read window from ts w is there all =
+-- where the window ended in the old text
+pub window_shift : (text was_text : List ℕ) (was now : Tree) (read window : Range ℕ) (from : ℕ) → IsEdit text was_text was now read → IsWindow now text read window → from ≡ length was_text - (length text - window.end)
+    → from + length text ≡ window.end + length was_text
+window_shift text was_text was now read window from w is there =
     let within = window_within text now read window.end is.end in
     let fits = rest_fits text was_text was now read window.end w is.end in
-    let shift : from + length text ≡ window.end + length was_text = omega (arith, there, within, fits) in
+    omega (arith, there, within, fits)
+
+-- what a window leaves, by where tokens begin
+pub record Leaves (text was_text : List ℕ) (was now : Tree) (window : Range ℕ) (from : ℕ) (ts : List Token) : Type 0 where
+  pub ordered : window.start ≤ from
+  pub all : replaced window.start from window.end (tokens_in window text now) ts ≡ tokens_in (range_of 0 (length text)) text now
+  pub front : begun_before window.start ts ≡ tokens_in (range_of 0 window.start) was_text was
+  pub back : begun_from from ts ≡ tokens_in (range_of from (length was_text)) was_text was
+
+pub renewed_law : (text was_text : List ℕ) (was now : Tree) (read window : Range ℕ) (from : ℕ) (ts : List Token) → IsEdit text was_text was now read → IsWindow now text read window → from ≡ length was_text - (length text - window.end)
+    → ts ≡ tokens_in (range_of 0 (length was_text)) was_text was → Leaves text was_text was now window from ts
+renewed_law text was_text was now read window from ts w is there all =
+    let shift : from + length text ≡ window.end + length was_text = window_shift text was_text was now read window from w is there in
     let s : Stays text was_text was now window from = window_law text was_text was now read window from w is shift in
     let one : Between 0 (length text) (all_tokens text now) = all_between text now (w.edit.front ++ (w.edit.new ++ w.edit.back)) w.whole_now w.few_now w.edit.kind_now w.edit.text_now w.edit.after in
     let two : Between 0 (length was_text) (all_tokens was_text was) = all_between was_text was (w.edit.front ++ (w.edit.old ++ w.edit.back)) w.whole_was w.few_was w.edit.kind_was w.edit.text_was w.edit.before in
@@ -163,6 +182,7 @@ renewed_law text was_text was now read window from ts w is there all =
     let parts : ts ≡ fs ++ (ms ++ bs) = all ∙ s.parts_was in
     let order = s.ordered_was in
     let few_now = w.few_now in
+    let few_was = w.few_was in
     let within_was = end.within_was in
     let first : AllUnder window.start fs = tokens_under was_text was 0 window.start in
     let behind : AllFrom from bs = end_from was_text was from two end.line_was in
@@ -174,10 +194,10 @@ renewed_law text was_text was now read window from ts w is there all =
     ∙ all_behind from (fs ++ ms) bs (under_both from fs ms (under_wider window.start from fs order first) (tokens_under was_text was window.start from)) behind in
     let back : map (carried from window.end) (begun_from from ts) ≡ map (moved s.back.m s.back.n) bs =
     ap (map (carried from window.end)) picked
-    ∙ carried_moved from window.end s.back.m s.back.n (length was_text) bs s.back.low s.back.by (omega (arith, shift, few_now, within_was)) behind (tokens_under was_text was from (length was_text)) in
+    ∙ carried_moved from window.end s.back.m s.back.n (length was_text) bs (omega (arith, there, few_was)) s.back.low s.back.by (omega (arith, shift, few_now, within_was)) behind (tokens_under was_text was from (length was_text)) in
     let new : tokens_in (range_of 0 (length text)) text now ≡ fs ++ (tokens_in window text now ++ map (moved s.back.m s.back.n) bs) =
     s.parts ∙ (λ i. s.front i ++ (tokens_in window text now ++ s.back.same i)) in
-    (order, (λ i. front i ++ (tokens_in window text now ++ back i)) ∙ sym new)
+    record { ordered = order; all = (λ i. front i ++ (tokens_in window text now ++ back i)) ∙ sym new; front = front; back = picked }
 
 -- tokens that were replaced in the lines of a window are all
 pub renewed : (text : List ℕ) (now : Tree) (window : Range ℕ) (was : List Token) (was_len from : ℕ) (made whole : List Token) → from ≡ was_len - (length text - window.end) → made ≡ tokens_in window text now
@@ -186,7 +206,22 @@ renewed text now window was was_len from made whole there made_is put = λ was_t
     let at : from ≡ length was_text - (length text - window.end) = there ∙ ap (λ n. n - (length text - window.end)) long in
     let law = renewed_law text was_text was_root now read window from was w is at all in
     let ordered : AreOrdered 0 was = subst (AreOrdered 0) (sym all) (tokens_ordered was_text was_root (range_of 0 (length was_text))) in
-    put ordered law.0 ∙ (ap (λ ms. replaced window.start from window.end ms was) made_is ∙ law.1)
+    put ordered law.ordered ∙ (ap (λ ms. replaced window.start from window.end ms was) made_is ∙ law.all)
+
+-- those that begin before a window and behind it are counted
+pub outside : (text : List ℕ) (window : Range ℕ) (was : List Token) (was_len from before : ℕ) (counts : Outside) → from ≡ was_len - (length text - window.end) → counts.front ≤ length was → (AreOrdered 0 was → IsParted window.start was counts.front) → (AreOrdered 0 was → IsParted from was before)
+    → counts.back ≡ length was - before → AreOutside text window was was_len counts
+outside text window was was_len from before counts there within one two back_is = λ was_text was_root root read w is long all.
+    let at : from ≡ length was_text - (length text - window.end) = there ∙ ap (λ n. n - (length text - window.end)) long in
+    let law = renewed_law text was_text was_root root read window from was w is at all in
+    let ordered : AreOrdered 0 was = subst (AreOrdered 0) (sym all) (tokens_ordered was_text was_root (range_of 0 (length was_text))) in
+    let first = one ordered in
+    let last = two ordered in
+    let counted : IsOutside was_text was_root window.start from counts = record {
+      front = sym (length-take-le counts.front was within) ∙ (ap length first.before ∙ ap length law.front);
+      back = back_is ∙ (sym (length-drop before was) ∙ (ap length last.behind ∙ ap length law.back));
+    } in
+    subst (λ k. IsOutside was_text was_root window.start k counts) at counted
 
 -- ---- where tokens in order part
 

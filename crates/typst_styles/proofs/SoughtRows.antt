@@ -1,22 +1,25 @@
 -- The rows of a walk for tokens.
-use Rattle.std.proofs.Common.{◌≡◌, ℕ, ◌+◌, ◌<◌, true, List, [], ◌∷◌, ◌++◌, length, map, Option, None, Some, refl, ap, sym, subst, ◌∙◌, arith, append_assoc, append-nil, length-append}
-use Rattle.typst_tree.specs.Tree.{Forest, none, more, Tree, count, forest, places, preorder}
+use Rattle.std.proofs.Common.{◌≡◌, ℕ, zero, suc, ◌+◌, ◌<◌, true, List, [], ◌∷◌, ◌++◌, length, map, take, drop, Option, None, Some, refl, ap, sym, subst, ◌∙◌, arith, append_assoc, append-nil, length-append}
+use Rattle.typst_tree.specs.Tree.{Forest, none, more, Tree, count, forest, places, preorder, trees}
 use Rattle.typst_tree.specs.Walks.{numbers}
 use Rattle.typst_tree.specs.Steps.{At, at, children}
 use Rattle.typst_tree.specs.Linked.{linked, left}
+use Rattle.typst_tree.specs.declared.boundary.Boundary.{Boundary}
 use Rattle.typst_tree.specs.declared.linked.LinkedNode.{LinkedNode}
 use Rattle.std.specs.Prelude.{MatchOption}
+use Rattle.typst_tree.proofs.Boundaries.{kids_are}
+use Rattle.typst_tree.proofs.Siblings.{drop_numbers}
 use Rattle.typst_tree.proofs.WalksInPreorder.{length_places}
 use Rattle.typst_highlight.specs.Walk.{tree_of}
 use Rattle.typst_highlight.specs.declared.tags.Tag.{Tag}
 use Rattle.typst_highlight.proofs.Rows.{alone, here}
-use Rattle.typst_names.specs.Bytes.{behind}
+use Rattle.typst_names.specs.Bytes.{behind, inner}
 use Rattle.typst_names.specs.Contexts.{after}
 use Rattle.typst_names.specs.Names.{is_end}
 use Rattle.typst_names.specs.RoleRows.{steps}
 use Rattle.typst_names.specs.declared.contexts.Context.{Context}
 use Rattle.typst_names.specs.declared.contexts.Context.TheVariants as context
-use Rattle.typst_styles.specs.Seeking.{AreRows, IsRow, IsSpot, Passes, Standing, Takes, first_number, left_of, left_of_all, node, number, of_first, of_spot, row, steps_all, steps_left}
+use Rattle.typst_styles.specs.Seeking.{AreRows, Below, IsRow, IsSpot, IsTop, IsWhole, Opens, Passes, Standing, Takes, first_number, left_of, left_of_all, node, number, of_first, of_spot, row, steps_all, steps_left}
 use Rattle.typst_styles.specs.Tokens.{all_tokens}
 use Rattle.typst_styles.specs.declared.seeking.Row.{Row}
 use Rattle.typst_styles.specs.declared.seeking.Spot.{Spot}
@@ -188,10 +191,7 @@ pub rows_popped : (root : Tree) (ws : List Row) (w : Row) → AreRows root (ws +
 rows_popped root [] w are = (tt, are.0)
 rows_popped root (v ∷ ws) w are = let rest = rows_popped root ws w are.1 in ((are.0, rest.0), rest.1)
 
--- the row of the children of a node
-pub record Below (s : Spot) (w : Row) : Type 0 where
-  pub placed : left w.places ≡ children (linked s.place)
-  pub kids : forest w.nodes.now ≡ s.node.node.now.kids
+-- ---- the children of a node
 
 below_from : (root : Tree) (s : Spot) (w : Row) → IsSpot root s → Below s w → left w.places ≡ map (at root) (numbers ((linked s.place).number + 1) (forest w.nodes.now))
 below_from root s w is k =
@@ -206,19 +206,7 @@ pub below_left : (text : List ℕ) (root : Tree) (s : Spot) (w : Row) → IsSpot
 below_left text root s w is k =
     ap (row text root ((linked s.place).number + 1) w.start w.around w.context) (sym k.kids) ∙ left_from text root ((linked s.place).number + 1) w (below_from root s w is k)
 
-pub parted : (mine kids found later : List Token) → (found ++ mine) ++ (kids ++ later) ≡ found ++ ((mine ++ kids) ++ later)
-parted mine kids found later = simp append_assoc refl
-
 -- ---- the root
-
--- where a node is the root, and its place the root's
-pub record IsTop (root : Tree) (s : Spot) : Type 0 where
-  pub place : linked s.place ≡ at root 0
-  pub tree : s.node.node.now ≡ root
-  pub start : s.node.start ≡ 0
-  pub role_in : s.context ≡ context.Value
-  pub around : s.around ≡ None
-  pub is_last : s.is_last ≡ true
 
 pub top_is : (root : Tree) (s : Spot) → IsTop root s → IsSpot root s
 top_is root s k =
@@ -228,5 +216,57 @@ top_is root s k =
       standing = subst (λ j. Standing root j (more s.node.node.now.head s.node.node.now.kids none)) (sym num) (subst (λ (u : Tree). Standing root 0 (more u.head u.kids none)) (sym k.tree) (standing_root root));
     }
 
-pub top_tokens : (text : List ℕ) (root : Tree) (n a : ℕ) (t : Tree) → n ≡ 0 → a ≡ 0 → t ≡ root → node text root n a None context.Value true t ++ [] ≡ all_tokens text root
-top_tokens text root n a t e f g = (λ i. node text root (e i) (f i) None context.Value true (g i) ++ []) ∙ sym (by_node text root)
+pub top_tokens : (text : List ℕ) (root : Tree) (s : Spot) → IsTop root s → of_spot text root s ≡ all_tokens text root
+top_tokens text root s k =
+    let num : (linked s.place).number ≡ 0 = ap (λ (a : At). a.number) k.place in
+    (λ i. node text root (num i) (k.start i) (k.around i) (k.role_in i) (k.is_last i) (k.tree i)) ∙ (sym (append-nil (node text root 0 0 None context.Value true root)) ∙ sym (by_node text root))
+
+pub whole_from : (text : List ℕ) (root : Tree) (s : Spot) (w : Row) (old new : List Token) → IsTop root s → Opens text s old new w → IsWhole root w
+whole_from text root s w old new top k = record {
+  placed = k.kids.placed ∙ ap children top.place;
+  kids = k.kids.kids ∙ ap (λ (t : Tree). t.kids) top.tree;
+  start = k.start ∙ (λ i. inner (top.start i) (top.tree i).head);
+}
+
+-- a row of all children of the root
+pub whole_nodes : (root : Tree) (w : Row) → IsWhole root w → trees root.kids ≡ w.nodes.now
+whole_nodes root w k = sym (kids_are root w.nodes.now k.kids)
+
+pub whole_places : (root : Tree) (w : Row) → IsWhole root w → left w.places ≡ map (at root) (numbers 1 (forest w.nodes.now))
+whole_places root w k = k.placed ∙ (ap (λ (t : Tree). map (at root) (numbers 1 t.kids)) (standing_root root).0 ∙ ap (λ f. map (at root) (numbers 1 f)) (sym k.kids))
+
+whole_stands : (root : Tree) (w : Row) → IsWhole root w → Standing root 1 (forest w.nodes.now)
+whole_stands root w k = subst (Standing root 1) (sym k.kids) (standing_root root).1.0
+
+pub whole_is : (root : Tree) (w : Row) → IsWhole root w → IsRow root w
+whole_is root w k = is_row root 1 w (whole_places root w k) (whole_stands root w k)
+
+-- what is left of it from a boundary on
+pub record GoesOn (root : Tree) (b : Boundary) (w v : Row) : Type 0 where
+  pub placed : left v.places ≡ drop b.index (children (at root 0))
+  pub later : v.nodes.now ≡ drop b.index w.nodes.now
+  pub start : v.start ≡ b.bytes
+  pub role_in : v.context ≡ w.context
+  pub still : v.around ≡ w.around
+
+-- the number of the first node after so many of the root's first children
+abbrev pub number_after : ℕ → Row → ℕ
+number_after i w = 1 + count (forest (take i w.nodes.now))
+
+standing_on : (root : Tree) (n i : ℕ) (ts : List Tree) → Standing root n (forest ts) → Standing root (n + count (forest (take i ts))) (forest (drop i ts))
+standing_on root n zero ts s = let same : n ≡ n + 0 = omega arith in subst (λ m. Standing root m (forest ts)) same s
+standing_on root n (suc i) [] s = tt
+standing_on root n (suc i) (t ∷ ts) s =
+    let same : n + (1 + count t.kids) + count (forest (take i ts)) ≡ n + (1 + (count t.kids + count (forest (take i ts)))) = omega arith in
+    subst (λ m. Standing root m (forest (drop i ts))) same (standing_on root (n + (1 + count t.kids)) i ts s.1.1)
+
+pub on_places : (root : Tree) (b : Boundary) (w v : Row) → IsWhole root w → GoesOn root b w v → left v.places ≡ map (at root) (numbers (number_after b.index w) (forest v.nodes.now))
+on_places root b w v k g =
+    g.placed
+    ∙ (ap (drop b.index) (sym k.placed ∙ whole_places root w k)
+    ∙ (drop_numbers root 1 b.index w.nodes.now ∙ ap (λ xs. map (at root) (numbers (number_after b.index w) (forest xs))) (sym g.later)))
+
+pub on_is : (root : Tree) (b : Boundary) (w v : Row) → IsWhole root w → GoesOn root b w v → IsRow root v
+on_is root b w v k g =
+    is_row root (number_after b.index w) v (on_places root b w v k g)
+    (subst (λ xs. Standing root (number_after b.index w) (forest xs)) (sym g.later) (standing_on root 1 b.index w.nodes.now (whole_stands root w k)))

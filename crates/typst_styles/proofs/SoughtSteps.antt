@@ -1,8 +1,11 @@
 -- The steps of a walk for tokens.
-use Rattle.std.proofs.Common.{◌≡◌, ℕ, ◌+◌, ◌≤◌, List, [], ◌∷◌, ◌++◌, Option, None, Some, ap, sym, subst, ◌∙◌, arith, append-nil, append_assoc}
+use Rattle.std.proofs.Common.{◌≡◌, ℕ, ◌+◌, ◌-◌, ◌^◌, ◌<◌, ◌≤◌, List, [], ◌∷◌, ◌++◌, length, take, drop, Option, None, Some, ap, sym, subst, ◌∙◌, arith, append-nil, append_assoc}
 use Rattle.std.specs.declared.ops.Range.{Range}
-use Rattle.typst_tree.specs.Tree.{Tree, forest}
+use Rattle.typst_tree.specs.Boundaries.{AreCounted, IsBoundary}
+use Rattle.typst_tree.specs.Tree.{Tree, forest, joined, text_of, trees}
 use Rattle.typst_tree.specs.Linked.{linked}
+use Rattle.typst_tree.specs.declared.boundary.Boundary.{Boundary}
+use Rattle.typst_tree.proofs.ReplacesChildren.{start_le}
 use Rattle.typst_highlight.specs.declared.tags.Tag.{Tag}
 use Rattle.typst_highlight.specs.Html.{spanned}
 use Rattle.typst_highlight.specs.Names.{first_tag}
@@ -11,15 +14,16 @@ use Rattle.typst_names.specs.Bytes.{inner, behind}
 use Rattle.typst_names.specs.Contexts.{below, role_of}
 use Rattle.typst_names.specs.Names.{is_end}
 use Rattle.typst_names.specs.RoleRows.{steps}
+use Rattle.typst_names.specs.declared.contexts.Context.TheVariants as context
 use Rattle.typst_names.specs.declared.contexts.Role.{Role}
-use Rattle.typst_styles.specs.Seeking.{AreRows, IsFewer, IsRow, IsSpot, Seeks, Takes, left_of, left_of_all, number, of_first, of_spot, own, row, steps_all, steps_left, tag_in}
+use Rattle.typst_styles.specs.Seeking.{AreRows, Below, IsFewer, IsRow, IsSpot, IsTop, IsWhole, Opens, Seeks, Skips, Takes, left_of, left_of_all, number, of_first, of_spot, own, row, steps_all, steps_left, tag_in}
 use Rattle.typst_styles.specs.Styles.{style_of}
-use Rattle.typst_styles.specs.Tokens.{stretch, touching}
+use Rattle.typst_styles.specs.Tokens.{all_tokens, stretch, touching}
 use Rattle.typst_styles.specs.declared.seeking.Row.{Row}
 use Rattle.typst_styles.specs.declared.seeking.Spot.{Spot}
 use Rattle.typst_styles.specs.declared.tokens.Token.{Token}
-use Rattle.typst_styles.proofs.SoughtRows.{Below, below_is, below_left, left_pushed, parted, rows_popped, rows_pushed, steps_pushed}
-use Rattle.typst_styles.proofs.TokensTouching.{node-ended, row-begun, touching-append}
+use Rattle.typst_styles.proofs.SoughtRows.{GoesOn, below_is, below_left, left_from, left_pushed, number_after, on_is, on_places, rows_popped, rows_pushed, steps_pushed, top_is, top_tokens, whole_nodes, whole_places}
+use Rattle.typst_styles.proofs.TokensTouching.{node-ended, row-begun, row-from, touching-append}
 
 -- ---- what a range doesn't touch
 
@@ -56,32 +60,23 @@ dropped range found part rest e = sym (same_part range found part [] rest e)
 
 -- ---- a node is gone into
 
-pub record Entered (s : Spot) (w : Row) (tag : Option Tag) (asked : Option Tag) (role : Option Role) : Type 0 where
-  pub kids : Below s w
-  pub asked_is : asked ≡ tag_of (linked s.place)
-  pub tag_is : tag ≡ first_tag (spanned asked) s.around
-  pub role_is : role ≡ role_of s.context s.node.node.now.head.kind s.is_last
-  pub start : w.start ≡ inner s.node.start s.node.node.now.head
-  pub around : w.around ≡ tag
-  pub role_in : w.context ≡ below s.context s.node.node.now.head.kind
-
-pub entered : (text : List ℕ) (root : Tree) (s : Spot) (w : Row) (tag asked : Option Tag) (role : Option Role) (old new : List Token) (rows pushed : List Row)
-    → IsSpot root s → Entered s w tag asked role → new ≡ old ++ stretch text s.node.start w.start (style_of tag role) → pushed ≡ rows ++ w ∷ []
-    → new ++ left_of_all text root pushed ≡ old ++ (of_spot text root s ++ left_of_all text root rows)
-entered text root s w tag asked role old new rows pushed is k added put =
+pub opened : (text : List ℕ) (root : Tree) (s : Spot) (w : Row) (old new : List Token) → IsSpot root s → Opens text s old new w → new ++ left_of text root w ≡ old ++ of_spot text root s
+opened text root s w old new is k =
     let n : ℕ = (linked s.place).number in
     let t : Option Tag = tag_in root n s.around in
-    let tagged : tag ≡ t = k.tag_is ∙ ap (λ a. first_tag (spanned a) s.around) (k.asked_is ∙ ap tag_of is.place) in
+    let tagged : w.around ≡ t = k.around ∙ ap (λ a. first_tag (spanned (tag_of a)) s.around) is.place in
     let r : Option Role = role_of s.context s.node.node.now.head.kind s.is_last in
     let mine : List Token = own text t r s.node.start s.node.node.now.head in
     let kids : List Token = row text root (n + 1) (inner s.node.start s.node.node.now.head) t (below s.context s.node.node.now.head.kind) s.node.node.now.kids in
-    let first : new ≡ old ++ mine = added ∙ (λ i. old ++ stretch text s.node.start (k.start i) (style_of (tagged i) (k.role_is i))) in
-    let around : w.around ≡ t = k.around ∙ tagged in
-    let below_it : kids ≡ left_of text root w =
-    (λ i. row text root (n + 1) (sym k.start i) (sym around i) (sym k.role_in i) s.node.node.now.kids) ∙ below_left text root s w is k.kids in
-    let rest : left_of_all text root pushed ≡ kids ++ left_of_all text root rows =
-    ap (left_of_all text root) put ∙ (left_pushed text root rows w ∙ ap (λ ts. ts ++ left_of_all text root rows) (sym below_it)) in
-    (λ i. first i ++ rest i) ∙ parted mine kids old (left_of_all text root rows)
+    let first : new ≡ old ++ mine = k.added ∙ (λ i. old ++ stretch text s.node.start (k.start i) (style_of (tagged i) r)) in
+    let rest : left_of text root w ≡ kids = sym (below_left text root s w is k.kids) ∙ (λ i. row text root (n + 1) (k.start i) (tagged i) (k.role_in i) s.node.node.now.kids) in
+    (λ i. first i ++ rest i) ∙ append_assoc old mine kids
+
+pub entered : (text : List ℕ) (root : Tree) (s : Spot) (w : Row) (old new : List Token) (rows pushed : List Row) → IsSpot root s → Opens text s old new w → pushed ≡ rows ++ w ∷ [] → new ++ left_of_all text root pushed ≡ old ++ (of_spot text root s ++ left_of_all text root rows)
+entered text root s w old new rows pushed is k put =
+    let others : List Token = left_of_all text root rows in
+    ap (λ ts. new ++ ts) (ap (left_of_all text root) put ∙ left_pushed text root rows w)
+    ∙ (sym (append_assoc new (left_of text root w) others) ∙ (ap (λ ts. ts ++ others) (opened text root s w old new is k) ∙ append_assoc old (of_spot text root s) others))
 
 pub entered_rows : (root : Tree) (s : Spot) (w : Row) (rows pushed : List Row) → IsSpot root s → Below s w → pushed ≡ rows ++ w ∷ [] → AreRows root rows → AreRows root pushed
 entered_rows root s w rows pushed is k put are = subst (AreRows root) (sym put) (rows_pushed root rows w are (below_is root s w is k))
@@ -115,3 +110,38 @@ popped_steps rows rest w e = ap steps_all e ∙ steps_pushed rest w
 pub at_end : (range : Range ℕ) (text : List ℕ) (root : Tree) (found all : List Token) (rows : List Row) → rows ≡ [] → touching range (found ++ left_of_all text root rows) ≡ touching range all → touching range found ≡ touching range all
 at_end range text root found all rows e so_far =
     ap (touching range) (sym (append-nil found)) ∙ (ap (λ ws. touching range (found ++ left_of_all text root ws)) (sym e) ∙ so_far)
+
+-- ---- the walk begins
+
+pub from_near : (range : Range ℕ) (text : List ℕ) (root : Tree) (b : Boundary) (w v : Row) → IsWhole root w → w.context ≡ context.Value → AreCounted root → IsBoundary root b → (0 < b.index → b.bytes ≤ range.start) → GoesOn root b w v
+    → Skips range text root w v
+from_near range text root b w v k plain counted is low g =
+    let ts : List Tree = w.nodes.now in
+    let kids : List Tree = trees root.kids in
+    let i : ℕ = b.index in
+    let a : ℕ = length root.head.text in
+    let m : ℕ = number_after i w in
+    let end : ℕ = a + length (joined (forest (take i ts))) in
+    let same : kids ≡ ts = whole_nodes root w k in
+    let bytes : b.bytes ≡ end = is.bytes ∙ ap (λ xs. a + length (joined (forest (take i xs)))) same in
+    let most : a + length (joined (forest (take i kids))) ≤ length (text_of root) = start_le [] i root in
+    let few : end ≤ 2 ^ 64 - 1 = omega (arith, counted.1, bytes, is.bytes, most) in
+    let start : w.start ≡ a = omega (arith, k.start, few) in
+    let all : left_of text root w ≡ row text root 1 a w.around context.Value (forest ts) = sym (left_from text root 1 w (whole_places root w k)) ∙ (λ j. row text root 1 (start j) w.around (plain j) (forest ts)) in
+    let first : v.start ≡ end = g.start ∙ bytes in
+    let role_in : v.context ≡ context.Value = g.role_in ∙ plain in
+    let later : left_of text root v ≡ row text root m end w.around context.Value (forest (drop i ts)) =
+    sym (left_from text root m v (on_places root b w v k g)) ∙ (λ j. row text root m (first j) (g.still j) (role_in j) (forest (g.later j))) in
+    (on_is root b w v k g, ap (touching range) later ∙ (sym (row-from range text root 1 a w.around i ts (λ some. omega (arith, bytes, low some)) few) ∙ ap (touching range) (sym all)))
+
+pub begun : (range : Range ℕ) (text : List ℕ) (root : Tree) (s : Spot) (w v : Row) (old found : List Token) (were rows : List Row) → IsTop root s → Opens text s old found w → touching range (left_of text root v) ≡ touching range (left_of text root w) → old ≡ [] → rows ≡ were ++ v ∷ [] → were ≡ []
+    → touching range (found ++ left_of_all text root rows) ≡ touching range (all_tokens text root)
+begun range text root s w v old found were rows top k near none put empty =
+    let one : rows ≡ v ∷ [] = put ∙ ap (λ ws. ws ++ v ∷ []) empty in
+    let whole : found ++ left_of text root w ≡ all_tokens text root = opened text root s w old found (top_is root s top) k ∙ (ap (λ ts. ts ++ of_spot text root s) none ∙ top_tokens text root s top) in
+    ap (λ ws. touching range (found ++ left_of_all text root ws)) one
+    ∙ (touching-append range found (left_of text root v)
+    ∙ (ap (λ ts. touching range found ++ ts) near ∙ (sym (touching-append range found (left_of text root w)) ∙ ap (touching range) whole)))
+
+pub begun_rows : (root : Tree) (v : Row) (were rows : List Row) → IsRow root v → rows ≡ were ++ v ∷ [] → were ≡ [] → AreRows root rows
+begun_rows root v were rows is put empty = subst (AreRows root) (sym (put ∙ ap (λ ws. ws ++ v ∷ []) empty)) (is, tt)

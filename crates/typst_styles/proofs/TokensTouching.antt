@@ -1,15 +1,16 @@
 -- Which tokens of trees a range touches.
-use Rattle.std.proofs.Common.{◌≡◌, ℕ, ◌+◌, ◌-◌, ◌^◌, ◌≤◌, ◌==◌, Bool, true, false, List, [], ◌∷◌, ◌++◌, length, take, drop, Option, None, Some, refl, ap, ◌∙◌, arith, inl, inr, length-append, length-take, if◌then◌else◌}
+use Rattle.std.proofs.Common.{◌≡◌, ℕ, zero, suc, ◌+◌, ◌-◌, ◌^◌, ◌<◌, ◌≤◌, ◌==◌, Bool, true, false, List, [], ◌∷◌, ◌++◌, length, take, drop, Option, None, Some, refl, ap, ◌∙◌, arith, inl, inr, length-append, length-take, if◌then◌else◌}
 use Rattle.std.specs.Prelude.{slice_range}
 use Rattle.std.specs.declared.ops.Range.{Range}
 use Rattle.std.proofs.lemmas.Bool.Decides.{leb_tells, nat_tests}
 use Rattle.typst_kinds.specs.Head.{Head}
-use Rattle.typst_tree.specs.Tree.{Forest, none, more, Tree, count, joined, saturated}
+use Rattle.typst_tree.specs.Tree.{Forest, none, more, Tree, count, forest, joined, saturated}
 use Rattle.typst_highlight.specs.declared.tags.Tag.{Tag}
 use Rattle.typst_names.specs.Bytes.{inner, behind}
 use Rattle.typst_names.specs.Contexts.{after, below, role_of}
 use Rattle.typst_names.specs.Names.{is_end}
 use Rattle.typst_names.specs.declared.contexts.Context.{Context}
+use Rattle.typst_names.specs.declared.contexts.Context.TheVariants as context
 use Rattle.typst_names.specs.declared.contexts.Role.{Role}
 use Rattle.typst_styles.specs.Seeking.{own, row, tag_in}
 use Rattle.typst_styles.specs.Styles.{style_of}
@@ -114,6 +115,35 @@ node-ended range text root n a t role c h ks l =
     both-gone range (own text t role a h) (row text root (n + 1) (inner a h) t c ks)
     (stretch-ended range text a (inner a h) (style_of t role) (omega (arith, whole, l)))
     (row-ended range text root (n + 1) (inner a h) t c ks (omega (arith, whole, l)))
+
+-- trees of which the first so many end by the range's start, where no node changes what names are: the range touches what it touches of the others
+pub row-from : (range : Range ℕ) (text : List ℕ) (root : Tree) (n a : ℕ) (u : Option Tag) (i : ℕ) (ts : List Tree) → (0 < i → a + length (joined (forest (take i ts))) ≤ range.start) → a + length (joined (forest (take i ts))) ≤ 2 ^ 64 - 1
+    → touching range (row text root n a u context.Value (forest ts)) ≡ touching range (row text root (n + count (forest (take i ts))) (a + length (joined (forest (take i ts)))) u context.Value (forest (drop i ts)))
+row-from range text root n a u zero ts low few =
+    let number : n ≡ n + 0 = omega arith in
+    let start : a ≡ a + 0 = omega arith in
+    λ j. touching range (row text root (number j) (start j) u context.Value (forest ts))
+row-from range text root n a u (suc i) [] low few = refl
+row-from range text root n a u (suc i) (t ∷ ts) low few =
+    let h : Head = t.head in
+    let ks : Forest = t.kids in
+    let passed : Forest = forest (take i ts) in
+    let tag : Option Tag = tag_in root n u in
+    let role : Option Role = role_of context.Value h.kind (is_end (forest ts)) in
+    let m : ℕ = n + (1 + count ks) in
+    let b : ℕ = behind a h ks in
+    let first : List Token = own text tag role a h ++ row text root (n + 1) (inner a h) tag (below context.Value h.kind) ks in
+    let later : List Token = row text root m b u context.Value (forest ts) in
+    let whole : length (h.text ++ joined ks) ≡ length h.text + length (joined ks) = length-append h.text (joined ks) in
+    let total = joined-more h ks passed in
+    let near : a + length (joined (more h ks passed)) ≤ range.start = low (omega arith) in
+    let end : b ≡ a + (length h.text + length (joined ks)) = omega (arith, whole, total, few) in
+    let number : m + count passed ≡ n + count (more h ks passed) = omega arith in
+    let start : b + length (joined passed) ≡ a + length (joined (more h ks passed)) = omega (arith, end, total) in
+    touching-append range first later
+    ∙ (ap (λ us. us ++ touching range later) (node-ended range text root n a tag role (below context.Value h.kind) h ks (omega (arith, end, total, near)))
+    ∙ (row-from range text root m b u i ts (λ some. omega (arith, start, near)) (omega (arith, start, few))
+    ∙ (λ j. touching range (row text root (number j) (start j) u context.Value (forest (drop i ts))))))
 
 -- trees that begin where bytes can't be counted
 row-far : (text : List ℕ) (root : Tree) (n a : ℕ) (u : Option Tag) (c : Context) (f : Forest) → 2 ^ 64 - 1 ≤ a → row text root n a u c f ≡ []

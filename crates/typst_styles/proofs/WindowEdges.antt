@@ -1,5 +1,6 @@
 -- Where the edges of a row of nodes are, node by node.
-use Rattle.std.proofs.Common.{◌≡◌, ℕ, ◌+◌, ◌<◌, ◌≤◌, ◌⊎◌, true, List, [], ◌∷◌, ◌++◌, length, take, drop, get_or, ap, sym, subst, ◌∙◌, inl, inr, arith, add-one, drop-cons}
+use Rattle.std.proofs.Common.{◌≡◌, ℕ, zero, suc, ◌+◌, ◌-◌, ◌<◌, ◌≤◌, ◌⊎◌, true, List, [], ◌∷◌, ◌++◌, length, take, drop, get_or, ap, sym, subst, ◌∙◌, inl, inr, arith, add-one, drop-cons}
+use Rattle.std.proofs.lemmas.Bool.{cases_lt}
 use Rattle.std.proofs.lemmas.List.{take-append-drop, take_more}
 use Rattle.std.specs.declared.ops.Range.{Range}
 use Rattle.typst_tree.specs.Tree.{Forest, Tree, forest, text_of}
@@ -40,6 +41,15 @@ begins_before kids bytes limit at (inr none) (inr one) =
     let ends = one.ends in
     let some = one.edge.some in
     absurd (omega (arith, ends, some, none))
+
+-- the first nodes end before a byte, or have none
+pub ended : (ts : List Tree) (i bytes limit : ℕ) → bytes ≡ bytes_of (take i ts) → (0 < i → bytes ≤ limit - 1) → (bytes < limit) ⊎ (bytes ≡ 0)
+ended ts zero bytes limit is low = inr is
+ended ts (suc i) bytes limit is low =
+    let near : bytes ≤ limit - 1 = low (omega arith) in elim (cases_lt bytes limit) [
+      | inl before ↦ inl before
+      | inr after ↦ inr (omega (arith, near, after))
+    ]
 
 -- a node is an edge behind a byte
 pub ends_one : (ts : List Tree) (i : ℕ) (x : Tree) (limit end : ℕ) → i < length ts → x ≡ get_or ts i x → is_edge x ≡ true → 0 < length (text_of x) → limit < bytes_of (take i ts) → end ≡ bytes_of (take i ts) + length (text_of x) → EndsOne (forest ts) limit end

@@ -93,16 +93,16 @@ pub bytes_append : (xs ys : List Tree) → bytes_of (xs ++ ys) ≡ bytes_of xs +
 bytes_append [] ys = omega arith
 bytes_append (t ∷ xs) ys = omega (arith, list_length t (xs ++ ys), list_length t xs, bytes_append xs ys)
 
-from_forests : (xs ys : List Tree) → bare_forest (forest xs) ≡ bare_forest (forest ys) → SameTrees xs ys
+pub from_forests : (xs ys : List Tree) → bare_forest (forest xs) ≡ bare_forest (forest ys) → SameTrees xs ys
 from_forests xs ys e = sym (trees_forest (map bare xs)) ∙ (ap trees (forest_bare xs ∙ (e ∙ sym (forest_bare ys))) ∙ trees_forest (map bare ys))
 
-to_forests : (xs ys : List Tree) → SameTrees xs ys → bare_forest (forest xs) ≡ bare_forest (forest ys)
+pub to_forests : (xs ys : List Tree) → SameTrees xs ys → bare_forest (forest xs) ≡ bare_forest (forest ys)
 to_forests xs ys e = sym (forest_bare xs) ∙ (ap forest e ∙ forest_bare ys)
 
 -- the tree b stands among the trees f
-record Inside (p : List Tree) (b : Tree) (f : List Tree) : Type 0 where
-  rest : List Tree
-  same : SameTrees f (p ++ b ∷ rest)
+pub record Inside (p : List Tree) (b : Tree) (f : List Tree) : Type 0 where
+  pub rest : List Tree
+  pub same : SameTrees f (p ++ b ∷ rest)
 
 -- the tree b stands behind them, among the trees q
 pub record Outside (p : List Tree) (b : Tree) (r f q : List Tree) : Type 0 where
@@ -132,13 +132,13 @@ parts (t ∷ p) b r (g ∷ f) q e =
     ]
 
 -- the text of a root by its children
-root_text : (root : Tree) (ts : List Tree) → root.head.text ≡ [] → bare_forest root.kids ≡ bare_forest (forest ts) → text_of root ≡ joined (forest ts)
+pub root_text : (root : Tree) (ts : List Tree) → root.head.text ≡ [] → bare_forest root.kids ≡ bare_forest (forest ts) → text_of root ≡ joined (forest ts)
 root_text root ts f g = ap (λ bs. bs ++ joined root.kids) f ∙ (sym (bare_joined root.kids) ∙ (ap joined g ∙ bare_joined (forest ts)))
 
 pub root_bytes : (root : Tree) (ts : List Tree) → root.head.text ≡ [] → bare_forest root.kids ≡ bare_forest (forest ts) → length (text_of root) ≡ bytes_of ts
 root_bytes root ts f g = ap length (root_text root ts f g)
 
-joined_append : (xs ys : List Tree) → joined (forest (xs ++ ys)) ≡ joined (forest xs) ++ joined (forest ys)
+pub joined_append : (xs ys : List Tree) → joined (forest (xs ++ ys)) ≡ joined (forest xs) ++ joined (forest ys)
 joined_append [] ys = refl
 joined_append (t ∷ xs) ys =
     let first = joined (forest xs) in
@@ -159,7 +159,7 @@ first_fits (t ∷ n) (u ∷ y) b back r e =
 -- ---- what an edit leaves
 
 -- the edge stands among what stays at the front
-front_edge : (text was_text : List ℕ) (was now : Tree) (read : Range ℕ) (at : ℕ) (w : IsEdit text was_text was now read) (s : StartsBefore now text read at) → Inside s.edge.front s.edge.edge w.edit.front
+pub front_edge : (text was_text : List ℕ) (was now : Tree) (read : Range ℕ) (at : ℕ) (w : IsEdit text was_text was now read) (s : StartsBefore now text read at) → Inside s.edge.front s.edge.edge w.edit.front
 front_edge text was_text was now read at w s =
     let p : List Tree = s.edge.front in
     let b : Tree = s.edge.edge in
@@ -198,7 +198,7 @@ front_stays text was_text was now read at w s =
     ∙ sym (ap (λ ts. merged (touching (range_of 0 at) ts)) two))
 
 -- the last of the new trees goes no further than what stands from an edge on
-bare_last : (ts : List Tree) → last_bytes (map bare ts) ≡ last_bytes ts
+pub bare_last : (ts : List Tree) → last_bytes (map bare ts) ≡ last_bytes ts
 bare_last [] = refl
 bare_last (t ∷ []) = ap length (bare_text t)
 bare_last (t ∷ u ∷ ts) = bare_last (u ∷ ts)
@@ -207,7 +207,7 @@ last_cons : (t : Tree) (ts : List Tree) → last_bytes ts ≤ last_bytes (t ∷ 
 last_cons t [] = omega arith
 last_cons t (u ∷ ts) = omega arith
 
-last_append : (f n : List Tree) → last_bytes n ≤ last_bytes (f ++ n)
+pub last_append : (f n : List Tree) → last_bytes n ≤ last_bytes (f ++ n)
 last_append [] n = omega arith
 last_append (t ∷ f) n = omega (arith, last_append f n, last_cons t (f ++ n))
 
@@ -246,7 +246,7 @@ back_edge text was_text was now read at w s =
       | inr out ↦ out
     ]
 
-same_append : (xs us ys vs : List Tree) → SameTrees xs us → SameTrees ys vs → SameTrees (xs ++ ys) (us ++ vs)
+pub same_append : (xs us ys vs : List Tree) → SameTrees xs us → SameTrees ys vs → SameTrees (xs ++ ys) (us ++ vs)
 same_append xs us ys vs e g = map-append bare xs ys ∙ ((λ i. e i ++ g i) ∙ sym (map-append bare us vs))
 
 regrouped : (f n y r : List Tree) → f ++ (n ++ (y ++ r)) ≡ (f ++ (n ++ y)) ++ r
@@ -261,22 +261,22 @@ names_value [] = refl
 names_value (t ∷ ts) = names_value ts
 
 -- where the edge at the end stands in both trees
-record AtEnd (text was_text : List ℕ) (was now : Tree) (least at from : ℕ) : Type 0 where
-  xs : List Tree
-  ys : List Tree
-  b : Tree
-  r : List Tree
-  parts : is_edge b ≡ true
-  some : 0 < length (text_of b)
-  before : bare_forest was.kids ≡ bare_forest (forest (xs ++ b ∷ r))
-  after : bare_forest now.kids ≡ bare_forest (forest (ys ++ b ∷ r))
-  here : bytes_of ys + length (text_of b) ≤ at
-  there : bytes_of xs + length (text_of b) ≤ from
-  moved_by : from + bytes_of ys ≡ at + bytes_of xs
-  least_xs : least ≤ bytes_of xs
-  least_ys : least ≤ bytes_of ys
+pub record AtEnd (text was_text : List ℕ) (was now : Tree) (least at from : ℕ) : Type 0 where
+  pub xs : List Tree
+  pub ys : List Tree
+  pub b : Tree
+  pub r : List Tree
+  pub parts : is_edge b ≡ true
+  pub some : 0 < length (text_of b)
+  pub before : bare_forest was.kids ≡ bare_forest (forest (xs ++ b ∷ r))
+  pub after : bare_forest now.kids ≡ bare_forest (forest (ys ++ b ∷ r))
+  pub here : bytes_of ys + length (text_of b) ≤ at
+  pub there : bytes_of xs + length (text_of b) ≤ from
+  pub moved_by : from + bytes_of ys ≡ at + bytes_of xs
+  pub least_xs : least ≤ bytes_of xs
+  pub least_ys : least ≤ bytes_of ys
 
-at_end : (text was_text : List ℕ) (was now : Tree) (read : Range ℕ) (at from : ℕ) (w : IsEdit text was_text was now read) → StartsBehind now text read at → from + length text ≡ at + length was_text → AtEnd text was_text was now (bytes_of w.edit.front) at from
+pub at_end : (text was_text : List ℕ) (was now : Tree) (read : Range ℕ) (at from : ℕ) (w : IsEdit text was_text was now read) → StartsBehind now text read at → from + length text ≡ at + length was_text → AtEnd text was_text was now (bytes_of w.edit.front) at from
 at_end text was_text was now read at from w s e =
     let b : Tree = s.edge.edge in
     let r : List Tree = s.edge.back in
@@ -412,7 +412,7 @@ no_tokens : (b : Bool) (t : Token) (ts : List Token) → b ≡ false → ts ≡ 
 no_tokens true t ts e g = absurd (cc)
 no_tokens false t ts e g = g
 
-none_at_start : (ts : List Token) → touching (range_of 0 0) ts ≡ []
+pub none_at_start : (ts : List Token) → touching (range_of 0 0) ts ≡ []
 none_at_start [] = refl
 none_at_start (t ∷ ts) =
     no_tokens (touches (range_of 0 0) t) t (touching (range_of 0 0) ts) (ap (λ b. b && nat_lt 0 (end_of t)) (not_less t.start 0 (omega arith))) (none_at_start ts)

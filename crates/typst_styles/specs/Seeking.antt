@@ -1,10 +1,10 @@
 -- The tokens of a tree, node by node, and what is left of a walk that leaves out what a range doesn't touch (of private clauses).
-use Rattle.std.specs.Prelude.{◌≡◌, ℕ, ◌+◌, ◌<◌, Bool, List, [], ◌∷◌, ◌++◌, length, map, Option, None, Some}
+use Rattle.std.specs.Prelude.{◌≡◌, ℕ, ◌+◌, ◌<◌, Bool, true, List, [], ◌∷◌, ◌++◌, length, map, Option, None, Some}
 use Rattle.std.specs.declared.ops.Range.{Range}
 use Rattle.typst_kinds.specs.Head.{Head}
 use Rattle.typst_tree.specs.Tree.{Forest, none, more, Tree, count, forest}
 use Rattle.typst_tree.specs.Walks.{numbers}
-use Rattle.typst_tree.specs.Steps.{At, at, node_of}
+use Rattle.typst_tree.specs.Steps.{At, at, children, node_of}
 use Rattle.typst_tree.specs.Linked.{linked, left}
 use Rattle.typst_highlight.specs.declared.tags.Tag.{Tag}
 use Rattle.typst_highlight.specs.Html.{spanned}
@@ -16,6 +16,7 @@ use Rattle.typst_names.specs.Contexts.{after, below, role_of}
 use Rattle.typst_names.specs.Names.{is_end}
 use Rattle.typst_names.specs.RoleRows.{steps}
 use Rattle.typst_names.specs.declared.contexts.Context.{Context}
+use Rattle.typst_names.specs.declared.contexts.Context.TheVariants as context
 use Rattle.typst_names.specs.declared.contexts.Role.{Role}
 use Rattle.typst_styles.specs.Styles.{style_of}
 use Rattle.typst_styles.specs.Tokens.{stretch, touching}
@@ -76,6 +77,15 @@ pub record IsSpot (root : Tree) (s : Spot) : Type 0 where
   pub place : linked s.place ≡ at root (linked s.place).number
   pub standing : Standing root (linked s.place).number (more s.node.node.now.head s.node.node.now.kids none)
 
+-- a node is the root, as a walk begins at it
+pub record IsTop (root : Tree) (s : Spot) : Type 0 where
+  pub place : linked s.place ≡ at root 0
+  pub tree : s.node.node.now ≡ root
+  pub start : s.node.start ≡ 0
+  pub role_in : s.context ≡ context.Value
+  pub around : s.around ≡ None
+  pub is_last : s.is_last ≡ true
+
 -- the tokens of a node
 abbrev pub of_spot : List ℕ → Tree → Spot → List Token
 of_spot text root s = node text root (linked s.place).number s.node.start s.around s.context s.is_last s.node.node.now
@@ -88,6 +98,25 @@ left_of text root w = row text root (number w) w.start w.around w.context (fores
 abbrev pub left_of_all : List ℕ → Tree → List Row → List Token
 left_of_all text root [] = []
 left_of_all text root (w ∷ ws) = left_of_all text root ws ++ left_of text root w
+
+-- the row of the children of a node
+pub record Below (s : Spot) (w : Row) : Type 0 where
+  pub placed : left w.places ≡ children (linked s.place)
+  pub kids : forest w.nodes.now ≡ s.node.node.now.kids
+
+-- a node was gone into: its own tokens were added, and a row of its children was made
+pub record Opens (text : List ℕ) (s : Spot) (old new : List Token) (w : Row) : Type 0 where
+  pub kids : Below s w
+  pub start : w.start ≡ inner s.node.start s.node.node.now.head
+  pub around : w.around ≡ first_tag (spanned (tag_of (linked s.place))) s.around
+  pub role_in : w.context ≡ below s.context s.node.node.now.head.kind
+  pub added : new ≡ old ++ stretch text s.node.start w.start (style_of w.around (role_of s.context s.node.node.now.head.kind s.is_last))
+
+-- a row of all children of the root
+pub record IsWhole (root : Tree) (w : Row) : Type 0 where
+  pub placed : left w.places ≡ children (at root 0)
+  pub kids : forest w.nodes.now ≡ root.kids
+  pub start : w.start ≡ inner 0 root.head
 
 -- the first node of a row was taken out, or there is none
 abbrev pub Takes : Tree → Row → Option Spot → Row → Type 0
@@ -102,6 +131,10 @@ of_first text root n a u c (t ∷ ts) = node text root n a u c (is_end (forest t
 -- the first node of a row was passed, if there is one: its tokens are those that are left no more
 abbrev pub Passes : Tree → Row → Row → Type 0
 Passes root w v = IsRow root v × ((text : List ℕ) → left_of text root w ≡ of_first text root (number w) w.start w.around w.context w.nodes.now ++ left_of text root v)
+
+-- some nodes of a row were passed, which the range doesn't touch
+abbrev pub Skips : Range ℕ → List ℕ → Tree → Row → Row → Type 0
+Skips range text root w v = IsRow root v × (touching range (left_of text root v) ≡ touching range (left_of text root w))
 
 -- the nodes of a row up to one that may touch a range were taken out, or there is none; those before it don't touch the range
 abbrev pub Seeks : Range ℕ → List ℕ → Tree → Row → Option Spot → Row → Type 0

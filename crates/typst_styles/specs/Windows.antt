@@ -77,6 +77,11 @@ pub record IsEdit (text was_text : List ℕ) (was now : Tree) (read : Range ℕ)
   pub few_was : length was_text ≤ 2 ^ 64 - 1
   pub few_now : length text ≤ 2 ^ 64 - 1
 
+-- TWO EDITS IN A ROW are one, by the bytes that both read again: whatever trees they were of, if the text had so many bytes before the second one and has so many after it
+abbrev pub IsOfBoth : Range ℕ → Range ℕ → ℕ → ℕ → Range ℕ → Type 0
+IsOfBoth first second before after both =
+    (was_text middle_text text : List ℕ) (was middle now : Tree) → before ≡ length middle_text → after ≡ length text → IsEdit middle_text was_text was middle first → IsEdit text middle_text middle now second → IsEdit text was_text was now both
+
 abbrev pub range_of : ℕ → ℕ → Range ℕ
 range_of a b = record { start = a; end = b }
 

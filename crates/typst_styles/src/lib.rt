@@ -2,11 +2,13 @@
 //! their numbers to the next.
 //!
 //! [`semantic_tokens`] gives those of a tree that touch a range, [`renewed_tokens`] all after an edit, by those
-//! before it, and [`edit_between`] the edit that makes one list of numbers of another. Positions are in bytes of
-//! the tree's text.
+//! before it, of which [`tokens_outside`] says how many stay, and [`edit_between`] the edit that makes one list of
+//! numbers of another. Positions are in bytes of the tree's text.
 #![tactic(auto)]
 
+mod boundaries;
 mod delta;
+mod joined;
 mod renewed;
 mod seeking;
 mod styles;
@@ -14,7 +16,8 @@ mod tokens;
 mod windows;
 
 pub use delta::{DataEdit, edit_between};
-pub use renewed::renewed_tokens;
+pub use joined::read_by_both;
+pub use renewed::{Outside, renewed_tokens, tokens_outside};
 pub use styles::{Style, TokenKind};
 pub use tokens::{Token, semantic_tokens};
 pub use windows::{token_window, window_law};

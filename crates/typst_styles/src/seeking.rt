@@ -1,6 +1,7 @@
 //! The tokens of a tree that touch a range: a walk that goes only into the nodes that touch it.
 
-ghost use Rattle.std.specs.Prelude.{◌≡◌, ◌+◌, ◌++◌, ◌-◌, ◌^◌, ◌<◌, [], IfOk, IfSome, OnOk};
+ghost use Rattle.std.specs.Prelude.{◌≡◌, ◌+◌, ◌++◌, ◌-◌, ◌^◌, ◌<◌, ◌≤◌, drop, length, IfOk, IfSome, OnOk};
+ghost use Rattle.typst_tree.specs.Boundaries.{AreCounted, IsBoundary};
 ghost use Rattle.typst_tree.specs.Tree.{Tree, nodes};
 ghost use Rattle.typst_highlight.specs.Html.{spanned};
 ghost use Rattle.typst_highlight.specs.Names.{first_tag};
@@ -8,12 +9,13 @@ ghost use Rattle.typst_styles.specs.Tokens.{all_tokens, touching};
 ghost use Rattle.typst_styles.specs.Seeking as spec;
 ghost use Rattle.typst_names.specs.RoleRows.{steps};
 
+use crate::boundaries::last_to;
 use crate::tokens::{Token, add_stretch};
 use std::alloc::{AllocError, Global};
 use std::ops::Range;
 use typst_highlight::{Tag, Tagged, highlight};
 use typst_names::{Context, Placed};
-use typst_tree::{LinkedChildren, LinkedNode, SyntaxNode};
+use typst_tree::{Boundary, LinkedChildren, LinkedNode, SyntaxNode};
 
 /// How many nodes may be gone through beside the way to a range, for each node of the tree.
 const WORTH: usize = 8;
@@ -24,6 +26,8 @@ pub struct Wanted<'t> {
     pub root: &'t SyntaxNode,
     pub text: &'t str,
     pub within: &'t Range<usize>,
+    /// A place between the root's children, from which the range is sought.
+    pub near: Boundary,
 }
 
 /// Nodes side by side to which a walk has still to come.
@@ -99,12 +103,19 @@ fn unless_error(tag: Option<Tag>) -> Option<Tag>
     }
 }
 
+/// The nodes from an index on.
+fn from_index(nodes: &[SyntaxNode], index: usize) -> &[SyntaxNode]
+    requires { index ≤ length nodes.now }
+    ensures { result.now ≡ drop index nodes.now }
+{
+    &nodes[index..]
+}
+
 impl<'t> Wanted<'t> {
     /// The root.
     fn top(&self) -> Spot<'t>
         requires { nodes self.now.root.now < 2 ^ 64 - 1 }
-        ensures spot { spec.IsSpot self.now.root.now result }
-        ensures tokens { spec.of_spot self.now.text.now self.now.root.now result ++ [] ≡ all_tokens self.now.text.now self.now.root.now }
+        ensures { spec.IsTop self.now.root.now result }
     {
         Spot {
             node: Placed::top(self.root),
@@ -169,6 +180,24 @@ impl<'t> Row<'t> {
         self.context = context.after(node.kind());
     }
 
+    /// Passes those of the root's children that end by the range's start, from a place near it and not one by one.
+    /// Where the nodes before one tell what its names are, as in a `let`, none are passed.
+    fn pass_to(&mut self, wanted: &Wanted<'t>)
+        requires counted { AreCounted wanted.now.root.now }
+        requires near { IsBoundary wanted.now.root.now wanted.now.near }
+        requires whole { spec.IsWhole wanted.now.root.now self.old }
+        ensures { spec.Skips wanted.now.within.now wanted.now.text.now wanted.now.root.now self.old self.new }
+    {
+        let Context::Value = self.context else {
+            return;
+        };
+        let begun = last_to(wanted.root, wanted.near, wanted.within.start);
+        let later = from_index(self.nodes, begun.index);
+        self.nodes = later;
+        self.places = LinkedChildren::from_boundary(wanted.root, begun);
+        self.start = begun.bytes;
+    }
+
     /// Takes out the nodes up to the first that may touch the range.
     fn seek(&mut self, wanted: &Wanted<'t>) -> Option<Spot<'t>>
         requires { spec.IsRow wanted.now.root.now self.old }
@@ -192,16 +221,10 @@ impl<'t> Row<'t> {
     }
 }
 
-/// Adds the tokens of a node's own text, and a row of its children.
-fn enter<'t>(
-    found: &mut Vec<Token>,
-    rows: &mut Vec<Row<'t>>,
-    text: &str,
-    spot: Spot<'t>,
-) -> Result<(), AllocError>
-    ensures taken { OnOk result ((root : Tree) → spec.IsSpot root spot.entry → found.new.items ++ spec.left_of_all text.now root rows.new.items ≡ found.old.items ++ (spec.of_spot text.now root spot.entry ++ spec.left_of_all text.now root rows.old.items)) }
-    ensures ready { OnOk result ((root : Tree) → spec.IsSpot root spot.entry → spec.AreRows root rows.old.items → spec.AreRows root rows.new.items) }
-    ensures steps { OnOk result (spec.steps_all rows.new.items ≡ 1 + steps spot.entry.node.node.now.kids + spec.steps_all rows.old.items) }
+/// Adds the tokens of a node's own text, and gives the row of its children.
+#[inline(always)]
+fn go_into<'t>(found: &mut Vec<Token>, text: &str, spot: Spot<'t>) -> Result<Row<'t>, AllocError>
+    ensures { IfOk result (λ row. spec.Opens text.now spot.entry found.old.items found.new.items row) }
 {
     let node = spot.node.node;
     let kind = node.kind();
@@ -217,14 +240,29 @@ fn enter<'t>(
     let nodes = node.children();
     let places = spot.place.children();
     let context = spot.context.below(kind);
-    rows.push(Row {
+    Ok(Row {
         nodes,
         places,
         start,
         context,
         around: tag,
         way: spot.way.to_row(nodes.len()),
-    })?;
+    })
+}
+
+/// Adds the tokens of a node's own text, and a row of its children.
+fn enter<'t>(
+    found: &mut Vec<Token>,
+    rows: &mut Vec<Row<'t>>,
+    text: &str,
+    spot: Spot<'t>,
+) -> Result<(), AllocError>
+    ensures taken { OnOk result ((root : Tree) → spec.IsSpot root spot.entry → found.new.items ++ spec.left_of_all text.now root rows.new.items ≡ found.old.items ++ (spec.of_spot text.now root spot.entry ++ spec.left_of_all text.now root rows.old.items)) }
+    ensures ready { OnOk result ((root : Tree) → spec.IsSpot root spot.entry → spec.AreRows root rows.old.items → spec.AreRows root rows.new.items) }
+    ensures steps { OnOk result (spec.steps_all rows.new.items ≡ 1 + steps spot.entry.node.node.now.kids + spec.steps_all rows.old.items) }
+{
+    let row = go_into(found, text, spot)?;
+    rows.push(row)?;
     Ok(())
 }
 
@@ -251,17 +289,21 @@ fn take_next<'t>(
 /// The tokens of the nodes that touch a range, and of some that don't. There are none where so many nodes stand
 /// beside the way to the range that a walk through the whole tree takes less time.
 ///
-/// It goes into the nodes that touch the range, and over the children before them of the nodes on the way. Each
-/// node is asked for its tag, which goes through what stands beside that way except its longest row.
+/// It goes into the nodes that touch the range, and over the children before them of the nodes on the way: of the
+/// root over those between the range and a place near it. Each node is asked for its tag, which goes through what
+/// stands beside that way except its longest row.
 pub fn tokens_near(alloc: Global, wanted: &Wanted<'_>) -> Result<Option<Vec<Token>>, AllocError>
-    requires { nodes wanted.now.root.now < 2 ^ 64 - 1 }
+    requires counted { AreCounted wanted.now.root.now }
+    requires near { IsBoundary wanted.now.root.now wanted.now.near }
     ensures { IfOk result (λ found. IfSome found (λ tokens. touching wanted.now.within.now tokens.items ≡ touching wanted.now.within.now (all_tokens wanted.now.text.now wanted.now.root.now))) }
 {
     let mut found = Vec::new(alloc);
     let mut rows = Vec::new(alloc);
     let mut most = wanted.root.descendants().saturating_mul(WORTH);
     let top = wanted.top();
-    enter(&mut found, &mut rows, wanted.text, top)?;
+    let mut first = go_into(&mut found, wanted.text, top)?;
+    first.pass_to(wanted);
+    rows.push(first)?;
     while let Some(row) = rows.pop() {
         let cost = row.way.cost();
         if most < cost {

@@ -1,17 +1,18 @@
 //! Semantic tokens: what of a text is shown how, line by line.
 
-ghost use Rattle.std.specs.Prelude.{◌≡◌, ◌-◌, ◌++◌, ◌^◌, ◌<◌, IfOk, OnOk, [], ◌∷◌, drop, true};
-ghost use Rattle.typst_tree.specs.Tree.{nodes};
+ghost use Rattle.std.specs.Prelude.{◌≡◌, ◌-◌, ◌++◌, IfOk, OnOk, [], ◌∷◌, drop, true};
+ghost use Rattle.typst_tree.specs.Boundaries.{AreCounted, IsBoundary};
 ghost use Rattle.typst_styles.specs.Styles as styles;
 ghost use Rattle.typst_styles.specs.Tokens as spec;
 
+use crate::boundaries::is_counted;
 use crate::seeking::{Wanted, tokens_near};
 use crate::styles::{Style, style_of};
 use std::alloc::{AllocError, Global};
 use std::ops::Range;
 use typst_highlight::{Tagged, tag_stretches};
 use typst_names::{Role, name_roles};
-use typst_tree::SyntaxNode;
+use typst_tree::{Boundary, SyntaxNode};
 
 /// A part of one line that is shown in one way.
 #[derive(Debug, Clone, Copy, PartialEq, Eq)]
@@ -70,18 +71,21 @@ const PART: usize = 8;
 /// are shown alike are one.
 ///
 /// For a range of less than an eighth of the text it goes into the nodes that touch the range, and over the
-/// children before them of the nodes on the way there: see `tokens_near`. Otherwise, and where that would take
-/// longer, it goes through the tree twice.
+/// children before them of the nodes on the way there, of the root over those between the range and `near`, a
+/// place among them, or an end that is nearer: see `tokens_near`. Otherwise, and where that would take longer, it
+/// goes through the tree twice.
 pub fn semantic_tokens(
     alloc: Global,
     root: &SyntaxNode,
     text: &str,
     within: &Range<usize>,
+    near: Boundary,
 ) -> Result<Vec<Token>, AllocError>
+    requires { IsBoundary root.now near }
     ensures tokens { IfOk result (λ tokens. tokens.items ≡ spec.tokens_in within.now text.now root.now) }
     ensures ordered { IfOk result (λ tokens. spec.AreOrdered 0 tokens.items) }
 {
-    let tokens = tokens_for(alloc, root, text, within)?;
+    let tokens = tokens_for(alloc, root, text, within, near)?;
     merge(alloc, tokens.as_slice(), within)
 }
 
@@ -91,11 +95,18 @@ fn tokens_for(
     root: &SyntaxNode,
     text: &str,
     within: &Range<usize>,
+    near: Boundary,
 ) -> Result<Vec<Token>, AllocError>
+    requires { IsBoundary root.now near }
     ensures { IfOk result (λ tokens. spec.touching within.now tokens.items ≡ spec.touching within.now (spec.all_tokens text.now root.now)) }
 {
     if is_part(root, within) {
-        let wanted = Wanted { root, text, within };
+        let wanted = Wanted {
+            root,
+            text,
+            within,
+            near,
+        };
         if let Some(tokens) = tokens_near(alloc, &wanted)? {
             return Ok(tokens);
         }
@@ -104,11 +115,11 @@ fn tokens_for(
     Ok(tokens)
 }
 
-/// Whether a range is a small part of a tree's text, and the tree's nodes can be counted.
+/// Whether a range is a small part of a tree's text, and the tree's nodes and bytes can be counted.
 fn is_part(root: &SyntaxNode, within: &Range<usize>) -> bool
-    ensures { result ≡ true → nodes root.now < 2 ^ 64 - 1 }
+    ensures { result ≡ true → AreCounted root.now }
 {
-    if root.descendants() >= usize::MAX {
+    if !is_counted(root) {
         return false;
     }
     let bytes = within.end.saturating_sub(within.start);

@@ -2,50 +2,52 @@
 
 ghost use Rattle.std.specs.Prelude.{◌≡◌, ◌+◌, ◌<◌, ◌≤◌, ◌⊎◌, length, take, true};
 ghost use Rattle.typst_highlight.specs.RootEdits.{bytes_of};
-ghost use Rattle.typst_tree.specs.Tree.{forest};
+ghost use Rattle.typst_tree.specs.Boundaries.{AreCounted, IsBoundary};
+ghost use Rattle.typst_tree.specs.Tree.{forest, trees};
 ghost use Rattle.typst_styles.specs.Windows as spec;
 
+use crate::boundaries::{is_counted, last_to};
 use std::ops::Range;
 use typst_highlight::is_edge;
-use typst_tree::SyntaxNode;
+use typst_tree::{Boundary, SyntaxNode};
 
 /// The bytes, in whole lines, whose tokens may have changed where some bytes of a text were read again: what
 /// `Source::edit` answers. All tokens before them and after them are as they were. The lines go up to an edge
 /// among the root's children (see `is_edge`), or to the text's start and its end.
 ///
-/// It goes over the root's children, and over the bytes up to a line feed at both ends.
-pub fn token_window(root: &SyntaxNode, text: &str, read: &Range<usize>) -> Range<usize>
+/// It goes over the root's children between `near`, a place among them, or an end that is nearer, and the window's
+/// ends, and over the bytes up to a line feed at both ends. Where nodes or bytes can't be counted, all are in the
+/// window.
+pub fn token_window(
+    root: &SyntaxNode,
+    text: &str,
+    read: &Range<usize>,
+    near: Boundary,
+) -> Range<usize>
+    requires { IsBoundary root.now near }
     ensures { spec.IsWindow root.now text.now read.now result }
 {
+    if !is_counted(root) {
+        return 0..text.len();
+    }
     let nodes = root.children();
-    let first = edge_before(nodes, read.start);
-    let last = edge_after(nodes, read.end, text.len());
+    let (count, bytes) = nodes_before(root, near, read.start);
+    let first = last_edge(nodes, count, bytes);
+    let last = edge_after(nodes, count, bytes, read.end, text.len());
     line_before(text.as_bytes(), first)..line_after(text.as_bytes(), last)
 }
 
-/// Where the last edge begins that ends before a byte, or 0.
-fn edge_before(nodes: &[SyntaxNode], limit: usize) -> usize
-    ensures { spec.BeginsEdge (forest nodes.now) limit result }
-{
-    let (count, bytes) = nodes_before(nodes, limit);
-    last_edge(nodes, count, bytes)
-}
-
-/// How many of the first nodes end before a byte, and how many bytes they have.
-fn nodes_before(nodes: &[SyntaxNode], limit: usize) -> (usize, usize)
-    ensures within { result.0 ≤ length nodes.now }
-    ensures bytes { result.1 ≡ bytes_of (take result.0 nodes.now) }
+/// How many of the root's first children end before a byte, and how many bytes they have.
+fn nodes_before(root: &SyntaxNode, near: Boundary, limit: usize) -> (usize, usize)
+    requires counted { AreCounted root.now }
+    requires near { IsBoundary root.now near }
+    ensures within { result.0 ≤ length (trees root.now.kids) }
+    ensures bytes { result.1 ≡ bytes_of (take result.0 (trees root.now.kids)) }
     ensures below { (result.1 < limit) ⊎ (result.1 ≡ 0) }
 {
-    let mut end = 0;
-    for index in 0..nodes.len() {
-        let next = nodes[index].len().saturating_add(end);
-        if limit <= next {
-            return (index, end);
-        }
-        end = next;
-    }
-    (nodes.len(), end)
+    let end = last_to(root, near, limit.saturating_sub(1));
+    let bytes = end.bytes - root.leaf_text().len();
+    (end.index, bytes)
 }
 
 /// Where the last edge with a byte begins among the first of some nodes, or 0. `bytes` says how many these have.
@@ -67,12 +69,15 @@ fn last_edge(nodes: &[SyntaxNode], count: usize, bytes: usize) -> usize
     0
 }
 
-/// Where the first edge ends that begins after a byte, or the text's end.
-fn edge_after(nodes: &[SyntaxNode], limit: usize, len: usize) -> usize
+/// Where the first edge ends that begins after a byte and isn't among the first of some nodes, or the text's end.
+/// `bytes` says how many these have.
+fn edge_after(nodes: &[SyntaxNode], count: usize, bytes: usize, limit: usize, len: usize) -> usize
+    requires { bytes ≡ bytes_of (take count nodes.now) }
     ensures { spec.EndsEdge (forest nodes.now) limit len result }
 {
-    let mut start = 0;
-    for node in nodes {
+    let mut start = bytes;
+    for index in count..nodes.len() {
+        let node = &nodes[index];
         let end = node.len().saturating_add(start);
         if limit < start && is_edge_to(node, start, end) {
             return end;

@@ -1,20 +1,21 @@
-use Rattle.std.proofs.Common.{◌≡◌, ◌∙◌, ◌++◌, ap, sym, subst, arith}
-use Rattle.typst_styles.specs.Seeking.{AreRows, left_of_all, of_spot}
-use Rattle.typst_styles.specs.Tokens.{all_tokens, touching}
-use Rattle.typst_styles.proofs.SoughtSteps.{popped_left, popped_rows, popped_steps}
+use Rattle.std.proofs.Common.{◌∙◌, ap, sym, arith}
+use Rattle.typst_styles.proofs.SoughtRows.{whole_from}
+use Rattle.typst_styles.proofs.SoughtSteps.{begun, begun_rows, popped_left, popped_rows, popped_steps}
+use Rattle.typst_styles.specs.Tokens.{touching}
 use Rattle.typst_styles.proofs.seeking.tokens_near.Goals as goal
+
+pub pass_to-requires-clause-whole : goal.pass_to-requires-clause-whole
+pass_to-requires-clause-whole c =
+    whole_from c.args.wanted.now.text.now c.args.wanted.now.root.now c.top-top.result c.in_ok-first.first c.new-found.result.items c.go_into.new.found.items c.top-top.ensures c.in_ok-first.ensures
 
 pub loop-row-init : goal.loop-row-init
 loop-row-init c =
-    let range = c.args.wanted.now.within.now in
-    let text = c.args.wanted.now.text.now in
     let root = c.args.wanted.now.root.now in
-    let s = c.top-top.result in
-    let began : c.enter.new.found.items ++ left_of_all text root c.enter.new.rows.items ≡ all_tokens text root =
-    c.in_ok-enter.ensures.taken root c.top-top.ensures.spot ∙ ((λ i. c.new-found.ensures.items i ++ (of_spot text root s ++ left_of_all text root (c.new-rows.ensures.items i))) ∙ c.top-top.ensures.tokens) in
     record {
-      found = ap (touching range) began;
-      rows = c.in_ok-enter.ensures.ready root c.top-top.ensures.spot (subst (AreRows root) (sym c.new-rows.ensures.items) tt);
+      found =
+          begun c.args.wanted.now.within.now c.args.wanted.now.text.now root c.top-top.result c.in_ok-first.first c.pass_to.new.self c.new-found.result.items c.go_into.new.found.items c.new-rows.result.items c.push.new.self.items c.top-top.ensures c.in_ok-first.ensures
+          c.pass_to.ensures.1 c.new-found.ensures.items c.in_ok-push.ensures.items c.new-rows.ensures.items;
+      rows = begun_rows root c.pass_to.new.self c.new-rows.result.items c.push.new.self.items c.pass_to.ensures.0 c.in_ok-push.ensures.items c.new-rows.ensures.items;
     }
 
 pub take_next-requires : goal.take_next-requires

@@ -1,18 +1,37 @@
-use Rattle.std.proofs.Common.{◌≡◌, ◌⊎◌, ℕ, List, length, subst}
+use Rattle.std.proofs.Common.{◌≡◌, ◌+◌, ◌⊎◌, ℕ, List, inl, length, take, sym, ap, refl, subst, ◌∙◌, arith}
+use Rattle.typst_highlight.specs.RootEdits.{bytes_of}
 use Rattle.typst_tree.specs.Tree.{Forest}
+use Rattle.typst_tree.proofs.Boundaries.{kids_are}
 use Rattle.typst_styles.specs.Windows.{BeginsEdge, EndsEdge, FollowsFeed, IsLineAfter}
-use Rattle.typst_styles.proofs.WindowEdges.{window_is}
+use Rattle.typst_styles.proofs.WindowEdges.{begins_before, window_is}
 use Rattle.typst_styles.proofs.windows.token_window.Goals as goal
+
+pub returns-then-not-is_counted : goal.returns-then-not-is_counted
+returns-then-not-is_counted c = record { start = inl refl; end = inl refl }
+
+pub last_edge-first-requires : goal.last_edge-first-requires
+last_edge-first-requires c =
+    let before = c.nodes_before-count.ensures in
+    let nodes = sym (kids_are c.args.root.now c.children-nodes.result.now c.children-nodes.ensures) in
+    record { within = omega (arith, before.within, ap length nodes); bytes = before.bytes ∙ ap (λ ts. bytes_of (take c.nodes_before-count.result.0 ts)) nodes }
+
+pub edge_after-last-requires : goal.edge_after-last-requires
+edge_after-last-requires c =
+    let nodes = sym (kids_are c.args.root.now c.children-nodes.result.now c.children-nodes.ensures) in
+    c.nodes_before-count.ensures.bytes ∙ ap (λ ts. bytes_of (take c.nodes_before-count.result.0 ts)) nodes
 
 pub returns : goal.returns
 returns c =
     let text = c.args.text.now in
     let read = c.args.read.now in
+    let root = c.args.root.now in
     let kids = c.children-nodes.ensures in
-    let first = c.edge_before-first.result in
+    let bytes = c.nodes_before-count.result.1 in
+    let first = c.last_edge-first.result in
     let last = c.edge_after-last.result in
     let start = c.line_before.result in
     let end = c.line_after.result in
-    window_is c.args.root.now text read first last start end (subst (λ (f : Forest). BeginsEdge f read.start first) kids c.edge_before-first.ensures) (subst (λ (f : Forest). EndsEdge f read.end (length text) last) kids c.edge_after-last.ensures) c.line_before.ensures.low
+    window_is root text read first last start end (begins_before root.kids bytes read.start first c.nodes_before-count.ensures.below (subst (λ (f : Forest). BeginsEdge f (bytes + 1) first) kids c.last_edge-first.ensures))
+    (subst (λ (f : Forest). EndsEdge f read.end (length text) last) kids c.edge_after-last.ensures) c.line_before.ensures.low
     (subst (λ (t : List ℕ). (start ≡ 0) ⊎ FollowsFeed t start) c.as_bytes.ensures.value c.line_before.ensures.line)
     (subst (λ (t : List ℕ). IsLineAfter t last end) c.as_bytes-2.ensures.value c.line_after.ensures)
