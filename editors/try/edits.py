@@ -1,8 +1,9 @@
 #!/usr/bin/env python3
 """Tries random changes on a server: edits.py PROGRAM ROUNDS SEED
 
-Each round opens a text, changes it some times, and asks for its tokens. The same text, as the protocol's rules give
-it here, is opened under another name: tokens, outline, foldings and problems of both have to be equal.
+Each round opens a text, changes it some times, and asks for its tokens, by delta after each time. The same text, as the
+protocol's rules give it here, is opened under another name: tokens, outline, foldings and problems of both have to be
+equal, and the deltas have to make the tokens.
 """
 import random
 import subprocess
@@ -29,20 +30,24 @@ def random_change(rng, text, encoding):
     return change, changed(text, change, encoding)
 
 
+def question(name, uri, identifier, **more):
+    return {"jsonrpc": "2.0", "id": identifier, "method": "textDocument/" + name, "params": {"textDocument": {"uri": uri}, **more}}
+
+
 def questions(uri, first):
-    document = {"textDocument": {"uri": uri}}
     names = ["semanticTokens/full", "documentSymbol", "foldingRange"]
-    return [{"jsonrpc": "2.0", "id": first + i, "method": "textDocument/" + name, "params": document} for i, name in enumerate(names)]
+    return [question(name, uri, first + i) for i, name in enumerate(names)]
 
 
 def dialogue(rng, rounds, encoding):
     messages = [{"jsonrpc": "2.0", "id": -1, "method": "initialize", "params": {"capabilities": {"general": {"positionEncodings": [encoding]},
                                                               "textDocument": {"documentSymbol": {"hierarchicalDocumentSymbolSupport": True}}}}}]
-    number = 0
+    number, named = 0, 0
     for round in range(rounds):
-        text = random_text(rng, 30)
+        text = random_text(rng, 30) + "\n= Hi\n\na _b_\n" * rng.choice((0, 40))
         a, b = f"file:///{round}a", f"file:///{round}b"
         messages.append({"jsonrpc": "2.0", "method": "textDocument/didOpen", "params": {"textDocument": {"uri": a, "version": 0, "text": text}}})
+        messages.append(question("semanticTokens/full", a, f"{round}"))
         for version in range(rng.randrange(1, 6)):
             changes = []
             for _ in range(rng.randrange(1, 4)):
@@ -50,10 +55,23 @@ def dialogue(rng, rounds, encoding):
                 changes.append(change)
             messages.append({"jsonrpc": "2.0", "method": "textDocument/didChange",
                              "params": {"textDocument": {"uri": a, "version": version}, "contentChanges": changes}})
+            named += 1
+            messages.append(question("semanticTokens/full/delta", a, f"{round}-{version}", previousResultId=str(named)))
         messages.append({"jsonrpc": "2.0", "method": "textDocument/didOpen", "params": {"textDocument": {"uri": b, "version": version, "text": text}}})
         messages += questions(a, number) + questions(b, number + 3)
         number += 6
+        named += 3
     return messages + [{"jsonrpc": "2.0", "id": -2, "method": "shutdown"}, {"jsonrpc": "2.0", "method": "exit"}]
+
+
+def made_by_deltas(results, round):
+    """The tokens that a client has after the deltas of a round."""
+    data, version = results[f"{round}"]["data"], 0
+    while f"{round}-{version}" in results:
+        for edit in results[f"{round}-{version}"]["edits"]:
+            data[edit["start"]:edit["start"] + edit["deleteCount"]] = edit["data"]
+        version += 1
+    return data
 
 
 def main(program, rounds, seed):
@@ -74,6 +92,8 @@ def main(program, rounds, seed):
                 mine, other = results[6 * round + question], results[6 * round + 3 + question]
                 if question == 0:
                     mine, other = mine["data"], other["data"]
+                    made = made_by_deltas(results, round)
+                    assert made == other, (encoding, round, made, other)
                 assert mine == other, (encoding, round, question, mine, other)
             assert problems[f"file:///{round}a"] == problems[f"file:///{round}b"], (encoding, round)
         print(f"{encoding}: {rounds} rounds, all equal")

@@ -1,8 +1,12 @@
 -- What is known of documents, from a list of them to the next.
 use Rattle.std.proofs.Common.{◌≡◌, ℕ, ◌+◌, ◌<◌, ◌≤◌, List, [], ◌∷◌, ◌++◌, length, get_or, take, Bool, true, false, cond, not, Option, None, Some, option_map, option_and_then, inl, inr, refl, sym, ap, subst, ◌∙◌, arith, rules}
+use mathlib.Core.HLevel.{is_prop→PathP}
+use native.Mathlib.Nat.{ℕ_set}
 use Rattle.std.proofs.Math.ListN.{set}
+use Rattle.std.specs.Global.{Vec}
+use Rattle.std.specs.Vec.{with_item}
 use Rattle.std.proofs.lemmas.Bool.Decides.{nat_tests}
-use Rattle.std.proofs.lemmas.List.{take_all, take_more, take_more_set}
+use Rattle.std.proofs.lemmas.List.{length-set, set-get_or, take_all, take_more, take_more_set}
 use Rattle.std.proofs.lemmas.List.Folds.{find-append, find-set, find_at, find_past}
 use Rattle.std.proofs.lemmas.List.Quantifiers.{position-Some}
 use Rattle.std.proofs.lemmas.Option.{slice_get-get_or, slice_get_past}
@@ -19,11 +23,12 @@ use Rattle.typst_document.specs.Document.{Opened}
 use Rattle.typst_server.specs.Documents.{IsUnknown, Keeps, KeepsOthers, Knows, found, is_known, is_named, known}
 use Rattle.typst_protocol.specs.declared.refusal.Loss.{Loss}
 use Rattle.typst_server.specs.Left.{AreSame, AreUnknown, IsWarned, LosesNone}
-use Rattle.typst_server.specs.Sent.{IsKept, MayDrop, last_of}
+use Rattle.typst_server.specs.Sent.{IsKept, MayBeKept, MayDrop, last_of}
+use Rattle.typst_server.specs.Tracked.{Sent}
 use Rattle.typst_server.specs.declared.documents.Documents.{Documents}
 use Rattle.typst_server.specs.declared.documents.Entry.{Entry}
 use Rattle.typst_server.specs.declared.documents.Held.TheVariants.{Lost}
-use Rattle.typst_server.specs.declared.tokens.Sent.{Sent}
+use Rattle.typst_server.specs.declared.tracked.Fresh.{Fresh}
 
 -- ---- addresses
 
@@ -82,6 +87,20 @@ sets uri xs i d e h same = sets-named uri xs i d e h (ap (λ a. is_same uri (str
 -- an entry that was read is replaced by another one with its address
 pub sets-at : (uri : List ℕ) (xs : List Entry) (i : ℕ) (old new : Entry) → Some i ≡ position (is_named uri) xs → old ≡ get_or xs i old → new.uri ≡ old.uri → Sets uri xs (set xs i new) old new
 sets-at uri xs i old new h is same = subst (λ o. Sets uri xs (set xs i new) o new) (sym is) (sets uri xs i old new (sym h) (same ∙ ap (λ (e : Entry). e.uri) is))
+
+-- an entry in its own place leaves all as they are
+pub set-itself : (entries : Vec Entry) (i : ℕ) (entry : Entry) → entry ≡ get_or entries.items i entry → with_item entries i entry ≡ entries
+set-itself entries i entry is =
+    let same : set entries.items i entry ≡ entries.items = ap (set entries.items i) is ∙ set-get_or entries.items i entry in
+    λ j. record {
+      ptr = entries.ptr;
+      len = entries.len;
+      cap = entries.cap;
+      alloc = entries.alloc;
+      items = same j;
+      ok = (is_prop→PathP (λ k. entries.len ≡ length (same k)) (λ k. ℕ_set entries.len (length (same k))) (entries.ok.0 ∙ sym (length-set entries.items i entry)) entries.ok.0 j, entries.ok.1);
+      small = entries.small;
+    }
 
 -- the same where the address is written otherwise
 pub renames-at : (uri : List ℕ) (xs : List Entry) (i : ℕ) (old new : Entry) → Some i ≡ position (is_named uri) xs → old ≡ get_or xs i old → string_bytes new.uri ≡ uri → Sets uri xs (set xs i new) old new
@@ -316,14 +335,18 @@ keeps-set encoding step uri xs ys old new s h =
 pub knows-none : (encoding : Encoding) (text : Option (List ℕ)) (e : Option Entry) → e ≡ None → Knows encoding (shown e) text
 knows-none encoding text e h = subst (λ f. Knows encoding (shown f) text) (sym h) tt
 
-pub kept-set : (uri : List ℕ) (xs ys : List Entry) (old new : Entry) → Sets uri xs ys old new → (sent : Sent) → IsKept (Some (known old.held)) sent (last_of new.held)
-    → IsKept (shown (find (is_named uri) xs)) sent (option_and_then (λ entry. last_of entry.held) (find (is_named uri) ys))
-kept-set uri xs ys old new s sent h =
-    subst (λ e. IsKept (shown e) sent (option_and_then (λ entry. last_of entry.held) (find (is_named uri) ys))) (sym s.before)
-    (subst (λ e. IsKept (Some (known old.held)) sent (option_and_then (λ entry. last_of entry.held) e)) (sym s.behind) h)
+pub kept-set : (uri : List ℕ) (xs ys : List Entry) (old new : Entry) → Sets uri xs ys old new → (name : List ℕ) → IsKept (Some (known old.held)) name (last_of new.held)
+    → IsKept (shown (find (is_named uri) xs)) name (option_and_then (λ entry. last_of entry.held) (find (is_named uri) ys))
+kept-set uri xs ys old new s name h =
+    subst (λ e. IsKept (shown e) name (option_and_then (λ entry. last_of entry.held) (find (is_named uri) ys))) (sym s.before)
+    (subst (λ e. IsKept (Some (known old.held)) name (option_and_then (λ entry. last_of entry.held) e)) (sym s.behind) h)
 
-pub kept-none : (sent : Sent) (e : Option Entry) → e ≡ None → IsKept (shown e) sent (option_and_then (λ entry. last_of entry.held) e)
-kept-none sent e h = subst (λ f. IsKept (shown f) sent (option_and_then (λ entry. last_of entry.held) f)) (sym h) tt
+pub kept-none : (name : List ℕ) (e : Option Entry) → e ≡ None → IsKept (shown e) name (option_and_then (λ entry. last_of entry.held) e)
+kept-none name e h = subst (λ f. IsKept (shown f) name (option_and_then (λ entry. last_of entry.held) f)) (sym h) tt
+
+-- what may be kept of a document may be kept of its entry
+pub may-be : (uri : List ℕ) (xs ys : List Entry) (old new : Entry) → Sets uri xs ys old new → (fresh : Fresh) → MayBeKept (shown (find (is_named uri) xs)) fresh → MayBeKept (Some (known old.held)) fresh
+may-be uri xs ys old new s fresh h = subst (λ e. MayBeKept (shown e) fresh) s.before h
 
 pub others-sent : (uri : List ℕ) (xs ys : List Entry) (old new : Entry) → Sets uri xs ys old new → (other : List ℕ) → is_same uri other ≡ false
     → option_and_then (λ entry. last_of entry.held) (find (is_named other) ys) ≡ option_and_then (λ entry. last_of entry.held) (find (is_named other) xs)

@@ -5,7 +5,7 @@
 --   Server: the tokens kept                     Keeping: drops_none, same_sent; keeps_made, keeps_same: with a response
 --   begin, ask, ask_document                    Keeping: moves, stays, of_moves, of_nothing, of_sent, sent_stays; Responses: goes_on, gives_about, about_known, looked
 --   look_at, symbols (workspace)                Responses: looked_rest; of_named, of_unnamed
---   respond, answer_request                     Responses: responds_made, tells_made; responds-refused, tells-refusal; responds-memory, tells-memory
+--   make_response, answer_request               Responses: responds_made, tells_made; responds-refused, tells-refusal; responds-memory, tells-memory
 --   take_event                                  Taking: takes_closed, by Publishing: takes_news
 --   lose, closed                                Publishing: empties; told_news
 --   lost, emptied                               Taking: all_pushed
@@ -14,10 +14,18 @@
 --   Documents: enter, close                     Held: unknown-in, others-in, sent-in; none-left, others-left, drop-left
 --   Documents: lose_all, knows_any              Held: lost-more, lost-in, lost-sent-in; unknown-more, unknown-in-all
 --   Documents: open, make_all                   Held: knows-unknown; drop-both; Texts: Made, made-more, others-both: change by change
---   Tracked: tokens, changed                    KeptTokens: tokens_of; are_kept
---   tokens_after, renewed, all_tokens           KeptTokens: made_after; renewed_after, kept_if_made
---   encode                                      Encoding: token-added
---   numbers_of, all_numbers: read back          Decoding: tokens-back
+--   Tracked: tokens, since, keep                KeptTokens: at_hand; told_since; sent_kept
+--   Tracked: renew, changed                     KeptTokens: carried_stand, last_stays; stays_stand, dropped_stand
+--   Kept::after                                 KeptTokens: through_first, through_later
+--   carried_over                                KeptTokens: none_carried, all_carried, edits_carried_over
+--   after_edits                                 KeptTokens: edits_carried, by NumbersRenewed: numbers_renewed, by what these say:
+--     places in two texts                       SamePlaces: same_place, follows, first_line
+--     the tokens outside, as they are shown     SplicedTokens: front-shown, back-shown; SplicedNumbers: encoded-down
+--     two lists of numbers with the same ends   SplicedSent: numbers_stay; SameEnds: ends_of, ends_less, ends_both, ends_made
+--   renewed, all_tokens (tracked)               KeptTokens: renewed_present; made_present
+--   Encoder: add, all; numbers_of: read back    Encoding: token-added; Decoding: tokens-back
+--   encode_part                                 Sending: first_numbers, later_numbers
+--   to_send, update_since, changes_since, tell  Sending: told_tokens; all_update, changed_update; made_since; tells_all, tells_changes
 --   occurrences, occurrences_at                 Occurring: at_position; labels_stand, names_stand
 --   definition, references, highlights          Locating: told_at; located_more, located_all: range by range
 --   push_all, push_providers                    Growing: grows-more
@@ -32,9 +40,16 @@ mod Held
 mod Keeping
 mod KeptTokens
 mod Locating
+mod NumbersRenewed
 mod Occurring
 mod Publishing
 mod Responses
+mod SameEnds
+mod SamePlaces
+mod Sending
+mod SplicedNumbers
+mod SplicedSent
+mod SplicedTokens
 mod Taking
 mod Texts
 mod Transcripts

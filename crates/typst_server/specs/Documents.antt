@@ -18,7 +18,7 @@ use Rattle.typst_server.specs.declared.documents.Held.TheVariants.{Known, Lost}
 
 -- what is known of an open document
 abbrev pub known : Held → Option Opened
-known (Known document sent) = Some document
+known (Known document) = Some document.document
 known Lost = None
 
 -- an address is that of an open document if the two are the same decoded

@@ -9,7 +9,7 @@ use Rattle.typst_protocol.specs.declared.refusal.Refusal.{Refusal}
 use Rattle.typst_document.specs.Document.{Opened}
 use Rattle.typst_server.specs.Documents.{found}
 use Rattle.typst_server.specs.Results.{Answer}
-use Rattle.typst_server.specs.Sent.{HasSent, IsKept, IsSentAs, sent_of}
+use Rattle.typst_server.specs.Sent.{HasFresh, IsFresh, IsKept, MayBeKept, sent_of}
 use Rattle.typst_server.specs.Tokens.{AsksTokens, SameSent}
 use Rattle.typst_server.specs.declared.server.Effect.{Effect}
 use Rattle.typst_server.specs.declared.server.Effect.TheVariants.{Nothing, Moves, Sends}
@@ -38,12 +38,12 @@ IsLed (Ok standing) now result = IfOk result (λ made. standing_after made.effec
 
 -- the tokens of a document's present tree are sent under a number, and a client that asked for them by the address has them
 abbrev pub IsSentOf : Opened → ℕ → List ℕ → Effect → Type 0
-IsSentOf document number uri (Sends named sent) = (named.now ≡ uri) × IsSentAs document number sent
+IsSentOf document number uri (Sends named fresh) = (named.now ≡ uri) × IsFresh document number fresh
 IsSentOf document number uri _ = ⊥
 
 -- tokens are sent only where they are asked for: those of the document that the parameters name, under the next number
 abbrev pub SendsAsked : Server → Option Method → Option Data → Effect → Type 0
-SendsAsked now method params (Sends uri sent) = AsksTokens method × (parameters.uri params ≡ Some uri.now) × HasSent (found uri.now now.documents) now.next_number (Some sent)
+SendsAsked now method params (Sends uri fresh) = AsksTokens method × (parameters.uri params ≡ Some uri.now) × HasFresh (found uri.now now.documents) now.next_number fresh
 SendsAsked now method params _ = ⊤
 
 -- a value that is made sends tokens only so
@@ -52,8 +52,13 @@ IsOfTokens now method params result = IfOk result (λ made. SendsAsked now metho
 
 -- tokens that are sent are kept of their document, if it is known, and of no other one; else the same are kept
 abbrev pub IsTaken : Effect → Server → Server → Type 0
-IsTaken (Sends uri sent) old new =
+IsTaken (Sends uri fresh) old new =
     (new.next_number ≡ (old.next_number + 1) % 2 ^ 64)
-    × IsKept (found uri.now old.documents) sent (sent_of uri.now new.documents)
+    × IsKept (found uri.now old.documents) (string_bytes fresh.name) (sent_of uri.now new.documents)
     × ((other : List ℕ) → is_same uri.now other ≡ false → sent_of other new.documents ≡ sent_of other old.documents)
 IsTaken _ old new = SameSent old new
+
+-- tokens may be taken as those that were sent last if they are those of their document, or nothing is known of it
+abbrev pub MayBeTaken : Effect → Server → Type 0
+MayBeTaken (Sends uri fresh) now = MayBeKept (found uri.now now.documents) fresh
+MayBeTaken _ now = ⊤

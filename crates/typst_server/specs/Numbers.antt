@@ -7,7 +7,7 @@ use Rattle.typst_styles.specs.declared.styles.TokenKind.TheVariants as kind
 use Rattle.typst_styles.specs.declared.tokens.Token.{Token}
 use Rattle.typst_positions.specs.Positions.{position_of}
 use Rattle.typst_positions.specs.declared.columns.Encoding.{Encoding}
-use Rattle.typst_document.specs.Document.{Opened}
+use Rattle.typst_document.specs.Document.{Opened, all_bytes}
 use Rattle.typst_server.specs.declared.tokens.Encoder.{Encoder}
 
 -- the number of a type of token
@@ -91,6 +91,10 @@ five line column token =
 abbrev pub encoded : ℕ → ℕ → List Shown → List ℕ
 encoded line column [] = []
 encoded line column (token ∷ rest) = five line column token ++ encoded token.line token.column rest
+
+-- the numbers of all tokens of a document
+abbrev pub numbers_of : Opened → List ℕ
+numbers_of document = encoded 0 0 (all_shown document (all_bytes document))
 
 -- a token was added
 pub record IsAdded (old new : Encoder) (token : Shown) : Type 0 where

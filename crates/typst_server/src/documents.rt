@@ -4,13 +4,12 @@ ghost use Rattle.std.specs.String.{string_bytes};
 ghost use Rattle.serde_json.specs.View.{items_view, view};
 ghost use Rattle.typst_protocol.specs.Addresses.{is_same};
 ghost use Rattle.typst_protocol.specs.Parameters.{edit, edit_in};
-ghost use Rattle.typst_server.specs.Sent.{IsKept, KeepsSent, MayDrop, if_named, last_of, sent_of};
+ghost use Rattle.typst_server.specs.Sent.{IsKept, KeepsSent, MayBeKept, MayDrop, last_of, sent_of};
 ghost use Rattle.typst_server.specs.Documents as spec;
 ghost use Rattle.typst_server.specs.Documents.{IsMissing, IsUnknown, Keeps, KeepsOthers, Knows, after, found, is_named, known, next};
 ghost use Rattle.typst_server.specs.Left.{AreSame, AreUnknown};
 
-use crate::tokens::Sent;
-use crate::tracked::Tracked;
+use crate::tracked::{Fresh, Tracked};
 use serde_json::Value;
 use std::alloc::{AllocError, Global};
 use std::mem;
@@ -21,8 +20,8 @@ use typst_protocol::{Change, Refusal, is_same};
 /// What is known of an open document.
 #[derive(Drop)]
 pub enum Held {
-    /// Its text, and the tokens that were sent last.
-    Known(Tracked, Option<Sent>),
+    /// Its text, and how its tokens stand to those that were sent last.
+    Known(Tracked),
     /// Nothing, since a change of it was refused.
     Lost,
 }
@@ -82,13 +81,14 @@ impl Documents {
 
     /// The document with an address. It refuses where there is none, and where its text isn't known.
     pub fn get(&self, uri: &str) -> Result<&Tracked, Refusal>
-        ensures { MatchResult result (λ document. found uri.now self.now ≡ Some (Some document.now)) (IsMissing (found uri.now self.now)) }
+        ensures known { MatchResult result (λ document. found uri.now self.now ≡ Some (Some document.now.document)) (IsMissing (found uri.now self.now)) }
+        ensures sent { IfOk result (λ document. sent_of uri.now self.now ≡ document.now.sent) }
     {
         let Some(entry) = self.entry_of(uri) else {
             return Err(Refusal::BadParameters);
         };
         match &entry.held {
-            Held::Known(document, _) => Ok(document),
+            Held::Known(document) => Ok(document),
             Held::Lost => Err(Refusal::LostDocument),
         }
     }
@@ -119,7 +119,7 @@ impl Documents {
     pub fn all_known(&self) -> Result<Vec<(&str, &Document)>, AllocError> {
         let mut all = Vec::new(self.alloc);
         for entry in &self.entries {
-            if let Held::Known(document, _) = &entry.held {
+            if let Held::Known(document) = &entry.held {
                 all.push((entry.uri.as_str(), document.document()))?;
             }
         }
@@ -222,21 +222,25 @@ impl Documents {
         }
     }
 
-    /// The tokens that were sent last of a document, if that was under this name.
-    pub fn sent_as(&self, uri: &str, name: &str) -> Option<&Sent>
-        ensures { option_map (λ sent. sent.now) result ≡ if_named name.now (sent_of uri.now self.now) }
-    {
-        self.entry_of(uri)?.held.sent_as(name)
-    }
-
-    /// Keeps tokens of a document as those that were sent last.
-    pub fn keep(&mut self, uri: &str, sent: Sent)
+    /// Tokens of a document were sent. Those of one that is known are kept as the last ones.
+    pub fn keep(&mut self, uri: &str, fresh: Fresh)
+        requires { MayBeKept (found uri.now self.old) fresh }
         ensures known { AreSame self.old self.new }
-        ensures sent { IsKept (found uri.now self.old) sent (sent_of uri.now self.new) }
+        ensures sent { IsKept (found uri.now self.old) (string_bytes fresh.name) (sent_of uri.now self.new) }
         ensures others { (other : List ℕ) → is_same uri.now other ≡ false → sent_of other self.new ≡ sent_of other self.old }
     {
         if let Some(place) = self.place_of(uri) {
-            self.entries[place].keep(sent);
+            self.entries[place].keep(fresh);
+        }
+    }
+
+    /// Has the tokens of a document at hand, if its text is known.
+    pub fn renew_tokens(&mut self, uri: &str)
+        ensures { self.new ≡ self.old }
+    {
+        let alloc = self.alloc;
+        if let Some(place) = self.place_of(uri) {
+            self.entries[place].renew_tokens(alloc);
         }
     }
 
@@ -288,7 +292,7 @@ impl Entry {
         ensures { result ≡ spec.is_known (Some (known self.now.held)) }
     {
         match self.held {
-            Held::Known(_, _) => true,
+            Held::Known(_) => true,
             Held::Lost => false,
         }
     }
@@ -311,62 +315,56 @@ impl Entry {
         self.held = before.changed(alloc, change, encoding);
     }
 
-    /// Keeps tokens as those that were sent last.
-    fn keep(&mut self, sent: Sent)
+    /// Has the tokens at hand, if the text is known.
+    fn renew_tokens(&mut self, alloc: Global)
+        ensures { self.new ≡ self.old }
+    {
+        if let Held::Known(document) = &mut self.held {
+            document.renew(alloc);
+        }
+    }
+
+    /// Its tokens were sent.
+    fn keep(&mut self, fresh: Fresh)
+        requires { MayBeKept (Some (known self.old.held)) fresh }
         ensures uri { self.new.uri ≡ self.old.uri }
         ensures known { known self.new.held ≡ known self.old.held }
-        ensures sent { IsKept (Some (known self.old.held)) sent (last_of self.new.held) }
+        ensures sent { IsKept (Some (known self.old.held)) (string_bytes fresh.name) (last_of self.new.held) }
     {
-        if let Held::Known(document, last) = &mut self.held {
-            document.mark_sent();
-            *last = Some(sent);
+        if let Held::Known(document) = &mut self.held {
+            document.keep(fresh);
         }
     }
 }
 
 impl Held {
-    /// The tokens that were sent last, if that was under this name.
-    fn sent_as(&self, name: &str) -> Option<&Sent>
-        ensures { option_map (λ sent. sent.now) result ≡ if_named name.now (last_of self.now) }
-    {
-        let Held::Known(_, sent) = self else {
-            return None;
-        };
-        let sent = sent.as_ref()?;
-        if sent.name() == name {
-            Some(sent)
-        } else {
-            None
-        }
-    }
-
     /// What is known after a change: nothing where it is refused, or changes a text that isn't known.
     fn changed(self, alloc: Global, change: Change<'_>, encoding: Encoding) -> Held
         ensures known { Keeps encoding (λ text. next encoding text (Some (edit_in change.entry))) (Some (known self)) (Some (known result)) }
         ensures sent { MayDrop (last_of self) (last_of result) }
     {
         match self.after(alloc, change, encoding) {
-            Ok((document, sent)) => Held::Known(document, sent),
+            Ok(document) => Held::Known(document),
             Err(_) => Held::Lost,
         }
     }
 
-    /// The document after a change, with the tokens that were sent last.
+    /// The document after a change, with what is kept of the tokens that were sent last.
     fn after(
         self,
         alloc: Global,
         change: Change<'_>,
         encoding: Encoding,
-    ) -> Result<(Tracked, Option<Sent>), Refusal>
-        ensures known { IfOk result (λ kept. Keeps encoding (λ text. next encoding text (Some (edit_in change.entry))) (Some (known self)) (Some (Some kept.0))) }
-        ensures sent { IfOk result (λ kept. kept.1 ≡ last_of self) }
+    ) -> Result<Tracked, Refusal>
+        ensures known { IfOk result (λ kept. Keeps encoding (λ text. next encoding text (Some (edit_in change.entry))) (Some (known self)) (Some (Some kept.document))) }
+        ensures sent { IfOk result (λ kept. kept.sent ≡ last_of self) }
     {
         match self {
-            Held::Known(document, sent) => Ok((document.changed(alloc, change)?, sent)),
+            Held::Known(document) => Ok(document.changed(alloc, change)?),
             Held::Lost => match change {
                 Change::Whole(text) => {
                     let document = Document::new(alloc, text, encoding)?;
-                    Ok((Tracked::new(document), None))
+                    Ok(Tracked::new(document))
                 }
                 Change::Ranged(_, _) => Err(Refusal::LostDocument),
             },

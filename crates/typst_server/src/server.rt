@@ -9,7 +9,7 @@ ghost use Rattle.typst_server.specs.Answers.{IsAnswer, IsReplyTo, TakesEvent};
 ghost use Rattle.typst_protocol.specs.Parameters as parameters;
 ghost use Rattle.typst_protocol.specs.declared.method.Event.TheVariants as event;
 ghost use Rattle.typst_protocol.specs.declared.refusal.Loss.TheVariants as loss;
-ghost use Rattle.typst_server.specs.Made.{AnswersWith, IsOfTokens, IsSentOf, IsLed, IsTaken, answer_of, standing_after};
+ghost use Rattle.typst_server.specs.Made.{AnswersWith, IsOfTokens, IsSentOf, IsLed, IsTaken, MayBeTaken, answer_of, standing_after};
 ghost use Rattle.typst_server.specs.Left.{AreSame, AreUnknown, IsKnownAfter, IsLeftBy, IsTold, IsWarned, Leaves, loss_of};
 ghost use Rattle.typst_server.specs.Phases.{Responds, allowed, begun, leads, shut, status_of};
 ghost use Rattle.typst_server.specs.Results.{Gives, IsOf, Looks, Names, OfDocuments, Tells, said_of};
@@ -26,8 +26,7 @@ use crate::diagnostics::{ShownErrors, publish, publish_none, report};
 use crate::documents::Documents;
 use crate::reply::{News, Reply};
 use crate::requests::FoldingStyle;
-use crate::tokens::Sent;
-use crate::tracked::Tracked;
+use crate::tracked::{Fresh, Tracked};
 use crate::{actions, links, naming, outline, requests, showing, tokens, typing, workspace};
 use serde_json::Value;
 use std::alloc::{AllocError, Global};
@@ -72,8 +71,8 @@ enum Effect<'a> {
     Nothing,
     /// It stands there.
     Moves(Standing),
-    /// These tokens of a document are those that were sent last.
-    Sends(&'a str, Sent),
+    /// These tokens of a document were sent.
+    Sends(&'a str, Fresh),
 }
 
 /// The value that answers a request, as JSON, and what changes with it.
@@ -270,6 +269,22 @@ impl Server {
         ensures documents { AreSame self.old.documents self.new.documents }
         ensures tokens { MatchResult result (λ text. KeepsTokens self.old self.new (named methods method.now) (parameters.seen params.entry) id.now (string_bytes text)) (λ _. SameSent self.old self.new) }
     {
+        self.renew_tokens(method, params);
+        self.make_response(id, method, params)
+    }
+
+    /// The response to a request, for which tokens are at hand.
+    fn make_response(
+        &mut self,
+        id: &Id,
+        method: &str,
+        params: Params<'_>,
+    ) -> Result<String, AllocError>
+        ensures response { MatchResult result (λ text. Responds (allowed self.old.standing (named methods method.now) (parameters.seen params.entry)) self.old.standing self.new.standing id.now (string_bytes text)) (λ _. self.new.standing ≡ self.old.standing) }
+        ensures answer { IfOk result (λ text. Tells (Gives self.old.standing.phase self.old.standing.errors (named methods method.now) (parameters.seen params.entry) self.old.documents) id.now (string_bytes text)) }
+        ensures documents { AreSame self.old.documents self.new.documents }
+        ensures tokens { MatchResult result (λ text. KeepsTokens self.old self.new (named methods method.now) (parameters.seen params.entry) id.now (string_bytes text)) (λ _. SameSent self.old self.new) }
+    {
         let made = match self.value_for(method, params) {
             Ok(made) => made,
             Err(refusal) => return failure(self.alloc, id, refusal),
@@ -279,9 +294,21 @@ impl Server {
         Ok(text)
     }
 
+    /// Has all tokens of a document at hand, if a request asks for them.
+    fn renew_tokens(&mut self, method: &str, params: Params<'_>)
+        ensures { self.new ≡ self.old }
+    {
+        if let Some(Method::TokensFull | Method::TokensDelta) = Method::of(method) {
+            if let Ok(uri) = params.uri() {
+                self.documents.renew_tokens(uri);
+            }
+        }
+    }
+
     /// Makes what changes with an answer.
     #[tactic(auto, using(crate::proofs::Keeping::same_sent))]
     fn take(&mut self, effect: Effect<'_>)
+        requires { MayBeTaken effect self.old }
         ensures standing { self.new.standing ≡ standing_after effect.entry self.old.standing }
         ensures documents { AreSame self.old.documents self.new.documents }
         ensures tokens { IsTaken effect.entry self.old self.new }
@@ -291,9 +318,9 @@ impl Server {
             Effect::Moves(standing) => {
                 self.standing = standing;
             }
-            Effect::Sends(uri, sent) => {
+            Effect::Sends(uri, fresh) => {
                 self.next_number = self.next_number.wrapping_add(1);
-                self.documents.keep(uri, sent);
+                self.documents.keep(uri, fresh);
             }
         }
     }
@@ -415,17 +442,12 @@ impl Server {
         uri: &'a str,
         previous: Option<&str>,
     ) -> Result<Made<'a>, Refusal>
-        ensures { IfOk result (λ made. IsSentOf document.now self.now.next_number uri.now made.effect) }
+        ensures { IfOk result (λ made. IsSentOf document.now.document self.now.next_number uri.now made.effect) }
     {
-        let sent = tokens::fresh(self.alloc, document, self.next_number)?;
-        let last = match previous {
-            Some(name) => self.documents.sent_as(uri, name),
-            None => None,
-        };
-        let value = tokens::tell(self.alloc, &sent, last)?.text(self.alloc)?;
+        let (value, fresh) = tokens::to_send(self.alloc, document, self.next_number, previous)?;
         Ok(Made {
             value,
-            effect: Effect::Sends(uri, sent),
+            effect: Effect::Sends(uri, fresh),
         })
     }
 

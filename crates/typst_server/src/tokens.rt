@@ -1,34 +1,19 @@
 //! The tokens of a document: what of it is shown how.
-ghost use Rattle.std.specs.Prelude.{◌≡◌, ◌^◌, ◌<◌, [], length, IfOk, OnOk, option_map};
-ghost use Rattle.std.specs.String.{string_bytes};
-ghost use Rattle.typst_document.specs.Document.{all_bytes};
-ghost use Rattle.typst_server.specs.Sent.{AreAll, IsSentAs, Leads, TellsOf, made_by};
+ghost use Rattle.std.specs.Prelude.{◌≡◌, ℕ, ◌-◌, ◌*◌, ◌^◌, ◌<◌, ◌≤◌, ◌++◌, List, [], Option, Some, drop, length, take, IfOk, OnOk, option_map};
+ghost use Rattle.typst_document.specs.Document.{Opened};
+ghost use Rattle.typst_document.specs.Places.{IsPlaceOf};
+ghost use Rattle.typst_server.specs.Sent.{AreAll, IsFresh, IsUpdateOf, Leads, TellsOf, made_by, put_into};
 ghost use Rattle.typst_server.specs.Numbers.{IsAdded, all_shown, clipped, decoded, encoded, shown, shown_each};
+ghost use Rattle.typst_server.specs.Tracked.{AreTokens, IsSince, Sent, TellsSince, named_last};
 
 use crate::capabilities::{modifiers_of, number_of};
-use crate::tracked::Tracked;
+use crate::tracked::{Ends, Fresh, Tracked};
 use std::alloc::{AllocError, Global};
 use std::ops::Range;
 use typst_document::{Document, Walk};
 use typst_protocol::values::{Place, TokenChanges, TokenEdit, Tokens};
 use typst_protocol::{Params, Refusal, json_of};
-use typst_styles::{Token, edit_between, semantic_tokens};
-
-/// The tokens that were sent last, as changes of which new ones are sent.
-#[derive(Drop)]
-pub struct Sent {
-    name: String,
-    data: Vec<u32>,
-}
-
-impl Sent {
-    /// The name that they were sent under.
-    pub fn name(&self) -> &str
-        ensures { result.now ≡ string_bytes self.now.name }
-    {
-        self.name.as_str()
-    }
-}
+use typst_styles::{Token, semantic_tokens};
 
 /// The tokens of a document in the numbers of the protocol, five for each: lines and columns from the
 /// token before it on, its length, its type and its modifiers. Only those in some bytes count.
@@ -40,7 +25,8 @@ fn numbers_of(
     ensures numbers { IfOk result (λ numbers. numbers.items ≡ encoded 0 0 (all_shown document.now within.now)) }
     ensures decoded { length document.now.source.text < 2 ^ 32 → IfOk result (λ numbers. decoded 0 0 numbers.items ≡ all_shown document.now within.now) }
 {
-    let tokens = semantic_tokens(alloc, document.root(), document.text(), within)?;
+    let near = document.boundary();
+    let tokens = semantic_tokens(alloc, document.root(), document.text(), within, near)?;
     encode(alloc, document, tokens.as_slice())
 }
 
@@ -48,11 +34,26 @@ fn numbers_of(
 fn encode(alloc: Global, document: &Document, tokens: &[Token]) -> Result<Vec<u32>, AllocError>
     ensures { IfOk result (λ numbers. numbers.items ≡ encoded 0 0 (shown_each document.now.encoding document.now.source.text tokens.now)) }
 {
-    let mut encoder = Encoder::new(alloc, document);
-    for token in tokens {
-        encoder.add(token)?;
+    Encoder::new(alloc, document).all(tokens)
+}
+
+/// The numbers that some of the tokens of a document have among those of all.
+fn encode_part(
+    alloc: Global,
+    document: &Document,
+    tokens: &[Token],
+    start: usize,
+    end: usize,
+) -> Result<Vec<u32>, AllocError>
+    requires ordered { start ≤ end }
+    requires within { end ≤ length tokens.now }
+    ensures { IfOk result (λ numbers. numbers.items ≡ take (5 * (end - start)) (drop (5 * start) (encoded 0 0 (shown_each document.now.encoding document.now.source.text tokens.now)))) }
+{
+    let part = &tokens[start..end];
+    if start == 0 {
+        return encode(alloc, document, part);
     }
-    Ok(encoder.numbers)
+    Encoder::after(alloc, document, &tokens[start - 1]).all(part)
 }
 
 /// Tokens on their way into numbers.
@@ -77,6 +78,36 @@ impl<'a> Encoder<'a> {
             line: 0,
             column: 0,
         }
+    }
+
+    /// For those after a token.
+    fn after(alloc: Global, document: &'a Document, token: &Token) -> Encoder<'a>
+        ensures numbers { result.numbers.items ≡ [] }
+        ensures walk { result.walk ≡ document.now }
+        ensures place { IsPlaceOf document.now token.now.start (record { line = result.line; character = result.column }) }
+    {
+        let mut walk = Walk::new(document);
+        let Place {
+            line,
+            character: column,
+        } = walk.go_to(token.start);
+        Encoder {
+            numbers: Vec::new(alloc),
+            walk,
+            line,
+            column,
+        }
+    }
+
+    /// The numbers with those of some more tokens.
+    fn all(self, tokens: &[Token]) -> Result<Vec<u32>, AllocError>
+        ensures { IfOk result (λ numbers. numbers.items ≡ self.entry.numbers.items ++ encoded self.entry.line self.entry.column (shown_each self.entry.walk.encoding self.entry.walk.source.text tokens.now)) }
+    {
+        let mut encoder = self;
+        for token in tokens {
+            encoder.add(token)?;
+        }
+        Ok(encoder.numbers)
     }
 
     fn add(&mut self, token: &Token) -> Result<(), AllocError>
@@ -110,31 +141,144 @@ fn number(count: usize) -> u32
     u32::try_from(count).unwrap_or(u32::MAX)
 }
 
-/// All tokens of a document in these numbers: of those that are kept, or else they are made.
-fn all_numbers(alloc: Global, tracked: &Tracked) -> Result<Vec<u32>, AllocError>
-    ensures { length tracked.now.source.text < 2 ^ 32 → IfOk result (λ numbers. decoded 0 0 numbers.items ≡ all_shown tracked.now (all_bytes tracked.now)) }
+/// All tokens of a document, which are at hand unless memory was refused, as they are sent under a number, and the
+/// value that tells them to the client: as changes where `previous` names the ones that were sent last.
+pub fn to_send(
+    alloc: Global,
+    tracked: &Tracked,
+    number: u64,
+    previous: Option<&str>,
+) -> Result<(String, Fresh), Refusal>
+    ensures { IfOk result (λ told. IsFresh tracked.now.document number told.1) }
 {
-    let opened = tracked.document();
-    let _text = opened.text();
-    match tracked.tokens() {
-        Some(tokens) => encode(alloc, opened, tokens.as_slice()),
-        None => numbers_of(alloc, opened, &opened.whole()),
+    let name = format!(in alloc; "{number}")?;
+    let document = tracked.document();
+    let _text = document.text();
+    let Some(tokens) = tracked.tokens() else {
+        return Err(Refusal::OutOfMemory);
+    };
+    let tokens = tokens.as_slice();
+    let count = counted(tokens)?;
+    let value = value_of(alloc, tracked, tokens, previous, name.as_str())?;
+    Ok((value, Fresh { name, count }))
+}
+
+/// So many tokens have numbers that can be counted.
+const MOST: usize = usize::MAX / 5;
+
+/// How many tokens these are. It refuses where their numbers can't be counted.
+fn counted(tokens: &[Token]) -> Result<usize, AllocError>
+    ensures count { IfOk result (λ count. count ≡ length tokens.now) }
+    ensures few { IfOk result (λ count. 5 * count ≤ 2 ^ 64 - 1) }
+{
+    let count = tokens.len();
+    if MOST < count {
+        return Err(AllocError);
+    }
+    Ok(count)
+}
+
+/// The value that tells all tokens of a document to the client.
+fn value_of(
+    alloc: Global,
+    tracked: &Tracked,
+    tokens: &[Token],
+    previous: Option<&str>,
+    name: &str,
+) -> Result<String, Refusal>
+    requires { AreTokens tracked.now.document (Some tokens.now) }
+{
+    let update = update_of(alloc, tracked, tokens, previous)?;
+    tell(alloc, &update, name)?.text(alloc)
+}
+
+/// The numbers that are sent of tokens.
+#[derive(Drop)]
+struct Update {
+    /// Which of those that were sent last give way to them. Otherwise they are all.
+    gap: Option<Gap>,
+    numbers: Vec<u32>,
+}
+
+/// Some of the numbers that were sent last.
+#[derive(Clone, Copy)]
+struct Gap {
+    start: usize,
+    removed: usize,
+}
+
+/// The numbers that are sent of all tokens of a document: where `previous` names the ones that were sent last
+/// those that make the present ones of these.
+fn update_of(
+    alloc: Global,
+    tracked: &Tracked,
+    tokens: &[Token],
+    previous: Option<&str>,
+) -> Result<Update, AllocError>
+    requires { AreTokens tracked.now.document (Some tokens.now) }
+    ensures { IfOk result (λ update. IsUpdateOf (named_last (option_map (λ name. name.now) previous.entry) tracked.now.sent) tracked.now.document update) }
+{
+    let since = ends_since(tracked, previous);
+    update_since(alloc, tracked.document(), tokens, since)
+}
+
+/// How the tokens of a document stand to those that were sent last, if `previous` names them.
+fn ends_since(tracked: &Tracked, previous: Option<&str>) -> Option<Ends>
+    ensures { TellsSince tracked.now.document (named_last (option_map (λ name. name.now) previous.entry) tracked.now.sent) result }
+{
+    match previous {
+        Some(name) => tracked.since(name),
+        None => None,
     }
 }
 
-/// The tokens of a document, to be sent under a number.
-pub fn fresh(alloc: Global, document: &Tracked, number: u64) -> Result<Sent, AllocError>
-    ensures { IfOk result (IsSentAs document.now number) }
+/// The numbers that are sent of all tokens of a document, by how these stand to the ones that were sent last.
+fn update_since(
+    alloc: Global,
+    document: &Document,
+    tokens: &[Token],
+    since: Option<Ends>,
+) -> Result<Update, AllocError>
+    requires { AreTokens document.now (Some tokens.now) }
+    ensures { IfOk result (λ update. (last : Option Sent) → TellsSince document.now last since → IsUpdateOf last document.now update) }
 {
-    Ok(Sent {
-        name: format!(in alloc; "{number}")?,
-        data: all_numbers(alloc, document)?,
+    match since {
+        Some(ends) => changes_since(alloc, document, tokens, ends),
+        None => {
+            let numbers = encode(alloc, document, tokens)?;
+            Ok(Update { gap: None, numbers })
+        }
+    }
+}
+
+/// The numbers of what stands between these ends.
+fn changes_since(
+    alloc: Global,
+    document: &Document,
+    tokens: &[Token],
+    ends: Ends,
+) -> Result<Update, AllocError>
+    requires { AreTokens document.now (Some tokens.now) }
+    ensures { IfOk result (λ update. (last : Sent) → IsSince document.now last.of ends → IsUpdateOf (Some last) document.now update) }
+{
+    let len = tokens.len();
+    let most = ends.count.min(len);
+    let front = ends.front.min(most);
+    let back = ends.back.min(most - front);
+    let numbers = encode_part(alloc, document, tokens, front, len - back)?;
+    let gap = Gap {
+        start: front.saturating_mul(5),
+        removed: (ends.count - front - back).saturating_mul(5),
+    };
+    Ok(Update {
+        gap: Some(gap),
+        numbers,
     })
 }
 
 /// What is sent for tokens.
 #[derive(Drop)]
-pub enum Told<'a> {
+enum Told<'a> {
     /// All.
     All(Tokens<'a>),
     /// What has changed since others were sent.
@@ -143,7 +287,7 @@ pub enum Told<'a> {
 
 impl Told<'_> {
     /// The answer with it, as JSON.
-    pub fn text(&self, alloc: Global) -> Result<String, Refusal> {
+    fn text(&self, alloc: Global) -> Result<String, Refusal> {
         match self {
             Told::All(tokens) => json_of(alloc, tokens),
             Told::Changes(changes) => json_of(alloc, changes),
@@ -152,55 +296,62 @@ impl Told<'_> {
 }
 
 /// What is sent for tokens: the changes if the client has the last ones, otherwise all.
-pub fn tell<'a>(alloc: Global, sent: &'a Sent, last: Option<&Sent>) -> Result<Told<'a>, AllocError>
-    ensures { IfOk result (TellsOf (option_map (λ sent. sent.now) last.entry) sent.now) }
+fn tell<'a>(alloc: Global, update: &'a Update, name: &'a str) -> Result<Told<'a>, AllocError>
+    ensures { IfOk result (λ told. (last : Option Sent) (document : Opened) → IsUpdateOf last document update.now → TellsOf last document name.now told) }
 {
-    match last {
-        Some(last) => Ok(Told::Changes(changes_between(alloc, last, sent)?)),
-        None => Ok(Told::All(all_of(sent))),
+    let numbers = update.numbers.as_slice();
+    match update.gap {
+        Some(gap) => {
+            let changes = changes_by(alloc, gap, numbers, name)?;
+            Ok(Told::Changes(changes))
+        }
+        None => Ok(Told::All(all_of(numbers, name))),
     }
 }
 
 /// All tokens, with the name of them.
-fn all_of(sent: &Sent) -> Tokens<'_>
-    ensures { AreAll result sent.now }
+fn all_of<'a>(numbers: &'a [u32], name: &'a str) -> Tokens<'a>
+    ensures { AreAll result name.now numbers.now }
 {
     Tokens {
-        result_id: Some(sent.name()),
-        data: sent.data.as_slice(),
+        result_id: Some(name),
+        data: numbers,
     }
 }
 
-/// What changes from the tokens that were sent last to those that are sent now.
-fn changes_between<'a>(
+/// What changes where numbers take the place of others.
+fn changes_by<'a>(
     alloc: Global,
-    last: &Sent,
-    sent: &'a Sent,
+    gap: Gap,
+    numbers: &'a [u32],
+    name: &'a str,
 ) -> Result<TokenChanges<'a>, AllocError>
-    ensures { IfOk result (λ changes. Leads last.now.data.items changes sent.now) }
+    ensures { IfOk result (λ changes. (old : List ℕ) → Leads old changes name.now (put_into gap numbers.now old)) }
 {
+    let edits = edits_by(alloc, gap, numbers)?;
     Ok(TokenChanges {
-        result_id: sent.name(),
-        edits: edits_between(alloc, last.data.as_slice(), sent.data.as_slice())?,
+        result_id: name,
+        edits,
     })
 }
 
-/// The edits that make new numbers of old ones: one where they differ.
-fn edits_between<'a>(
+/// The edits that put numbers in the place of others: one, unless there are neither.
+fn edits_by<'a>(
     alloc: Global,
-    old: &[u32],
-    new: &'a [u32],
+    gap: Gap,
+    numbers: &'a [u32],
 ) -> Result<Vec<TokenEdit<'a>>, AllocError>
-    ensures { IfOk result (λ edits. made_by edits.items old.now ≡ new.now) }
+    ensures { IfOk result (λ edits. (old : List ℕ) → made_by edits.items old ≡ put_into gap numbers.now old) }
 {
     let mut edits = Vec::new(alloc);
-    let Some(edit) = edit_between(old, new) else {
+    let changed = gap.removed.max(numbers.len());
+    if changed == 0 {
         return Ok(edits);
-    };
+    }
     edits.push(TokenEdit {
-        start: edit.start,
-        delete_count: edit.removed,
-        data: &new[edit.inserted.start..edit.inserted.end],
+        start: gap.start,
+        delete_count: gap.removed,
+        data: numbers,
     })?;
     Ok(edits)
 }

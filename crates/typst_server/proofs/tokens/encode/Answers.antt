@@ -1,13 +1,11 @@
-use Rattle.std.proofs.Common.{◌∙◌}
-use Rattle.typst_server.proofs.Encoding.{token-added}
+use Rattle.std.proofs.Common.{◌++◌, ◌∙◌}
+use Rattle.typst_server.proofs.Encoding.{if-ok}
 use Rattle.typst_server.proofs.tokens.encode.Goals as goal
+use Rattle.typst_server.specs.Numbers.{encoded, shown_each}
 
-pub loop-token-preserved : goal.loop-token-preserved
-loop-token-preserved c =
-    let so_far = c.loop-token.invariant in
-    record {
-      walk = c.add.ensures.walk ∙ so_far.walk;
-      added =
-          token-added c.args.document.now c.args.tokens.now c.loop-token.token-index _ c.loop-token.encoder c.add.new.self _ c.loop-token-test.true so_far.walk
-          c.in_ok-add.ensures.added so_far.added;
-    }
+pub returns : goal.returns
+returns c =
+    let start = c.new.ensures in
+    let at = start.start in
+    let tokens = c.args.tokens.now in
+    if-ok c.all.result _ _ (λ numbers is. is ∙ (λ i. start.numbers i ++ encoded (at.0 i) (at.1 i) (shown_each (start.walk i).encoding (start.walk i).source.text tokens))) c.all.ensures

@@ -1,16 +1,16 @@
-use Rattle.std.proofs.Common.{Some, arith}
+use Rattle.std.proofs.Common.{None, length, refl, sym, ◌∙◌}
 use Rattle.typst_styles.specs.Renewed.{AreRenewed}
-use Rattle.typst_server.proofs.KeptTokens.{kept_if_made, renewed_after}
+use Rattle.typst_server.specs.declared.tracked.Kept.{Kept}
+use Rattle.typst_server.proofs.KeptTokens.{made_if, renewed_present}
 use Rattle.typst_server.proofs.tracked.renewed.Goals as goal
-use Rattle.typst_server.specs.Tracked.{AreTokensAfter}
 
 pub returns : goal.returns
 returns c =
-    let new = c.args.document.now in
     let text = c.text-text.result.now in
     let root = c.root-root.result.now in
-    let read = c.args.read.now in
-    let window = c.token_window-window.result in
-    let was = c.args.kept.items in
-    kept_if_made c.renewed_tokens.result c.ok.result (AreRenewed text root window was c.args.was_len) (AreTokensAfter new (Some read) (Some was) c.args.was_len) c.ok.ensures.value tt
-    (λ tokens renewed. renewed_after new text root read window was c.args.was_len tokens c.text-text.ensures c.root-root.ensures.value (omega arith) (omega arith) c.token_window-window.ensures renewed) c.renewed_tokens.ensures
+    let window = c.args.window.now in
+    let was = c.args.was.items in
+    let kept : Kept = record { tokens = c.in_ok-tokens.tokens; was_len = length text; read = None } in
+    let renewed : AreRenewed text root window was c.args.was_len kept.tokens.items =
+    made_if c.renewed_tokens.result c.in_ok-tokens.tokens (AreRenewed text root window was c.args.was_len) (sym c.ok.ensures.value ∙ c.in_ok-tokens.was) c.renewed_tokens.ensures in
+    renewed_present c.args.document.now text root window was c.args.was_len kept c.text-text.ensures c.root-root.ensures.value renewed refl refl

@@ -3,9 +3,9 @@ use Rattle.std.specs.String.{string_bytes}
 use Rattle.typst_protocol.specs.Bodies.{success}
 use Rattle.typst_protocol.specs.Methods.{methods, named}
 use Rattle.typst_protocol.specs.Parameters as parameters
-use Rattle.typst_server.proofs.Keeping.{keeps_made, keeps_same}
+use Rattle.typst_server.proofs.Keeping.{keeps_made, keeps_same, may_be_taken}
 use Rattle.typst_server.proofs.Responses.{responds-refused, responds_made, tells-refusal, tells_made}
-use Rattle.typst_server.proofs.server.Server.respond.Goals as goal
+use Rattle.typst_server.proofs.server.Server.make_response.Goals as goal
 use Rattle.typst_server.specs.Phases.{allowed}
 use Rattle.typst_server.specs.Results.{Gives}
 
@@ -21,6 +21,9 @@ returns-in-Err-clause-answer c =
 
 pub returns-in-Err-clause-tokens : goal.returns-in-Err-clause-tokens
 returns-in-Err-clause-tokens c = keeps_same c.args.self.now (named methods c.args.method.now) (parameters.seen c.args.params) c.args.id.now c.failure.result
+
+pub take-requires : goal.take-requires
+take-requires c = may_be_taken c.args.self.now (named methods c.args.method.now) (parameters.seen c.args.params) c.in-Ok.made.effect c.in-Ok.ensures.tokens
 
 pub returns-clause-response : goal.returns-clause-response
 returns-clause-response c =
