@@ -1,32 +1,20 @@
 -- The tree of an edit's answer.
 use Rattle.std.proofs.Common.{◌≡◌, ℕ, ◌^◌, Bool, true, false, IsTrue, List, [], ◌∷◌, ◌++◌, Option, Some, None, refl, ap, sym, ◌∙◌, subst}
-use Rattle.std.specs.Prelude.{◌-◌, nat_le, if◌then◌else◌}
-use Rattle.typst_kinds.specs.Span.{SpanValue}
-use Rattle.typst_kinds.specs.Head.{bare_head, spanned}
-use Rattle.typst_lines.specs.Classes.{CharClasses}
-use Rattle.typst_tree.specs.Tree.{Tree, Forest, none, more, bare, bare_forest, with_each, synthesized, nodes}
+use Rattle.typst_edits.proofs.Words.{nat_le, if◌then◌else◌, CharClasses, Tree, Forest, none, more, bare, bare_forest, put_at, width, Candidate, tree, log, Among, this, that, top, of_block, of_pieces, OpensApartLaw, listed, SpanValue, bare_head, part}
+use Rattle.std.specs.Prelude.{◌-◌}
+use Rattle.typst_tree.specs.Tree.{with_each, synthesized, nodes}
+use Rattle.typst_edits.specs.Frame.{inner}
+use Rattle.typst_kinds.specs.Head.{spanned}
+use Rattle.typst_edits.specs.Answer.IsAnswer.{whole}
 use Rattle.typst_tree.specs.Numbers.{numbered}
-use Rattle.typst_tree.specs.Laws.{put_at}
 use Rattle.typst_tree.proofs.Numbering.{numbered_bare}
-use Rattle.typst_tokens.specs.Sight.{width}
-use Rattle.typst_candidates.specs.Candidates.{Candidate}
-use Rattle.typst_grammar.specs.Grammar.{tree, log}
 use Rattle.typst_edits.specs.Answer.{numbered_in, file_of}
-use Rattle.typst_edits.specs.Answer.IsAnswer.{part, whole}
 use Rattle.typst_edits.specs.AnswerTree.{GivesTreeLaw, AnswerTreeLaw}
-use Rattle.typst_edits.specs.Edit.{Among}
-use Rattle.typst_edits.specs.Edit.Among.{this, that}
-use Rattle.typst_edits.specs.Frame.{top, inner, of_block, of_pieces}
-use Rattle.typst_edits.specs.OpensApart.{OpensApartLaw}
-use Rattle.typst_edits.specs.PieceNotes.{listed}
-use Rattle.typst_edits.proofs.BlockWorth.{block-tree}
+use Rattle.typst_edits.proofs.CandidateWorth.{block-tree, in-order, one-child, reached, tree-inner}
 use Rattle.typst_edits.proofs.CandidatePlaces.{candidate-tree-law}
-use Rattle.typst_edits.proofs.CandidateWorth.{in-order, one-child, reached, tree-inner}
-use Rattle.typst_edits.proofs.InnerCandidates.{inner-candidate-law}
-use Rattle.typst_edits.proofs.InnerPieces.{inner-pieces-law}
+use Rattle.typst_edits.proofs.RunCandidates.{inner-candidate-law, root-candidate-law}
+use Rattle.typst_edits.proofs.RunPieces.{inner-pieces-law, root-pieces-law}
 use Rattle.typst_edits.proofs.Replaced.{put-law}
-use Rattle.typst_edits.proofs.RootCandidates.{root-candidate-law}
-use Rattle.typst_edits.proofs.RootPieces.{root-pieces-law}
 pub use Rattle.std.proofs.lemmas.Option.{same_Some as some-is}
 
 -- ---- a candidate's tree
@@ -72,14 +60,10 @@ chosen-of {X = X} xs earlier c later e = subst (λ ys. Among c ys) (sym e) (in-f
     in-front [] = this later
     in-front (y ∷ ys) = that y (ys ++ c ∷ later) (in-front ys)
 
--- A tree that is a text's, spans aside, is an inner node.
-inner-as : (k : CharClasses) (text : List ℕ) (root : Tree) → bare root ≡ bare (tree k text) → IsTrue root.head.is_inner
-inner-as k text root e = subst (λ (b : Bool). IsTrue b) (sym (ap (λ (t : Tree). t.head.is_inner) e)) (tree-inner k text)
-
 pub answer-tree-law : OpensApartLaw → AnswerTreeLaw
 answer-tree-law apart k front old new rest root now range same (part earlier c later ts split refused gives is start end) =
     let text = front ++ (old ++ rest) in
     let chosen = chosen-of _ earlier c later split in
-    candidate-tree-law (listed (log k text).notes) (width front) (width (front ++ old)) c ts root (tree k text) now (inner-as k text root same) (in-order front old) chosen same is
+    candidate-tree-law (listed (log k text).notes) (width front) (width (front ++ old)) c ts root (tree k text) now (subst (λ (b : Bool). IsTrue b) (sym (ap (λ (t : Tree). t.head.is_inner) same)) (tree-inner k text)) (in-order front old) chosen same is
     ∙ ap bare (sym (gives-tree-law apart k front old new rest root c ts same chosen gives ∙ put-law c.path c.from c.to ts (tree k text)))
 answer-tree-law apart k front old new rest root now range same (whole refused is bytes) = numbered-bare (file_of root) (tree k (front ++ (new ++ rest))) now is

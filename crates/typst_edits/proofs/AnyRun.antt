@@ -1,53 +1,25 @@
 -- What the entries say of a candidate that is pieces of a run, and a reading that begins with one candidate and serves another one: for any run.
 use Rattle.std.proofs.Common.{◌≡◌, ◌⊎◌, inl, inr, ◌↔◌, ℕ, zero, suc, ◌+◌, ◌-◌, ◌<◌, ◌≤◌, ◌==◌, ne_eqb, if◌then◌else◌, min, Bool, true, false, List, ◌++◌, length, take, length-append, Option, None, Some, refl, ap, sym, ◌∙◌, subst, arith, lt_of_not-le}
-use Rattle.std.proofs.lemmas.Bool.{eqb-true, eqb-false}
-use Rattle.std.proofs.lemmas.List.{take-append-le}
+use Rattle.typst_edits.proofs.Words.{eqb-true, eqb-false, take-append-le, Place, moved, CharClasses, Tree, bare, text_of, replaced_at, width, position, Trivia, gap_of, Note, ahead-left, Entry, EntryKind, Candidate, begins, entries_by, units_of, spliced, RunKind, start_of, log, tree, entries_in, front_in, rear_in, IsPieces, text_with, Run, read_as, opened_by, end_by, cut_at, is_over, nodes_now, Agrees, Before, After, PassesPieces, Gives, of_pieces, path_to, bytes_of, TakesNone, ServesMore, listed, StandsAt, AllGo, End, notes_by, IsLast, BeginsAt, FoundRun, reading_on, nodes_by, SaysPiece, PassesRead, Sequence, first_of, first_end, then_of, then_end, then_place, entries_from, run_level, stops_of, end_on, kids_of_run, run_from, StandsBetween, Served}
+use Rattle.typst_language.proofs.Places.{moved-min}
+use Rattle.typst_edits.specs.RunTest.{Reading, read_by, carried_by, byte_after, Ends, LooksFrom, Meets}
+use Rattle.typst_edits.specs.Served.{MeetsOn, PassesOn, reading_of}
 use Rattle.std.specs.List.{slice_get}
-use Rattle.typst_lines.specs.Place.{Place, moved}
-use Rattle.typst_lines.specs.Classes.{CharClasses}
-use Rattle.typst_tree.specs.Tree.{Tree, bare, text_of}
-use Rattle.typst_tree.specs.Replace.{replaced_at}
-use Rattle.typst_tokens.specs.Sight.{width, position}
-use Rattle.typst_language.specs.Point.{Trivia, gap_of}
-use Rattle.typst_language.specs.declared.calls.Note.{Note}
-use Rattle.typst_language.proofs.Places.{moved-min, ahead-left}
-use Rattle.typst_candidates.specs.declared.entry.Entry.{Entry}
-use Rattle.typst_candidates.specs.declared.entry.EntryKind.{EntryKind}
 use Rattle.typst_candidates.specs.declared.entry.EntryKind.TheVariants as entry_kind
-use Rattle.typst_candidates.specs.Candidates.{Candidate, begins}
 use Rattle.typst_candidates.proofs.Edges.{begins_order}
-use Rattle.typst_candidates.specs.Entries.{entries_by, units_of, spliced}
-use Rattle.typst_grammar.specs.declared.part.RunKind.{RunKind}
 use Rattle.typst_grammar.specs.declared.part.RunKind.TheVariants as of
-use Rattle.typst_grammar.specs.Grammar.{start_of, log, tree}
-use Rattle.typst_grammar.specs.Pieces.{run_level, stops_of, end_on}
-use Rattle.typst_edits.specs.BlockTest.{entries_in, front_in, rear_in}
-use Rattle.typst_edits.specs.CandidateRuns.{IsPieces}
-use Rattle.typst_edits.specs.Edit.{text_with}
-use Rattle.typst_edits.specs.Frame.{Run, read_as, opened_by, end_by, cut_at, is_over, nodes_now, path_to, Agrees, Before, After, PassesPieces, Gives, of_pieces}
 use Rattle.typst_edits.specs.Joint.{Meets as MeetsAfter}
-use Rattle.typst_edits.specs.KeptNodes.{kids_of_run, run_from, StandsBetween}
-use Rattle.typst_edits.specs.Leading.{bytes_of}
-use Rattle.typst_edits.specs.OneReading.{TakesNone, ServesMore}
-use Rattle.typst_edits.specs.PieceNotes.{listed}
-use Rattle.typst_edits.specs.RootPieces.{StandsAt}
-use Rattle.typst_edits.specs.Runs.{AllGo, End}
-use Rattle.typst_edits.specs.RunTest.{Reading, reading_on, read_by, carried_by, byte_after, nodes_by, notes_by, SaysPiece, IsLast, BeginsAt, Ends, LooksFrom, Meets, PassesRead, FoundRun}
 use Rattle.typst_edits.specs.RunTest.Ends.{some as apart, none as at_once}
 use Rattle.typst_edits.specs.RunTest.LooksFrom.{pieces as from_pieces, closing as from_closing, nothing as from_nothing}
-use Rattle.typst_edits.specs.Sequence.{Sequence, first_of, first_end, then_of, then_end, then_place}
-use Rattle.typst_edits.specs.Served.{MeetsOn, PassesOn, reading_of, Served}
-use Rattle.typst_edits.specs.Splice.{entries_from}
 use Rattle.typst_edits.proofs.BlockPlaces.{take-same}
 use Rattle.typst_edits.proofs.BlockTest.{byte-of, byte-at}
 use Rattle.typst_edits.proofs.Boundary.{KnownAt}
 use Rattle.typst_edits.proofs.CandidateEnds.{child-at, stands, from-there, from-full, from-early, to-late, some-by}
 use Rattle.typst_edits.proofs.EntryNumbers.{some-number}
-use Rattle.typst_edits.proofs.KeptNodes.{put-behind-law}
+use Rattle.typst_edits.proofs.OneReading.{put-behind-law, first-split, end-split-at, later-place, go-first, go-second, go-both, one-reading-law}
 use Rattle.typst_edits.proofs.MarkupCandidates.{OfStretch}
-use Rattle.typst_edits.proofs.NoteNumbers.{less-than, neither, take-longer}
-use Rattle.typst_edits.proofs.OneReading.{first-split, end-split-at, later-place, go-first, go-second, go-both, one-reading-law}
-use Rattle.typst_edits.proofs.RootPieces.{take-past}
+use Rattle.typst_edits.proofs.NumberedNotes.{less-than, neither, take-longer}
+use Rattle.typst_edits.proofs.RunPieces.{take-past}
 use Rattle.typst_edits.proofs.RunOver.{ends-in}
 use Rattle.typst_edits.proofs.Widths.{width-append}
 use Rattle.typst_edits.proofs.Every.{some_or, not-less}
@@ -92,11 +64,6 @@ module _ (front old : List ℕ) (at : ℕ) (ts : List Tree) (c d : Candidate) (s
 pub seat-stands : (front old : List ℕ) (at : ℕ) (ts : List Tree) (c : Candidate) → Seated front old at ts c → 0 < c.from → StandsAt at ts c.from c.start
 seat-stands front old at ts c s some = subst (λ b. StandsAt at ts c.from b) (sym s.begin) (stands at ts c.from (child-at at ts c.from (s.there some)) (s.full some))
 
--- Two candidates that begin at one byte begin with the same child.
-pub one-seat : (front old : List ℕ) (at : ℕ) (ts : List Tree) (c d : Candidate) → Seated front old at ts c → Seated front old at ts d → c.start ≡ d.start → (0 < c.from ↔ 0 < d.from) → c.from ≡ d.from
-one-seat front old at ts c d s o same both =
-    neither c.from d.from (λ l. not-before front old at ts c d s o same (both.1 (omega (arith, l))) l) (λ l. not-before front old at ts d c o s (sym same) (both.0 (omega (arith, l))) l)
-
 -- ---- what entries say
 
 abbrev line_in : Bool → EntryKind → Bool
@@ -110,13 +77,6 @@ says-once es a b x y s o e =
     let line : x.0 ≡ y.0 = ap (line_in x.0) (sym s.kind ∙ ap (λ (n : Entry). n.kind) same ∙ o.kind) in
     let count : x.1 ≡ y.1 = sym s.count ∙ ap (λ (n : Entry). n.count) same ∙ o.count in
     (λ j. (line j, count j))
-
--- Where as many bytes were passed is the same place.
-one-place : (a b : ℕ) (text : List ℕ) → b ≤ length text → position (moved a (start_of text)) ≡ width (take b text) → moved a (start_of text) ≡ moved b (start_of text)
-one-place a b text l e =
-    let there = moved-min a (start_of text) in
-    let same = take-same (min a (length text)) b text (omega arith) l (sym (byte-at (min a (length text)) text) ∙ ap position there ∙ e) in
-    sym there ∙ ap (λ n. moved n (start_of text)) same
 
 pub entries-listed : (at : ℕ) (ns : Option (List Note)) → entries_from at ns ≡ entries_by at (listed ns)
 entries-listed at None = refl
@@ -329,17 +289,11 @@ module _ (k : CharClasses) (front old new rest : List ℕ) (r : Run k (front ++ 
         let cut : width (take (cut_at r i z) text) ≡ width (take (cut_at r j z) text) = sym f.start ∙ g.start in
         neither i j (λ l. (let rise = e.cuts i j l g.go in omega (arith, rise, cut))) (λ l. (let rise = e.cuts j i l f.go in omega (arith, rise, cut)))
 
-    same-past : past ≡ far
-    same-past =
-        let a = width-append front (old ++ take past rest) in
-        let b = width-append old (take past rest) in
-        let d = width-append front (old ++ take far rest) in
-        take-same past far rest (room-by e.within c i n past t f early) (room-by e.within c j m far u g early) (omega (arith, a, b, d, width-append old (take far rest), f.end, g.end))
-
     pub one-span : span i n past t ≡ span j m far u
     one-span =
         let first = same-first in
-        let room = same-past in
+        let room : past ≡ far = take-same past far rest (room-by e.within c i n past t f early) (room-by e.within c j m far u g early)
+        (omega (arith, width-append front (old ++ take past rest), width-append old (take past rest), width-append front (old ++ take far rest), width-append old (take far rest), f.end, g.end)) in
         let there : FoundHere c i m past u = subst (λ a. FoundHere c i m a u) (sym room) (subst (λ a. FoundHere c a m far u) (sym first) g) in
         let count : n ≡ m = e.counts i n m f.go f.go_on there.go_on (omega (arith, f.ends, there.ends, ap gap_of f.known, ap gap_of there.known)) in
         let trivia : t ≡ u = ap (some_or t) (sym f.known ∙ ap (λ a. (then_end i a q).state.known) count ∙ there.known) in
@@ -371,9 +325,6 @@ module _ (k : CharClasses) (front old new rest : List ℕ) (r : Run k (front ++ 
         let count : 0 ≡ e.count = eqb-true 0 e.count over in
         subst (λ j. IsLast es (e.number j)) (sym count ∙ sym alone.0) e.last
 
-    some-more : (IsLast es (e.number i) → ⊥) → 0 < n
-    some-more f = some-by n (λ none. f (none-last none))
-
     none-more : IsLast es (e.number i) → n ≡ 0
     none-more last = by n refl
       where
@@ -381,14 +332,8 @@ module _ (k : CharClasses) (front old new rest : List ℕ) (r : Run k (front ++ 
         by zero is = is
         by (suc m) is = let all = fits in absurd (e.not_last i (omega (arith, all, is)) last)
 
-    -- where its end is by characters
-    end-chars : 0 < i + n → cut_at r (i + n) z ≡ (length front + length old) + past
-    end-chars some =
-        let split = end-split-at q i n in
-        omega (arith, ap (λ (u : End (Bool × ℕ)). u.taken) split, ap (λ (u : End (Bool × ℕ)). gap_of u.state.known) split ∙ ap gap_of p.known, p.ends, cut-some r (i + n) z some)
-
     end-byte : 0 < i + n → c.end ≡ width (take (cut_at r (i + n) z) text)
-    end-byte some = p.end ∙ sym (ap width (take-past front old rest past (cut_at r (i + n) z) (end-chars some)))
+    end-byte some = p.end ∙ sym (ap width (take-past front old rest past (cut_at r (i + n) z) (omega (arith, ap (λ (u : End (Bool × ℕ)). u.taken) (end-split-at q i n), ap (λ (u : End (Bool × ℕ)). gap_of u.state.known) (end-split-at q i n) ∙ ap gap_of p.known, p.ends, cut-some r (i + n) z some))))
 
     begins-there : BeginsAt es entry c.start (e.number i)
     begins-there = let all = fits in subst (λ d. BeginsAt es entry d (e.number i)) (sym p.start) (e.begins i (omega (arith, all)))
@@ -406,7 +351,7 @@ module _ (k : CharClasses) (front old new rest : List ℕ) (r : Run k (front ++ 
     ends-are : (a b : ℕ) → Ends es entry c a b → (a ≡ e.number i) × (b ≡ e.number (i + n))
     ends-are a b (apart from to at more behind less) =
         let first : a ≡ e.number i = some-number from (e.number i) (sym at ∙ begins-there) in
-        let there = ends-there (some-more (λ l. more (subst (λ j. IsLast es j) (sym first) l))) in
+        let there = ends-there (some-by n (λ none. more (subst (λ j. IsLast es j) (sym first) (none-last none)))) in
         (first, some-number to (e.number (i + n)) (sym behind ∙ subst (λ j. BeginsAt es j c.end (e.number (i + n))) (sym first) there))
     ends-are a b (at_once from at last) =
         let first : a ≡ e.number i = some-number from (e.number i) (sym at ∙ begins-there) in
@@ -585,16 +530,12 @@ module _ (k : CharClasses) (front old new rest : List ℕ) (r : Run k (front ++ 
     clear : TakesNone mid q
     clear = b.is.none (omega arith)
 
-    -- It begins before the stretch, where pieces of the candidate are left.
-    first-early : first.start < width front
-    first-early = b.seat.early (b.is.led.0 (omega arith))
-
     starts-later : c.start < first.start
     starts-later = let l = e.cuts i mid (omega arith) b.is.go in let one = a.is.start in let two = b.is.start in omega (arith, l, one, two)
 
     in-order : mid < i + n
     in-order = lt_of_not-le (λ l.
-        (let early = first-early in
+        (let early : first.start < width front = b.seat.early (b.is.led.0 (omega arith)) in
         by-order l (omega (arith, early, a.seat.late, width-append front old, b.is.start, end-byte entry e c i n past t a.is (omega (arith, some-pieces))))))
       where
         -- A candidate without a piece is the whole run.
@@ -666,12 +607,6 @@ module _ (k : CharClasses) (front old new rest : List ℕ) (r : Run k (front ++ 
     abbrev Test : ℕ → Trivia → Type 0
     Test m u = PassesPieces k front old new rest r i n (d + m) past t u
 
-    agrees-from : (m : ℕ) (y : Bool × ℕ) → MeetsOn es which (e.number (i + n)) (c.start < first.start) m (first_end (i + n) q).value y → Agrees r (is_over i n q) (d + m) (then_end i n q).value y
-    agrees-from m y h = agrees-by entry e c i n past t a.is (d + m) y (λ no. (omega arith, (h.goes_on no).1)) h.block_end
-
-    agrees-to : (m : ℕ) (y : Bool × ℕ) → Agrees r (is_over i n q) (d + m) (then_end i n q).value y → MeetsOn es which (e.number (i + n)) (c.start < first.start) m (first_end (i + n) q).value y
-    agrees-to m y h = let x = meets-by entry e c i n past t a.is (d + m) y h in record { goes_on = λ no. (inl starts-later, (x.goes_on no).1); block_end = x.block_end }
-
     some-n : 0 < n
     some-n = let l = left-is in omega (arith, l)
 
@@ -698,7 +633,8 @@ module _ (k : CharClasses) (front old new rest : List ℕ) (r : Run k (front ++ 
               new_go = go;
               known_now = u.is;
               shifted = x.sum ∙ from-shifted c past a.is.end mid m b.is.early (room-here entry e c i n past t a.is) h.shifted;
-              agrees = agrees-from m (then_end mid m v).value (subst (λ y. MeetsOn es which (e.number (i + n)) (c.start < first.start) m (first_end (i + n) q).value y) (sym x.value) h.meets);
+              agrees = (let met = subst (λ y. MeetsOn es which (e.number (i + n)) (c.start < first.start) m (first_end (i + n) q).value y) (sym x.value) h.meets in
+                  agrees-by entry e c i n past t a.is (d + m) (then_end mid m v).value (λ no. (omega arith, (met.goes_on no).1)) met.block_end);
             },
           );
           nodes = x.nodes;
@@ -712,13 +648,11 @@ module _ (k : CharClasses) (front old new rest : List ℕ) (r : Run k (front ++ 
             behind = (e.behind c i n past t a.is some-n).1 parts.0.after;
             go = x.go;
             shifted = to-shifted c past a.is.end mid m (sym x.sum ∙ parts.1.shifted);
-            meets = agrees-to m (carried_by k (read_from mid) m) (subst (λ y. Agrees r (is_over i n q) (d + m) (then_end i n q).value y) x.value parts.1.agrees);
+            meets = (let met = meets-by entry e c i n past t a.is (d + m) (carried_by k (read_from mid) m) (subst (λ y. Agrees r (is_over i n q) (d + m) (then_end i n q).value y) x.value parts.1.agrees) in
+                record { goes_on = λ no. (inl starts-later, (met.goes_on no).1); block_end = met.block_end });
           },
           x.nodes,
         )
-
-    behind-rest : After k front old rest r i n past t → After k front old rest r mid left past t
-    behind-rest h = (e.behind rest_of_it mid left past t rest-is left-some).0 (subst (λ x. rear_in k front old rest ≤ e.number x) (sym sum-is) ((e.behind c i n past t a.is some-n).1 h))
 
     -- ---- the tree
 
@@ -766,7 +700,7 @@ module _ (k : CharClasses) (front old new rest : List ℕ) (r : Run k (front ++ 
           (let p = to-test m h in
           let ts = nodes_now r i (d + m) p.behind w in
           (ts, of_pieces r i n (d + m) past t p.behind a.whole a.path a.is.start a.is.led a.is.end p.test refl, put m p.behind p.go p.known ∙ ap (λ us. replaced_at c.path first.from c.to us root) p.nodes));
-      units = λ m h some. (let p = to-test m h in a.units rest_of_it d left m p.behind (omega arith) left-is left-some rest-is looks (behind-rest p.test.after) p.go p.known p.test);
+      units = λ m h some. (let p = to-test m h in a.units rest_of_it d left m p.behind (omega arith) left-is left-some rest-is looks ((e.behind rest_of_it mid left past t rest-is left-some).0 (subst (λ x. rear_in k front old rest ≤ e.number x) (sym sum-is) ((e.behind c i n past t a.is some-n).1 p.test.after))) p.go p.known p.test);
     }
 
   -- ---- where the reading begins with the candidate
@@ -791,12 +725,7 @@ module _ (k : CharClasses) (front old new rest : List ℕ) (r : Run k (front ++ 
     }
 
     own-to : (m : ℕ) → Own m → OnOwn m
-    own-to m h = record {
-      behind = h.behind;
-      go = h.go;
-      shifted = h.shifted;
-      meets = record { goes_on = λ more. (let x = h.meets.goes_on more in (inr x.0, x.1)); block_end = h.meets.block_end };
-    }
+    own-to m h = record { behind = h.behind; go = h.go; shifted = h.shifted; meets = record { goes_on = λ more. (let x = h.meets.goes_on more in (inr x.0, x.1)); block_end = h.meets.block_end } }
 
     put-there : (m : ℕ) → replaced_at c.path c.from c.to (nodes_by k (reading_of g) m) root ≡ replaced_at c.path first.from c.to (nodes_by k (reading_of g) m) root
     put-there m = ap (λ x. replaced_at c.path x c.to (nodes_by k (reading_of g) m) root) from
@@ -823,19 +752,15 @@ module _ (k : CharClasses) (front old new rest : List ℕ) (r : Run k (front ++ 
     found-from : g.from ≡ e.number i
     found-from = (ends-are entry e c i n past t p g.from g.to g.ends).0
 
-    found-to : g.to ≡ e.number (i + n)
-    found-to = (ends-are entry e c i n past t p g.from g.to g.ends).1
-
-    found-end : g.carried_end ≡ (first_end (i + n) q).value
-    found-end = says-once es g.to (e.number (i + n)) g.carried_end (first_end (i + n) q).value g.says_end (e.says (i + n) (fits entry e c i n past t p)) found-to
-
     found-reading : g.from < front_in k front old rest → reading_of g ≡ read_from i
     found-reading begun =
         let carried = says-once es g.from (e.number i) g.carried (first_end i q).value g.says (e.says i (omega (arith, fits entry e c i n past t p))) found-from in
         let cut = cut_at r i z in
         let early = p.early in
         let bytes : width (take cut text) ≡ width (take cut now) = ap width (take-append-le cut front (old ++ rest) early ∙ sym (take-append-le cut front (new ++ rest) early)) in
-        let place = one-place g.at cut now (omega (arith, early, length-append front (new ++ rest))) (g.start_now begun ∙ p.start ∙ bytes) in
+        let there = moved-min g.at (start_of now) in
+        let same = take-same (min g.at (length now)) cut now (omega arith) (omega (arith, early, length-append front (new ++ rest))) (sym (byte-at (min g.at (length now)) now) ∙ ap position there ∙ (g.start_now begun ∙ p.start ∙ bytes)) in
+        let place = sym there ∙ ap (λ n. moved n (start_of now)) same in
         (λ x. reading_on which levels (carried x) (place x))
 
   module _ (entry : ℕ) (e : Entered entry) (root : Tree) (same : bare root ≡ bare (tree k (front ++ (old ++ rest)))) (first c : Candidate) (i n past n0 past0 : ℕ) (t t0 : Trivia) (a : Chosen entry e c i n past t)
@@ -848,7 +773,8 @@ module _ (k : CharClasses) (front old new rest : List ℕ) (r : Run k (front ++ 
         let none : i + zero ≡ i = omega arith in
         let starts = a.is.start ∙ ap (λ m. width (take (cut_at r m z) text)) (sym none) ∙ sym b.is.start in
         let led : 0 < c.from ↔ 0 < first.from = ((λ l. b.is.led.0 (subst (λ m. 0 < m) (sym none) (a.is.led.1 l))), (λ l. a.is.led.0 (subst (λ m. 0 < m) none (b.is.led.1 l)))) in
-        let from = one-seat front old (run_from r) (kids_of_run r) c first a.seat b.seat starts led in
+        let from =
+        neither c.from first.from (λ l. not-before front old (run_from r) (kids_of_run r) c first a.seat b.seat starts (led.1 (omega (arith, l))) l) (λ l. not-before front old (run_from r) (kids_of_run r) first c b.seat a.seat (sym starts) (led.0 (omega (arith, l))) l) in
         let mid : g.from ≡ f.from = found-from entry e c i n past t a.is g ∙ ap e.number (sym none) ∙ sym (found-from entry e first (i + zero) n0 past0 t0 b.is f) in
         let there : g.from < front_in k front old rest = omega (arith, begun, mid) in
         let reading : reading_of g ≡ reading_of f = found-reading entry e c i n past t a.is g there ∙ ap read_from (sym none) ∙ sym (found-reading entry e first (i + zero) n0 past0 t0 b.is f begun) in
@@ -858,8 +784,8 @@ module _ (k : CharClasses) (front old new rest : List ℕ) (r : Run k (front ++ 
         let there : e.number (i + suc j) < front_in k front old rest = omega (arith, begun, mid) in
         let reading = found-reading entry e first (i + suc j) n0 past0 t0 b.is f begun in
         let from = found-from entry e c i n past t a.is g in
-        let to = found-to entry e c i n past t a.is g in
-        let end = found-end entry e c i n past t a.is g in
+        let to = (ends-are entry e c i n past t a.is g.from g.to g.ends).1 in
+        let end = says-once es g.to (e.number (i + n)) g.carried_end (first_end (i + n) q).value g.says_end (e.says (i + n) (fits entry e c i n past t a.is)) to in
         let looks = looks-are entry e c i n past t a.is g.from g.to g.looks g.looks_from from (some-n entry e root same first c i j n past n0 past0 t t0 a b there) ∙ to in
         subst (λ x. ServedBy root first c x) (λ x. record { reading = sym reading x; mid = sym mid x; from = sym from x; to = sym to x; looks = sym looks x; carried_end = sym end x }) (later entry e root same first c i j n past n0 past0 t t0 a b there)
 
@@ -868,11 +794,4 @@ module _ (k : CharClasses) (front old new rest : List ℕ) (r : Run k (front ++ 
     served i0 b l =
         let sum : i0 ≡ i + (i0 - i) = (let most = not-less i i0 (λ less. (let more = e.cuts i0 i less a.is.go in let one = a.is.start in let two = b.is.start in omega (arith, more, one, two, l))) in omega (arith, most)) in
         let s = served-by (i0 - i) (subst (λ m. Chosen entry e first m n0 past0 t0) sum b) in
-        record {
-          earlier = s.earlier;
-          until = s.until;
-          order = seats-in-order front old (run_from r) (kids_of_run r) c first a.seat b.seat;
-          gives = s.gives;
-          gives_too = s.gives_too;
-          units = s.units;
-        }
+        record { earlier = s.earlier; until = s.until; order = seats-in-order front old (run_from r) (kids_of_run r) c first a.seat b.seat; gives = s.gives; gives_too = s.gives_too; units = s.units }

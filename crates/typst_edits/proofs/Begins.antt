@@ -1,10 +1,8 @@
 -- The test of looks, decided by comparisons.
 use Rattle.std.proofs.Common.{◌≡◌, ℕ, ◌+◌, Bool, true, ◌&&◌, nat_le, List, [], ◌∷◌, length}
+use Rattle.typst_edits.proofs.Words.{Ask, looked, marked, AllBeginIn}
 use Rattle.std.proofs.lemmas.Bool.{leb-true}
-use Rattle.typst_language.specs.Ask.{Ask}
-use Rattle.typst_language.specs.Ask.Ask.{looked, marked}
 use Rattle.typst_lines.proofs.Bools.{and-first, and-second}
-use Rattle.typst_edits.specs.Edit.{AllBeginIn}
 
 abbrev pub begins : ℕ → List ℕ → List Ask → Bool
 begins past rest [] = true

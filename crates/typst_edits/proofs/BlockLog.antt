@@ -1,28 +1,13 @@
 -- What is noted of a block: a note where it begins, what is noted in it, and a note where it ends.
 use Rattle.std.proofs.Common.{◌≡◌, ℕ, suc, ◌+◌, ◌-◌, List, ◌∷◌, ◌++◌, take, Some, refl, ap, sym, ◌∙◌, subst, arith}
-use Rattle.typst_lines.specs.Place.{Place, moved}
-use Rattle.typst_lines.specs.Classes.{CharClasses}
-use Rattle.typst_tokens.specs.Sight.{width, position}
+use Rattle.typst_edits.proofs.Words.{Place, moved, CharClasses, width, position, Nested, shift, no_log, logged, Outcome, start_point, point_of, state_of, markup_reading, rules, max_depth, start_of, whole, parsed, log, Among, blocks_of_text, block_at, Named, Noting, noting, notes_in, Spot, unit_at, ended, lowered}
 use Rattle.typst_language.specs.declared.calls.Mark.TheVariants as mark
-use Rattle.typst_candidates.specs.Nested.{Nested}
-use Rattle.typst_language.specs.Ask.{shift}
-use Rattle.typst_language.specs.Log.{no_log, logged}
-use Rattle.typst_language.specs.Meaning.{Outcome, start_point}
-use Rattle.typst_language.specs.Point.{point_of, state_of}
-use Rattle.typst_grammar.specs.Markup.{markup_reading}
-use Rattle.typst_grammar.specs.Grammar.{rules, max_depth, start_of, whole, parsed, log}
-use Rattle.typst_edits.specs.Edit.{Among}
-use Rattle.typst_edits.specs.Laws.{blocks_of_text, block_at}
-use Rattle.typst_edits.specs.Named.{Named}
 use Rattle.typst_edits.specs.Nested.{NestedBlock, NestedBlockLaw}
-use Rattle.typst_edits.specs.Splice.{Noting, noting, notes_in}
-use Rattle.typst_edits.specs.Spot.{Spot, unit_at, ended, lowered}
 use Rattle.typst_edits.proofs.Blocks.{ends as block-ends}
-use Rattle.typst_edits.proofs.Bytes.{asks-are, notes-one}
+use Rattle.typst_edits.proofs.Bytes.{asks-are, notes-one, none_yet, fresh_notes, next_note, noted-length, logged-notes, notes-around, notes-lowered}
 use Rattle.typst_edits.proofs.Edit.{among}
-use Rattle.typst_edits.proofs.Inside.{Lawful}
+use Rattle.typst_edits.proofs.Spots.{Lawful}
 use Rattle.typst_edits.proofs.Law.{inside-level}
-use Rattle.typst_edits.proofs.LogNotes.{none_yet, fresh_notes, next_note, noted-length, logged-notes, notes-around, notes-lowered}
 use Rattle.typst_edits.proofs.Names.{named-level}
 use Rattle.typst_edits.proofs.Nested.{Nests, unit-nests, notes-nested}
 use Rattle.typst_edits.proofs.Widths.{width-moved}

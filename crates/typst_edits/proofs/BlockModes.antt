@@ -1,34 +1,12 @@
 -- A block's reading needs no more of the state where it begins than the mode of its first token.
 use Rattle.std.proofs.Common.{◌≡◌, ℕ, ◌+◌, Bool, true, false, List, [], ◌∷◌, ◌++◌, None, refl, ap, sym, ◌∙◌}
-use Rattle.typst_kinds.specs.declared.mode.SyntaxMode.{SyntaxMode}
-use Rattle.typst_kinds.specs.Kinds.{is_error}
-use Rattle.typst_lines.specs.Place.{Place, moved}
-use Rattle.typst_lines.specs.Classes.{CharClasses}
-use Rattle.typst_tree.specs.Tree.{Tree, text_of}
-use Rattle.typst_tokens.specs.declared.token.Token.{Token}
-use Rattle.typst_language.specs.declared.calls.Block.{Block}
+use Rattle.typst_edits.proofs.Words.{SyntaxMode, is_error, Place, moved, CharClasses, Tree, text_of, Token, Block, Reading, State, Ask, Hand, Ahead, token_at, len_at, at_trivia, known_by, ahead_asks, ahead_asks_of, column_asks, hand_at, hand_asks, column_at, meaning_of, Outcome, Level, plain, joined, wrapped, before, blockless, entered, renewed, asked, hand_of, hand_asks_of, taken_node, run, gave, Point, point_of, no_newlines, after_node, itself, peek, node, eat_making, eat, Parser, ◌>>◌, ◌>>=◌, at_token, takes, gives, does, next, rules, content_block, markup_reading, code_block, code_reading}
+use Rattle.typst_language.specs.Hand.{hand_by}
 use Rattle.typst_language.specs.declared.calls.Block.TheVariants as block
-use Rattle.typst_language.specs.declared.reading.Reading.{Reading}
-use Rattle.typst_language.specs.declared.reading.State.{State}
-use Rattle.typst_language.specs.Ask.{Ask}
-use Rattle.typst_language.specs.Hand.{Hand, Ahead, token_at, len_at, at_trivia, known_by, ahead_asks, ahead_asks_of, column_asks, column_at, hand_by, hand_at, hand_asks}
-use Rattle.typst_language.specs.Knot.{meaning_of}
-use Rattle.typst_language.specs.Meaning.{Outcome, Level, plain, joined, wrapped, before, blockless, entered, renewed, asked, gave, hand_of, hand_asks_of, taken_node, run}
-use Rattle.typst_language.specs.Point.{Point, point_of, no_newlines}
-use Rattle.typst_language.specs.Shape.{after_node}
-use Rattle.typst_language.specs.Shape.Making.{itself}
-use Rattle.typst_language.specs.Steps.{peek, node, eat_making, eat}
-use Rattle.typst_language.specs.Syntax.{Parser, ◌>>◌, ◌>>=◌}
-use Rattle.typst_language.specs.Syntax.Begin.{at_token}
-use Rattle.typst_language.specs.Syntax.Op.{takes}
-use Rattle.typst_language.specs.Syntax.Parser.{gives, does, next}
-use Rattle.typst_grammar.specs.Grammar.{rules}
-use Rattle.typst_grammar.specs.Markup.{content_block, markup_reading}
-use Rattle.typst_grammar.specs.Sequences.{code_block, code_reading}
 use Rattle.typst_edits.specs.BlockModes.{SameRead, ModeLaw}
 use Rattle.typst_edits.proofs.Blocks.{enclosing}
-use Rattle.typst_edits.proofs.Enclosed.{enclosed}
-use Rattle.typst_edits.proofs.Reached.{ahead-direct}
+use Rattle.typst_edits.proofs.Content.{enclosed}
+use Rattle.typst_edits.proofs.Known.{ahead-direct}
 
 -- a token at hand without trivia
 abbrev direct_hand : Token → ℕ → Hand
@@ -134,9 +112,6 @@ module _ (l : Level) (b : Block) (r : Reading) (p : Parser (Unit {0})) (begins :
     abbrev known_at : State → Point
     known_at u = asked (first_hand l.classes z u.held.mode) (point_of u)
 
-    clear-too : at_trivia l.classes t.held.mode z ≡ false
-    clear-too = ap (λ m. at_trivia l.classes m z) (sym e) ∙ clear
-
     hand-known : (u : State) → hand_of l z (known_at u) ≡ first_hand l.classes z u.held.mode
     hand-known u = hand-next l.classes z u.held
 
@@ -156,7 +131,7 @@ module _ (l : Level) (b : Block) (r : Reading) (p : Parser (Unit {0})) (begins :
         let hands = hand-known s ∙ (ap (first_hand l.classes z) e ∙ sym (hand-known t)) in
         let asks = asks-known s ∙ (ap (next_asks l.classes z) e ∙ sym (asks-known t)) in
         let within = inner-same z (known_at s) (known_at t) hands asks in
-        by-first s clear ∙ ((λ i. view b (point_of s) (first_asks l.classes z (e i)) (next_asks l.classes z (e i)) 0 (within i)) ∙ sym (by-first t clear-too))
+        by-first s clear ∙ ((λ i. view b (point_of s) (first_asks l.classes z (e i)) (next_asks l.classes z (e i)) 0 (within i)) ∙ sym (by-first t (ap (λ m. at_trivia l.classes m z) (sym e) ∙ clear)))
 
 content-same : (l : Level) (z : Place) (s t : State) → s.held.mode ≡ t.held.mode → at_trivia l.classes s.held.mode z ≡ false → SameRead (run l (peek >> content_block) z (point_of s)) (run l (peek >> content_block) z (point_of t))
 unfolding content_block

@@ -1,22 +1,10 @@
 -- What is logged of a block that is read by itself is what is logged of it where it stands.
 use Rattle.std.proofs.Common.{◌≡◌, ℕ, zero, suc, ◌+◌, ◌-◌, ◌<◌, ◌^◌, max, min, List, [], ◌∷◌, ◌++◌, Option, None, Some, refl, ap, sym, ◌∙◌, subst, arith}
-use Rattle.typst_candidates.specs.Entries.{back_of, entries_by, entry_of, last_start}
+use Rattle.typst_edits.proofs.Words.{back_of, entries_by, entry_of, last_start, Place, moved, moved_from, position, width, far, near, Note, Ask, shift, looked, marked, Log, no_log, logged, with_note, moved-sum, max_depth, start_of, block_log, closing, entries_from, noting, lowered, logged-append}
 use Rattle.typst_candidates.specs.declared.entry.EntryKind.TheVariants as entry_kind
-use Rattle.typst_lines.specs.Place.{Place, moved, moved_from}
-use Rattle.typst_tokens.specs.Sight.{position, width, far, near}
 use Rattle.typst_language.specs.declared.calls.Mark.TheVariants as mark
-use Rattle.typst_language.specs.declared.calls.Note.{Note}
-use Rattle.typst_language.specs.Ask.{Ask, shift}
-use Rattle.typst_language.specs.Ask.Ask.{looked, marked}
-use Rattle.typst_language.specs.Log.{Log, no_log, with_note, logged}
-use Rattle.typst_language.proofs.Places.{moved-sum}
-use Rattle.typst_grammar.specs.Grammar.{max_depth, start_of}
 use Rattle.typst_edits.specs.BlockPart.{BlockPartLaw, PartFitsLaw, own_log}
-use Rattle.typst_edits.specs.BlockSplice.{block_log, closing}
-use Rattle.typst_edits.specs.Splice.{entries_from, noting}
-use Rattle.typst_edits.specs.Spot.{lowered}
-use Rattle.typst_edits.proofs.LogNotes.{none_yet, notes_from, fresh_notes, logged-notes, logged-lowered}
-use Rattle.typst_language.proofs.Logs.{logged-append}
+use Rattle.typst_edits.proofs.Bytes.{none_yet, notes_from, fresh_notes, logged-notes, logged-lowered}
 use Rattle.typst_edits.proofs.Widths.{width-append}
 use Rattle.typst_candidates.specs.Records.{AllFit}
 use Rattle.std.proofs.lemmas.Option.{same_Some}

@@ -1,57 +1,99 @@
--- The law of an edit inside some pieces of a content block's run.
-use Rattle.std.proofs.Common.{◌≡◌, ℕ, zero, suc, ◌+◌, ◌<◌, ◌==◌, if◌then◌else◌, ne_eqb, Bool, true, false, List, [], ◌∷◌, ◌++◌, length, refl, ap, sym, ◌∙◌, subst, arith}
+-- The law of an edit inside some pieces of a run: of a text's and of a content block's.
+use Rattle.std.proofs.Common.{◌≡◌, ℕ, ◌+◌, ◌<◌, Bool, true, List, ◌++◌, length, refl, ap, sym, ◌∙◌, subst, arith, suc, ◌==◌, if◌then◌else◌, ne_eqb, false, [], ◌∷◌}
+use Rattle.typst_edits.proofs.Words.{Place, moved, CharClasses, SameIn, is_end, too_deep, Point, point_of, state_of, gap_of, peek, flush_trivia, close_if, node, node_with_trivia, repeat, does, Outcome, repeated, run, plain, joined, entered, done, Framed, Within, sane-at, Sane, sane-run, sane-meaning, sane-plain, same_in-shift, same_in-first, same_in-second, moved-sum, markup_run, markup_turn, ends_block, content_block, markup_is_empty, markup_reading, rules, max_depth, start_of, whole, parsed, level_at, text_with, Passes, AllGo, asks_of, chain, piece_at, start, lead, pieces, end_at, pieces_from, end_from, rest_from, tail, whole_of, after_pieces, text_run, same, marked, AtHand, after_node, itself, Parser, ◌>>◌, takes, block_at, Sequence, turn_of, first_of, first_end, then_of, then_end, then_place, rest_of, Spot, ended, unit_at, inner, look_first, look_again, bracket, inner_lead, inner_run, inner_tail, inner_close, content_with, run_at, tail_at, close_at, EndsBefore, run_of, body_of, left_at}
+use Rattle.typst_edits.specs.Runs.{RunLaw, StartLaw}
+use Rattle.typst_edits.specs.BlockRuns.{content_of, InnerLaw}
+use Rattle.typst_edits.proofs.Edit.{before-same, after-same}
+use Rattle.typst_edits.proofs.Spots.{same_in-at}
+use Rattle.typst_edits.proofs.Runs.{repeated-chain, chain-state, split, split-taken, first-again, rest-again, moved-three, moved-four, split-state}
+use Rattle.typst_edits.proofs.Text.{block-law, content-reads}
 use Rattle.typst_kinds.specs.declared.kind.SyntaxKind.TheVariants as kind
-use Rattle.typst_kinds.specs.Kinds.{same}
-use Rattle.typst_lines.specs.Place.{Place, moved}
-use Rattle.typst_lines.specs.Classes.{CharClasses}
 use Rattle.typst_language.specs.declared.calls.Block.TheVariants as block
 use Rattle.typst_language.specs.declared.calls.Mark.TheVariants as mark
-use Rattle.typst_language.specs.Ask.{SameIn}
-use Rattle.typst_language.specs.Ask.Ask.{marked}
-use Rattle.typst_language.specs.Depth.{too_deep}
-use Rattle.typst_language.specs.Hand.{AtHand}
-use Rattle.typst_language.specs.Point.{Point, point_of, state_of, gap_of}
-use Rattle.typst_language.specs.Shape.{after_node}
-use Rattle.typst_language.specs.Shape.Making.{itself}
-use Rattle.typst_language.specs.Steps.{peek, flush_trivia, close_if, node, node_with_trivia}
-use Rattle.typst_language.specs.Syntax.{Parser, ◌>>◌}
-use Rattle.typst_language.specs.Syntax.Op.{takes}
-use Rattle.typst_language.specs.Syntax.Parser.{does, repeat}
-use Rattle.typst_language.specs.Meaning.{Outcome, plain, joined, entered, repeated, done, run}
-use Rattle.typst_language.specs.Sound.{Within}
-use Rattle.typst_language.proofs.Knot.{Sane, sane-run, sane-meaning, sane-plain}
-use Rattle.typst_language.proofs.Looks.{same_in-shift, same_in-first, same_in-second}
-use Rattle.typst_language.proofs.Places.{moved-sum}
-use Rattle.typst_grammar.specs.Markup.{ends_block, markup_run, markup_turn, content_block, markup_is_empty, markup_reading}
-use Rattle.typst_grammar.specs.Grammar.{rules}
-use Rattle.typst_edits.specs.Edit.{text_with, Passes}
-use Rattle.typst_edits.specs.Laws.{block_at}
-use Rattle.typst_edits.specs.Runs.{AllGo, End, asks_of, chain, made}
-use Rattle.typst_edits.specs.Sequence.{Sequence, turn_of, first_of, first_end, then_of, then_end, then_place, rest_of}
-use Rattle.typst_edits.specs.Spot.{Spot, ended, unit_at}
-use Rattle.typst_edits.specs.BlockRuns.{inner, look_first, look_again, bracket, inner_lead, inner_run, inner_tail, inner_close, run_of, body_of, content_of, content_with, run_at, tail_at, close_at, left_at, EndsBefore, InnerLaw}
-use Rattle.typst_edits.proofs.Edit.{before-same, after-same}
-use Rattle.typst_edits.proofs.Inside.{same_in-at}
-use Rattle.typst_edits.proofs.Runs.{repeated-chain, made-same, chain-state, chain-taken, moved-three, moved-four}
-use Rattle.typst_edits.proofs.Text.{block-law, content-reads}
 
--- ---- any run
+-- ---- the law of an edit inside some pieces of a text's run
 
-module _ (r : Sequence) where
-  -- its pieces, and the rest
-  pub split : ((x : Bool × ℕ) → Within (turn_of r x)) → (i n : ℕ) → AllGo (first_of i r) → AllGo (then_of i n r) → repeated (turn_of r) (true, 0) r.place r.point ≡ chain (first_of i r) (chain (then_of i n r) (rest_of i n r))
-  split within i n g h =
-      let e = first_end i r in
-      repeated-chain (turn_of r) within i (true, 0) r.place r.point g ∙ ap (chain (first_of i r)) (repeated-chain (turn_of r) within n e.value (moved e.taken r.place) e.state h)
+-- A text's reading is that of its pieces and the trivia after them.
+pub whole-is : (k : CharClasses) (text : List ℕ) → (let z = start_of text in let r = repeated (piece_at k) (true, 0) z (lead k z).state in parsed k max_depth text ≡ whole_of (lead k z) r (tail k r.taken r.state z))
+unfolding run whole markup_run
+whole-is k text =
+    let z = start_of text in
+    let r = repeated (piece_at k) (true, 0) z (lead k z).state in
+    let n : 0 + (0 + (0 + (r.taken + 0))) ≡ r.taken = omega arith in
+    ap (λ t. whole_of (lead k z) r (tail k t r.state z)) n
 
-  -- how many characters they take
-  pub split-taken : (i n : ℕ) → (chain (first_of i r) (chain (then_of i n r) (rest_of i n r))).taken ≡ ((first_end i r).taken + (then_end i n r).taken) + (rest_of i n r).taken
-  split-taken i n =
-      let e = first_end i r in
-      omega (arith, chain-taken (true, 0) r.point (first_of i r) (chain (then_of i n r) (rest_of i n r)), chain-taken e.value e.state (then_of i n r) (rest_of i n r))
+module _ (k : CharClasses) where
+  pub within : (x : Bool × ℕ) → Within (piece_at k x)
+  within x = (sane-at (rules k) k max_depth (markup_turn true is_end x)).within
 
-  pub split-state : (i n : ℕ) → (chain (first_of i r) (chain (then_of i n r) (rest_of i n r))).state ≡ (rest_of i n r).state
-  split-state i n = chain-state (first_of i r) _ ∙ chain-state (then_of i n r) _
+  pub framed : (x : Bool × ℕ) → Framed (piece_at k x)
+  framed x = (sane-at (rules k) k max_depth (markup_turn true is_end x)).framed
+
+  -- The pieces before are the same.
+  pub record First (i : ℕ) (z w : Place) : Type 0 where
+    pub pieces_same : pieces k i w ≡ pieces k i z
+    pub lead_same : 0 < i → lead k w ≡ lead k z
+
+  pub pieces-same : (i : ℕ) (z w : Place) → (0 < i → SameIn ((lead k z).asks ++ asks_of (pieces k i z)) z w) → First i z w
+  pieces-same i z w h = record {
+    pieces_same = first-again (level_at k max_depth) is_end (sane-at (rules k) k max_depth peek).framed framed start i z w h;
+    lead_same = λ l. (sane-at (rules k) k max_depth peek).framed z w start (same_in-first (lead k z).asks _ z w (h l));
+  }
+
+  tail-same : (n m : ℕ) (s : Point) (z w : Place) → SameIn (tail k n s z).asks (moved n z) (moved m w) → tail k m s w ≡ tail k n s z
+  tail-same n m s z w same = (sane-at (rules k) k max_depth flush_trivia).framed (moved n z) (moved m w) s same
+
+pub run-law : RunLaw
+run-law k front old new rest i n m past h =
+    let z = text_with front old rest in
+    let w = text_with front new rest in
+    let f = pieces-same k i z w (λ l. before-same _ front old new rest (h.before l)) in
+    let e = end_at k i z in
+    let g = end_from k i n z in
+    let d = end_at k i w in
+    let c = end_from k i m w in
+    let t = rest_from k i n z in
+    let r = chain (pieces k i z) (chain (pieces_from k i n z) t) in
+    let q = chain (pieces k i w) (chain (pieces_from k i m w) (rest_from k i m w)) in
+    let new_first : AllGo (pieces k i w) = subst (λ os. AllGo os) (sym f.pieces_same) h.first_go in
+    let old_end : (end_at k i z).taken + (end_from k i n z).taken ≡ (length front + length old) + past = h.ends in
+    let new_end : (end_at k i w).taken + (end_from k i m w).taken ≡ (length front + length new) + past = h.shifted in
+    let old_at = (length front + length old) + past in
+    let new_at = (length front + length new) + past in
+    let all = after-same _ past old_at new_at front old new rest refl refl h.after in
+    let z_end : moved g.taken (moved e.taken z) ≡ moved old_at z = sym (moved-sum e.taken g.taken z) ∙ ap (λ j. moved j z) old_end in
+    let w_end : moved c.taken (moved d.taken w) ≡ moved new_at w = sym (moved-sum d.taken c.taken w) ∙ ap (λ j. moved j w) new_end in
+    let rest_is : rest_from k i m w ≡ t = rest-again (text_run k z) (λ x. (sane-at (rules k) k max_depth (repeat (markup_turn true is_end) x)).framed) g c _ _ h.value h.state (same_in-at t.asks _ _ _ _ z_end w_end (same_in-first t.asks _ _ _ all)) in
+    let behind = same_in-shift t.taken _ _ _ (same_in-second t.asks _ _ _ all) in
+    let u = tail k (old_at + t.taken) t.state z in
+    let tail_is : tail k (new_at + t.taken) t.state w ≡ u = tail-same k (old_at + t.taken) (new_at + t.taken) t.state z w (same_in-at u.asks _ _ _ _ (moved-sum old_at t.taken z) (moved-sum new_at t.taken w) behind) in
+    let r_taken : r.taken ≡ old_at + t.taken = split-taken (text_run k z) i n ∙ ap (λ j. j + t.taken) old_end in
+    let r_state : r.state ≡ t.state = chain-state (pieces k i z) _ ∙ chain-state (pieces_from k i n z) t in
+    let q_taken : q.taken ≡ new_at + t.taken = split-taken (text_run k w) i m ∙ ap (λ j. j + (rest_from k i m w).taken) new_end ∙ ap (λ (o : Outcome (Bool × ℕ)). new_at + o.taken) rest_is in
+    let q_state : q.state ≡ t.state = chain-state (pieces k i w) _ ∙ chain-state (pieces_from k i m w) _ ∙ ap (λ (o : Outcome (Bool × ℕ)). o.state) rest_is in
+    let old_tail : tail k r.taken r.state z ≡ u = ap (λ j. tail k j r.state z) r_taken ∙ ap (λ s. tail k (old_at + t.taken) s z) r_state in
+    let new_tail : tail k q.taken q.state w ≡ u = ap (λ j. tail k j q.state w) q_taken ∙ ap (λ s. tail k (new_at + t.taken) s w) q_state ∙ tail_is in
+    record {
+      first = f.pieces_same;
+      lead_same = f.lead_same;
+      was = whole-is k (front ++ (old ++ rest)) ∙ ap (λ o. whole_of (lead k z) o (tail k o.taken o.state z)) (split (text_run k z) (within k) i n h.first_go h.old_go);
+      now = whole-is k (front ++ (new ++ rest)) ∙ ap (λ o. whole_of (lead k w) o (tail k o.taken o.state w)) (split (text_run k w) (within k) i m new_first h.new_go)
+          ∙ ap (λ b. whole_of (lead k w) q b) (new_tail ∙ sym old_tail)
+          ∙ ap (λ os. whole_of (lead k w) (chain os (chain (pieces_from k i m w) (rest_from k i m w))) (tail k r.taken r.state z)) f.pieces_same
+          ∙ ap (λ o. whole_of (lead k w) (chain (pieces k i z) (chain (pieces_from k i m w) o)) (tail k r.taken r.state z)) rest_is;
+    }
+
+pub start-law : StartLaw
+start-law k front old new rest i g before =
+    let w = text_with front new rest in
+    let f = pieces-same k i (text_with front old rest) w (λ l. before-same _ front old new rest (before l)) in
+    let e = repeated-chain (piece_at k) (within k) i (true, 0) w (lead k w).state (subst (λ os. AllGo os) (sym f.pieces_same) g) in
+    record {
+      first = f.pieces_same;
+      lead_same = f.lead_same;
+      now = whole-is k (front ++ (new ++ rest)) ∙ ap (λ o. whole_of (lead k w) o (tail k o.taken o.state w)) e
+          ∙ ap (λ os. (let o = chain os (after_pieces k i w) in whole_of (lead k w) o (tail k o.taken o.state w))) f.pieces_same;
+    }
 
 -- ---- a content block
 
@@ -151,24 +193,6 @@ module _ (k : CharClasses) (levels : ℕ) where
   abbrev pub seq_by : Outcome (Unit {0}) → Place → Sequence
   seq_by b z = record { level = inner k levels; stops = ends_block; place = moved b.taken z; point = (run (inner k levels) peek (moved b.taken z) b.state).state }
 
-  pub first-by : (i : ℕ) (b : Outcome (Unit {0})) (z w : Place) → (0 < i → SameIn ((run (inner k levels) peek (moved b.taken z) b.state).asks ++ asks_of (first_of i (seq_by b z))) (moved b.taken z) (moved b.taken w)) → first_of i (seq_by b w) ≡ first_of i (seq_by b z)
-  first-by zero b z w h = refl
-  first-by (suc i) b z w h =
-      let y = moved b.taken z in
-      let v = moved b.taken w in
-      let o = run (inner k levels) peek y b.state in
-      let m = turn_of (seq_by b z) in
-      let same = h (omega arith) in
-      let e = (sane peek).framed y v b.state (same_in-first o.asks _ y v same) in
-      ap (λ (u : Outcome AtHand). made m (suc i) (true, 0) v u.state) e ∙ made-same m (λ x. (sane (markup_turn true ends_block x)).framed) (suc i) (true, 0) y v o.state (same_in-second o.asks _ y v same)
-
-  rest-again : (f g : End (Bool × ℕ)) (v y : Place) → g.value ≡ f.value → g.state ≡ f.state → (let m = turn_of (record { level = inner k levels; stops = ends_block; place = v; point = f.state }) in
-      SameIn (repeated m f.value v f.state).asks v y → repeated m g.value y g.state ≡ repeated m f.value v f.state)
-  unfolding run
-  rest-again f g v y e d same =
-      let m = turn_of (record { level = inner k levels; stops = ends_block; place = v; point = f.state }) in
-      ap (λ x. repeated m x y g.state) e ∙ ap (λ s. repeated m f.value y s) d ∙ (sane (repeat (markup_turn true ends_block) f.value)).framed v y f.state same
-
 -- If what was looked at before them ends at the stretch or before it, the bracket and the pieces before are the same in both texts.
 pub record FirstSame (k : CharClasses) (levels : ℕ) (front old new rest : List ℕ) (c : Spot (Unit {0})) (i : ℕ) : Type 0 where
   pub opened : (let s = point_of c.start in bracket k levels (moved c.at (text_with front new rest)) s ≡ bracket k levels (moved c.at (text_with front old rest)) s)
@@ -185,7 +209,7 @@ first-same k levels front old new rest c i h =
     let opened : bracket k levels w s ≡ b = bracket-same k levels z w s (same_in-shift c.at _ z0 w0 (before-same _ front old new rest h.opens)) in
     let shown : 0 < i → SameIn ((inner_lead k levels z s).asks ++ asks_of (first_of i (run_at k levels c z0))) (moved b.taken z) (moved b.taken w) = λ l.
     same_in-at _ _ _ _ _ (sym (moved-sum c.at b.taken z0)) (sym (moved-sum c.at b.taken w0)) (same_in-shift (c.at + b.taken) _ z0 w0 (before-same _ front old new rest (h.before_run l))) in
-    record { opened = opened; first = ap (λ o. first_of i (seq_by k levels o w)) opened ∙ first-by k levels i b z w shown }
+    record { opened = opened; first = ap (λ o. first_of i (seq_by k levels o w)) opened ∙ first-again (inner k levels) ends_block (sane k levels peek).framed (λ x. (sane k levels (markup_turn true ends_block x)).framed) b.state i (moved b.taken z) (moved b.taken w) shown }
 
 pub inner-law : InnerLaw
 inner-law k levels front old new rest c i n m past among h =
@@ -215,7 +239,7 @@ inner-law k levels front old new rest c i n m past among h =
     let y_is : y ≡ moved old_at z0 = moved-four c.at b.taken e.taken g.taken z0 ∙ ap (λ a. moved a z0) h.ends in
     let v_is : v ≡ moved new_at w0 = moved-four c.at d.taken f.taken j.taken w0 ∙ ap (λ a. moved a w0) h.shifted in
     let all = same_in-at _ _ _ _ _ y_is v_is (after-same _ past old_at new_at front old new rest refl refl h.looks.inside) in
-    let rest_is : u ≡ t = rest-again k levels g j y v h.value h.state (same_in-first t.asks _ y v all) in
+    let rest_is : u ≡ t = rest-again r (λ x. (sane k levels (repeat (markup_turn true ends_block) x)).framed) g j y v h.value h.state (same_in-first t.asks _ y v all) in
     let behind = same_in-shift t.taken _ y v (same_in-second t.asks _ y v all) in
     let y1 = moved t.taken y in
     let v1 = moved t.taken v in

@@ -1,76 +1,31 @@
 -- What the records find of a block candidate.
 use Rattle.std.proofs.Common.{◌≡◌, ◌↔◌, ℕ, zero, suc, ◌+◌, ◌-◌, ◌^◌, ◌<◌, ◌≤◌, Bool, true, false, if◌then◌else◌, max, min, List, [], ◌∷◌, ◌++◌, length, take, drop, length-append, append_assoc, Option, Some, None, refl, ap, sym, ◌∙◌, subst, arith}
-use Rattle.std.proofs.Math.Seq.{take-append_seam}
+use Rattle.typst_edits.proofs.Words.{take-append_seam, SyntaxMode, Place, moved, CharClasses, Tree, text_of, width, position, far, near, Block, Mark, Note, Reading, State, Ask, looked, marked, Log, no_log, logged, Outcome, start_point, point_of, moved-sum, ahead-left, Entry, EntryKind, Candidate, closing_of, count_of, entry_kind_of, entry_of, entries_by, last_start, back_of, units_of, spliced, front_of, rear_of, Nested, opening_of, IsRising, closing-found, markup_reading, rules, max_depth, start_of, whole, parsed, log, block_log, entries_in, front_in, rear_in, SaysBlock, entries_alone, Among, text_with, AllEndBy, AllBeginIn, Passes, this, that, Every, Gives, of_block, of_pieces, path_of, InOrderLaw, blocks_of_text, block_at, is_opening, opened, Named, listed, notes_in, entries_from, Spot, ended, last_node, unit_at, seconds_of_text, IsOf, Stems, from_unit, from_second, place_of, front-law, rear-law, lawful-block, none-some}
+use Rattle.typst_candidates.specs.Entries.{block_end}
+use Rattle.typst_edits.specs.BlockTest.{BlockTestLaw, PassesAlone, FoundBlock}
 use Rattle.std.specs.List.{slice_get}
-use Rattle.typst_kinds.specs.declared.mode.SyntaxMode.{SyntaxMode}
-use Rattle.typst_lines.specs.Place.{Place, moved}
-use Rattle.typst_lines.specs.Classes.{CharClasses}
-use Rattle.typst_tree.specs.Tree.{Tree, text_of}
-use Rattle.typst_tokens.specs.Sight.{width, position, far, near}
-use Rattle.typst_language.specs.declared.calls.Block.{Block}
-use Rattle.typst_language.specs.declared.calls.Mark.{Mark}
 use Rattle.typst_language.specs.declared.calls.Mark.TheVariants as mark
-use Rattle.typst_language.specs.declared.calls.Note.{Note}
 use Rattle.typst_language.specs.declared.reading.AtNewline.TheVariants as newline
-use Rattle.typst_language.specs.declared.reading.Reading.{Reading}
-use Rattle.typst_language.specs.declared.reading.State.{State}
-use Rattle.typst_language.specs.Ask.{Ask}
-use Rattle.typst_language.specs.Ask.Ask.{looked, marked}
-use Rattle.typst_language.specs.Log.{Log, no_log, logged}
-use Rattle.typst_language.specs.Meaning.{Outcome, start_point}
-use Rattle.typst_language.specs.Point.{point_of}
-use Rattle.typst_language.proofs.Places.{moved-sum, ahead-left}
-use Rattle.typst_candidates.specs.declared.entry.Entry.{Entry}
-use Rattle.typst_candidates.specs.declared.entry.EntryKind.{EntryKind}
 use Rattle.typst_candidates.specs.declared.entry.EntryKind.TheVariants as entry_kind
-use Rattle.typst_candidates.specs.Candidates.{Candidate}
-use Rattle.typst_candidates.specs.Cursors.{closing_of}
-use Rattle.typst_candidates.specs.Entries.{block_end, count_of, entry_kind_of, entry_of, entries_by, last_start, back_of, front_of, rear_of, units_of, spliced}
-use Rattle.typst_candidates.specs.Nested.{Nested}
-use Rattle.typst_candidates.specs.Records.{opening_of, IsRising}
-use Rattle.typst_candidates.proofs.Looks.{front-law, rear-law}
-use Rattle.typst_candidates.proofs.Nested.{closing-found}
-use Rattle.typst_grammar.specs.Markup.{markup_reading}
-use Rattle.typst_grammar.specs.Grammar.{rules, max_depth, start_of, whole, parsed, log}
 use Rattle.typst_grammar.specs.Part.{block_alone}
-use Rattle.typst_grammar.proofs.InRuns.{lawful-block}
-use Rattle.typst_edits.specs.BlockSplice.{block_log}
-use Rattle.typst_edits.specs.BlockTest.{BlockTestLaw, entries_alone, entries_in, front_in, rear_in, SaysBlock, PassesAlone, FoundBlock}
-use Rattle.typst_edits.specs.Edit.{Among, text_with, AllEndBy, AllBeginIn, Passes}
-use Rattle.typst_edits.specs.Edit.Among.{this, that}
-use Rattle.typst_edits.specs.Every.{Every}
-use Rattle.typst_edits.specs.Frame.{Gives, of_block, of_pieces}
-use Rattle.typst_edits.specs.Hole.{path_of}
-use Rattle.typst_edits.specs.InOrder.{InOrderLaw}
-use Rattle.typst_edits.specs.Laws.{blocks_of_text, block_at}
-use Rattle.typst_edits.specs.Lost.{is_opening, opened}
-use Rattle.typst_edits.specs.Named.{Named}
-use Rattle.typst_edits.specs.PieceNotes.{listed}
-use Rattle.typst_edits.specs.Splice.{notes_in, entries_from}
-use Rattle.typst_edits.specs.Spot.{Spot, ended, last_node, unit_at}
-use Rattle.typst_edits.specs.Standing.{seconds_of_text, IsOf, Stems, from_unit, from_second, place_of}
 use Rattle.typst_edits.proofs.BlockModes.{mode-law}
 use Rattle.typst_edits.proofs.BlockPart.{block-part-law}
-use Rattle.typst_edits.proofs.BlockPlaces.{Meets, candidate-at, early-by, hole-same, late-by, meets, some-node, take-same}
-use Rattle.typst_edits.proofs.BlockSplice.{block-splice-law}
-use Rattle.typst_edits.proofs.Bytes.{decision-law}
-use Rattle.typst_edits.proofs.CandidateBlocks.{BlockAt}
-use Rattle.typst_edits.proofs.Clear.{Clear, clear-level}
+use Rattle.typst_edits.proofs.BlockPlaces.{Meets, candidate-at, early-by, hole-same, late-by, meets, some-node, take-same, second-place}
+use Rattle.typst_edits.proofs.RunSplice.{block-splice-law}
+use Rattle.typst_edits.proofs.Bytes.{decision-law, none_yet, notes_from, logged-notes, logged-listed}
+use Rattle.typst_edits.proofs.MarkupCandidates.{BlockAt}
+use Rattle.typst_edits.proofs.Content.{Clear, clear-level}
 use Rattle.typst_edits.proofs.Edit.{among, before-same}
 use Rattle.typst_edits.proofs.EntryNumbers.{NoneAt, opening-some, opening-found, some-number, got-entry, past-entry, past-note, all-end, end-all, all-begin, begin-all}
 use Rattle.typst_edits.proofs.Every.{some_or}
-use Rattle.typst_edits.proofs.LogNotes.{none_yet, notes_from, logged-notes, logged-listed}
 use Rattle.typst_edits.proofs.Names.{named-level}
 use Rattle.typst_edits.proofs.BlockLog.{nested-block-law}
 use Rattle.typst_edits.proofs.OpensApart.{opens-apart-law, opens-directly}
-use Rattle.typst_edits.proofs.SecondPlaces.{second-place}
-use Rattle.typst_edits.proofs.SpotPlaces.{SpotPlace, spot-place, within-is}
-use Rattle.typst_edits.proofs.StandingLevels.{standing-law}
+use Rattle.typst_edits.proofs.Walk.{SpotPlace, spot-place, within-is, width-over}
+use Rattle.typst_edits.proofs.Standing.{standing-law}
 use Rattle.typst_edits.proofs.Text.{block-law}
-use Rattle.typst_edits.proofs.UnnotedLevels.{unnoted-law}
-use Rattle.typst_edits.proofs.Walk.{width-over}
+use Rattle.typst_edits.proofs.Unnoted.{unnoted-law}
 use Rattle.typst_edits.proofs.Widths.{width-append, width-moved}
-use Rattle.std.proofs.lemmas.Option.{none-some}
 
 -- ---- a block's numbers
 
@@ -273,14 +228,7 @@ module _ (k : CharClasses) (front old new rest : List ℕ) where
         let starts = n.starts in
         let bytes : width (take (s.at + (alone s).taken) now_text) ≡ width (take (length (front ++ new) + n.past) now_text) = (let g = now-end in let h = shifted-end in omega (arith, g, h, shifted, end, a, b)) in
         let at_end = take-same (s.at + (alone s).taken) (length (front ++ new) + n.past) now_text (omega (arith, alone-room s, d, e, starts)) (omega (arith, d, e, f, n.room)) bytes in
-        record {
-          starts = n.starts;
-          ends = n.ends;
-          goes_on = n.goes_on;
-          before = early;
-          after = n.late.0 t.behind;
-          shifted = omega (arith, at_end, (alone-same s there early).taken, f);
-        }
+        record { starts = n.starts; ends = n.ends; goes_on = n.goes_on; before = early; after = n.late.0 t.behind; shifted = omega (arith, at_end, (alone-same s there early).taken, f) }
 
 -- ---- two spots where a candidate is
 

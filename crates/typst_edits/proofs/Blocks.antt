@@ -1,22 +1,7 @@
 -- Each block of the grammar ends in its node.
 use Rattle.std.proofs.Common.{◌≡◌, ℕ, ◌+◌, Bool, true, false, List, [], ◌∷◌, ◌++◌, take, append-nil, append_assoc, refl, ap, sym, ◌∙◌}
-use Rattle.typst_tree.specs.Tree.{Tree}
-use Rattle.typst_lines.specs.Place.{Place, moved}
-use Rattle.typst_lines.specs.Classes.{CharClasses}
-use Rattle.typst_language.specs.declared.calls.Block.{Block}
+use Rattle.typst_edits.proofs.Words.{Tree, Place, moved, CharClasses, Block, Point, Shape, hinted, shaped, encloses, peek, node, Parser, ◌>>◌, at_token, blocks_of, meaning_of, Outcome, Level, plain, less, joined, before, inside, wrapped, blockless, run, less-none, less-append, content_block, code_block, rules, kind_of, block_head, last_node}
 use Rattle.typst_language.specs.declared.calls.Block.TheVariants as block
-use Rattle.typst_language.specs.Point.{Point}
-use Rattle.typst_language.specs.Shape.{Shape, hinted, shaped, encloses}
-use Rattle.typst_language.specs.Steps.{peek, node}
-use Rattle.typst_language.specs.Syntax.{Parser, ◌>>◌}
-use Rattle.typst_language.specs.Syntax.Begin.{at_token}
-use Rattle.typst_language.specs.Knot.{blocks_of, meaning_of}
-use Rattle.typst_language.specs.Meaning.{Outcome, Level, plain, less, joined, before, inside, wrapped, blockless, run}
-use Rattle.typst_language.proofs.Places.{less-append, less-none}
-use Rattle.typst_grammar.specs.Markup.{content_block}
-use Rattle.typst_grammar.specs.Sequences.{code_block}
-use Rattle.typst_grammar.specs.Grammar.{rules}
-use Rattle.typst_edits.specs.Spot.{kind_of, block_head, last_node}
 use Rattle.typst_edits.proofs.Law.{Ends}
 
 -- what is given ends in an inner node of the block's kind
@@ -36,12 +21,9 @@ less-one : (x : Tree) → less 1 (x ∷ []) ≡ []
 unfolding less
 less-one x = refl
 
-less-last : (front : List Tree) (x : Tree) → less 1 (front ++ x ∷ []) ≡ front
-less-last front x = less-append 1 front (x ∷ []) ∙ ap (λ u. less 0 front ++ u) (less-one x) ∙ append-nil (less 0 front) ∙ less-none front
-
 ends-of : (b : Block) (o : Outcome (Unit {0})) → EndsIn b o → Ends b o
 ends-of b o e = record {
-  nodes = e.nodes ∙ sym (ap (λ u. less 1 u ++ last_node u ∷ []) e.nodes ∙ ap (λ u. u ++ last_node (e.front ++ e.node ∷ []) ∷ []) (less-last e.front e.node) ∙ ap (λ u. e.front ++ u ∷ []) (last-is e.front e.node));
+  nodes = e.nodes ∙ sym (ap (λ u. less 1 u ++ last_node u ∷ []) e.nodes ∙ ap (λ u. u ++ last_node (e.front ++ e.node ∷ []) ∷ []) (less-append 1 e.front (e.node ∷ []) ∙ ap (λ u. less 0 e.front ++ u) (less-one e.node) ∙ append-nil (less 0 e.front) ∙ less-none e.front) ∙ ap (λ u. e.front ++ u ∷ []) (last-is e.front e.node));
   head = ap (λ u. (last_node u).head) e.nodes ∙ ap (λ (t : Tree). t.head) (last-is e.front e.node) ∙ e.head;
   empties = e.empties;
 }
@@ -56,13 +38,7 @@ ends-joined b o p e = record {
 }
 
 ends-plain : {A B : Type 0} (b : Block) (a : A) (o : Outcome B) → EndsIn b o → EndsIn b (joined o (plain a o.state))
-ends-plain b a o e = record {
-  front = e.front;
-  node = e.node;
-  nodes = append-nil (less 0 o.nodes) ∙ less-none o.nodes ∙ e.nodes;
-  head = e.head;
-  empties = e.empties;
-}
+ends-plain b a o e = record { front = e.front; node = e.node; nodes = append-nil (less 0 o.nodes) ∙ less-none o.nodes ∙ e.nodes; head = e.head; empties = e.empties }
 
 -- What stands between the delimiters of a block: where the second is missing, the first is an error.
 abbrev pub enclosing : Block → Bool → Shape

@@ -1,42 +1,14 @@
 -- The notes where pieces of a run end, and what their numbers say.
 use Rattle.std.proofs.Common.{◌≡◌, ◌==◌, ℕ, zero, suc, ◌+◌, ◌-◌, ◌<◌, ◌≤◌, ◌^◌, max, Bool, true, false, ◌&&◌, nat_lt, List, [], ◌∷◌, ◌++◌, length, take, append_assoc, append-nil, Some, refl, ap, sym, ◌∙◌, subst, arith}
-use Rattle.std.proofs.lemmas.Bool.{and_parts}
-use Rattle.std.proofs.lemmas.List.{map-append}
-use Rattle.typst_kinds.specs.declared.kind.SyntaxKind.{SyntaxKind}
-use Rattle.typst_lines.specs.Place.{Place, moved}
-use Rattle.typst_lines.specs.Classes.{CharClasses}
-use Rattle.typst_tokens.specs.Sight.{width, position}
-use Rattle.typst_language.specs.Calls.Call.{MarkupExpr}
-use Rattle.typst_language.specs.declared.calls.Mark.{Mark}
+use Rattle.typst_edits.proofs.Words.{and_parts, map-append, SyntaxKind, Place, moved, CharClasses, width, position, MarkupExpr, Mark, Note, State, Ask, shift, shift_one, sunk, looked, marked, deeper, AtHand, as_at_hand, known_by, no_log, logged, Outcome, Meaning, Level, plain, joined, as_last, repeated, hand_of, hand_asks_of, asked, start_point, run, Trivia, Point, gap_of, state_of, note, hand-again, moved-sum, ends, note_piece, markup_turn, markup_reading, rules, max_depth, start_of, whole, parsed, log, highest, lowest, AllEndBy, made, AllGo, end_of, asks_of, chain, Noting, notes_in, Sequence, turn_of, on_both, made-sum}
+use Rattle.typst_edits.specs.Splice.{noting as as_ask}
+use Rattle.typst_grammar.proofs.Pieces.{end-append, go-append}
 use Rattle.typst_language.specs.declared.calls.Mark.TheVariants as mark
-use Rattle.typst_language.specs.declared.calls.Note.{Note}
-use Rattle.typst_language.specs.declared.reading.State.{State}
-use Rattle.typst_language.specs.Ask.{Ask, shift, shift_one, sunk}
-use Rattle.typst_language.specs.Ask.Ask.{looked, marked}
-use Rattle.typst_language.specs.Depth.{deeper}
-use Rattle.typst_language.specs.Hand.{AtHand, as_at_hand, known_by}
-use Rattle.typst_language.specs.Log.{no_log, logged}
-use Rattle.typst_language.specs.Meaning.{Outcome, Meaning, Level, plain, joined, as_last, repeated, hand_of, hand_asks_of, asked, start_point, run}
-use Rattle.typst_language.specs.Point.{Trivia, Point, gap_of, state_of}
-use Rattle.typst_language.specs.Steps.{note}
-use Rattle.typst_language.proofs.Ends.{hand-again}
-use Rattle.typst_language.proofs.Places.{moved-sum}
-use Rattle.typst_grammar.specs.Markup.{ends, note_piece, markup_turn, markup_reading}
-use Rattle.typst_grammar.specs.Grammar.{rules, max_depth, start_of, whole, parsed, log}
-use Rattle.typst_edits.specs.Bytes.{highest, lowest}
-use Rattle.typst_edits.specs.Edit.{AllEndBy}
-use Rattle.typst_edits.specs.Runs.{made, AllGo, end_of, asks_of, chain}
-use Rattle.typst_edits.specs.Splice.{Noting, noting as as_ask, notes_in}
-use Rattle.typst_edits.specs.Sequence.{Sequence, turn_of}
-use Rattle.typst_edits.proofs.Bytes.{AllReach, end-by, end-to, AllFrom}
-use Rattle.typst_edits.proofs.LogNotes.{none_yet, fresh_notes, next_note, noted-length, logged-notes, logged-least, notes-around, least-around, reach-by, reach-to, least-by, least-to}
-use Rattle.typst_edits.proofs.Marks.{AllMarks, marks-append, marks-shift, marks-sunk, none-hand}
+use Rattle.typst_edits.proofs.Bytes.{AllReach, end-by, end-to, AllFrom, none_yet, fresh_notes, next_note, noted-length, logged-notes, logged-least, notes-around, least-around, reach-by, reach-to, least-by, least-to, AllMarks, marks-append, marks-shift, marks-sunk, none-hand}
 use Rattle.typst_edits.proofs.Outcomes.{shift-zero, shift-twice}
 use Rattle.typst_edits.proofs.Spots.{if-true, if-false}
 use Rattle.typst_edits.proofs.Widths.{width-moved}
 use Rattle.typst_edits.proofs.Within.{AllAt, at-first, at-second, in-level}
-use Rattle.typst_language.proofs.Within.{on_both}
-use Rattle.typst_grammar.proofs.Pieces.{end-append, go-append, made-sum}
 
 -- the first of two tests that both pass
 pub first-of : (a b : Bool) → (a && b) ≡ true → a ≡ true
@@ -328,10 +300,6 @@ module _ (k : CharClasses) (text : List ℕ) where
     pub begun_too : (b : ℕ) → b < 2 ^ 64 - 1 → AllFrom b (start_of text) behind → b < lowest later (log k text).least
     pub placed : AllAt (length text) behind
 
-  early-ends : (front more : List ℕ) (early : List Ask) (t : List ℕ) → t ≡ front ++ more → AllAt (length t) early → AllReach (width front) (start_of t) early → AllEndBy (length front) early
-  early-ends front more early t same a h =
-      end-by front more early (subst (λ u. AllAt (length u) early) same a) (subst (λ u. AllReach (width front) (start_of u) early) same h)
-
   pub noted-at : (early behind : List Ask) (at gap fewer : ℕ) (m : Mark) (s : State) → (parsed k max_depth text).asks ≡ early ++ marked at gap fewer m s ∷ behind → NotedAt early behind at gap fewer m s
   unfolding log position
   noted-at early behind at gap fewer m s is =
@@ -354,7 +322,7 @@ module _ (k : CharClasses) (text : List ℕ) where
         start = ap position (sym (moved-sum at gap z)) ∙ width-moved (at + gap) text;
         levels = refl;
         state = refl;
-        reached = λ front more same h. early-ends front more early text same (at-first (length text) early _ all) (reach-by max_depth (width front) z early 0 none_yet h).1;
+        reached = λ front more same h. end-by front more early (subst (λ u. AllAt (length u) early) same (at-first (length text) early _ all)) (subst (λ u. AllReach (width front) (start_of u) early) same (reach-by max_depth (width front) z early 0 none_yet h).1);
         reached_too = λ front more same h. reach-to max_depth (width front) z early 0 none_yet (omega arith) (subst (λ u. AllReach (width front) (start_of u) early) (sym same) (end-to front more early h));
         begun = λ n l. (least-by max_depth n z behind 0 none_yet (subst (λ m. n < lowest later m) least l)).1;
         begun_too = λ n big f. subst (λ m. n < lowest later m) (sym least) (least-to max_depth n z behind 0 none_yet big big f);

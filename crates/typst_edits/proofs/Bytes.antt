@@ -1,33 +1,257 @@
--- The test of an edit in bytes, by the notes of a reading.
-use Rattle.std.proofs.Common.{◌≡◌, ℕ, suc, ◌+◌, ◌<◌, ◌≤◌, max, List, [], ◌∷◌, ◌++◌, length, take, length-append, append_assoc, Some, refl, ap, sym, ◌∙◌, subst, arith}
-use Rattle.typst_lines.specs.Place.{moved}
-use Rattle.typst_lines.specs.Classes.{CharClasses}
-use Rattle.typst_tokens.specs.Sight.{width, position, near}
-use Rattle.typst_language.specs.declared.calls.Mark.{Mark}
-use Rattle.typst_language.specs.declared.calls.Mark.TheVariants as mark
-use Rattle.typst_language.specs.declared.reading.State.{State}
-use Rattle.typst_language.specs.Ask.{Ask, shift}
-use Rattle.typst_language.specs.Ask.Ask.{looked, marked}
-use Rattle.typst_language.specs.Log.{no_log, logged}
-use Rattle.typst_language.specs.Meaning.{start_point}
-use Rattle.typst_language.specs.Point.{state_of}
-use Rattle.typst_grammar.specs.Markup.{markup_reading}
-use Rattle.typst_grammar.specs.Grammar.{rules, max_depth, start_of, whole, parsed, log}
-use Rattle.typst_edits.specs.Bytes.{lowest, Decided, DecisionLaw}
-use Rattle.typst_edits.specs.Splice.{Noting, noting, notes_in}
-use Rattle.typst_edits.specs.Edit.{text_with, AllEndBy, AllBeginIn}
-use Rattle.typst_edits.specs.Laws.{blocks_of_text, block_at}
+-- The test of an edit in bytes: the notes that a log keeps of what is asked, and what their numbers say of the looks.
+use Rattle.std.proofs.Common.{◌≡◌, ℕ, suc, ◌+◌, ◌-◌, ◌<◌, ◌≤◌, ◌^◌, max, min, List, [], ◌∷◌, ◌++◌, length, append_assoc, append-nil, Some, refl, ap, sym, ◌∙◌, arith, zero, Bool, true, false, if◌then◌else◌, Option, None, take, length-append, subst}
+use Rattle.typst_edits.proofs.Words.{Place, moved, position, far, near, width, Mark, Note, State, Ask, shift, sunk, looked, marked, Log, no_log, logged, with_note, moved-sum, highest, lowest, listed, Noting, noting, notes_in, lowered, Spot, unit_at, around, same, SyntaxMode, CharClasses, Newlines, Reading, len_at, at_trivia, asks_by, ahead_asks, ahead_of, asks_column, column_asks, hand_asks, as_at_hand, Trivia, Point, state_of, Outcome, Level, plain, joined, hand_of, hand_asks_of, asked, done, run, start_point, itself, close_if, takes, on_both, markup_reading, rules, max_depth, start_of, whole, parsed, log, text_with, AllEndBy, AllBeginIn, blocks_of_text, block_at, Named, logged-append}
+use Rattle.typst_tokens.specs.Sight.{hull_of}
+use Rattle.typst_language.specs.Log.{with_hull}
+use Rattle.typst_edits.specs.Bytes.{Decided, DecisionLaw}
+use Rattle.typst_edits.specs.Looks.{AllReach}
+use Rattle.typst_edits.proofs.Every.{Every}
 pub use Rattle.typst_edits.specs.Looks.{AllReach, AllFrom}
-use Rattle.typst_edits.specs.Named.{Named}
-use Rattle.typst_edits.specs.Spot.{Spot, unit_at, around, lowered}
 use Rattle.typst_edits.proofs.Blocks.{ends}
 use Rattle.typst_edits.proofs.Edit.{among, onto, past-is}
-use Rattle.typst_edits.proofs.Inside.{Lawful}
+use Rattle.typst_edits.proofs.Spots.{Lawful}
 use Rattle.typst_edits.proofs.Law.{inside-level}
-use Rattle.typst_edits.proofs.LogNotes.{none_yet, fresh_notes, next_note, noted-length, logged-notes, logged-least, notes-around, least-around, reach-by, reach-to, least-by, least-to}
 use Rattle.typst_edits.proofs.Names.{named-level}
 use Rattle.typst_edits.proofs.Widths.{width-none, width-append, width-onto, width-moved, far-by, far-to, near-by, near-to}
 use Rattle.typst_edits.proofs.Within.{AllAt, at-first, at-second, in-level}
+use Rattle.typst_kinds.specs.declared.kind.SyntaxKind.TheVariants as kind
+use Rattle.typst_language.specs.declared.calls.Mark.TheVariants as mark
+
+-- ---- the notes that a log keeps of what is asked, and what their numbers say of the looks
+
+-- where the looks since a note begin, right after it
+abbrev pub none_yet : ℕ
+none_yet = 2 ^ 64 - 1
+
+-- ---- the notes of what is asked, and the looks since the last one, from where earlier looks end and begin
+
+abbrev pub note_with : ℕ → ℕ → ℕ → ℕ → Mark → State → ℕ → ℕ → Note
+note_with lv reach least fewer m s before start = record { mark = m; before = before; start = start; levels = lv - fewer; state = s; reach = reach; least = least }
+
+abbrev pub note_by : ℕ → Place → ℕ → ℕ → ℕ → ℕ → ℕ → Mark → State → Note
+note_by lv z reach least at gap fewer m s = note_with lv reach least fewer m s (position (moved at z)) (position (moved gap (moved at z)))
+
+abbrev pub notes_from : ℕ → Place → ℕ → ℕ → List Ask → List Note
+notes_from lv z reach least [] = []
+notes_from lv z reach least (looked at look ∷ asks) = notes_from lv z (max reach (far look.front (moved at z))) (min least (near look.back (moved at z))) asks
+notes_from lv z reach least (marked at gap fewer m s ∷ asks) = note_by lv z reach least at gap fewer m s ∷ notes_from lv z 0 none_yet asks
+
+abbrev pub reach_from : Place → ℕ → List Ask → ℕ
+reach_from z reach [] = reach
+reach_from z reach (looked at look ∷ asks) = reach_from z (max reach (far look.front (moved at z))) asks
+reach_from z reach (marked at gap fewer m s ∷ asks) = reach_from z 0 asks
+
+abbrev pub least_from : ℕ → Place → ℕ → List Ask → ℕ
+least_from lv z least [] = least
+least_from lv z least (looked at look ∷ asks) = least_from lv z (min least (near look.back (moved at z))) asks
+least_from lv z least (marked at gap fewer m s ∷ asks) = least_from lv z none_yet asks
+
+abbrev log_with : ℕ → ℕ → List Note → Log
+log_with reach least ns = record { reach = reach; least = least; notes = Some ns }
+
+-- WHAT A LOG IS after asks.
+logged-as : (lv : ℕ) (z : Place) (asks : List Ask) (reach least : ℕ) (ns : List Note)
+    → logged lv z (log_with reach least ns) asks ≡ log_with (reach_from z reach asks) (least_from lv z least asks) (ns ++ notes_from lv z reach least asks)
+logged-as lv z [] reach least ns = ap (λ ms. log_with reach least ms) (sym (append-nil ns))
+logged-as lv z (looked at look ∷ asks) reach least ns = logged-as lv z asks (max reach (far look.front (moved at z))) (min least (near look.back (moved at z))) ns
+logged-as lv z (marked at gap fewer m s ∷ asks) reach least ns =
+    let note = note_by lv z reach least at gap fewer m s in
+    logged-as lv z asks 0 none_yet (ns ++ note ∷ []) ∙ ap (λ ms. log_with (reach_from z 0 asks) (least_from lv z none_yet asks) ms) (append_assoc ns (note ∷ []) (notes_from lv z 0 none_yet asks))
+
+pub noted-length : (lv : ℕ) (z : Place) (asks : List Ask) (reach least : ℕ) → length (notes_from lv z reach least asks) ≡ notes_in asks
+noted-length lv z [] reach least = refl
+noted-length lv z (looked at look ∷ asks) reach least = noted-length lv z asks (max reach (far look.front (moved at z))) (min least (near look.back (moved at z)))
+noted-length lv z (marked at gap fewer m s ∷ asks) reach least = ap suc (noted-length lv z asks 0 none_yet)
+
+-- ---- a new log
+
+abbrev pub fresh_notes : ℕ → Place → List Ask → List Note
+fresh_notes lv z asks = notes_from lv z 0 none_yet asks
+
+-- the note that is made after asks
+abbrev pub next_note : ℕ → Place → List Ask → Noting → Note
+next_note lv z asks p = note_by lv z (reach_from z 0 asks) (least_from lv z none_yet asks) p.at p.gap p.fewer p.mark p.state
+
+logged-fresh : (lv : ℕ) (z : Place) (asks : List Ask) → logged lv z no_log asks ≡ log_with (reach_from z 0 asks) (least_from lv z none_yet asks) (fresh_notes lv z asks)
+logged-fresh lv z asks = logged-as lv z asks 0 none_yet []
+
+pub logged-notes : (lv : ℕ) (z : Place) (asks : List Ask) → (logged lv z no_log asks).notes ≡ Some (fresh_notes lv z asks)
+logged-notes lv z asks = ap (λ (h : Log). h.notes) (logged-fresh lv z asks)
+
+pub logged-listed : (lv : ℕ) (z : Place) (asks : List Ask) → listed (logged lv z no_log asks).notes ≡ fresh_notes lv z asks
+logged-listed lv z asks = ap listed (logged-notes lv z asks)
+
+pub logged-least : (lv : ℕ) (z : Place) (asks : List Ask) → (logged lv z no_log asks).least ≡ least_from lv z none_yet asks
+logged-least lv z asks = ap (λ (h : Log). h.least) (logged-fresh lv z asks)
+
+-- where a note stands among the asks
+logged-around : (lv : ℕ) (z : Place) (asks : List Ask) (p : Noting) (more : List Ask)
+    → logged lv z no_log (asks ++ noting p ∷ more) ≡ log_with (reach_from z 0 more) (least_from lv z none_yet more) (fresh_notes lv z asks ++ next_note lv z asks p ∷ fresh_notes lv z more)
+logged-around lv z asks p more =
+    logged-append lv z no_log asks (noting p ∷ more) ∙ ap (λ (h : Log). logged lv z h (noting p ∷ more)) (logged-fresh lv z asks)
+    ∙ logged-as lv z (noting p ∷ more) (reach_from z 0 asks) (least_from lv z none_yet asks) (fresh_notes lv z asks)
+
+pub notes-around : (lv : ℕ) (z : Place) (asks : List Ask) (p : Noting) (more : List Ask) → fresh_notes lv z (asks ++ noting p ∷ more) ≡ fresh_notes lv z asks ++ next_note lv z asks p ∷ fresh_notes lv z more
+notes-around lv z asks p more = sym (logged-listed lv z (asks ++ noting p ∷ more)) ∙ ap (λ (h : Log). listed h.notes) (logged-around lv z asks p more)
+
+pub least-around : (lv : ℕ) (z : Place) (asks : List Ask) (p : Noting) (more : List Ask) → least_from lv z none_yet (asks ++ noting p ∷ more) ≡ least_from lv z none_yet more
+least-around lv z asks p more = sym (logged-least lv z (asks ++ noting p ∷ more)) ∙ ap (λ (h : Log). h.least) (logged-around lv z asks p more)
+
+-- ---- what the numbers of notes say
+
+both-by : (b m n : ℕ) → max m n ≤ b → (m ≤ b) × (n ≤ b)
+both-by b m n h = (omega (arith, h), omega (arith, h))
+
+both-to : (b m n : ℕ) → m ≤ b → n ≤ b → max m n ≤ b
+both-to b m n h k = omega (arith, h, k)
+
+below : (b m n : ℕ) → b < min m n → (b < m) × (b < n)
+below b m n h = (omega (arith, h), omega (arith, h))
+
+above : (b m n : ℕ) → b < m → b < n → b < min m n
+above b m n h k = omega (arith, h, k)
+
+-- The looks end by a byte,
+pub reach-by : (lv b : ℕ) (z : Place) (asks : List Ask) (reach least : ℕ) → highest (notes_from lv z reach least asks) (reach_from z reach asks) ≤ b → (reach ≤ b) × AllReach b z asks
+reach-by lv b z [] reach least h = (h, tt)
+reach-by lv b z (looked at look ∷ asks) reach least h =
+    let i = reach-by lv b z asks (max reach (far look.front (moved at z))) (min least (near look.back (moved at z))) h in
+    let own = both-by b reach (far look.front (moved at z)) i.0 in
+    (own.0, (own.1, i.1))
+reach-by lv b z (marked at gap fewer m s ∷ asks) reach least h =
+    let own = both-by b reach (highest (notes_from lv z 0 none_yet asks) (reach_from z 0 asks)) h in
+    (own.0, (reach-by lv b z asks 0 none_yet own.1).1)
+
+pub reach-to : (lv b : ℕ) (z : Place) (asks : List Ask) (reach least : ℕ) → reach ≤ b → AllReach b z asks → highest (notes_from lv z reach least asks) (reach_from z reach asks) ≤ b
+reach-to lv b z [] reach least h f = h
+reach-to lv b z (looked at look ∷ asks) reach least h f =
+    reach-to lv b z asks (max reach (far look.front (moved at z))) (min least (near look.back (moved at z))) (both-to b reach (far look.front (moved at z)) h f.0) f.1
+reach-to lv b z (marked at gap fewer m s ∷ asks) reach least h f = both-to b reach (highest (notes_from lv z 0 none_yet asks) (reach_from z 0 asks)) h (reach-to lv b z asks 0 none_yet (omega arith) f)
+
+-- and begin after it.
+pub least-by : (lv b : ℕ) (z : Place) (asks : List Ask) (reach least : ℕ) → b < lowest (notes_from lv z reach least asks) (least_from lv z least asks) → (b < least) × AllFrom b z asks
+least-by lv b z [] reach least h = (h, tt)
+least-by lv b z (looked at look ∷ asks) reach least h =
+    let i = least-by lv b z asks (max reach (far look.front (moved at z))) (min least (near look.back (moved at z))) h in
+    let own = below b least (near look.back (moved at z)) i.0 in
+    (own.0, (own.1, i.1))
+least-by lv b z (marked at gap fewer m s ∷ asks) reach least h =
+    let own = below b least (lowest (notes_from lv z 0 none_yet asks) (least_from lv z none_yet asks)) h in
+    (own.0, (least-by lv b z asks 0 none_yet own.1).1)
+
+pub least-to : (lv b : ℕ) (z : Place) (asks : List Ask) (reach least : ℕ) → b < none_yet → b < least → AllFrom b z asks → b < lowest (notes_from lv z reach least asks) (least_from lv z least asks)
+least-to lv b z [] reach least big h f = h
+least-to lv b z (looked at look ∷ asks) reach least big h f =
+    least-to lv b z asks (max reach (far look.front (moved at z))) (min least (near look.back (moved at z))) big (above b least (near look.back (moved at z)) h f.0) f.1
+least-to lv b z (marked at gap fewer m s ∷ asks) reach least big h f = above b least (lowest (notes_from lv z 0 none_yet asks) (least_from lv z none_yet asks)) h (least-to lv b z asks 0 none_yet big big f)
+
+-- ---- in a larger whole
+
+-- what is logged from further on, where fewer levels are left
+pub logged-lowered : (levels f d : ℕ) (z : Place) (h : Log) (asks : List Ask) → logged levels z h (shift d (lowered f asks)) ≡ logged (levels - f) (moved d z) h asks
+logged-lowered levels f d z h [] = refl
+logged-lowered levels f d z h (looked at look ∷ asks) =
+    ap (λ w. logged levels z (with_hull (hull_of look w) h) (shift d (lowered f asks))) (moved-sum d at z) ∙ logged-lowered levels f d z (with_hull (hull_of look (moved at (moved d z))) h) asks
+logged-lowered levels f d z h (marked at gap fewer m s ∷ asks) =
+    let left : levels - (f + fewer) ≡ (levels - f) - fewer = omega arith in
+    ap (λ w. logged levels z (with_note gap (levels - (f + fewer)) m s w h) (shift d (lowered f asks))) (moved-sum d at z)
+    ∙ ap (λ n. logged levels z (with_note gap n m s (moved at (moved d z)) h) (shift d (lowered f asks))) left
+    ∙ logged-lowered levels f d z (with_note gap ((levels - f) - fewer) m s (moved at (moved d z)) h) asks
+
+pub notes-lowered : (levels f d : ℕ) (z : Place) (asks : List Ask) → fresh_notes levels z (shift d (lowered f asks)) ≡ fresh_notes (levels - f) (moved d z) asks
+notes-lowered levels f d z asks =
+    sym (logged-listed levels z (shift d (lowered f asks))) ∙ ap (λ (h : Log). listed h.notes) (logged-lowered levels f d z no_log asks) ∙ logged-listed (levels - f) (moved d z) asks
+
+-- ---- the marks in a list of asks
+
+-- Each of them has a property, by its place, by how many levels fewer are left there, by what it says, and by the state.
+abbrev pub AllMarks : (ℕ → ℕ → Mark → State → Type 0) → List Ask → Type 0
+AllMarks P [] = Unit {0}
+AllMarks P (looked at look ∷ asks) = AllMarks P asks
+AllMarks P (marked at gap fewer m s ∷ asks) = P at fewer m s × AllMarks P asks
+
+pub marks-append : (P : ℕ → ℕ → Mark → State → Type 0) (ls ks : List Ask) → AllMarks P ls → AllMarks P ks → AllMarks P (ls ++ ks)
+marks-append P [] ks h i = i
+marks-append P (looked at look ∷ ls) ks h i = marks-append P ls ks h i
+marks-append P (marked at gap fewer m s ∷ ls) ks h i = (h.0, marks-append P ls ks h.1 i)
+
+pub marks-by : (P Q : ℕ → ℕ → Mark → State → Type 0) → ((at fewer : ℕ) (m : Mark) (s : State) → P at fewer m s → Q at fewer m s) → (ls : List Ask) → AllMarks P ls → AllMarks Q ls
+marks-by P Q f [] h = tt
+marks-by P Q f (looked at look ∷ ls) h = marks-by P Q f ls h
+marks-by P Q f (marked at gap fewer m s ∷ ls) h = (f at fewer m s h.0, marks-by P Q f ls h.1)
+
+-- counted from a given number of characters before
+pub marks-shift : (P : ℕ → ℕ → Mark → State → Type 0) (d : ℕ) (ls : List Ask) → AllMarks (λ at fewer m s. P (d + at) fewer m s) ls → AllMarks P (shift d ls)
+marks-shift P d [] h = tt
+marks-shift P d (looked at look ∷ ls) h = marks-shift P d ls h
+marks-shift P d (marked at gap fewer m s ∷ ls) h = (h.0, marks-shift P d ls h.1)
+
+-- and from where more levels are left
+pub marks-lowered : (P : ℕ → ℕ → Mark → State → Type 0) (n : ℕ) (ls : List Ask) → AllMarks (λ at fewer m s. P at (n + fewer) m s) ls → AllMarks P (lowered n ls)
+marks-lowered P n [] h = tt
+marks-lowered P n (looked at look ∷ ls) h = marks-lowered P n ls h
+marks-lowered P n (marked at gap fewer m s ∷ ls) h = (h.0, marks-lowered P n ls h.1)
+
+pub marks-sunk : (P : ℕ → ℕ → Mark → State → Type 0) → ((at fewer : ℕ) (m : Mark) (s : State) → P at (suc fewer) m s) → (ls : List Ask) → AllMarks P (sunk ls)
+marks-sunk P f [] = tt
+marks-sunk P f (looked at look ∷ ls) = marks-sunk P f ls
+marks-sunk P f (marked at gap fewer m s ∷ ls) = (f at fewer m s, marks-sunk P f ls)
+
+-- ---- looks alone
+
+-- A property of marks holds, whatever it is.
+pub none-trivia : (P : ℕ → ℕ → Mark → State → Type 0) (k : CharClasses) (m : SyntaxMode) (n : ℕ) (z : Place) → AllMarks P (asks_by k m n z)
+none-trivia P k m zero z = tt
+none-trivia P k m (suc n) z =
+    let n_len = len_at k m z in
+    let rest = asks_by k m n (moved n_len z) in
+    on_both (λ (us : List Ask). AllMarks P us) (at_trivia k m z) (shift n_len rest) [] (marks-shift P n_len rest (none-trivia (λ at fewer m s. P (n_len + at) fewer m s) k m n (moved n_len z))) tt
+
+none-column : (P : ℕ → ℕ → Mark → State → Type 0) (held : Reading) (newlines : Newlines) (gap : ℕ) (z : Place) → AllMarks P (column_asks held newlines gap z)
+none-column P held newlines gap z = on_both (λ (us : List Ask). AllMarks P us) (asks_column held newlines) _ [] tt tt
+
+pub none-hand : (P : ℕ → ℕ → Mark → State → Type 0) (k : CharClasses) (held : Reading) (known : Option Trivia) (z : Place) → AllMarks P (hand_asks k held known z)
+unfolding hand_asks ahead_asks
+none-hand P k held None z =
+    let a = ahead_of k held.mode None z in
+    marks-append P (asks_by k held.mode (length z.ahead) z) (column_asks held a.newlines a.gap z) (none-trivia P k held.mode (length z.ahead) z) (none-column P held a.newlines a.gap z)
+none-hand P k held (Some t) z = none-column P held t.newlines t.gap z
+
+-- nor is any at a content block's closing bracket
+pub none-close : (P : ℕ → ℕ → Mark → State → Type 0) (l : Level) (w : Place) (p : Point) → AllMarks P (run l (close_if (same kind.RightBracket)) w p).asks
+unfolding run close_if
+none-close P l w p =
+    let a = asked (hand_of l w p) p in
+    let y = moved 0 w in
+    let Q = λ (at fewer : ℕ) (m : Mark) (u : State). P (0 + at) fewer m u in
+    let took = done l (takes false itself) y a in
+    let taken = joined took (plain true took.state) in
+    let b = same kind.RightBracket (as_at_hand (hand_of l w p)).kind in
+    let in_took = marks-append Q (hand_asks_of l y a) [] (none-hand Q l.classes a.held a.known y) tt in
+    marks-append P (hand_asks_of l w p) _ (none-hand P l.classes p.held p.known w)
+    (marks-shift P 0 (if b then taken else plain false a).asks (on_both (λ (o : Outcome Bool). AllMarks Q o.asks) b taken (plain false a) in_took tt))
+
+-- ---- the notes of a log
+
+-- A note is that of a mark.
+pub record NoteOf (P : ℕ → ℕ → Mark → State → Type 0) (lv : ℕ) (z : Place) (n : Note) : Type 0 where
+  pub at : ℕ
+  pub fewer : ℕ
+  pub says : Mark
+  pub told : State
+  pub holds : P at fewer says told
+  pub mark : n.mark ≡ says
+  pub before : n.before ≡ position (moved at z)
+  pub levels : n.levels ≡ lv - fewer
+  pub state : n.state ≡ told
+
+pub every-note : (P : ℕ → ℕ → Mark → State → Type 0) (lv : ℕ) (z : Place) (asks : List Ask) (reach least : ℕ) → AllMarks P asks → Every (NoteOf P lv z) (notes_from lv z reach least asks)
+every-note P lv z [] reach least a = tt
+every-note P lv z (looked at look ∷ asks) reach least a = every-note P lv z asks (max reach (far look.front (moved at z))) (min least (near look.back (moved at z))) a
+every-note P lv z (marked at gap fewer m s ∷ asks) reach least a = (
+  record { at = at; fewer = fewer; says = m; told = s; holds = a.0; mark = refl; before = refl; levels = refl; state = refl },
+  every-note P lv z asks 0 none_yet a.1,
+)
 
 -- ---- how many notes are made
 

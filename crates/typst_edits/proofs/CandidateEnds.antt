@@ -1,34 +1,21 @@
 -- Where a stretch of a run's children ends, and what of the run's pieces begins and ends there.
-use Rattle.std.proofs.Common.{◌≡◌, ℕ, zero, suc, ◌+◌, ◌-◌, ◌<◌, ◌≤◌, max, min, Bool, true, false, not, ◌||◌, ◌&&◌, if◌then◌else◌, List, [], ◌∷◌, ◌++◌, length, drop, length-append, append_assoc, append-nil, Some, refl, ap, sym, ◌∙◌, subst, arith}
-use Rattle.std.specs.Prelude.{nat_lt, nat_le}
-use Rattle.std.proofs.lemmas.Bool.Decides.{nat_tests}
-use borrow.Author.Tests.{ltb-true, lt-ltb}
-use Rattle.std.proofs.lemmas.Bool.{and_parts, false_from_ne_true, or_parts, ltb-false}
-use Rattle.typst_kinds.specs.Kinds.{same, is_trivia, is_error}
-use Rattle.typst_kinds.specs.declared.kind.SyntaxKind.TheVariants as kind
-use Rattle.typst_tree.specs.Tree.{Tree, text_of}
-use Rattle.typst_language.specs.Meaning.{Outcome, plain, less}
-use Rattle.typst_language.specs.Point.{Trivia, Point, pending}
-use Rattle.typst_language.proofs.Places.{less-none}
-use Rattle.typst_candidates.specs.Candidates as candidate
-use Rattle.typst_candidates.specs.Candidates.{Child, laid, ended, first_near, end_near, clings, is_sign, is_hash, is_among, leads, holds_at, back_past, on_past, with_hash, ChildRange, around, begins}
+use Rattle.std.proofs.Common.{◌≡◌, ℕ, zero, suc, ◌+◌, ◌-◌, ◌<◌, ◌≤◌, max, min, Bool, true, false, not, ◌||◌, ◌&&◌, if◌then◌else◌, List, [], ◌∷◌, ◌++◌, length, drop, length-append, append_assoc, append-nil, Some, refl, ap, sym, ◌∙◌, subst, arith, encode_utf8_all, Option, None}
+use Rattle.typst_edits.proofs.Words.{nat_le, nat_lt, nat_tests, ltb-true, lt-ltb, and_parts, ltb-false, same, is_trivia, is_error, Tree, text_of, error_of, leaf_of, Outcome, plain, less, Meaning, Trivia, Point, pending, less-none, Child, laid, first_near, end_near, is_among, ChildRange, begins, clings, is_hash, leads, holds_at, back_past, on_past, with_hash, together, Every, is_over, minds_at, first_place, read_by, onwards_by, GoesOnWell, begins_wrong, after_known, StartsWell, bytes_of, LeadsAt, StandsAt, Sequence, turn_of, first_end, then_end, SyntaxKind, SyntaxMode, Place, moved, CharClasses, Token, Reading, token_at, len_at, at_trivia, Ahead, direct, after_trivia, ahead_by, ahead, text_ahead, hand_at, token_node, plain_node, fault_node, is_raw, has_fields, peek, markup_turn, rules, max_depth, level_at, inner, bracket, inner_run, text_run, made, end_of, start, access_node, hints, message, raw_node}
+use Rattle.std.proofs.lemmas.Bool.{false_from_ne_true, or_parts}
+use Rattle.typst_candidates.specs.Candidates.{ended, is_sign, around}
 use Rattle.typst_candidates.proofs.Edges.{begins_least as begins-from}
 use Rattle.typst_grammar.proofs.Missing.{error-kind as error-is}
-use Rattle.typst_edits.specs.Children.{together}
-use Rattle.typst_edits.specs.Every.{Every}
-use Rattle.typst_edits.specs.Frame.{is_over}
-use Rattle.typst_edits.specs.Heads.{begins_wrong, minds_at, first_place, read_by, onwards_by, after_known, StartsWell, GoesOnWell}
-use Rattle.typst_edits.specs.Leading.{bytes_of, LeadsAt}
-use Rattle.typst_edits.specs.RootPieces.{StandsAt}
-use Rattle.typst_edits.specs.Sequence.{Sequence, turn_of, first_end, then_end}
 use Rattle.typst_edits.proofs.CandidatePlaces.{length-laid, back-le, on-ge, on-le, hash-le, begun-le, begun-ended}
 use Rattle.typst_edits.proofs.Leading.{bytes-append, bytes-first}
-use Rattle.typst_edits.proofs.Heads.{MindsAlone}
-use Rattle.typst_edits.proofs.Led.{drop-front}
-use Rattle.typst_edits.proofs.NoteNumbers.{neither}
-use Rattle.typst_edits.proofs.RootPieces.{same-place}
+use Rattle.typst_edits.proofs.Heads.{MindsAlone, advised-error as advised-wrong}
+use Rattle.typst_edits.proofs.Turns.{drop-front}
+use Rattle.typst_edits.proofs.NumberedNotes.{neither}
+use Rattle.typst_edits.proofs.RunPieces.{same-place}
 use Rattle.typst_edits.proofs.RunTrees.{standing-still}
 use Rattle.typst_edits.proofs.Every.{first_or}
+use Rattle.typst_edits.proofs.Known.{Saying, Stays, holds-run, holds-meaning}
+use Rattle.typst_kinds.specs.declared.kind.SyntaxKind.TheVariants as kind
+use Rattle.typst_candidates.specs.Candidates as candidate
 
 -- ---- children
 
@@ -185,12 +172,9 @@ pub record LoneError (cuts : List ℕ) (from : ℕ) (ts : List Tree) (index : �
   pub each : Every Quiet (error ∷ more)
   pub next : LeadsIf cuts (from + bytes_of (left ++ (error ∷ more))) behind
 
-leads-so : (cuts : List ℕ) (at : ℕ) (t : Tree) → 0 < length (text_of t) → is_among at cuts ≡ true → not (leads cuts (child at t)) ≡ false
-leads-so cuts at t full among = ap (λ b. not (nat_lt at (at + length (text_of t)) && b)) among ∙ ap (λ b. not (b && true)) (lt-ltb at (at + length (text_of t)) (omega (arith, full)))
-
 leads-if : (cuts : List ℕ) (at : ℕ) (ts : List Tree) → LeadsIf cuts at ts → 0 < length ts → holds_at (λ c. not (leads cuts c)) (laid at ts) 0 ≡ false
 leads-if cuts at [] h l = absurd (omega (arith, l))
-leads-if cuts at (t ∷ ts) h l = leads-so cuts at t h.0 h.1
+leads-if cuts at (t ∷ ts) h l = ap (λ b. not (nat_lt at (at + length (text_of t)) && b)) h.1 ∙ ap (λ b. not (b && true)) (lt-ltb at (at + length (text_of t)) (omega (arith, h.0)))
 
 -- What stands at it, or after it and before any that leads, clings.
 quiet-until : (cuts : List ℕ) (from : ℕ) (ts : List Tree) (index w : ℕ) → LoneError cuts from ts index → index ≤ w → w < length ts → ((v : ℕ) → index < v → v ≤ w → holds_at (λ c. not (leads cuts c)) (laid from ts) v ≡ true)
@@ -236,9 +220,6 @@ cut-on false c e = cc
 -- one that leads isn't empty
 leads-full : (cuts : List ℕ) (at : ℕ) (t : Tree) → not (leads cuts (child at t)) ≡ false → 0 < length (text_of t)
 leads-full cuts at t e = let more : at < at + length (text_of t) = ltb-true at (at + length (text_of t)) (cut-off (nat_lt at (at + length (text_of t))) (is_among at cuts) e) in omega (arith, more)
-
-error-clings : (t : Tree) → clings t ≡ false → is_error t.head.kind ≡ false
-error-clings t e = (or_parts (is_error t.head.kind) _ (or_parts (is_trivia t.head.kind) _ e).1).0
 
 module _ (cuts : List ℕ) (from : ℕ) (ts : List Tree) (rs re x : ℕ) (order : rs ≤ re) where
   abbrev cs : List Child
@@ -356,7 +337,7 @@ module _ (cuts : List ℕ) (from : ℕ) (ts : List Tree) (rs re x : ℕ) (order 
   to-stands more = stands from ts stretch.to (child-at from ts stretch.to more) (to-stop more).1
 
   pub to-right : (more : stretch.to < length ts) → is_error (child-at from ts stretch.to more).node.head.kind ≡ false
-  to-right more = error-clings (child-at from ts stretch.to more).node (to-stop more).0
+  to-right more = let t = (child-at from ts stretch.to more).node in (or_parts (is_error t.head.kind) _ (or_parts (is_trivia t.head.kind) _ (to-stop more).0).1).0
 
   -- where it ends with the last child's end, it ends with the last child
   pub to-last : begins from ts stretch.to ≡ from + bytes_of ts → stretch.to ≡ length ts
@@ -455,13 +436,7 @@ module _ (cuts : List ℕ) (from : ℕ) (ts : List Tree) (rs re x : ℕ) (order 
 
     -- So a stretch that begins and ends where they do begins well.
     pub begun : Begun r from ts i n start end s
-    begun = record {
-      starts = λ l. (some l, mild l);
-      goes_on = goes-on;
-      first = first;
-      next = next;
-      last = λ over. to-last cuts from ts rs re x order (sym end_is ∙ p.last some over);
-    }
+    begun = record { starts = λ l. (some l, mild l); goes_on = goes-on; first = first; next = next; last = λ over. to-last cuts from ts rs re x order (sym end_is ∙ p.last some over) }
 
 -- ---- what pieces give
 
@@ -558,3 +533,68 @@ module _ (r : Sequence) (cuts : List ℕ) (from : ℕ) (ts : List Tree) (i n sta
       → (0 < i → 0 < n → minds_at r (first_place i r) (first_end i r) ≡ true → MindsAlone (first_end i r).state (turn_of r (first_end i r).value (first_place i r) (first_end i r).state))
       → Parted r cuts from ts i n start end
   parted empty one alone = record { empty = empty; minded = λ l some mind. lone-at r cuts from ts i start (one l some) (alone l some mind); next = next-follows; last = ends-last }
+
+-- ---- what is known of the trivia at hand clings: it is trivia, or errors where they would stand
+
+-- ---- the nodes of tokens
+
+plain-quiet : (k : CharClasses) (i : SyntaxKind) (taken : List ℕ) → is_trivia i ≡ true
+    → Quiet (if is_error i then error_of [] (encode_utf8_all taken) else (if is_raw i then raw_node taken else (if has_fields i then access_node taken else leaf_of i (encode_utf8_all taken))))
+plain-quiet k kind.Space taken h = (refl, refl)
+plain-quiet k kind.Parbreak taken h = (refl, refl)
+plain-quiet k kind.LineComment taken h = (refl, refl)
+plain-quiet k kind.BlockComment taken h = (refl, refl)
+plain-quiet k _ taken h = absurd (cc)
+
+token-quiet : (k : CharClasses) (t : Token) (taken : List ℕ) → is_trivia t.kind ≡ true → Quiet (token_node k t taken)
+token-quiet k t taken h = elim t.fault as (λ o. Quiet (elim o as (λ _. Tree) [ None ↦ plain_node k t taken | Some f ↦ fault_node f taken ])) [
+  | None ↦ plain-quiet k t.kind taken h
+  | Some f ↦ error-quiet (fault_node f taken) (advised-wrong (hints f taken) (error_of (message f taken) (encode_utf8_all taken)) refl)
+]
+
+quiet-step : (k : CharClasses) (m : SyntaxMode) (z : Place) (taken : List ℕ) (b : Bool) (rest : Ahead) → at_trivia k m z ≡ b → Every Quiet rest.trivia
+    → Every Quiet (if b then after_trivia (token_at k m z) (len_at k m z) (token_node k (token_at k m z) taken) rest else direct (token_at k m z) (len_at k m z)).trivia
+quiet-step k m z taken true rest e h = (token-quiet k (token_at k m z) taken (and_parts (is_trivia (token_at k m z).kind) (nat_lt 0 (len_at k m z)) e).0, h)
+quiet-step k m z taken false rest e h = tt
+
+ahead-quiet : (k : CharClasses) (m : SyntaxMode) (n : ℕ) (z : Place) → Every Quiet (ahead_by k m n z).trivia
+ahead-quiet k m zero z = tt
+ahead-quiet k m (suc n) z = quiet-step k m z (text_ahead (len_at k m z) z) (at_trivia k m z) (ahead_by k m n (moved (len_at k m z) z)) refl (ahead-quiet k m n (moved (len_at k m z) z))
+
+hand-quiet : (k : CharClasses) (held : Reading) (known : Option Trivia) (z : Place) → Every Quiet (pending known) → Every Quiet (hand_at k held known z).trivia
+unfolding hand_at ahead
+hand-quiet k held None z h = ahead-quiet k held.mode (length z.ahead) z
+hand-quiet k held (Some t) z h = h
+
+-- ---- the invariant
+
+abbrev Known_quiet : Saying
+Known_quiet k m known z = Every Quiet (pending known)
+
+stays : Stays Known_quiet
+stays = record { none = λ k m z. tt; ask = λ k held known z h. hand-quiet k held known z h; flush = λ k held known z h. tt }
+
+-- Trivia that are known where pieces end are quiet, if those are that are known where they begin.
+made-quiet : {A : Type 0} (m : A → Meaning (Bool × A)) → ((x : A) (z : Place) (s : Point) → Every Quiet (pending s.known) → Every Quiet (pending (m x z s).state.known)) → (n : ℕ) (x : A) (z : Place) (s : Point) → Every Quiet (pending s.known)
+    → Every Quiet (pending (end_of x s (made m n x z s)).state.known)
+made-quiet m keeps zero x z s h = h
+made-quiet m keeps (suc n) x z s h = let o = m x z s in made-quiet m keeps n o.value.1 (moved o.taken z) o.state (keeps x z s h)
+
+module _ (r : Sequence) (keeps : (x : Bool × ℕ) (z : Place) (s : Point) → Every Quiet (pending s.known) → Every Quiet (pending (turn_of r x z s).state.known)) (start : Every Quiet (pending r.point.known)) where
+  pub quiet-end : (i n : ℕ) → Every Quiet (pending (then_end i n r).state.known)
+  quiet-end i n = let e = first_end i r in made-quiet (turn_of r) keeps n e.value (moved e.taken r.place) e.state (made-quiet (turn_of r) keeps i (true, 0) r.place r.point start)
+
+pub text-quiet : (k : CharClasses) (z : Place) (i n : ℕ) → Every Quiet (pending (then_end i n (text_run k z)).state.known)
+text-quiet k z i n =
+    let l = level_at k max_depth in
+    let d = holds-meaning Known_quiet stays (rules k) k max_depth in
+    let r = text_run k z in
+    quiet-end r (λ x w s h. holds-run Known_quiet stays l d (markup_turn true r.stops x) w s h) (holds-run Known_quiet stays l d peek z start tt) i n
+
+pub inner-quiet : (k : CharClasses) (levels : ℕ) (z : Place) (s : Point) (i n : ℕ) → Every Quiet (pending (then_end i n (inner_run k levels z s)).state.known)
+inner-quiet k levels z s i n =
+    let l = inner k levels in
+    let d = holds-meaning Known_quiet stays (rules k) k (suc levels) in
+    let r = inner_run k levels z s in
+    let b = bracket k levels z s in
+    quiet-end r (λ x w p h. holds-run Known_quiet stays l d (markup_turn true r.stops x) w p h) (holds-run Known_quiet stays l d peek (moved b.taken z) b.state tt) i n

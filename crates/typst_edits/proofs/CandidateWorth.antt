@@ -1,40 +1,111 @@
 -- Each candidate that passes is worth its new nodes and entries: a block, pieces of a text's own run, and pieces of a content block.
-use Rattle.std.proofs.Common.{◌≡◌, ℕ, zero, suc, ◌+◌, ◌≤◌, Bool, true, false, IsTrue, List, [], ◌∷◌, ◌++◌, length, length-append, take, Option, refl, ap, sym, ◌∙◌, subst, arith}
-use Rattle.typst_lines.specs.Classes.{CharClasses}
-use Rattle.typst_tree.specs.Tree.{Tree, Forest, none, more, forest, trees, bare}
-use Rattle.typst_tree.specs.Replace.{Reaches}
-use Rattle.typst_tokens.specs.Sight.{width}
-use Rattle.typst_language.specs.declared.calls.Note.{Note}
-use Rattle.typst_language.specs.Point.{Trivia, gap_of}
-use Rattle.typst_candidates.specs.Units.{top_cuts}
-use Rattle.typst_candidates.specs.Candidates as candidate
-use Rattle.typst_candidates.specs.Candidates.{Candidate, is_among, begins, laid, first_near, run_in, candidates_at}
-use Rattle.typst_grammar.specs.Grammar.{tree, log}
-use Rattle.typst_edits.specs.Answer.{candidates, Worth, CandidateLaw}
-use Rattle.typst_edits.specs.Edit.{Among, text_with}
-use Rattle.typst_edits.specs.Every.{Every}
-use Rattle.typst_edits.specs.Frame.{top, inner, is_over, PassesPieces, of_block, of_pieces}
-use Rattle.typst_edits.specs.Joint.{text_run}
-use Rattle.typst_edits.specs.OpensApart.{OpensApartLaw}
-use Rattle.typst_edits.specs.PieceNotes.{listed}
-use Rattle.typst_edits.specs.RootPieces.{root_run, BeginsWell, StandsAt}
-use Rattle.typst_edits.specs.Runs.{piece_at, lead, end_at}
-use Rattle.typst_edits.proofs.BareCandidates.{bare-candidates-law}
-use Rattle.typst_edits.proofs.BlockWorth.{block-worth-law}
+use Rattle.std.proofs.Common.{◌≡◌, ℕ, zero, suc, ◌+◌, ◌≤◌, List, [], ◌∷◌, ◌++◌, length, refl, ap, sym, ◌∙◌, subst, arith, Bool, true, false, IsTrue, length-append, take, Option}
+use Rattle.typst_edits.proofs.Words.{slice_get, Tree, forest, trees, inner_of, Forest, none, more, bare, Reaches, At, put_at, trees_forest, CharClasses, moved, position, width, Candidate, is_among, begins, laid, first_near, run_in, candidates_at, tree, parsed, max_depth, log, block_log, with_children, exchanged, Among, alter, replaced, text_with, Passes, put, path_of, blocks_of_text, notes_in, entries_from, token_start, Spot, last_node, unit_at, is_over, Agrees, top, PassesPieces, of_block, of_pieces, text_run, root_run, StandsAt, BeginsWell, end_note, pieces_log, asks_of, pieces, pieces_from, end_from, piece_at, lead, end_at, Note, Trivia, gap_of, top_cuts, candidates, Every, OpensApartLaw, listed}
+use Rattle.typst_edits.specs.Frame.{inner}
+use Rattle.typst_edits.specs.Answer.{Worth, CandidateLaw}
+use Rattle.typst_edits.specs.BlockWorth.{BlockWorthLaw}
+use Rattle.typst_edits.proofs.RunSplice.{block-splice-law, run-splice-law, around-splice-law}
+use Rattle.typst_edits.proofs.Replaced.{put-law}
+use Rattle.typst_edits.proofs.Text.{block-law}
+use Rattle.typst_edits.specs.RootWorth.{RootWorthLaw}
+use Rattle.typst_edits.proofs.RunPieces.{joint-of, root-pieces-law, inner-joint-of, inner-pieces-law, take-past, behind-zero}
+use Rattle.typst_edits.specs.InnerWorth.{InnerWorthLaw}
+use Rattle.typst_edits.proofs.CandidatePlaces.{bare-candidates-law, candidate-places-law}
 use Rattle.typst_edits.proofs.CandidateEnds.{stretch, to-cut}
-use Rattle.typst_edits.proofs.CandidatePlaces.{candidate-places-law}
 use Rattle.typst_edits.proofs.Cuts.{token-cuts}
 use Rattle.typst_edits.proofs.Edit.{among}
 use Rattle.typst_edits.proofs.Every.{every-by}
-use Rattle.typst_edits.proofs.InnerCandidates.{inner-candidate-law}
-use Rattle.typst_edits.proofs.InnerWorth.{inner-worth-law}
+use Rattle.typst_edits.proofs.RunCandidates.{inner-candidate-law, cuts-of-text, of-the-root, root-candidate-law}
 use Rattle.typst_edits.proofs.MarkupCandidates.{Own, node-every, run-own}
-use Rattle.typst_edits.proofs.NoteNumbers.{go-fewer}
-use Rattle.typst_edits.proofs.RootCandidates.{cuts-of-text, of-the-root, root-candidate-law}
-use Rattle.typst_edits.proofs.RootPieces.{take-past, behind-zero}
-use Rattle.typst_edits.proofs.RootWorth.{root-worth-law}
+use Rattle.typst_edits.proofs.NumberedNotes.{go-fewer}
 use Rattle.typst_edits.proofs.RunTrees.{tree-is}
 use Rattle.typst_edits.proofs.Widths.{width-append}
+use Rattle.typst_kinds.specs.declared.kind.SyntaxKind.TheVariants as kind
+use Rattle.typst_candidates.specs.Candidates as candidate
+
+-- ---- a block that passes the test is worth its new node and its entries
+
+-- one of several nodes exchanged
+alter-one : (x : Tree) (i : ℕ) (ts : List Tree) → suc i ≤ length ts → alter i (put [] x) ts ≡ exchanged i (suc i) (x ∷ []) ts
+alter-one x i [] e = absurd (omega (arith, e))
+alter-one x zero (t ∷ ts) e = refl
+alter-one x (suc i) (t ∷ ts) e = ap (λ us. t ∷ us) (alter-one x i ts (omega (arith, e)))
+
+-- One of several nodes, changed by functions that do the same to each node that is like it.
+alter-there : (P : Tree → Type 0) (f g : Tree → Tree) (n : ℕ) (ts : List Tree) → ((t : Tree) → P t → f t ≡ g t) → At P (slice_get ts n) → alter n f ts ≡ alter n g ts
+alter-there P f g n [] e a = refl
+alter-there P f g zero (t ∷ ts) e a = ap (λ u. u ∷ ts) (e t a)
+alter-there P f g (suc n) (t ∷ ts) e a = ap (λ us. t ∷ us) (alter-there P f g n ts e a)
+
+-- the node at the end of a path is one child exchanged
+put-one : (path : List ℕ) (from : ℕ) (x t : Tree) → Reaches path from (suc from) t → put (path ++ from ∷ []) x t ≡ with_children path from (suc from) (x ∷ []) t
+put-one [] from x t e = ap (λ ts. record { head = t.head; kids = forest ts }) (alter-one x from (trees t.kids) e.2)
+put-one (n ∷ path) from x t e =
+    ap (λ ts. record { head = t.head; kids = forest ts })
+    (alter-there (Reaches path from (suc from)) (put (path ++ from ∷ []) x) (with_children path from (suc from) (x ∷ [])) n (trees t.kids) (put-one path from x) e)
+
+-- in the node of a whole text
+replaced-one : (path : List ℕ) (from : ℕ) (x : Tree) (ts : List Tree) → inner_of kind.Markup (forest (replaced (path ++ from ∷ []) x ts)) ≡ put (path ++ from ∷ []) x (inner_of kind.Markup (forest ts))
+replaced-one [] from x ts = ap (λ us. inner_of kind.Markup (forest (alter from (put [] x) us))) (sym (trees_forest ts))
+replaced-one (n ∷ path) from x ts = ap (λ us. inner_of kind.Markup (forest (alter n (put (path ++ from ∷ []) x) us))) (sym (trees_forest ts))
+
+-- The tree of the new text, whatever its length.
+pub block-tree : (k : CharClasses) (front old new rest : List ℕ) (c : Candidate) (s : Spot (Unit {0})) (past : ℕ) → Among s (blocks_of_text k (front ++ (old ++ rest)))
+    → path_of s.hole ≡ c.path ++ c.from ∷ [] → c.to ≡ suc c.from → Reaches c.path c.from c.to (tree k (front ++ (old ++ rest))) → Passes front old new rest s past
+    → tree k (front ++ (new ++ rest)) ≡ put_at c.path c.from c.to (last_node (unit_at s (text_with front new rest)).nodes ∷ []) (tree k (front ++ (old ++ rest)))
+unfolding tree
+block-tree k front old new rest c s past among at one reaches passes =
+    let kept = block-law k front old new rest s past among passes in
+    let x = last_node (unit_at s (text_with front new rest)).nodes in
+    let nodes = (parsed k max_depth (front ++ (old ++ rest))).nodes in
+    let there : Reaches c.path c.from (suc c.from) (tree k (front ++ (old ++ rest))) = subst (λ j. Reaches c.path c.from j (tree k (front ++ (old ++ rest)))) one reaches in
+    kept.tree ∙ ap (λ p. inner_of kind.Markup (forest (replaced p x nodes))) at ∙ replaced-one c.path c.from x nodes ∙ put-one c.path c.from x (tree k (front ++ (old ++ rest))) there
+    ∙ ap (λ j. with_children c.path c.from j (x ∷ []) (tree k (front ++ (old ++ rest)))) (sym one) ∙ sym (put-law c.path c.from c.to (x ∷ []) (tree k (front ++ (old ++ rest))))
+
+pub block-worth-law : BlockWorthLaw
+block-worth-law k front old new rest c s past among at one reaches passes short short-now =
+    let spliced = block-splice-law k front old new rest s past among passes short short-now in
+    record {
+      is_tree = block-tree k front old new rest c s past among at one reaches passes;
+      from = spliced.opens;
+      to = suc (spliced.opens + notes_in (unit_at s (text_with front old rest)).asks);
+      part = entries_from (position (moved s.at (text_with front new rest))) (block_log (front ++ (new ++ rest)) s (unit_at s (text_with front new rest))).notes;
+      units = spliced.units;
+    }
+
+-- ---- pieces of a run are worth reading: at the root and in a content block
+
+-- If no piece is read in their place, the run ends after the old pieces.
+over-by : (k : CharClasses) (text : List ℕ) (b : Bool) (i m : ℕ) (x y : Bool × ℕ) → Agrees (root_run k text) b m x y → i + m ≡ 0 → b ≡ true
+over-by k text true i m x y a e = refl
+over-by k text false i m x y a e = absurd (omega (arith, a.0, e))
+
+pub root-worth-law : RootWorthLaw
+root-worth-law k front old new rest c i n m past t u path start led end h well over big big_new =
+    let z = text_with front old rest in
+    let w = text_with front new rest in
+    let from = notes_in (asks_of (pieces k i z)) in
+    record {
+      is_tree = root-pieces-law k front old new rest c i n m past t u path start led end h well;
+      from = from;
+      to = from + notes_in (asks_of (pieces_from k i n z));
+      part = entries_from (token_start w (end_note k i w)) (pieces_log k i m w).notes;
+      units = run-splice-law k front old new rest i n m past t u (joint-of k front old new rest i n m past t u h well.goes_on) over
+          (over-by k (front ++ (old ++ rest)) (is_over i n (text_run k z)) i m (end_from k i n z).value (end_from k i m w).value h.agrees) big big_new;
+    }
+
+pub inner-worth-law : InnerWorthLaw
+inner-worth-law k levels front old new rest s among name level c i n m past t u around path start led end h well big big_new =
+    let w = text_with front new rest in
+    let joint = inner-joint-of k levels front old new rest s among name level i n m past t u around h well.goes_on in
+    let whole = around-splice-law k levels front old new rest s i n m past t u among joint big big_new in
+    record {
+      is_tree = inner-pieces-law k levels front old new rest s among name level c i n m past t u around path start led end h well;
+      from = whole.opens;
+      to = suc (whole.opens + notes_in (unit_at s (text_with front old rest)).asks);
+      part = entries_from (position (moved s.at w)) (block_log (front ++ (new ++ rest)) s (unit_at s w)).notes;
+      units = whole.units;
+    }
 
 -- ---- a block
 

@@ -1,37 +1,28 @@
--- A tree where some pieces of its run are read again: one stretch of its children exchanged.
-use Rattle.std.proofs.Common.{◌≡◌, inl, inr, ℕ, zero, suc, ◌+◌, ◌<◌, ◌≤◌, Bool, true, false, nat_lt, List, [], ◌++◌, length, drop, length-append, append_assoc, Some, refl, ap, sym, ◌∙◌, subst, arith}
-use Rattle.typst_kinds.specs.declared.kind.SyntaxKind.{SyntaxKind}
-use Rattle.typst_kinds.specs.declared.kind.SyntaxKind.TheVariants as kind
-use Rattle.typst_lines.specs.Place.{Place, moved}
-use Rattle.typst_tree.specs.Tree.{Tree, forest, trees, inner_of}
-use Rattle.typst_lines.specs.Classes.{CharClasses}
-use Rattle.typst_language.specs.Depth.{is_end}
-use Rattle.typst_language.specs.Hand.{as_at_hand}
-use Rattle.typst_language.specs.Point.{Trivia, Point}
-use Rattle.typst_language.specs.Shape.{hinted}
-use Rattle.typst_language.specs.Steps.{flush_trivia}
-use Rattle.typst_language.specs.Syntax.{◌>>=◌}
-use Rattle.typst_language.specs.Syntax.Parser.{repeat}
-use Rattle.typst_language.specs.Meaning.{Outcome, Meaning, Level, plain, less, standing, joined, hand_of, run}
-use Rattle.typst_language.specs.Sound.{Tidy, Backs}
+-- A tree where some pieces of a run are read again: one stretch of the children of the run's node exchanged, of a text's root or of a content block's markup.
+use Rattle.std.proofs.Common.{◌≡◌, inl, inr, ℕ, zero, suc, ◌+◌, ◌<◌, ◌≤◌, Bool, true, false, nat_lt, List, [], ◌++◌, length, drop, length-append, append_assoc, Some, refl, ap, sym, ◌∙◌, subst, arith, ◌-◌, if◌then◌else◌, ◌∷◌, take, codes, append-nil}
+use Rattle.typst_edits.proofs.Words.{SyntaxKind, Place, moved, Tree, forest, trees, inner_of, made_error, CharClasses, is_end, as_at_hand, Hand, Trivia, Point, point_of, state_of, gap_of, pending, hinted, shaped, after_node, encloses, becomes, flush_trivia, close_if, ◌>>=◌, repeat, Outcome, Meaning, Level, plain, less, standing, joined, hand_of, run, wrapped, repeated, left_to, start_point, entered, asked, taken_node, done, hand_asks_of, flushed_state, Tidy, Backs, sane-at, sane-run, sane-meaning, sane-plain, ends, markup_turn, ends_block, markup_reading, rules, max_depth, level_at, start_of, tree, whole, parsed, Settles, with_children, together, read_from, standing_before, nodes_with, exchanged, text_with, Among, alter, replaced, place_from, onwards_from, text_run, given, made, piece_at, AllGo, end_of, lead, pieces, end_at, pieces_from, end_from, chain, End, first_place, read_by, Sequence, turn_of, first_of, first_end, then_of, then_end, then_place, rest_of, same, marked, itself, takes, less-none, inner, look_again, bracket, inner_lead, inner_run, inner_tail, inner_close, content_with, run_at, tail_at, close_at, run_of, body_of, Deep, fill, path_in, Hole, plug, path_of, under, read_in, standing_in, nodes_in, block_with, PassesInnerJoint, onwards_in, blocks_of_text, Spot, last_node, unit_at, SameIn, on_both, standing-joined}
+use Rattle.typst_language.specs.Point.{is_nil}
+use Rattle.typst_edits.specs.Children.{ChildrenLaw, BackLaw}
+use Rattle.typst_edits.specs.Hole.Deep.{bare}
+use Rattle.typst_edits.specs.InnerChildren.{InnerChildrenLaw, InnerBackLaw}
 use Rattle.typst_language.proofs.Backs.{backs-joined}
-use Rattle.typst_language.proofs.Knot.{sane-at, sane-run}
-use Rattle.typst_grammar.specs.Markup.{ends, markup_turn}
-use Rattle.typst_grammar.specs.Grammar.{rules, max_depth, level_at, start_of, tree}
-use Rattle.typst_edits.specs.Children.{exchanged, Settles, with_children, together, read_from, standing_before, nodes_with, ChildrenLaw, BackLaw}
-use Rattle.typst_edits.specs.Edit.{text_with}
-use Rattle.typst_edits.specs.Joint.{place_from, onwards_from, text_run}
-use Rattle.typst_edits.specs.RunTrees.{given}
-use Rattle.typst_edits.specs.Runs.{made, piece_at, AllGo, end_of, lead, pieces, end_at, pieces_from, end_from}
 use Rattle.typst_edits.proofs.Boundary.{KnownAt, first-of, going-on, known-made}
-use Rattle.typst_edits.proofs.Edit.{trees-of}
-use Rattle.typst_edits.proofs.Joint.{joint-law, onwards-is, text-taking}
-use Rattle.typst_edits.proofs.Led.{before_trivia, Led, led-joined, drop-front, take-front, less-behind}
-use Rattle.typst_edits.proofs.RunTrees.{standing-chain, standing-still, tree-is}
-use Rattle.typst_edits.proofs.Runs.{chain-state}
-use Rattle.typst_edits.proofs.Turns.{Taking, turn-led}
-use Rattle.typst_edits.specs.Heads.{first_place, read_by}
-use Rattle.typst_edits.specs.Sequence.{Sequence, turn_of, first_of, first_end, then_of, then_end}
+use Rattle.typst_edits.proofs.Edit.{trees-of, among, before-same, alter-at, replaced-plug}
+use Rattle.typst_edits.proofs.Joint.{joint-law, onwards-is, text-taking, inner-joint-law, block-taking}
+use Rattle.typst_edits.proofs.Turns.{before_trivia, Led, led-joined, drop-front, take-front, less-behind, none-of, Taking, turn-led, fronted-same, none-less}
+use Rattle.typst_edits.proofs.RunTrees.{standing-chain, standing-still, tree-is, run-nodes}
+use Rattle.typst_edits.proofs.Runs.{chain-state, split, split-taken, split-state}
+use borrow.Author.Tests.{le-ltb}
+use Rattle.typst_edits.proofs.BlockRuns.{sane, content_by, first-same}
+use Rattle.typst_edits.proofs.Blocks.{ends as inner-ends, last-is}
+use Rattle.typst_edits.proofs.Content.{Clear, clear-level, Begun, again, content-begun, opener-takes, Apart as InnerApart, same-here}
+use Rattle.typst_edits.proofs.Spots.{Lawful}
+use Rattle.typst_edits.proofs.Law.{inside-level}
+use Rattle.typst_edits.proofs.Text.{content-reads}
+use Rattle.typst_edits.specs.LeadingTrivia.{LeadingTriviaLaw, InnerLeadingTriviaLaw}
+use Rattle.typst_kinds.specs.declared.kind.SyntaxKind.TheVariants as kind
+use Rattle.typst_language.specs.declared.calls.Mark.TheVariants as mark
+use Rattle.typst_language.specs.declared.calls.Block.TheVariants as block
 
 -- ---- stretches of nodes
 
@@ -149,7 +140,7 @@ module _ (k : CharClasses) where
   behind-back i n z =
       let f = end_from k i n z in
       let tidy = (sane-at (rules k) k max_depth (repeat (markup_turn true is_end) f.value >>= λ _. flush_trivia)).backs (place_from k i n z) f.state in
-      omega (arith, tidy.back, ap (λ (o : Outcome (Unit {0})). o.back) (onwards-is k i n z))
+      omega (arith, tidy.back, ap (λ (o : Outcome (Unit {0})). o.back) (onwards-is (text_run k z) i n))
 
 pub children-law : ChildrenLaw
 children-law k front old new rest i n m past t u h some more same =
@@ -188,3 +179,489 @@ back-law k text i n =
     let e = end_at k i z in
     let tidy = tidy-together (piece_at k) (λ v. (sane-at (rules k) k max_depth (markup_turn true is_end v)).backs) n e.value (moved e.taken z) e.state in
     record { pieces_back = tidy.back; after_back = behind-back k i n z }
+
+-- ---- what leaves the nodes before it as they are
+
+-- It stands after them.
+quiet-standing : {A : Type 0} (o : Outcome A) (ts : List Tree) → InnerApart o → standing o ts ≡ ts ++ o.nodes
+quiet-standing o ts q = ap (λ hs. hinted hs (less o.back ts) ++ o.nodes) q.hints ∙ ap (λ n. less n ts ++ o.nodes) q.back ∙ ap (λ us. us ++ o.nodes) (less-none ts)
+
+quiet-joined : {A B : Type 0} (o : Outcome B) (p : Outcome A) → InnerApart o → InnerApart p → InnerApart (joined o p)
+quiet-joined o p q r =
+    record { back = omega (arith, q.back, r.back); hints = none-of (nat_lt p.back (length o.nodes)) (nat_lt (length o.nodes) p.back) o.hints p.hints q.hints r.hints }
+
+-- ---- the node of a content block
+
+shaped-is : (closed : Bool) (lb : Tree) (kids inner-ends : List Tree) → shaped (encloses kind.ContentBlock closed) (lb ∷ inner_of kind.Markup (forest kids) ∷ inner-ends) ≡ block_with closed lb kids inner-ends ∷ []
+shaped-is true lb kids inner-ends = refl
+shaped-is false lb kids inner-ends = refl
+
+hints-joined : {A B : Type 0} (o : Outcome B) (p : Outcome A) → o.hints ≡ [] → p.hints ≡ [] → (joined o p).hints ≡ []
+hints-joined o p e f = none-of (nat_lt p.back (length o.nodes)) (nat_lt (length o.nodes) p.back) o.hints p.hints e f
+
+-- the trivia after a run
+tail-quiet : (k : CharClasses) (levels n : ℕ) (s : Point) (z : Place) → InnerApart (inner_tail k levels n s z)
+unfolding run flush_trivia
+tail-quiet k levels n s z =
+    let l = inner k levels in
+    let w = moved n z in
+    let h = hand_of l w s in
+    let p = flushed_state h s in
+    let y = moved h.gap w in
+    let first = record (plain (tt {0}) p) { taken = h.gap; nodes = h.trivia; asks = hand_asks_of l w s } in
+    let g = hand_of l y p in
+    let a = asked g p in
+    let second = record (plain (as_at_hand g) a) { asks = hand_asks_of l y p } in
+    let last = plain (tt {0}) a in
+    quiet-joined first (joined second last) (record { back = refl; hints = refl }) (quiet-joined second last (record { back = refl; hints = refl }) (record { back = refl; hints = refl }))
+
+tidy-plain : {A : Type 0} (a : A) (p : Point) → Tidy p (plain a p)
+tidy-plain a p = record { back = omega arith; left = omega arith }
+
+-- The first of two hints at nothing if both do and the second takes nothing back.
+front-none : (hs js : List (List ℕ)) → hs ++ js ≡ [] → hs ≡ []
+front-none [] js e = refl
+front-none (h ∷ hs) js e = cc
+
+first-hints : (b c : Bool) (hs js : List (List ℕ)) → c ≡ false → (if b then hs else (if c then js else hs ++ js)) ≡ [] → hs ≡ []
+first-hints true c hs js f e = e
+first-hints false true hs js f e = cc
+first-hints false false hs js f e = front-none hs js e
+
+module _ (k : CharClasses) (levels : ℕ) (z : Place) (s : Point) where
+  -- how it begins: with one token, its bracket, which leaves no empty error
+  pub record Opens : Type 0 where
+    pub node : Tree
+    pub nodes : (bracket k levels z s).nodes ≡ node ∷ []
+    pub empties : (bracket k levels z s).state.empties ≡ 0
+    pending_none : length (pending (look_again k levels z s).state.known) ≡ 0
+
+  pub opens-by : Begun (inner k levels) z s → Opens
+  unfolding run
+  opens-by b =
+      let l = inner k levels in
+      let h = hand_of l z s in
+      let s1 = asked h s in
+      let s2 = (look_again k levels z s).state in
+      let one : hand_of l z s1 ≡ h = again l (sane-meaning (rules k) k (suc levels)) (λ c. sane-plain tt) z s in
+      let two : hand_of l z s2 ≡ h = again l (sane-meaning (rules k) k (suc levels)) (λ c. sane-plain tt) z s1 ∙ one in
+      let in_block = entered markup_reading s2 in
+      let node = taken_node k itself (hand_of l z s2) z in
+      record {
+        node = node;
+        nodes = ap (λ ts. ts ++ node ∷ []) (ap (λ (g : Hand). g.trivia) two ∙ b.trivia);
+        empties = (opener-takes l).empties z in_block (ap (λ (g : Hand). g.gap) two ∙ b.gap) (subst (λ (g : Hand). 0 < g.len) (sym two) b.some) (subst (λ (g : Hand). g.len ≤ length z.ahead) (sym two) b.room);
+        pending_none = ap (λ (g : Hand). length g.trivia) one ∙ ap length b.trivia;
+      }
+
+  abbrev the_run : Outcome (Bool × ℕ) → Outcome (Unit {0}) → Outcome (Unit {0})
+  the_run r t = run_of (bracket k levels z s).state (inner_lead k levels z s) r t
+
+  -- what stands in the run
+  -- the block's one node, by its run
+  pub node-is : (r : Outcome (Bool × ℕ)) (t : Outcome (Unit {0})) (close : Outcome Bool) (b : Opens) → InnerApart (the_run r t) → InnerApart close
+      → (content_by k levels z s r t close).nodes ≡ block_with close.value b.node (standing t (standing r [])) close.nodes ∷ []
+  unfolding run
+  node-is r t close b quiet shut =
+      let o = the_run r t in
+      let w = wrapped (λ (x : Unit {0}). becomes kind.Markup) 0 o in
+      let body = body_of o in
+      let kids = standing t (standing r []) in
+      let none : 0 + o.back ≡ 0 = ap (λ n. 0 + n) quiet.back in
+      let quiet_w : InnerApart w = record { back = quiet.back; hints = quiet.hints } in
+      let one = joined w (plain w.value.1 w.state) in
+      let two = plain (is_nil w.value.1) w.state in
+      let w_nodes : w.nodes ≡ inner_of kind.Markup (forest kids) ∷ [] =
+      ap (λ n. take n o.nodes ++ inner_of kind.Markup (forest (drop n o.nodes)) ∷ []) none ∙ ap (λ ts. inner_of kind.Markup (forest ts) ∷ []) (run-nodes (inner k levels) (bracket k levels z s).state (moved (bracket k levels z s).taken z) r t) in
+      let quiet_one = quiet-joined w (plain w.value.1 w.state) quiet_w (record { back = refl; hints = refl }) in
+      let quiet_body : InnerApart body = quiet-joined one two quiet_one (record { back = refl; hints = refl }) in
+      let body_nodes : body.nodes ≡ inner_of kind.Markup (forest kids) ∷ [] =
+      standing-still two one.nodes refl refl refl ∙ standing-still (plain w.value.1 w.state) w.nodes refl refl refl ∙ w_nodes in
+      let opening = bracket k levels z s in
+      let rest = joined body close in
+      let all = joined opening rest in
+      let all_nodes : all.nodes ≡ b.node ∷ inner_of kind.Markup (forest kids) ∷ close.nodes =
+      quiet-standing rest opening.nodes (quiet-joined body close quiet_body shut) ∙ ap (λ ts. ts ++ rest.nodes) b.nodes
+      ∙ ap (λ ts. b.node ∷ ts) (quiet-standing close body.nodes shut ∙ ap (λ ts. ts ++ close.nodes) body_nodes) in
+      let quiet_all : InnerApart all = quiet-joined opening rest (record { back = refl; hints = refl }) (quiet-joined body close quiet_body shut) in
+      let second = look_again k levels z s in
+      let n = length (pending second.state.known) in
+      let block = wrapped (encloses kind.ContentBlock) n (left_to second.state.reading all) in
+      let zero_more : n + all.back ≡ 0 = ap (λ a. a + all.back) b.pending_none ∙ ap (λ a. 0 + a) quiet_all.back in
+      let block_nodes : block.nodes ≡ block_with close.value b.node kids close.nodes ∷ [] =
+      ap (λ a. take a all.nodes ++ shaped (encloses kind.ContentBlock close.value) (drop a all.nodes)) zero_more ∙ ap (λ ts. shaped (encloses kind.ContentBlock close.value) ts) all_nodes ∙ shaped-is close.value b.node kids close.nodes in
+      let quiet_block : InnerApart block = record { back = quiet_all.back; hints = quiet_all.hints } in
+      let value = plain block.value.0 block.state in
+      let done = plain (tt {0}) block.state in
+      let inside = joined block value in
+      let quiet_inside = quiet-joined block value quiet_block (record { back = refl; hints = refl }) in
+      let looked = joined second inside in
+      let quiet_looked = quiet-joined second inside (record { back = refl; hints = refl }) quiet_inside in
+      let closing = joined looked done in
+      let quiet_closing = quiet-joined looked done quiet_looked (record { back = refl; hints = refl }) in
+      quiet-standing closing [] quiet_closing ∙ standing-still done looked.nodes refl refl refl ∙ quiet-standing inside [] quiet_inside ∙ standing-still value block.nodes refl refl refl ∙ block_nodes
+
+  -- What is read in the run takes nothing back, and hints at nothing before it.
+  abbrev whole_run : Outcome (Bool × ℕ)
+  whole_run = let r = inner_run k levels z s in repeated (turn_of r) (true, 0) r.place r.point
+
+  abbrev whole_tail : Outcome (Unit {0})
+  whole_tail = let r = inner_run k levels z s in inner_tail k levels whole_run.taken whole_run.state r.place
+
+  run-quiet : Opens → InnerApart (the_run whole_run whole_tail)
+  unfolding run
+  run-quiet b =
+      let r = inner_run k levels z s in
+      let x = (bracket k levels z s).state in
+      let o = whole_run in
+      let t = whole_tail in
+      let at = r.point in
+      let h = hand_of (inner k levels) r.place x in
+      let u : Trivia = record { nodes = h.trivia; gap = h.gap; newlines = h.newlines } in
+      let f = fronted-same (inner k levels) ends_block (block-taking k levels) at.held r.place u (true, 0) at.reading at.empties at.is_after_error in
+      let tail = tail-quiet k levels o.taken o.state r.place in
+      let tail_back : t.back ≡ 0 = tail.back in
+      let none_back : nat_lt (length o.nodes) t.back ≡ false = ap (nat_lt (length o.nodes)) tail_back ∙ le-ltb (length o.nodes) 0 (omega arith) in
+      let hints : o.hints ≡ [] = first-hints (nat_lt t.back (length o.nodes)) (nat_lt (length o.nodes) t.back) o.hints t.hints none_back f.hints in
+      let one = plain false x in
+      let two = record (plain (tt {0}) x) { asks = marked 0 (gap_of x.known) 0 (mark.Piece true 0) (state_of x) ∷ [] } in
+      let first = inner_lead k levels z s in
+      let last = plain (tt {0}) o.state in
+      let tidy_run = (sane k levels (repeat (markup_turn true ends_block) (true, 0))).backs r.place at in
+      let tidy_three = backs-joined x first (joined o last) (record { back = omega arith; left = omega arith }) (backs-joined at o last tidy_run (tidy-plain (tt {0}) o.state)) in
+      let tidy_two = backs-joined x two (joined first (joined o last)) (record { back = omega arith; left = omega arith }) tidy_three in
+      let tidy_one = backs-joined x one (joined two (joined first (joined o last))) (tidy-plain false x) tidy_two in
+      let tidy = backs-joined x (joined one (joined two (joined first (joined o last)))) t tidy_one ((sane k levels flush_trivia).backs (moved o.taken r.place) o.state) in
+      let four = joined o last in
+      let three = joined first four in
+      let both = joined two three in
+      let hints_three = hints-joined first four refl (hints-joined o last hints refl) in
+      record { back = omega (arith, tidy.back, b.empties); hints = hints-joined (joined one both) t (hints-joined one both refl (hints-joined two three refl hints_three)) tail.hints }
+
+  -- by its pieces
+  pub pieces-quiet : (i n : ℕ) → Opens → (let r = inner_run k levels z s in AllGo (first_of i r) → AllGo (then_of i n r)
+      → InnerApart (the_run (chain (first_of i r) (chain (then_of i n r) (rest_of i n r))) (inner_tail k levels (((first_end i r).taken + (then_end i n r).taken) + (rest_of i n r).taken) (rest_of i n r).state r.place)))
+  pieces-quiet i n b g h =
+      let r = inner_run k levels z s in
+      let q = chain (first_of i r) (chain (then_of i n r) (rest_of i n r)) in
+      let taken = ((first_end i r).taken + (then_end i n r).taken) + (rest_of i n r).taken in
+      let is : the_run whole_run whole_tail ≡ the_run q (inner_tail k levels taken (rest_of i n r).state r.place) =
+      ap (λ (o : Outcome (Bool × ℕ)). the_run o (inner_tail k levels o.taken o.state r.place)) (split r (λ x. (sane k levels (markup_turn true ends_block x)).within) i n g h)
+      ∙ ap (λ a. the_run q (inner_tail k levels a q.state r.place)) (split-taken r i n) ∙ ap (λ a. the_run q (inner_tail k levels taken a r.place)) (split-state r i n) in
+      subst (λ o. InnerApart o) is (run-quiet b)
+
+-- the closing bracket
+pub close-quiet : (k : CharClasses) (levels n : ℕ) (s : Point) (z : Place) → InnerApart (inner_close k levels n s z)
+unfolding run close_if
+close-quiet k levels n s z =
+    let l = inner k levels in
+    let w = moved n z in
+    let p = after_node false [] s in
+    let h = hand_of l w p in
+    let a = asked h p in
+    let first = record (plain (as_at_hand h) a) { asks = hand_asks_of l w p } in
+    let took = done l (takes false itself) (moved 0 w) a in
+    let taken = joined took (plain true took.state) in
+    let b = same kind.RightBracket (as_at_hand h).kind in
+    let quiet = on_both (λ (u : Outcome Bool). InnerApart u) b taken (plain false a) (quiet-joined took (plain true took.state) (record { back = refl; hints = refl }) (record { back = refl; hints = refl })) (record { back = refl; hints = refl }) in
+    quiet-joined first (if b then taken else plain false a) (record { back = refl; hints = refl }) quiet
+
+-- ---- a node at the end of a path
+
+with-fill : (d : Deep) (path : List ℕ) (i j : ℕ) (news : List Tree) (y : Tree) → with_children (path_in d ++ path) i j news (fill d y) ≡ fill d (with_children path i j news y)
+with-fill bare path i j news y = refl
+with-fill (under head left d right) path i j news y =
+    ap (λ ts. record { head = head; kids = forest ts })
+    (ap (alter (length left) (with_children (path_in d ++ path) i j news)) (trees-of (left ++ fill d y ∷ right)) ∙ alter-at (with_children (path_in d ++ path) i j news) left (fill d y) right
+    ∙ ap (λ u. left ++ u ∷ right) (with-fill d path i j news y))
+
+with-plug : (h : Hole) (path : List ℕ) (i j : ℕ) (news : List Tree) (y : Tree) → with_children (path_of h ++ path) i j news (inner_of kind.Markup (forest (plug h y))) ≡ inner_of kind.Markup (forest (plug h (with_children path i j news y)))
+with-plug h path i j news y =
+    ap (λ ts. inner_of kind.Markup (forest ts))
+    (ap (alter (length h.left) (with_children (path_in h.deep ++ path) i j news)) (trees-of (plug h y)) ∙ alter-at (with_children (path_in h.deep ++ path) i j news) h.left (fill h.deep y) h.right
+    ∙ ap (λ u. h.left ++ u ∷ h.right) (with-fill h.deep path i j news y))
+
+-- The markup of a content block is its second child.
+with-kids : (closed : Bool) (lb : Tree) (kids inner-ends : List Tree) (i j : ℕ) (news : List Tree) → with_children (1 ∷ []) i j news (block_with closed lb kids inner-ends) ≡ block_with closed lb (exchanged i j news kids) inner-ends
+with-kids closed lb kids inner-ends i j news =
+    let first = if closed then lb else made_error (codes "unclosed delimiter") lb in
+    let markup : Tree = inner_of kind.Markup (forest kids) in
+    ap (λ ts. inner_of kind.ContentBlock (forest (alter 1 (with_children [] i j news) ts))) (trees-of (first ∷ markup ∷ inner-ends))
+    ∙ ap (λ ts. inner_of kind.ContentBlock (forest (first ∷ inner_of kind.Markup (forest (exchanged i j news ts)) ∷ inner-ends))) (trees-of kids)
+
+-- so at the block's place in the tree
+pub with-run : (h : Hole) (closed : Bool) (lb : Tree) (kids inner-ends : List Tree) (i j : ℕ) (news : List Tree)
+    → with_children (path_of h ++ 1 ∷ []) i j news (inner_of kind.Markup (forest (plug h (block_with closed lb kids inner-ends)))) ≡ inner_of kind.Markup (forest (plug h (block_with closed lb (exchanged i j news kids) inner-ends)))
+with-run h closed lb kids inner-ends i j news = with-plug h (1 ∷ []) i j news (block_with closed lb kids inner-ends) ∙ ap (λ a. inner_of kind.Markup (forest (plug h a))) (with-kids closed lb kids inner-ends i j news)
+
+-- ---- the pieces of a block's run
+
+module _ (k : CharClasses) (levels : ℕ) (c : Spot (Unit {0})) (z : Place) where
+  abbrev run_here : Sequence
+  run_here = run_at k levels c z
+
+  pub run-known : KnownAt run_here.point
+  unfolding run
+  run-known = record { trivia = _; is = refl }
+
+  pub in-behind : (i n : ℕ) → (onwards_in k levels i n c z).back ≤ (then_end i n run_here).state.empties
+  unfolding run
+  in-behind i n =
+      let r = run_here in
+      let f = then_end i n r in
+      let rest = rest_of i n r in
+      let one = (sane k levels (repeat (markup_turn true ends_block) f.value)).backs (then_place i n r) f.state in
+      let two = (sane k levels flush_trivia).backs (moved (((first_end i r).taken + f.taken) + rest.taken) r.place) rest.state in
+      (backs-joined f.state rest (tail_at k levels i n c z) one two).back
+
+  -- what stands in the run, by the pieces and all after them
+  pub kids-are : (i n : ℕ) (t : Trivia) (rest : List Tree) → Settles n (onwards_in k levels i n c z) → AllGo (first_of i run_here) → AllGo (then_of i n run_here) → (onwards_in k levels i n c z).hints ≡ [] → (onwards_in k levels i n c z).nodes ≡ t.nodes ++ rest
+      → standing (tail_at k levels i n c z) (standing (chain (first_of i run_here) (chain (then_of i n run_here) (rest_of i n run_here))) []) ≡ standing_in k levels i n c z ++ (nodes_in k levels i n t c z ++ rest)
+  kids-are i n t rest some g h hints nodes =
+      let os = first_of i run_here in
+      let ps = then_of i n run_here in
+      let q = rest_of i n run_here in
+      let u = tail_at k levels i n c z in
+      let ts = given os [] in
+      ap (standing u) (standing-chain os (chain ps q) [] ∙ standing-chain ps q ts) ∙ sym (standing-joined q u (given ps ts))
+      ∙ ap (standing (joined q u)) (given-together (then_end i n run_here).state ps ts)
+      ∙ stretch-is ts rest (read_in k levels i n c z) (onwards_in k levels i n c z) t (run-apart run_here (block-taking k levels) run-known i n (onwards_in k levels i n c z) some (in-behind i n) g h) hints nodes
+
+-- ---- the law
+
+-- how the block begins in both texts
+pub record BothOpen (k : CharClasses) (levels : ℕ) (z w : Place) (c : Spot (Unit {0})) : Type 0 where
+  pub old_opens : Opens k levels (moved c.at z) (point_of c.start)
+  pub new_opens : Opens k levels (moved c.at w) (point_of c.start)
+
+-- A block that takes something begins with its bracket if all before it shows the same.
+pub begun-at : (k : CharClasses) (levels : ℕ) (text : List ℕ) (c : Spot (Unit {0})) → Among c (blocks_of_text k text) → c.name ≡ block.Content → max_depth - c.fewer ≡ suc levels → (w : Place) → SameIn c.before (start_of text) w → 0 < (unit_at c w).taken
+    → Begun (inner k levels) (moved c.at w) (point_of c.start)
+unfolding blocks_of_text
+begun-at k levels text c chosen name left w same some =
+    let z = start_of text in
+    let clear = among (Clear k z) c _ chosen (clear-level (rules k) k max_depth whole z (start_point markup_reading) tt) in
+    let reads = content-reads k text c chosen levels name left w in
+    content-begun (inner k levels) (sane-meaning (rules k) k (suc levels)) (λ b. sane-plain tt) (moved c.at w) (point_of c.start) refl (clear.clear w same) (subst (λ (a : Outcome (Unit {0})). 0 < a.taken) reads some)
+
+pub both-open : (k : CharClasses) (levels : ℕ) (front old new rest : List ℕ) (c : Spot (Unit {0})) (i n m past : ℕ) (t u : Trivia) → Among c (blocks_of_text k (front ++ (old ++ rest)))
+    → PassesInnerJoint k levels front old new rest c i n m past t u → BothOpen k levels (text_with front old rest) (text_with front new rest) c
+both-open k levels front old new rest c i n m past t u chosen h =
+    let z = text_with front old rest in
+    let w = text_with front new rest in
+    let s = point_of c.start in
+    let passes = (inner-joint-law k levels front old new rest c i n m past t u chosen h).passes in
+    let begun = begun-at k levels (front ++ (old ++ rest)) c chosen h.pieces.name h.pieces.level in
+    record {
+      old_opens = opens-by k levels (moved c.at z) s (begun z (same-here c.before z) (omega (arith, h.pieces.starts, passes.ends)));
+      new_opens = opens-by k levels (moved c.at w) s (begun w (before-same c.before front old new rest h.pieces.looks.before) (omega (arith, h.pieces.starts, passes.shifted)));
+    }
+
+-- a text's tree, by a block's node
+pub tree-by-block : (k : CharClasses) (front old rest : List ℕ) (c : Spot (Unit {0})) → Among c (blocks_of_text k (front ++ (old ++ rest))) → (x : Tree) → c.node ≡ x → tree k (front ++ (old ++ rest)) ≡ inner_of kind.Markup (forest (plug c.hole x))
+unfolding blocks_of_text tree
+tree-by-block k front old rest c chosen x node =
+    let z = text_with front old rest in
+    let o = parsed k max_depth (front ++ (old ++ rest)) in
+    let l = among (Lawful z z o o) c _ chosen (inside-level (rules k) k (inner-ends k) max_depth whole z z (start_point markup_reading)) in
+    let made_tree = λ (ts : List Tree). inner_of kind.Markup (forest ts) in
+    ap made_tree (ap (λ (a : Outcome (Unit {0})). a.nodes) l.old) ∙ ap (λ a. made_tree (plug c.hole a)) node
+
+pub inner-children-law : InnerChildrenLaw
+unfolding blocks_of_text tree
+inner-children-law k levels front old new rest c i n m past t u chosen h some more same_back =
+    let z = text_with front old rest in
+    let w = text_with front new rest in
+    let s = point_of c.start in
+    let y = moved c.at z in
+    let v = moved c.at w in
+    let kept = inner-joint-law k levels front old new rest c i n m past t u chosen h in
+    let firsts = first-same k levels front old new rest c i h.pieces.looks in
+    let r = run_at k levels c z in
+    let q = run_at k levels c w in
+    let new_first : AllGo (first_of i q) = subst (λ os. AllGo os) (sym firsts.first) h.pieces.first_go in
+    let o = parsed k max_depth (front ++ (old ++ rest)) in
+    let l = among (Lawful z z o o) c _ chosen (inside-level (rules k) k (inner-ends k) max_depth whole z z (start_point markup_reading)) in
+    let opens = both-open k levels front old new rest c i n m past t u chosen h in
+    let opens_old = opens.old_opens in
+    let lb = opens_old.node in
+    let lb_is : opens.new_opens.node ≡ lb = ap last_node (sym opens.new_opens.nodes ∙ ap (λ (a : Outcome (Unit {0})). a.nodes) firsts.opened ∙ opens_old.nodes) in
+    let close = close_at k levels i n c z in
+    let last = tail_at k levels i n c z in
+    let shut : InnerApart close = close-quiet k levels ((((first_end i r).taken + (then_end i n r).taken) + (rest_of i n r).taken) + last.taken) last.state r.place in
+    let x = kept.behind in
+    let before = standing_in k levels i n c z in
+    let olds = nodes_in k levels i n t c z in
+    let news = nodes_in k levels i m u c w in
+    let tail_old = tail_at k levels i n c z in
+    let tail_new = tail_at k levels i m c w in
+    let chain_old = chain (first_of i r) (chain (then_of i n r) (rest_of i n r)) in
+    let chain_new = chain (first_of i q) (chain (then_of i m q) (rest_of i m q)) in
+    let old_node = block_with close.value lb (before ++ (olds ++ x.rest)) close.nodes in
+    let new_node = block_with close.value lb (before ++ (news ++ x.rest)) close.nodes in
+    let was : (unit_at c z).nodes ≡ old_node ∷ [] =
+    ap (λ (a : Outcome (Unit {0})). a.nodes) kept.was ∙ node-is k levels y s chain_old tail_old close opens_old (pieces-quiet k levels y s i n opens_old h.pieces.first_go h.pieces.old_go) shut
+    ∙ ap (λ ts. block_with close.value lb ts close.nodes ∷ []) (kids-are k levels c z i n t x.rest some h.pieces.first_go h.pieces.old_go x.hints x.nodes) in
+    let kids_new : standing tail_new (standing chain_new []) ≡ before ++ (news ++ x.rest) =
+    kids-are k levels c w i m u x.rest more new_first h.pieces.new_go x.hints_now x.nodes_now
+    ∙ ap (λ b. less b (given (first_of i q) []) ++ (news ++ x.rest)) same_back ∙ ap (λ os. less (read_in k levels i n c z).back (given os []) ++ (news ++ x.rest)) firsts.first in
+    let now : (unit_at c w).nodes ≡ new_node ∷ [] =
+    ap (λ (a : Outcome (Unit {0})). a.nodes) kept.now
+    ∙ ap (λ os. (content_with k levels v s (chain os (chain (then_of i m q) (rest_of i m q))) tail_new close).nodes) (sym firsts.first)
+    ∙ node-is k levels v s chain_new tail_new close opens.new_opens (pieces-quiet k levels v s i m opens.new_opens new_first h.pieces.new_go) shut
+    ∙ ap (λ a. block_with close.value a (standing tail_new (standing chain_new [])) close.nodes ∷ []) lb_is ∙ ap (λ ts. block_with close.value lb ts close.nodes ∷ []) kids_new in
+    let node : c.node ≡ old_node = sym (last-is c.front c.node) ∙ ap last_node (sym l.fits.nodes ∙ was) in
+    let node_now : last_node (unit_at c w).nodes ≡ new_node = ap last_node now in
+    let first = length before in
+    let made_tree = λ (ts : List Tree). inner_of kind.Markup (forest ts) in
+    let nodes_old : o.nodes ≡ plug c.hole c.node = ap (λ (a : Outcome (Unit {0})). a.nodes) l.old in
+    let tree_old : made_tree o.nodes ≡ made_tree (plug c.hole old_node) = ap made_tree nodes_old ∙ ap (λ a. made_tree (plug c.hole a)) node in
+    let exchanged_is : with_children (path_of c.hole ++ 1 ∷ []) first (first + length olds) news (made_tree (plug c.hole old_node)) ≡ made_tree (plug c.hole new_node) =
+    with-run c.hole close.value lb (before ++ (olds ++ x.rest)) close.nodes first (first + length olds) news ∙ ap (λ ts. made_tree (plug c.hole (block_with close.value lb ts close.nodes))) (exchanged-is before olds news x.rest) in
+    record {
+      closed = close.value;
+      bracket = lb;
+      behind = x.rest;
+      ends = close.nodes;
+      node = node;
+      node_now = node_now;
+      tree_now = kept.kept.tree ∙ ap (λ ts. made_tree (replaced (path_of c.hole) (last_node (unit_at c w).nodes) ts)) nodes_old ∙ ap made_tree (replaced-plug c.hole (last_node (unit_at c w).nodes) c.node)
+          ∙ ap (λ a. made_tree (plug c.hole a)) node_now ∙ sym exchanged_is ∙ ap (with_children (path_of c.hole ++ 1 ∷ []) first (first + length olds) news) (sym tree_old);
+    }
+
+pub inner-back-law : InnerBackLaw
+inner-back-law k levels text c i n =
+    let z = start_of text in
+    let r = run_at k levels c z in
+    let e = first_end i r in
+    let tidy = tidy-together (turn_of r) (λ v. (sane k levels (markup_turn true ends_block v)).backs) n e.value (moved e.taken r.place) e.state in
+    record { pieces_back = tidy.back; after_back = in-behind k levels c z i n }
+
+-- ---- pieces give the trivia before them first, so the exchange of children is the same without these
+
+-- ---- stretches of nodes
+
+-- Several nodes begin with these. (`Leads` of Leading.antt says what a run is read by.)
+pub record Leads (first ts : List Tree) : Type 0 where
+  pub rest : List Tree
+  pub is : ts ≡ first ++ rest
+
+-- a stretch whose first nodes stay
+behind-first : (xs first olds news zs : List Tree) → exchanged (length xs + length first) (length xs + length (first ++ olds)) news (xs ++ ((first ++ olds) ++ zs)) ≡ xs ++ ((first ++ news) ++ zs)
+behind-first xs first olds news zs =
+    let i : length xs + length first ≡ length (xs ++ first) = sym (length-append xs first) in
+    let j : length xs + length (first ++ olds) ≡ length (xs ++ first) + length olds = (let a = length-append xs first in let b = length-append first olds in omega (arith, a, b)) in
+    let split = λ (ys : List Tree). append_assoc xs first (ys ++ zs) ∙ ap (λ u. xs ++ u) (sym (append_assoc first ys zs)) in
+    ap (λ a. exchanged a (length xs + length (first ++ olds)) news (xs ++ ((first ++ olds) ++ zs))) i
+    ∙ ap (λ a. exchanged (length (xs ++ first)) a news (xs ++ ((first ++ olds) ++ zs))) j
+    ∙ ap (exchanged (length (xs ++ first)) (length (xs ++ first) + length olds) news) (sym (split olds))
+    ∙ exchanged-is (xs ++ first) olds news zs ∙ split news
+
+same-exchange : (xs first os ns zs ts : List Tree) → ts ≡ xs ++ (os ++ zs) → Leads first os → Leads first ns
+    → exchanged (length xs) (length xs + length os) ns ts ≡ exchanged (length xs + length first) (length xs + length os) (drop (length first) ns) ts
+same-exchange xs first os ns zs ts e o n =
+    let i = length xs + length first in
+    let left = ap (exchanged (length xs) (length xs + length os) ns) e ∙ exchanged-is xs os ns zs ∙ ap (λ u. xs ++ (u ++ zs)) n.is in
+    let right =
+    ap (exchanged i (length xs + length os) (drop (length first) ns)) e
+    ∙ ap (λ u. exchanged i (length xs + length u) (drop (length first) ns) (xs ++ (u ++ zs))) o.is
+    ∙ ap (λ u. exchanged i (length xs + length (first ++ o.rest)) (drop (length first) u) (xs ++ ((first ++ o.rest) ++ zs))) n.is
+    ∙ ap (λ u. exchanged i (length xs + length (first ++ o.rest)) u (xs ++ ((first ++ o.rest) ++ zs))) (drop-front first n.rest (length first) refl)
+    ∙ behind-first xs first o.rest n.rest zs in
+    left ∙ sym right
+
+-- ---- any run
+
+module _ (l : Level) (stops : SyntaxKind → Bool) (taking : Taking l stops) where
+  abbrev one_turn : Bool × ℕ → Meaning (Bool × (Bool × ℕ))
+  one_turn x = run l (markup_turn true stops x)
+
+  abbrev Led_by : ℕ → ℕ → List Tree → Bool × ℕ → Place → Point → Type 0
+  Led_by n back us x z s = (let os = made one_turn n x z s in let e = end_of x s os in AllGo os → back ≤ e.state.empties → pending e.state.known ≡ us → Leads (pending s.known) (less back (together e.state os).nodes ++ us))
+
+  -- The nodes of some pieces without the last, with the trivia after them, begin with the trivia before them.
+  pub leads-pieces : (n back : ℕ) (us : List Tree) (x : Bool × ℕ) (z : Place) (s : Point) → KnownAt s → Led_by n back us x z s
+  leads-pieces zero back us x z s at g few known = record { rest = []; is = ap (λ ts. ts ++ us) (none-less back) ∙ sym known ∙ sym (append-nil (pending s.known)) }
+  leads-pieces (suc n) back us x z s at g few known =
+      let f = (pieces-front l stops taking (suc n) x z s at.trivia at.is (omega arith) g).led in
+      let os = made one_turn (suc n) x z s in
+      let there = ap (λ (p : Point). p.empties) (chain-state os (plain (tt {0}) (end_of x s os).state)) in
+      let kept = less back f.front.rest in
+      record {
+        rest = kept ++ us;
+        is = ap (λ ts. less back ts ++ us) f.front.nodes ∙ ap (λ ts. ts ++ us) (less-behind back at.trivia.nodes f.front.rest (omega (arith, f.few, few, there, ap (λ (p : Point). p.empties) f.state)))
+            ∙ append_assoc at.trivia.nodes kept us ∙ ap (λ v. pending v ++ (kept ++ us)) (sym at.is);
+      }
+
+-- ---- the run of a text
+
+text-leads : (k : CharClasses) (i n : ℕ) (z : Place) (t : Trivia) → AllGo (pieces k i z) → AllGo (pieces_from k i n z) → (end_from k i n z).state.known ≡ Some t → Leads (pending (end_at k i z).state.known) (nodes_with k i n t z)
+text-leads k i n z t g h known =
+    let e = end_at k i z in
+    leads-pieces (level_at k max_depth) is_end (text-taking k) n (onwards_from k i n z).back t.nodes e.value (moved e.taken z) e.state (top-known k i z g) h (behind-back k i n z) (ap pending known)
+
+end-same : (k : CharClasses) (i : ℕ) (z w : Place) → 0 < i → pieces k i w ≡ pieces k i z → end_at k i w ≡ end_at k i z
+end-same k zero z w some e = absurd (omega (arith, some))
+end-same k (suc i) z w some e = ap (end_of (true, 0) (lead k z).state) e
+
+pub leading-trivia-law : LeadingTriviaLaw
+leading-trivia-law k front old new rest i n m past t u some h one two back =
+    let z = text_with front old rest in
+    let w = text_with front new rest in
+    let joint = joint-law k front old new rest i n m past t u h in
+    let kept = children-law k front old new rest i n m past t u h one two back in
+    let trivia = λ (e : End (Bool × ℕ)). pending e.state.known in
+    let same : trivia (end_at k i w) ≡ trivia (end_at k i z) = ap trivia (end-same k i z w some joint.first) in
+    let new_first : AllGo (pieces k i w) = subst (λ os. AllGo os) (sym joint.first) h.first_go in
+    let olds = text-leads k i n z t h.first_go h.old_go h.meets.known in
+    let news = subst (λ ts. Leads ts (nodes_with k i m u w)) same (text-leads k i m w u new_first h.new_go h.meets.known_now) in
+    let was = tree k (front ++ (old ++ rest)) in
+    let is = same-exchange (standing_before k i n z) (trivia (end_at k i z)) (nodes_with k i n t z) (nodes_with k i m u w) kept.behind (trees was.kids) kept.children olds news in
+    record { trivia_same = ap length same; tree_now = kept.tree_now ∙ ap (λ ts. record { head = was.head; kids = forest ts }) is }
+
+-- ---- the run of a content block
+
+block-leads : (k : CharClasses) (levels i n : ℕ) (c : Spot (Unit {0})) (z : Place) (t : Trivia) → (let r = run_at k levels c z in AllGo (first_of i r) → AllGo (then_of i n r) → (then_end i n r).state.known ≡ Some t
+    → Leads (pending (first_end i r).state.known) (nodes_in k levels i n t c z))
+unfolding run
+block-leads k levels i n c z t g h known =
+    let l = inner k levels in
+    let r = run_at k levels c z in
+    let e = first_end i r in
+    let at = known-made l ends_block i (true, 0) r.place r.point (record { trivia = _; is = refl }) g in
+    leads-pieces l ends_block (block-taking k levels) n (onwards_in k levels i n c z).back t.nodes e.value (moved e.taken r.place) e.state at h (in-behind k levels c z i n) (ap pending known)
+
+block-end-same : (k : CharClasses) (levels i : ℕ) (c : Spot (Unit {0})) (z w : Place) → 0 < i → first_of i (run_at k levels c w) ≡ first_of i (run_at k levels c z) → first_end i (run_at k levels c w) ≡ first_end i (run_at k levels c z)
+block-end-same k levels zero c z w some e = absurd (omega (arith, some))
+block-end-same k levels (suc i) c z w some e = ap (end_of (true, 0) (run_at k levels c z).point) e
+
+pub inner-leading-trivia-law : InnerLeadingTriviaLaw
+inner-leading-trivia-law k levels front old new rest c i n m past t u some chosen h one two back =
+    let z = text_with front old rest in
+    let w = text_with front new rest in
+    let r = run_at k levels c z in
+    let q = run_at k levels c w in
+    let kept = inner-children-law k levels front old new rest c i n m past t u chosen h one two back in
+    let firsts = first-same k levels front old new rest c i h.pieces.looks in
+    let trivia = λ (e : End (Bool × ℕ)). pending e.state.known in
+    let same : trivia (first_end i q) ≡ trivia (first_end i r) = ap trivia (block-end-same k levels i c z w some firsts.first) in
+    let new_first : AllGo (first_of i q) = subst (λ os. AllGo os) (sym firsts.first) h.pieces.first_go in
+    let xs = standing_in k levels i n c z in
+    let os = nodes_in k levels i n t c z in
+    let ns = nodes_in k levels i m u c w in
+    let olds = block-leads k levels i n c z t h.pieces.first_go h.pieces.old_go h.meets.known in
+    let news = subst (λ ts. Leads ts ns) same (block-leads k levels i m c w u new_first h.pieces.new_go h.meets.known_now) in
+    let first = trivia (first_end i r) in
+    let zs = kept.behind in
+    let was = tree-by-block k front old rest c chosen _ kept.node in
+    let kids = xs ++ (os ++ zs) in
+    let with = λ (i j : ℕ) (us : List Tree). with_children (path_of c.hole ++ 1 ∷ []) i j us (inner_of kind.Markup (forest (plug c.hole (block_with kept.closed kept.bracket kids kept.ends)))) in
+    let both : with (length xs) (length xs + length os) ns ≡ with (length xs + length first) (length xs + length os) (drop (length first) ns) =
+    with-run c.hole kept.closed kept.bracket kids kept.ends (length xs) (length xs + length os) ns
+    ∙ ap (λ us. inner_of kind.Markup (forest (plug c.hole (block_with kept.closed kept.bracket us kept.ends)))) (same-exchange xs first os ns zs kids refl olds news)
+    ∙ sym (with-run c.hole kept.closed kept.bracket kids kept.ends (length xs + length first) (length xs + length os) (drop (length first) ns)) in
+    record {
+      trivia_same = ap length same;
+      tree_now = kept.tree_now ∙ ap (with_children (path_of c.hole ++ 1 ∷ []) (length xs) (length xs + length os) ns) was ∙ both
+          ∙ sym (ap (with_children (path_of c.hole ++ 1 ∷ []) (length xs + length first) (length xs + length os) (drop (length first) ns)) was);
+    }

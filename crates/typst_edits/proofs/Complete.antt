@@ -1,40 +1,13 @@
 -- Each block that a reading notes stands in it, or a shape took its node.
 use Rattle.std.proofs.Common.{◌≡◌, ◌⊎◌, inl, inr, ℕ, zero, suc, Bool, true, false, ◌&&◌, if◌then◌else◌, nat_lt, List, [], ◌∷◌, ◌++◌, length, map, append-nil, Option, Some, None, refl, ap, sym, ◌∙◌, subst}
-use Rattle.std.specs.List.{flat_map}
+use Rattle.typst_edits.proofs.Words.{flat_map, map-append, SyntaxMode, Place, moved, CharClasses, Block, Reading, Ask, shift, shift_one, sunk, sink_one, only_looks, looked, marked, Call, Answer, at_trivia, len_at, asks_by, ahead_asks, ahead_of, ahead_asks_of, asks_column, column_asks, hand_asks, column_look, Trivia, Point, state_of, forgot, Shape, peek, Parser, Begin, ◌>>◌, flushes, gives, does, next, pick, repeat, wraps, grows, nests, scoped, either, calls, block, Rules, meaning_of, level_of, markup_reading, Outcome, Meaning, Level, answered, joined, followed, as_last, turns, bound, repeated, before, blockless, grown, is_more, growths, growing, nestings, nesting, bounded, given_up, entered, plain, start_point, done, run, rules, max_depth, start_of, whole, Among, this, that, Hole, blocks_of_text, is_opening, opened, Spots, joined_spots, goes, last_spot, turns_spots, repeated_spots, reshaped_spot, wrapped_spot, grown_spot, growths_spots, growing_spots, nestings_spots, nesting_spots, scoped_spot, bounded_spots, spots, call_spots, block_spots, level_spots, Spot, valued, then_spot, after_spot, rehole, sunk_spot, closed_spot, on_both}
+use Rattle.typst_edits.specs.Lost.{opening, opens, unless_some, lost_in, Lost, turns_lost, grown_lost, growths_lost, nestings_lost, lost, call_lost, block_lost, level_lost, lost_of_text, Stands, CompleteLaw}
 use Rattle.std.proofs.lemmas.Grind.{flat_map-append}
-use Rattle.std.proofs.lemmas.List.{map-append}
-use Rattle.typst_kinds.specs.declared.mode.SyntaxMode.{SyntaxMode}
-use Rattle.typst_lines.specs.Place.{Place, moved}
-use Rattle.typst_lines.specs.Classes.{CharClasses}
-use Rattle.typst_language.specs.declared.calls.Block.{Block}
 use Rattle.typst_language.specs.declared.calls.Mark.TheVariants as mark
-use Rattle.typst_language.specs.declared.reading.Reading.{Reading}
-use Rattle.typst_language.specs.Ask.{Ask, shift, shift_one, sunk, sink_one, only_looks}
-use Rattle.typst_language.specs.Ask.Ask.{looked, marked}
-use Rattle.typst_language.specs.Calls.{Call, Answer}
-use Rattle.typst_language.specs.Hand.{at_trivia, len_at, asks_by, ahead_asks, ahead_of, ahead_asks_of, asks_column, column_asks, hand_asks, column_look}
-use Rattle.typst_language.specs.Point.{Trivia, Point, state_of, forgot}
-use Rattle.typst_language.specs.Shape.{Shape}
-use Rattle.typst_language.specs.Steps.{peek}
-use Rattle.typst_language.specs.Syntax.{Parser, Begin, ◌>>◌}
-use Rattle.typst_language.specs.Syntax.Op.{flushes}
-use Rattle.typst_language.specs.Syntax.Parser.{gives, does, next, pick, repeat, wraps, grows, nests, scoped, either, calls, block}
-use Rattle.typst_language.specs.Knot.{Rules, meaning_of, level_of}
-use Rattle.typst_grammar.specs.Markup.{markup_reading}
-use Rattle.typst_language.specs.Meaning.{Outcome, Meaning, Level, answered, joined, followed, as_last, turns, bound, repeated, before, blockless, grown, is_more, growths, growing, nestings, nesting, bounded, given_up, entered, plain, start_point, done, run}
-use Rattle.typst_grammar.specs.Grammar.{rules, max_depth, start_of, whole}
 use Rattle.typst_language.proofs.Frame.{grown-asks}
-use Rattle.typst_edits.specs.Edit.{Among}
-use Rattle.typst_edits.specs.Edit.Among.{this, that}
-use Rattle.typst_edits.specs.Hole.{Hole}
-use Rattle.typst_edits.specs.Laws.{blocks_of_text}
-use Rattle.typst_edits.specs.Lost.{opening, is_opening, opens, opened, unless_some, lost_in, Lost, turns_lost, grown_lost, growths_lost, nestings_lost, lost, call_lost, block_lost, level_lost, lost_of_text, Stands, CompleteLaw}
 use Rattle.typst_edits.specs.Lost.Stands.{stands, is_lost}
-use Rattle.typst_edits.specs.Occurrences.{Spots, joined_spots, goes, last_spot, turns_spots, repeated_spots, reshaped_spot, wrapped_spot, grown_spot, growths_spots, growing_spots, nestings_spots, nesting_spots, scoped_spot, bounded_spots, spots, call_spots, block_spots, level_spots}
-use Rattle.typst_edits.specs.Spot.{Spot, valued, then_spot, after_spot, rehole, sunk_spot, closed_spot}
 use Rattle.typst_edits.proofs.Every.{Every, every-append, every-map, every-by}
 use Rattle.typst_edits.proofs.Edit.{among}
-use Rattle.typst_language.proofs.Within.{on_both}
 
 -- ---- one of several
 
@@ -298,9 +271,6 @@ module _ (r : Rules) (k : CharClasses) where
   covered-call (suc levels) call z s =
       covered-run (level_of r k levels) (call_spots r k levels) (block_spots r k levels) (call_lost r k levels) (block_lost r k levels) (covered-call levels) (covered-block levels (covered-call levels)) (r.production call) z s
 
-  pub covered-level : {A : Type 0} (levels : ℕ) (p : Parser A) (z : Place) (s : Point) → Covered (level_spots r k levels p z s) (level_lost r k levels p z s) (run (level_of r k levels) p z s).asks
-  covered-level levels p = covered-run (level_of r k levels) (call_spots r k levels) (block_spots r k levels) (call_lost r k levels) (block_lost r k levels) (covered-call levels) (covered-block levels (covered-call levels)) p
-
 -- ---- of a text
 
 -- one of several that is so
@@ -316,7 +286,8 @@ chosen P (x ∷ xs) (inr h) = let r = chosen P xs h in record { one = r.one; amo
 
 pub complete-law : CompleteLaw
 unfolding blocks_of_text lost_of_text
-complete-law k text ask i = said (among (One (level_spots (rules k) k max_depth whole z s) (level_lost (rules k) k max_depth whole z s)) ask _ i (covered-level (rules k) k max_depth whole z s))
+complete-law k text ask i = said (among (One (level_spots (rules k) k max_depth whole z s) (level_lost (rules k) k max_depth whole z s)) ask _ i (covered-run (level_of (rules k) k max_depth) (call_spots (rules k) k max_depth) (block_spots (rules k) k max_depth) (call_lost (rules k) k max_depth) (block_lost (rules k) k max_depth) (covered-call (rules k) k max_depth)
+    (covered-block (rules k) k max_depth (covered-call (rules k) k max_depth)) whole z s))
   where
     z : Place
     z = start_of text

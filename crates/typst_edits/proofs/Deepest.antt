@@ -1,44 +1,17 @@
 -- A content block in which no level is left notes nothing; so if notes say that pieces stand in a block, a level is left there.
 use Rattle.std.proofs.Common.{◌≡◌, ℕ, ◌-◌, ◌==◌, eq-eqb, Bool, true, false, ◌&&◌, List, [], ◌∷◌, ◌++◌, take, Some, None, refl, ap, sym, ◌∙◌, arith}
-use Rattle.std.proofs.lemmas.List.{nil_from_length}
-use Rattle.typst_lines.specs.Place.{Place, moved}
-use Rattle.typst_lines.specs.Classes.{CharClasses}
-use Rattle.typst_tokens.specs.Sight.{width}
+use Rattle.typst_edits.proofs.Words.{nil_from_length, Place, moved, CharClasses, width, Mark, Reading, shift, too_deep, meaning_of, Outcome, Level, blockless, start_point, run, Point, point_of, Shape, Making, peek, node, node_with_trivia, Parser, Begin, ◌>>◌, takes, gives, does, next, wraps, scoped, opens_content, starts, up_to_end, after_first, cuts_in, is_closing, ends_block, markup_is_empty, markup_run, content_block, markup_reading, rules, max_depth, start_of, whole, log, Guarded, guarded-deep, Among, blocks_of_text, block_at, Named, OpensApartLaw, listed, notes_in, Spot, ended, unit_at, none-some}
 use Rattle.typst_language.specs.declared.calls.Block.TheVariants as block
-use Rattle.typst_language.specs.declared.calls.Mark.{Mark}
 use Rattle.typst_language.specs.declared.calls.Mark.TheVariants as mark
-use Rattle.typst_language.specs.declared.reading.Reading.{Reading}
-use Rattle.typst_language.specs.Ask.{shift}
-use Rattle.typst_language.specs.Depth.{too_deep}
-use Rattle.typst_language.specs.Knot.{meaning_of}
-use Rattle.typst_language.specs.Meaning.{Outcome, Level, blockless, start_point, run}
-use Rattle.typst_language.specs.Point.{Point, point_of}
-use Rattle.typst_language.specs.Shape.{Shape, Making}
-use Rattle.typst_language.specs.Steps.{peek, flush_trivia, node, node_with_trivia}
-use Rattle.typst_language.specs.Syntax.{Parser, Begin, ◌>>◌}
-use Rattle.typst_language.specs.Syntax.Op.{takes}
-use Rattle.typst_language.specs.Syntax.Parser.{gives, does, next, wraps, scoped}
-use Rattle.typst_candidates.specs.Units.{opens_content, is_closing, starts, up_to_end, after_first, cuts_in}
-use Rattle.typst_grammar.specs.Markup.{ends_block, markup_is_empty, markup_run, content_block, markup_reading}
-use Rattle.typst_grammar.specs.Grammar.{rules, max_depth, start_of, whole, log}
-use Rattle.typst_grammar.proofs.Guarded.{Guarded, guarded-deep}
-use Rattle.typst_edits.specs.Edit.{Among}
-use Rattle.typst_edits.specs.Laws.{blocks_of_text, block_at}
-use Rattle.typst_edits.specs.Named.{Named}
-use Rattle.typst_edits.specs.OpensApart.{OpensApartLaw}
-use Rattle.typst_edits.specs.PieceNotes.{listed}
-use Rattle.typst_edits.specs.Splice.{notes_in}
-use Rattle.typst_edits.specs.Spot.{Spot, ended, unit_at}
 use Rattle.typst_edits.proofs.Edit.{among}
 use Rattle.typst_edits.proofs.EmptyRuns.{Never, none-flush}
-use Rattle.typst_edits.proofs.InnerCuts.{opens_at, cuts-past, opens-before, both-on}
-use Rattle.typst_edits.proofs.Marks.{AllMarks, marks-append, marks-shift, none-hand, none-close}
+use Rattle.typst_edits.proofs.Cuts.{opens_at, cuts-past, opens-before, both-on}
+use Rattle.typst_edits.proofs.Bytes.{AllMarks, marks-append, marks-shift, none-hand, none-close}
 use Rattle.typst_edits.proofs.Names.{named-level}
 use Rattle.typst_edits.proofs.BlockLog.{nested-block-law}
-use Rattle.typst_edits.proofs.Sides.{count-none}
+use Rattle.typst_edits.proofs.Splice.{count-none}
 use Rattle.typst_edits.proofs.Spots.{if-true}
-use Rattle.typst_edits.proofs.Upward.{Unmarked, unmarked, from-run}
-use Rattle.std.proofs.lemmas.Option.{none-some}
+use Rattle.typst_edits.proofs.Rising.{Unmarked, unmarked, from-run}
 
 -- ---- what notes nothing
 
@@ -73,16 +46,13 @@ module _ (l : Level) where
   unfolding run
   silent-scoped f p h z s = h z _
 
-  silent-flush : Silent l flush_trivia
-  silent-flush = none-flush Never l
-
   silent-node : {A : Type 0} (f : A → Shape) (p : Parser A) → Silent l p → Silent l (node f p)
   unfolding node
   silent-node f p h = silent-next _ _ silent-peek (λ a. silent-next _ _ (silent-wraps f _ p h) (λ b. silent-gives _))
 
   silent-empty : (p : Parser (Unit {0})) → Silent l p → Silent l (markup_is_empty p)
   unfolding markup_is_empty node_with_trivia
-  silent-empty p h = silent-next _ _ (silent-next _ _ (silent-wraps _ _ _ (silent-next _ _ h (λ a. silent-flush))) (λ a. silent-gives _)) (λ a. silent-gives _)
+  silent-empty p h = silent-next _ _ (silent-next _ _ (silent-wraps _ _ _ (silent-next _ _ h (λ a. none-flush Never l))) (λ a. silent-gives _)) (λ a. silent-gives _)
 
 -- ---- where no level is left
 
@@ -96,12 +66,9 @@ module _ (k : CharClasses) where
   silent p q z s =
       from-run (λ lo hi ls. Unmarked ls) unmarked last (λ m. false) (λ m gap s e. absurd (cc)) (λ z s. Unit {0}) (λ B p z s e. tt) (λ call z s. tt) (λ b has z s t. (let no : false ≡ true = has in absurd (cc))) false p q z s (λ e. tt)
 
-  silent-skipped : Silent last (peek >> too_deep ends_block)
-  silent-skipped = silent (peek >> too_deep ends_block) (refl, λ _. guarded-deep (λ (m : Mark). false) _ ends_block)
-
   silent-run : Silent last (markup_run ends_block)
   unfolding markup_run run
-  silent-run z s = marks-shift Never 0 (run last (peek >> too_deep ends_block) (moved 0 z) s).asks (silent-skipped (moved 0 z) s)
+  silent-run z s = marks-shift Never 0 (run last (peek >> too_deep ends_block) (moved 0 z) s).asks (silent (peek >> too_deep ends_block) (refl, λ _. guarded-deep (λ (m : Mark). false) _ ends_block) (moved 0 z) s)
 
   silent-block : Silent last (peek >> content_block)
   unfolding content_block

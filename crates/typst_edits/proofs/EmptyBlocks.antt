@@ -1,51 +1,22 @@
 -- Content blocks without an expression have one note between their two, and look only at the token after their trivia.
 use Rattle.std.proofs.Common.{◌≡◌, ℕ, suc, ◌+◌, ◌-◌, Bool, true, false, ◌&&◌, ◌==◌, if◌then◌else◌, List, [], ◌∷◌, ◌++◌, length, Some, refl, ap, sym, ◌∙◌, subst, arith}
-use Rattle.typst_kinds.specs.declared.kind.SyntaxKind.{SyntaxKind}
+use Rattle.typst_edits.proofs.Words.{SyntaxKind, SyntaxMode, same, is_error, Place, moved, CharClasses, position, text_of, Mark, Note, State, Ask, shift, looked, marked, Hand, as_at_hand, hand_at, token_at, Trivia, Point, point_of, state_of, after_node, itself, flush_trivia, close_if, takes, Outcome, Level, plain, joined, repeated, hand_of, hand_asks_of, asked, entered, renewed, taken_node, flushed_state, done, run, ends, ends_block, markup_reading, max_depth, start_of, log, inner, look_again, bracket, inner_lead, inner_run, inner_tail, inner_close, run_at, Every, onwards, passed, block_at, blocks_of_text, Sequence, turn_of, lowered, unit_at, notes_in, on_both, IsEmpty}
+use Rattle.typst_edits.specs.EmptyRuns.{EmptyBlockLaw}
 use Rattle.typst_kinds.specs.declared.kind.SyntaxKind.TheVariants as kind
-use Rattle.typst_kinds.specs.declared.mode.SyntaxMode.{SyntaxMode}
 use Rattle.typst_kinds.specs.declared.mode.SyntaxMode.TheVariants as mode
-use Rattle.typst_kinds.specs.Kinds.{same, is_error}
-use Rattle.typst_lines.specs.Place.{Place, moved}
-use Rattle.typst_lines.specs.Classes.{CharClasses}
-use Rattle.typst_tokens.specs.Sight.{position}
-use Rattle.typst_tree.specs.Tree.{text_of}
 use Rattle.typst_language.specs.declared.calls.Block.TheVariants as block
-use Rattle.typst_language.specs.declared.calls.Mark.{Mark}
 use Rattle.typst_language.specs.declared.calls.Mark.TheVariants as mark
-use Rattle.typst_language.specs.declared.calls.Note.{Note}
-use Rattle.typst_language.specs.declared.reading.State.{State}
-use Rattle.typst_language.specs.Ask.{Ask, shift}
-use Rattle.typst_language.specs.Ask.Ask.{looked, marked}
 use Rattle.typst_language.specs.declared.reading.AtNewline.TheVariants as newline
-use Rattle.typst_language.specs.Hand.{Hand, as_at_hand, hand_at, token_at}
-use Rattle.typst_language.specs.Point.{Trivia, Point, point_of, state_of}
-use Rattle.typst_language.specs.Shape.{after_node}
-use Rattle.typst_language.specs.Shape.Making.{itself}
-use Rattle.typst_language.specs.Steps.{flush_trivia, close_if}
-use Rattle.typst_language.specs.Syntax.Op.{takes}
-use Rattle.typst_language.specs.Meaning.{Outcome, Level, plain, joined, repeated, hand_of, hand_asks_of, asked, entered, renewed, taken_node, flushed_state, done, run}
-use Rattle.typst_grammar.specs.Markup.{ends, ends_block, markup_reading}
-use Rattle.typst_grammar.specs.Grammar.{max_depth, start_of, log}
-use Rattle.typst_edits.specs.BlockRuns.{inner, look_again, bracket, inner_lead, inner_run, inner_tail, inner_close, run_at}
-use Rattle.typst_edits.specs.EmptyRuns.{IsEmpty, EmptyBlockLaw}
-use Rattle.typst_edits.specs.Every.{Every}
-use Rattle.typst_edits.specs.Joint.{onwards, passed}
-use Rattle.typst_edits.specs.Laws.{block_at, blocks_of_text}
-use Rattle.typst_edits.specs.Sequence.{Sequence, turn_of}
-use Rattle.typst_edits.specs.Spot.{lowered, unit_at}
 use Rattle.typst_edits.proofs.BlockRuns.{content-is}
 use Rattle.typst_edits.proofs.BlockLog.{block-log}
 use Rattle.typst_edits.proofs.EmptyRuns.{Knows, hand-gap, asked-knows, flushed-knows, passed-kind, Looks, begin-each, begin-one, token_look, looks-hand, looks-append, unmoved, run-stopped, onwards-looks, Never, none-flush, end-any}
 use Rattle.typst_edits.proofs.Every.{every-append}
 use Rattle.typst_edits.proofs.Forward.{token-still}
-use Rattle.typst_edits.proofs.InnerBytes.{asks_before, content-asks, before-marks}
-use Rattle.typst_edits.proofs.LogNotes.{none_yet, fresh_notes, noted-length, notes-lowered}
-use Rattle.typst_edits.proofs.Marks.{AllMarks, marks-append, marks-by, marks-shift, marks-lowered, none-hand, NoteOf, every-note, none-close}
+use Rattle.typst_edits.proofs.RunBytes.{asks_before, content-asks, before-marks}
+use Rattle.typst_edits.proofs.Bytes.{none_yet, fresh_notes, noted-length, notes-lowered, AllMarks, marks-append, marks-by, marks-shift, marks-lowered, none-hand, NoteOf, every-note, none-close}
 use Rattle.typst_edits.proofs.Text.{content-reads}
-use Rattle.typst_edits.proofs.Sides.{count-append, count-shift, count-none}
+use Rattle.typst_edits.proofs.Splice.{count-append, count-shift, count-none}
 use Rattle.typst_edits.proofs.PieceAsks.{lifted-count}
-use Rattle.typst_edits.specs.Splice.{notes_in}
-use Rattle.typst_language.proofs.Within.{on_both}
 
 -- ---- looks
 
@@ -184,10 +155,7 @@ single-lowered : (f n : ℕ) (asks : List Ask) → Single 0 asks → Single f (s
 single-lowered f n asks h =
     let P = Begins f in
     let lower : (at fewer : ℕ) (m : Mark) (p : State) → Begins 0 at fewer m p → Begins f at (f + fewer) m p = λ at fewer m p i. (omega (arith, i.0), i.1) in
-    record {
-      each = marks-shift P n (lowered f asks) (marks-lowered P f asks (marks-by (Begins 0) (λ at fewer m p. P at (f + fewer) m p) lower asks h.each));
-      size = lifted-count n f asks ∙ h.size;
-    }
+    record { each = marks-shift P n (lowered f asks) (marks-lowered P f asks (marks-by (Begins 0) (λ at fewer m p. P at (f + fewer) m p) lower asks h.each)); size = lifted-count n f asks ∙ h.size }
 
 module _ (k : CharClasses) (levels : ℕ) (z : Place) (s : Point) where
   block-single : IsEmpty (inner_run k levels z s) → Single 0 (block_at k (suc levels) block.Content z s).asks

@@ -1,41 +1,14 @@
 -- Runs without an expression: after their trivia only the token at their end is asked for.
 use Rattle.std.proofs.Common.{◌≡◌, ℕ, ◌+◌, max, min, Bool, true, false, ◌&&◌, ◌==◌, if◌then◌else◌, nat_lt, List, [], ◌∷◌, ◌++◌, Some, refl, ap, sym, ◌∙◌, subst, arith}
-use Rattle.typst_kinds.specs.declared.kind.SyntaxKind.{SyntaxKind}
+use Rattle.typst_edits.proofs.Words.{SyntaxKind, same, Place, moved, CharClasses, Look, look, position, far, near, token, Mark, Note, State, Ask, shift, looked, marked, is_end, AtHand, as_at_hand, hand_at, hand_asks, column_look, no_log, logged, Trivia, Point, state_of, flush_trivia, Outcome, Level, plain, joined, as_last, repeated, hand_of, hand_asks_of, asked, flushed_state, run, ends, markup_turn, markup_reading, level_at, max_depth, start_of, parsed, log, text_with, AllBeginIn, Every, onwards, passed, text_run, asked_past, lead, piece_at, tail, start, Sequence, hand-ends, IsEmpty}
+use Rattle.typst_edits.specs.EmptyRuns.{EmptyTextLaw}
 use Rattle.typst_kinds.specs.declared.kind.SyntaxKind.TheVariants as kind
-use Rattle.typst_kinds.specs.Kinds.{same}
 use Rattle.typst_kinds.specs.declared.mode.SyntaxMode.TheVariants as mode
-use Rattle.typst_lines.specs.Place.{Place, moved}
-use Rattle.typst_lines.specs.Classes.{CharClasses}
-use Rattle.typst_tokens.specs.Reader.{Look, look}
-use Rattle.typst_tokens.specs.Sight.{position, far, near}
-use Rattle.typst_language.specs.Tokens.{token}
-use Rattle.typst_language.specs.declared.calls.Mark.{Mark}
 use Rattle.typst_language.specs.declared.calls.Mark.TheVariants as mark
-use Rattle.typst_language.specs.declared.calls.Note.{Note}
-use Rattle.typst_language.specs.declared.reading.State.{State}
-use Rattle.typst_language.specs.Ask.{Ask, shift}
-use Rattle.typst_language.specs.Ask.Ask.{looked, marked}
-use Rattle.typst_language.proofs.Ends.{hand-ends}
-use Rattle.typst_language.specs.Depth.{is_end}
-use Rattle.typst_language.specs.Hand.{AtHand, as_at_hand, hand_at, hand_asks, column_look}
-use Rattle.typst_language.specs.Log.{no_log, logged}
-use Rattle.typst_language.specs.Point.{Trivia, Point, state_of}
-use Rattle.typst_language.specs.Steps.{flush_trivia}
-use Rattle.typst_language.specs.Meaning.{Outcome, Level, plain, joined, as_last, repeated, hand_of, hand_asks_of, asked, flushed_state, run}
-use Rattle.typst_grammar.specs.Markup.{ends, markup_turn, markup_reading}
-use Rattle.typst_grammar.specs.Grammar.{level_at, max_depth, start_of, parsed, log}
-use Rattle.typst_edits.specs.EmptyRuns.{IsEmpty, EmptyTextLaw}
-use Rattle.typst_edits.specs.Edit.{text_with, AllBeginIn}
-use Rattle.typst_edits.specs.Every.{Every}
-use Rattle.typst_edits.specs.Joint.{onwards, passed, text_run}
-use Rattle.typst_edits.specs.JointBytes.{asked_past}
-use Rattle.typst_edits.specs.Runs.{lead, piece_at, tail, start}
-use Rattle.typst_edits.specs.Sequence.{Sequence}
 use Rattle.typst_edits.proofs.Every.{every-append}
-use Rattle.typst_edits.proofs.LogNotes.{none_yet, notes_from, logged-notes}
-use Rattle.typst_edits.proofs.Marks.{AllMarks, marks-append, marks-shift, none-hand}
+use Rattle.typst_edits.proofs.Bytes.{none_yet, notes_from, logged-notes, AllMarks, marks-append, marks-shift, none-hand}
 use Rattle.typst_edits.proofs.Outcomes.{shift-zero}
-use Rattle.typst_edits.proofs.Root.{whole-is}
+use Rattle.typst_edits.proofs.BlockRuns.{whole-is}
 use Rattle.typst_edits.proofs.RunTrees.{whole-asks}
 use Rattle.typst_edits.proofs.Spots.{if-true, if-false}
 use Rattle.typst_edits.proofs.Known.{flushed-held}
@@ -87,16 +60,13 @@ begin-more : (past : ℕ) (rest : List ℕ) (a : Ask) (asks : List Ask) → AllB
 begin-more past rest (looked at look) asks h k = (h.0, h.1, k)
 begin-more past rest (marked at gap fewer m s) asks h k = k
 
-begin-first : (past : ℕ) (rest : List ℕ) (at : ℕ) (look : Look) (asks : List Ask) → AllBeginIn past rest (looked at look ∷ asks) → AllBeginIn past rest (looked at look ∷ [])
-begin-first past rest at look asks h = (h.0, h.1, tt)
-
 pub begin-each : (past : ℕ) (rest : List ℕ) (look : Look) (asks : List Ask) → Every (λ a. a ≡ looked 0 look) asks → AllBeginIn past rest (looked 0 look ∷ []) → AllBeginIn past rest asks
 begin-each past rest look [] e h = tt
 begin-each past rest look (a ∷ asks) e h =
     begin-more past rest a asks (subst (λ b. AllBeginIn past rest (b ∷ [])) (sym e.0) h) (begin-each past rest look asks e.1 h)
 
 pub begin-one : (past : ℕ) (rest : List ℕ) (look : Look) (asks : List Ask) → Looks look asks → AllBeginIn past rest asks → AllBeginIn past rest (looked 0 look ∷ [])
-begin-one past rest look asks l h = begin-first past rest 0 look l.more (subst (λ u. AllBeginIn past rest u) l.first h)
+begin-one past rest look asks l h = let g = subst (λ u. AllBeginIn past rest u) l.first h in (g.0, g.1, tt)
 
 -- the look at the token at a place
 abbrev pub token_look : Level → Place → Look

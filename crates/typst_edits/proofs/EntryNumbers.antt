@@ -1,15 +1,9 @@
 -- A block's two notes among the entries of records, by number.
 use Rattle.std.proofs.Common.{◌≡◌, ℕ, suc, ◌+◌, ◌-◌, ◌<◌, ◌≤◌, ◌==◌, eq-eqb, Bool, true, false, ◌&&◌, if◌then◌else◌, List, [], ◌∷◌, ◌++◌, length, drop, Some, refl, ap, sym, ◌∙◌, arith}
-use Rattle.std.proofs.lemmas.Bool.{eqb-true}
+use Rattle.typst_edits.proofs.Words.{eqb-true, Block, Mark, Note, State, entry_kind_of, entry_of, entries_by, last_start, opening_of, IsRising, AllEnd, AllBegin, highest, lowest}
+use Rattle.typst_candidates.specs.Records.{is_opening}
 use Rattle.std.specs.List.{slice_get}
-use Rattle.typst_language.specs.declared.calls.Block.{Block}
-use Rattle.typst_language.specs.declared.calls.Mark.{Mark}
 use Rattle.typst_language.specs.declared.calls.Mark.TheVariants as mark
-use Rattle.typst_language.specs.declared.calls.Note.{Note}
-use Rattle.typst_language.specs.declared.reading.State.{State}
-use Rattle.typst_candidates.specs.Entries.{entry_kind_of, entry_of, entries_by, last_start}
-use Rattle.typst_candidates.specs.Records.{is_opening, opening_of, IsRising, AllEnd, AllBegin}
-use Rattle.typst_edits.specs.Bytes.{highest, lowest}
 use Rattle.typst_edits.proofs.Walk.{first-if as if-on}
 pub use Rattle.std.proofs.lemmas.Option.{same_Some as some-number}
 

@@ -1,6 +1,6 @@
 -- What holds of each element of a list, and small facts of lists and numbers.
 use Rattle.std.proofs.Common.{◌≡◌, ℕ, zero, suc, ◌<◌, ◌≤◌, Bool, true, false, if◌then◌else◌, List, [], ◌∷◌, ◌++◌, map, Option, None, Some, refl, arith}
-use Rattle.std.specs.List.{flat_map}
+use Rattle.typst_edits.proofs.Words.{flat_map}
 pub use Rattle.typst_edits.specs.Every.{Every}
 
 pub every-append : {X : Type 0} (P : X → Type 0) (xs ys : List X) → Every P xs → Every P ys → Every P (xs ++ ys)

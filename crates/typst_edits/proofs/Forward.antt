@@ -1,21 +1,18 @@
 -- Trivia look only ahead, and so does a token at which a content block's run ends.
 use Rattle.std.proofs.Common.{◌≡◌, ◌+◌, ℕ, zero, suc, Bool, true, false, not, ◌||◌, ◌&&◌, ◌==◌, nat_lt, if◌then◌else◌, List, [], ◌∷◌, ◌++◌, length, slice_get, Some, None, refl, ap, sym, ◌∙◌, subst, arith}
-use Rattle.std.proofs.lemmas.Bool.{and_parts}
+use Rattle.typst_edits.proofs.Words.{and_parts, SyntaxKind, is_trivia, Place, moved, CharClasses, Look, look, no_look, token, Token, near, stretch, Ask, shift, looked, marked, token_at, len_at, at_trivia, Ahead, ahead_by, ahead, asks_by, ahead_asks, hand_at, hand_asks, Trivia, gap_of, moved-sum, on_both, ends_block, AllFrom, lead, codes}
+use Rattle.typst_lines.specs.Place.{scout, passes, run, past}
+use Rattle.typst_tokens.specs.Reader.{Reader, Turn, from_before, skip_look, place, spanned, span_look, at_word, exec}
+use Rattle.typst_language.specs.Tokens.{of_mode, hash, slash, star, backtick}
+use Rattle.std.specs.Prelude.{is_none}
 use Rattle.std.specs.Char.{is_ascii_digit, is_whitespace}
-use Rattle.std.specs.Prelude.{is_none, codes}
-use Rattle.typst_kinds.specs.declared.kind.SyntaxKind.{SyntaxKind}
 use Rattle.typst_kinds.specs.declared.kind.SyntaxKind.TheVariants as kind
-use Rattle.typst_kinds.specs.Kinds.{is_trivia}
 use Rattle.typst_kinds.specs.declared.mode.SyntaxMode.TheVariants.{Markup}
-use Rattle.typst_lines.specs.Place.{Place, scout, passes, moved, run, past}
 use Rattle.typst_lines.specs.Sets.{among}
 use Rattle.typst_tokens.specs.Characters.{is_space, is_u64, is_code_point}
 use Rattle.typst_tokens.specs.Escapes.{code_point, backslash}
-use Rattle.typst_lines.specs.Classes.{CharClasses}
-use Rattle.typst_tokens.specs.Common.{whitespace, shebang, line_comment, block_comment, comment_end, comment_step, in_comment, line_ends}
+use Rattle.typst_tokens.specs.Common.{whitespace, shebang, line_comment, block_comment, comment_end, comment_step, in_comment, line_ends, sign}
 use Rattle.typst_tokens.specs.Markup.{dot, marker_or_text, marker, hyphen, minus, emphasis, heading, numbering, markup}
-use Rattle.typst_tokens.specs.Common.{sign}
-use Rattle.typst_tokens.specs.Reader.{Reader, Turn, Look, no_look, from_before, skip_look, place, spanned, span_look, at_word, exec, look}
 use Rattle.typst_tokens.specs.Memory.Memory.{blank, comment, fence, brackets, quoted}
 use Rattle.typst_tokens.specs.Reader.Turn.{leave, last, go}
 use Rattle.typst_tokens.specs.Reader.Reader.{answer, peek, skip}
@@ -27,21 +24,9 @@ use Rattle.typst_tokens.specs.Raw.{in_raw, raw_end, raw}
 use Rattle.typst_lines.specs.Identifiers.{is_id_continue}
 use Rattle.typst_lines.specs.Labels.{is_name}
 use Rattle.typst_tokens.specs.Token.{plain}
-use Rattle.typst_language.specs.Tokens.{of_mode, hash, slash, star, backtick, token}
-use Rattle.typst_tokens.specs.declared.token.Token.{Token}
 use Rattle.typst_tokens.specs.Memory.{Memory}
-use Rattle.typst_tokens.specs.Sight.{near, stretch}
-use Rattle.typst_language.specs.Ask.{Ask, shift}
-use Rattle.typst_language.specs.Ask.Ask.{looked, marked}
-use Rattle.typst_language.specs.Hand.{token_at, len_at, at_trivia, Ahead, ahead_by, ahead, asks_by, ahead_asks, hand_at, hand_asks}
 use Rattle.typst_language.specs.Meaning.{run as read}
-use Rattle.typst_language.specs.Point.{Trivia, gap_of}
-use Rattle.typst_language.proofs.Places.{moved-sum}
-use Rattle.typst_language.proofs.Within.{on_both}
-use Rattle.typst_grammar.specs.Markup.{ends_block}
 use Rattle.typst_grammar.proofs.Fine.{or-left as or-first, or-right as or-second}
-use Rattle.typst_edits.specs.Looks.{AllFrom}
-use Rattle.typst_edits.specs.Runs.{lead}
 
 -- ---- what is read is no trivia, and ends no block
 
@@ -196,11 +181,8 @@ markup-each P k c p bare bracket =
 abbrev Fore : Reader Memory Token → Place → Type 0
 Fore r p = is_trivia (exec r p).0.kind ≡ true → (look r p).back ≡ 0
 
-none-fore : (r : Reader Memory Token) (p : Place) → is_trivia (exec r p).0.kind ≡ false → Fore r p
-none-fore r p h e = let f : true ≡ false = sym e ∙ h in cc
-
 bare-fore : (r : Reader Memory Token) (p : Place) → Bare r p → Fore r p
-bare-fore r p h = none-fore r p (or-first (is_trivia (exec r p).0.kind) (ends_block (exec r p).0.kind) h)
+bare-fore r p h e = let f : true ≡ false = sym e ∙ or-first (is_trivia (exec r p).0.kind) (ends_block (exec r p).0.kind) h in cc
 
 markup-fore : (k : CharClasses) (c : ℕ) (p : Place) → Fore (markup k c) p
 unfolding sign

@@ -1,52 +1,17 @@
 -- An expression that isn't expected gives one error after the trivia, and only such an expression takes back the empty errors before it.
-use Rattle.std.proofs.Common.{◌≡◌, ℕ, zero, suc, ◌<◌, ◌==◌, Bool, true, false, ◌&&◌, nat_lt, List, [], ◌∷◌, ◌++◌, length, drop, length-append, append_assoc, Some, None, refl, ap, sym, ◌∙◌, subst, arith}
-use borrow.Author.Tests.{lt-ltb}
-use Rattle.typst_kinds.specs.Kinds.{is_error}
-use Rattle.typst_kinds.specs.declared.kind.SyntaxKind.{SyntaxKind}
-use Rattle.typst_lines.specs.Place.{Place, moved}
-use Rattle.typst_lines.specs.Classes.{CharClasses}
-use Rattle.typst_tree.specs.Diagnostic.{hint_with}
-use Rattle.typst_tree.specs.Tree.{Tree, text_of, error_of, made_error, advised, all_advised}
-use Rattle.typst_language.specs.Calls.Call.{MarkupExpr}
-use Rattle.typst_language.specs.declared.reading.Reading.{Reading}
-use Rattle.typst_language.specs.Ask.{Ask}
-use Rattle.typst_language.specs.Depth.{anywhere, too_deep, deeper}
-use Rattle.typst_language.specs.Hand.{AtHand, as_at_hand, hand_at}
-use Rattle.typst_language.specs.Knot.{meaning_of}
-use Rattle.typst_language.specs.Point.{Trivia, Point, pending}
-use Rattle.typst_language.specs.Shape.{hinted}
-use Rattle.typst_language.specs.Shape.Making.{surprise}
-use Rattle.typst_language.specs.Steps.{peek, eat_making, unexpected, flush_trivia, note}
-use Rattle.typst_language.specs.Syntax.{Parser, ◌>>=◌, ◌>>◌}
-use Rattle.typst_language.specs.Syntax.Op.{takes}
-use Rattle.typst_language.specs.Syntax.Parser.{gives, does, next, pick, repeat, calls}
-use Rattle.typst_language.specs.Meaning.{Outcome, Meaning, Level, plain, less, standing, joined, repeated, hand_of, hand_asks_of, taken_node, run}
-use Rattle.typst_language.proofs.HintedNodes.{hinted-append}
-use Rattle.typst_language.proofs.Knot.{sane-run}
-use Rattle.typst_language.proofs.Places.{less-none}
-use Rattle.typst_language.proofs.Within.{on_both, on_if}
-use Rattle.typst_grammar.specs.head.MarkupHead.{MarkupHead}
-use Rattle.typst_grammar.specs.head.MarkupHead.TheVariants as head
-use Rattle.typst_grammar.specs.Markup.{ends, ends_block, note_piece, markup_turn, markup_head, markup_by, markup_expr}
-use Rattle.typst_grammar.specs.Grammar.{rules, level_at}
-use Rattle.typst_language.specs.Sound.{Tidy, Backs}
-use Rattle.typst_edits.specs.Children.{together}
-use Rattle.typst_edits.specs.BlockRuns.{inner_run}
-use Rattle.typst_edits.specs.Heads.{begins_wrong, after_known, minds_at, first_place, Headed, HeadLaw, InnerHeadLaw, MeetsLaw, InnerMeetsLaw}
-use Rattle.typst_edits.specs.Joint.{minds, text_run}
-use Rattle.typst_edits.specs.Occurrences.{goes}
-use Rattle.typst_edits.specs.Runs.{made, AllGo, end_of}
-use Rattle.typst_edits.specs.Sequence.{Sequence, turn_of, first_of, first_end, then_of, then_end, then_place}
-use Rattle.typst_edits.proofs.Boundary.{KnownAt, turn-goes, first-of, going-on, known-made}
-use Rattle.typst_edits.proofs.Children.{tidy-together}
-use Rattle.typst_edits.proofs.Joint.{known-is, text-taking}
-use Rattle.typst_edits.proofs.Led.{none-less, none-of, drop-front, before_trivia, same-judged, led-joined}
-use Rattle.typst_edits.proofs.Meeting.{ends-alike}
+use Rattle.std.proofs.Common.{◌≡◌, ℕ, zero, suc, ◌<◌, ◌==◌, Bool, true, false, ◌&&◌, nat_lt, List, [], ◌∷◌, ◌++◌, length, drop, length-append, append_assoc, Some, None, refl, ap, sym, ◌∙◌, subst, arith, ◌+◌, ◌≤◌}
+use Rattle.typst_edits.proofs.Words.{lt-ltb, is_error, SyntaxKind, Place, moved, CharClasses, hint_with, Tree, text_of, error_of, made_error, advised, all_advised, MarkupExpr, Reading, Ask, SameIn, shift, anywhere, too_deep, deeper, is_end, AtHand, as_at_hand, hand_at, Hand, meaning_of, Trivia, Point, pending, point_of, hinted, surprise, peek, eat_making, flush_trivia, note, unexpected, Parser, ◌>>=◌, ◌>>◌, takes, gives, does, next, pick, repeat, calls, Outcome, Meaning, Level, plain, less, standing, joined, repeated, hand_of, hand_asks_of, taken_node, run, sane-run, less-none, moved-sum, on_both, on_if, ends, ends_block, note_piece, markup_turn, markup_head, markup_by, markup_expr, rules, level_at, max_depth, Tidy, Backs, together, inner_run, inner, bracket, inner_lead, run_at, EndsBefore, minds_at, first_place, begins_wrong, after_known, minds, text_run, onwards_from, goes, made, AllGo, end_of, End, asks_of, lead, pieces, end_at, Sequence, turn_of, first_of, first_end, then_of, then_end, then_place, hand-frame, same_in-shift, same_in-first, same_in-second, text_with, AllEndBy, onwards_in, Spot, hinted-append, MarkupHead, both_ways}
+use Rattle.typst_edits.specs.Heads.{Headed, HeadLaw, InnerHeadLaw, MeetsLaw, InnerMeetsLaw, NoneBackLaw, InnerNoneBackLaw, NoneAfterLaw, InnerNoneAfterLaw}
+use Rattle.typst_edits.proofs.Boundary.{KnownAt, turn-goes, first-of, going-on, known-made, made-ends, turn-ends}
+use Rattle.typst_edits.proofs.Children.{tidy-together, back-law, both-open, inner-back-law}
+use Rattle.typst_edits.proofs.Joint.{known-is, text-taking, block-taking, ends-alike, inner-joint-law, onwards-is, joint-law}
+use Rattle.typst_edits.proofs.Turns.{none-less, none-of, drop-front, before_trivia, same-judged, led-joined, turn_tail, turn_at, one-turn, stopped-back, led-behind, Taking, turn-led}
 use Rattle.typst_edits.proofs.Outcomes.{hints-first}
 use Rattle.typst_edits.proofs.RunTrees.{standing-still}
-use Rattle.typst_edits.proofs.Turns.{turn_tail, turn_at, one-turn, stopped-back, led-behind, Taking, turn-led}
-use Rattle.typst_edits.proofs.InnerJoint.{block-taking}
-use Rattle.std.proofs.lemmas.Bool.{both_ways}
+use Rattle.typst_edits.proofs.BlockRuns.{first-same, pieces-same}
+use Rattle.typst_edits.proofs.Edit.{before-same}
+use Rattle.typst_edits.proofs.Spots.{same_in-at}
+use Rattle.typst_grammar.specs.head.MarkupHead.TheVariants as head
 
 -- ---- nodes that begin with an error
 
@@ -394,3 +359,138 @@ pub inner-lone : (k : CharClasses) (levels : ℕ) (z : Place) (s : Point) (i : �
 unfolding run
 inner-lone k levels z s i g h mind =
     lone-piece (inner_run k levels z s) (block-taking k levels) (erring-call k levels) (record { trivia = _; is = refl }) i g h mind
+
+-- ---- the expression at which pieces that are read again begin is the same in both texts, so what they take back is the same too
+
+-- ---- where pieces end the token at hand was looked at
+
+module _ (l : Level) (stops : SyntaxKind → Bool) where
+  abbrev one_turn : Bool × ℕ → Meaning (Bool × (Bool × ℕ))
+  one_turn x = run l (markup_turn true stops x)
+
+  pub cut-same : (n : ℕ) (x : Bool × ℕ) (z w : Place) (s : Point) → AllGo (made one_turn (suc n) x z s) → SameIn (asks_of (made one_turn (suc n) x z s)) z w
+      → (let e = end_of x s (made one_turn (suc n) x z s) in (hand_of l (moved e.taken w) e.state).kind ≡ (hand_of l (moved e.taken z) e.state).kind)
+  cut-same n x z w s g same =
+      let e = end_of x s (made one_turn (suc n) x z s) in
+      let looks = hand_asks_of l (moved e.taken z) e.state in
+      let c = made-ends one_turn (λ q p. hand_asks_of l q p) (λ y q p h. turn-ends l stops y q p h) n x z s g in
+      let seen = same_in-shift e.taken looks z w (same_in-first (shift e.taken looks) _ z w (same_in-second c.early _ z w (subst (λ ls. SameIn ls z w) c.is same))) in
+      ap (λ (h : Hand). h.kind) (hand-frame l.classes e.state.held e.state.known (moved e.taken z) (moved e.taken w) seen).hand
+
+-- So the expression that follows minds errors as before.
+pub minds-same : (l : Level) (d e : End (Bool × ℕ)) (y v : Place) → d ≡ e → (hand_of l v e.state).kind ≡ (hand_of l y e.state).kind
+    → minds (markup_head d.value.0 d.value.1 (hand_of l v d.state).kind) ≡ minds (markup_head e.value.0 e.value.1 (hand_of l y e.state).kind)
+minds-same l d e y v same kind =
+    ap (λ (f : End (Bool × ℕ)). minds (markup_head f.value.0 f.value.1 (hand_of l v f.state).kind)) same ∙ ap (λ k. minds (markup_head e.value.0 e.value.1 k)) kind
+
+none-left : (a b : ℕ) → a ≤ b → b ≡ 0 → a ≡ 0
+none-left a b h e = omega (arith, h, e)
+
+-- ---- a text's run
+
+pub lead-empties : (k : CharClasses) (z : Place) → (lead k z).state.empties ≡ 0
+unfolding run
+lead-empties k z = refl
+
+-- After some pieces of two runs the same follows, and the expression there minds errors as before.
+pub record Minds (i : ℕ) (q p : Sequence) : Type 0 where
+  pub ends : first_end i p ≡ first_end i q
+  pub minds : minds_at p (first_place i p) (first_end i p) ≡ minds_at q (first_place i q) (first_end i q)
+
+module _ (k : CharClasses) (front old new rest : List ℕ) where
+  pub text-minds : (i : ℕ) → 0 < i → AllGo (pieces k i (text_with front old rest)) → AllEndBy (length front) ((lead k (text_with front old rest)).asks ++ asks_of (pieces k i (text_with front old rest)))
+      → Minds i (text_run k (text_with front old rest)) (text_run k (text_with front new rest))
+  text-minds zero some go looks = absurd (omega (arith, some))
+  text-minds (suc i) some go looks =
+      let z = text_with front old rest in
+      let w = text_with front new rest in
+      let l = level_at k max_depth in
+      let seen = before-same _ front old new rest looks in
+      let e = end_at k (suc i) z in
+      let d = end_at k (suc i) w in
+      let same : d ≡ e = ap (end_of (true, 0) (lead k z).state) (pieces-same k (suc i) z w (λ l. seen)).pieces_same in
+      let kind = cut-same l is_end i (true, 0) z w (lead k z).state go (same_in-second (lead k z).asks _ z w seen) in
+      let place : moved d.taken w ≡ moved e.taken w = ap (λ (a : End (Bool × ℕ)). moved a.taken w) same in
+      record { ends = same; minds = minds-same l d e (moved e.taken z) (moved d.taken w) same (ap (λ p. (hand_of l p e.state).kind) place ∙ kind) }
+
+pub none-back-law : NoneBackLaw
+none-back-law k front old new rest zero n m past t u h well =
+    let z = text_with front old rest in
+    let w = text_with front new rest in
+    record { back = none-left _ _ (back-law k (front ++ (old ++ rest)) 0 n).pieces_back (lead-empties k z); back_now = none-left _ _ (back-law k (front ++ (new ++ rest)) 0 m).pieces_back (lead-empties k w) }
+none-back-law k front old new rest (suc i) n m past t u h well =
+    let w = text_with front new rest in
+    let some : 0 < suc i = omega arith in
+    let new_first : AllGo (pieces k (suc i) w) = subst (λ os. AllGo os) (sym (joint-law k front old new rest (suc i) n m past t u h).first) h.first_go in
+    let mild = (well some).1 in
+    record {
+      back = (head-law k (text_with front old rest) (suc i) n h.first_go h.old_go).pieces_back mild;
+      back_now = (head-law k w (suc i) m new_first h.new_go).pieces_back ((text-minds k front old new rest (suc i) some h.first_go (h.before some)).minds ∙ mild);
+    }
+
+-- ---- a content block's run
+
+block-empties : (k : CharClasses) (levels : ℕ) (c : Spot (Unit {0})) (z : Place) → (bracket k levels (moved c.at z) (point_of c.start)).state.empties ≡ 0 → (run_at k levels c z).point.empties ≡ 0
+unfolding run
+block-empties k levels c z e = e
+
+module _ (k : CharClasses) (levels : ℕ) (front old new rest : List ℕ) (c : Spot (Unit {0})) where
+  pub block-minds : (i : ℕ) → 0 < i → AllGo (first_of i (run_at k levels c (text_with front old rest))) → EndsBefore k levels front old rest c i → Minds i (run_at k levels c (text_with front old rest)) (run_at k levels c (text_with front new rest))
+  block-minds zero some go looks = absurd (omega (arith, some))
+  block-minds (suc i) some go looks =
+      let z0 = text_with front old rest in
+      let w0 = text_with front new rest in
+      let z = moved c.at z0 in
+      let w = moved c.at w0 in
+      let l = inner k levels in
+      let r = run_at k levels c z0 in
+      let q = run_at k levels c w0 in
+      let o = inner_lead k levels z (point_of c.start) in
+      let b = bracket k levels z (point_of c.start) in
+      let f = first-same k levels front old new rest c (suc i) looks in
+      let seen : SameIn (o.asks ++ asks_of (first_of (suc i) r)) r.place (moved b.taken w) =
+      same_in-at _ _ _ _ _ (sym (moved-sum c.at b.taken z0)) (sym (moved-sum c.at b.taken w0)) (same_in-shift (c.at + b.taken) _ z0 w0 (before-same _ front old new rest (looks.before_run some))) in
+      let e = first_end (suc i) r in
+      let d = first_end (suc i) q in
+      let same : d ≡ e = ap (end_of (true, 0) r.point) f.first in
+      let kind = cut-same l ends_block i (true, 0) r.place (moved b.taken w) r.point go (same_in-second o.asks _ r.place (moved b.taken w) seen) in
+      let place : first_place (suc i) q ≡ moved e.taken (moved b.taken w) = ap (λ (a : End (Bool × ℕ)). moved a.taken q.place) same ∙ ap (λ (a : Outcome (Unit {0})). moved e.taken (moved a.taken w)) f.opened in
+      record { ends = same; minds = minds-same l d e (first_place (suc i) r) (first_place (suc i) q) same (ap (λ p. (hand_of l p e.state).kind) place ∙ kind) }
+
+pub inner-none-back-law : InnerNoneBackLaw
+inner-none-back-law k levels front old new rest c zero n m past t u chosen h well =
+    let z = text_with front old rest in
+    let w = text_with front new rest in
+    let opens = both-open k levels front old new rest c 0 n m past t u chosen h in
+    record {
+      back = none-left _ _ (inner-back-law k levels (front ++ (old ++ rest)) c 0 n).pieces_back (block-empties k levels c z opens.old_opens.empties);
+      back_now = none-left _ _ (inner-back-law k levels (front ++ (new ++ rest)) c 0 m).pieces_back (block-empties k levels c w opens.new_opens.empties);
+    }
+inner-none-back-law k levels front old new rest c (suc i) n m past t u chosen h well =
+    let some : 0 < suc i = omega arith in
+    let s = point_of c.start in
+    let w = text_with front new rest in
+    let new_first : AllGo (first_of (suc i) (run_at k levels c w)) = subst (λ os. AllGo os) (sym (first-same k levels front old new rest c (suc i) h.pieces.looks).first) h.pieces.first_go in
+    let mild = (well some).1 in
+    record {
+      back = (inner-head-law k levels (moved c.at (text_with front old rest)) s (suc i) n h.pieces.first_go h.pieces.old_go).pieces_back mild;
+      back_now = (inner-head-law k levels (moved c.at w) s (suc i) m new_first h.pieces.new_go).pieces_back ((block-minds k levels front old new rest c (suc i) some h.pieces.first_go h.pieces.looks).minds ∙ mild);
+    }
+
+-- ---- after the pieces
+
+pub none-behind-law : NoneAfterLaw
+none-behind-law k front old new rest i n m past t u h well =
+    let z = text_with front old rest in
+    let heads = head-law k z i n h.first_go h.old_go in
+    let back_of = λ (o : Outcome (Unit {0})). o.back in
+    let was : (onwards_from k i n z).back ≡ 0 = ap back_of (onwards-is (text_run k z) i n) ∙ heads.after_back (λ over. heads.next (well over) over) in
+    record { back = was; back_now = (joint-law k front old new rest i n m past t u h).behind.back ∙ was }
+
+pub inner-none-behind-law : InnerNoneAfterLaw
+inner-none-behind-law k levels front old new rest c i n m past t u chosen h well =
+    let z = text_with front old rest in
+    let heads = inner-head-law k levels (moved c.at z) (point_of c.start) i n h.pieces.first_go h.pieces.old_go in
+    let back_of = λ (o : Outcome (Unit {0})). o.back in
+    let was : (onwards_in k levels i n c z).back ≡ 0 = ap back_of (onwards-is (run_at k levels c z) i n) ∙ heads.after_back (λ over. heads.next (well over) over) in
+    record { back = was; back_now = (inner-joint-law k levels front old new rest c i n m past t u chosen h).behind.back ∙ was }

@@ -1,50 +1,17 @@
 -- Marks stand in order by their tokens: each at the token of the one before it, or after that.
 use Rattle.std.proofs.Common.{◌≡◌, ℕ, zero, suc, ◌+◌, ◌≤◌, ◌==◌, max, min, Bool, true, false, ◌&&◌, nat_lt, List, [], ◌∷◌, take, Option, Some, None, refl, ap, sym, ◌∙◌, subst, arith}
-use Rattle.typst_kinds.specs.Kinds.{same}
-use Rattle.typst_kinds.specs.declared.kind.SyntaxKind.{SyntaxKind}
+use Rattle.typst_edits.proofs.Words.{same, SyntaxKind, Place, moved, CharClasses, width, position, far, near, IsRising, Block, Call, MarkupExpr, Mark, Reading, Ask, shift, looked, marked, deeper, is_end, too_deep, hand_at, meaning_of, level_of, blocks_of, Trivia, Point, forgot, gap_of, Shape, becomes, itself, peek, node, node_with_trivia, note, flush_trivia, close_if, Parser, ◌>>◌, at_token, takes, flushes, marks, is_deepest, gives, does, next, repeat, wraps, scoped, Outcome, Meaning, Level, plain, joined, turns, as_last, bound, repeated, blockless, entered, hand_of, hand_asks_of, start_point, done, run, moved-sum, on_both, on_if, rules, production, max_depth, start_of, whole, parsed, log, block_production, level_at, ends, ends_block, note_piece, markup_turn, markup_run, markup_is_empty, markup_reading, content_block, code_block, Guarded, guarded-deep, guarded-production, guarded-inside-code, InOrderLaw}
+use Rattle.typst_language.specs.Syntax.Begin.{at_trivia}
+use Rattle.typst_grammar.proofs.Guarded.{guarded-close, guarded-deeper, guarded-node}
 use Rattle.typst_kinds.specs.declared.kind.SyntaxKind.TheVariants as kind
-use Rattle.typst_lines.specs.Place.{Place, moved}
-use Rattle.typst_lines.specs.Classes.{CharClasses}
-use Rattle.typst_tokens.specs.Sight.{width, position, far, near}
-use Rattle.typst_candidates.specs.Records.{IsRising}
-use Rattle.typst_language.specs.declared.calls.Block.{Block}
 use Rattle.typst_language.specs.declared.calls.Block.TheVariants as block
-use Rattle.typst_language.specs.Calls.{Call}
-use Rattle.typst_language.specs.Calls.Call.{MarkupExpr}
-use Rattle.typst_language.specs.declared.calls.Mark.{Mark}
 use Rattle.typst_language.specs.declared.calls.Mark.TheVariants as mark
-use Rattle.typst_language.specs.declared.reading.Reading.{Reading}
-use Rattle.typst_language.specs.Ask.{Ask, shift}
-use Rattle.typst_language.specs.Ask.Ask.{looked, marked}
-use Rattle.typst_language.specs.Depth.{deeper, is_end, too_deep}
-use Rattle.typst_language.specs.Hand.{hand_at}
-use Rattle.typst_language.specs.Knot.{meaning_of, level_of, blocks_of}
-use Rattle.typst_language.specs.Point.{Trivia, Point, forgot, gap_of}
-use Rattle.typst_language.specs.Shape.{Shape, becomes}
-use Rattle.typst_language.specs.Shape.Making.{itself}
-use Rattle.typst_language.specs.Steps.{peek, node, node_with_trivia, note, flush_trivia, close_if}
-use Rattle.typst_language.specs.Syntax.{Parser, ◌>>◌}
-use Rattle.typst_language.specs.Syntax.Begin.{at_token, at_trivia}
-use Rattle.typst_language.specs.Syntax.Op.{takes, flushes, marks, is_deepest}
-use Rattle.typst_language.specs.Syntax.Parser.{gives, does, next, repeat, wraps, scoped}
-use Rattle.typst_language.specs.Meaning.{Outcome, Meaning, Level, plain, joined, turns, as_last, bound, repeated, bounded, blockless, entered, hand_of, hand_asks_of, start_point, done, run}
-use Rattle.typst_language.proofs.Places.{moved-sum}
-use Rattle.typst_language.proofs.Within.{on_both, on_if}
-use Rattle.typst_grammar.specs.Grammar.{rules, production, max_depth, start_of, whole, parsed, log, block_production, level_at}
-use Rattle.typst_grammar.specs.Markup.{ends, ends_block, note_piece, markup_turn, markup_run, markup_is_empty, markup_reading, content_block}
-use Rattle.typst_grammar.specs.Sequences.{code_block}
-use Rattle.typst_grammar.proofs.Guarded.{Guarded, guarded-close, guarded-deep, guarded-deeper, guarded-node}
-use Rattle.typst_grammar.proofs.GuardedCode.{guarded-production, guarded-inside-code}
-use Rattle.typst_edits.specs.InOrder.{InOrderLaw}
 use Rattle.typst_edits.proofs.Boundary.{KnownAt}
-use Rattle.typst_edits.proofs.InnerJoint.{block-taking}
-use Rattle.typst_edits.proofs.Joint.{known-is, text-taking}
-use Rattle.typst_edits.proofs.Led.{after_trivia, before_trivia}
-use Rattle.typst_edits.proofs.LogNotes.{none_yet, note_by, notes_from, fresh_notes, logged-listed}
-use Rattle.typst_edits.proofs.Rising.{take-more}
+use Rattle.typst_edits.proofs.Joint.{block-taking, known-is, text-taking}
+use Rattle.typst_edits.proofs.Turns.{after_trivia, before_trivia, turn_tail, Taking, turn-led}
+use Rattle.typst_edits.proofs.Bytes.{none_yet, note_by, notes_from, fresh_notes, logged-listed}
+use Rattle.typst_edits.proofs.Rising.{take-more, Joins, Upward, ups, up-low, up-append, up-shift, up-sunk, up-none, unmarked-hand, from-joined, from-hand, from-run}
 use Rattle.typst_edits.proofs.Spots.{if-true}
-use Rattle.typst_edits.proofs.Turns.{turn_tail, Taking, turn-led}
-use Rattle.typst_edits.proofs.Upward.{Joins, Upward, ups, up-low, up-append, up-shift, up-sunk, up-none, unmarked-hand, from-joined, from-hand, from-run}
 use Rattle.typst_edits.proofs.Widths.{width-moved, width-none}
 
 -- ---- marks in a list of asks
@@ -73,14 +40,6 @@ InOrder o = Orders 0 o.taken o.asks
 
 abbrev AllInOrder : {A : Type 0} → Meaning A → Type 0
 AllInOrder m = (z : Place) (s : Point) → InOrder (m z s)
-
-abbrev Silent : {A : Type 0} → Bool → Parser A → Type 0
-Silent seen p = Guarded (λ (m : Mark). false) seen p
-
-order-bounded : (b : Block) (m : Meaning (Unit {0})) → AllInOrder m → AllInOrder (bounded b m)
-order-bounded b m h z s =
-    let o = m z (forgot s) in
-    (omega arith, tt, up-append gaps any 0 o.taken o.taken o.asks _ (h z (forgot s)) (omega arith, tt, omega arith))
 
 -- ---- a run of pieces
 
@@ -111,11 +70,11 @@ hand-gap k held None z = omega arith
 hand-gap k held (Some t) z = omega arith
 
 module _ (l : Level) (deep : (call : Call) → AllInOrder (l.deeper call)) (held : (b : Block) → AllInOrder (l.blocks b)) where
-  silent : {A : Type 0} (p : Parser A) → Silent false p → AllInOrder (run l p)
+  silent : {A : Type 0} (p : Parser A) → Guarded (λ (m : Mark). false) false p → AllInOrder (run l p)
   silent p q z s =
       from-run Orders orders l (λ m. false) (λ m gap s e. absurd (cc)) (λ z s. Unit {0}) (λ B p z s e. tt)
       (λ call z s. up-sunk gaps any 0 (l.deeper call z s).taken (l.deeper call z s).asks (deep call z s))
-      (λ b has z s t. let o = done l flushes z s in order-bounded b (l.blocks b) (held b) (moved o.taken z) o.state) false p q z s (λ e. tt)
+      (λ b has z s t. (let v = moved (done l flushes z s).taken z in let p = forgot (done l flushes z s).state in let o = l.blocks b v p in (omega arith, tt, up-append gaps any 0 o.taken o.taken o.asks _ (held b v p) (omega arith, tt, omega arith)))) false p q z s (λ e. tt)
 
   peek-order : (lo : ℕ) (z : Place) (s : Point) → lo ≤ (hand_of l z s).gap → ToToken lo (run l peek z s)
   unfolding run

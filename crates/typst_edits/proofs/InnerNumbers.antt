@@ -1,39 +1,15 @@
 -- The number of a note where pieces of a content block's run end.
 use Rattle.std.proofs.Common.{◌≡◌, ℕ, suc, ◌+◌, ◌-◌, ◌<◌, ◌≤◌, ◌==◌, eq-eqb, Bool, true, false, List, [], ◌∷◌, ◌++◌, length, take, length-append, append_assoc, ap, sym, ◌∙◌, subst, arith, drop}
-use Rattle.typst_lines.specs.Place.{Place, moved}
-use Rattle.typst_lines.specs.Classes.{CharClasses}
-use Rattle.typst_tokens.specs.Sight.{width}
+use Rattle.typst_edits.proofs.Words.{Place, moved, CharClasses, width, Note, Hand, Point, point_of, itself, peek, takes, does, entered, hand_of, asked, run, sane-meaning, sane-plain, ahead-left, ends_block, markup_turn, markup_reading, rules, max_depth, start_of, log, inner, look_first, look_again, bracket, run_at, opened_at, Among, inner_end, blocks_of_text, of_level, Numbered, SaysOf, listed, AllGo, turn_of, first_of, first_end, Spot, unit_at, Rising}
+use Rattle.typst_edits.specs.NumberedNotes.{InnerNumberLaw}
 use Rattle.typst_language.specs.declared.calls.Block.TheVariants as block
-use Rattle.typst_language.specs.declared.calls.Note.{Note}
-use Rattle.typst_language.specs.Hand.{Hand}
-use Rattle.typst_language.specs.Point.{Point, point_of}
-use Rattle.typst_language.specs.Shape.Making.{itself}
-use Rattle.typst_language.specs.Steps.{peek}
-use Rattle.typst_language.specs.Syntax.Op.{takes}
-use Rattle.typst_language.specs.Syntax.Parser.{does}
-use Rattle.typst_language.specs.Meaning.{entered, hand_of, asked, run}
-use Rattle.typst_language.proofs.Knot.{sane-meaning, sane-plain}
-use Rattle.typst_language.proofs.Places.{ahead-left}
-use Rattle.typst_grammar.specs.Markup.{ends_block, markup_turn, markup_reading}
-use Rattle.typst_grammar.specs.Grammar.{rules, max_depth, start_of, log}
-use Rattle.typst_edits.specs.BlockRuns.{inner, look_first, look_again, bracket, run_at, opened_at}
-use Rattle.typst_edits.specs.Edit.{Among}
-use Rattle.typst_edits.specs.InnerBytes.{inner_end}
-use Rattle.typst_edits.specs.Laws.{blocks_of_text}
-use Rattle.typst_edits.specs.NumberedNotes.{of_level, Numbered, SaysOf, InnerNumberLaw}
-use Rattle.typst_edits.specs.PieceNotes.{listed}
-use Rattle.typst_edits.specs.Rising.{Rising}
-use Rattle.typst_edits.specs.Runs.{AllGo}
-use Rattle.typst_edits.specs.Sequence.{turn_of, first_of, first_end}
-use Rattle.typst_edits.specs.Spot.{Spot, unit_at}
 use Rattle.typst_edits.proofs.BlockRuns.{sane as in-sane}
-use Rattle.typst_edits.proofs.Content.{again}
-use Rattle.typst_edits.proofs.Fitting.{same-here}
-use Rattle.typst_edits.proofs.NoteNumbers.{level-append, numbered-at, neither, go-fewer, more-taken, turns-within, take-longer}
+use Rattle.typst_edits.proofs.Content.{again, same-here}
+use Rattle.typst_edits.proofs.NumberedNotes.{level-append, numbered-at, neither, go-fewer, more-taken, turns-within, take-longer}
 use Rattle.typst_edits.proofs.Rising.{take-more, rising-law}
 use Rattle.typst_edits.proofs.Spots.{if-true}
 use Rattle.typst_edits.proofs.CandidateEnds.{some-by as positive}
-use Rattle.typst_edits.proofs.InnerChildren.{begun-at}
+use Rattle.typst_edits.proofs.Children.{begun-at}
 use Rattle.typst_edits.proofs.Every.{first_or}
 
 -- ---- notes in order

@@ -1,72 +1,79 @@
 -- A candidate that isn't at the root is pieces of a content block's run.
-use Rattle.std.proofs.Common.{◌≡◌, ℕ, zero, suc, ◌+◌, ◌-◌, ◌<◌, ◌≤◌, Bool, true, false, List, [], ◌∷◌, ◌++◌, length, length-append, take, Some, refl, ap, sym, ◌∙◌, subst, arith}
-use Rattle.std.proofs.Math.Seq.{take-append_seam}
-use Rattle.typst_kinds.specs.Kinds.{is_block}
-use Rattle.typst_kinds.specs.Head.{Head}
-use Rattle.typst_kinds.specs.declared.kind.SyntaxKind.{SyntaxKind}
-use Rattle.typst_kinds.specs.declared.kind.SyntaxKind.TheVariants as kind
-use Rattle.typst_lines.specs.Place.{Place, moved}
-use Rattle.typst_lines.specs.Classes.{CharClasses}
-use Rattle.typst_tree.specs.Tree.{Tree, forest, trees, text_of, bare, inner_of}
-use Rattle.typst_tree.specs.Laws.{start_at}
-use Rattle.typst_tokens.specs.Sight.{width}
-use Rattle.typst_language.specs.declared.calls.Block.{Block}
-use Rattle.typst_language.specs.declared.calls.Block.TheVariants as block
-use Rattle.typst_language.specs.Meaning.{run}
-use Rattle.typst_language.specs.Point.{Trivia, gap_of, point_of}
-use Rattle.typst_language.specs.Steps.{peek}
-use Rattle.typst_language.proofs.Leaves.{texts}
-use Rattle.typst_language.proofs.Places.{ahead-left, moved-sum}
-use Rattle.typst_candidates.specs.Units.{top_cuts, cuts_in}
-use Rattle.typst_candidates.specs.Candidates as candidate
-use Rattle.typst_candidates.specs.Candidates.{Child, laid, child_at, is_among, Candidate}
-use Rattle.typst_grammar.specs.Grammar.{max_depth, start_of, parsed, log, tree}
-use Rattle.typst_edits.specs.Answer.{candidates}
-use Rattle.typst_edits.specs.BlockRuns.{inner, bracket, run_at, opened_at}
-use Rattle.typst_edits.specs.CandidateRuns.{IsPieces, InnerPiecesOf, InnerPiecesOfLaw}
-use Rattle.typst_edits.specs.Edit.{Among, text_with}
-use Rattle.typst_edits.specs.Every.{Every}
-use Rattle.typst_edits.specs.Frame.{is_over}
-use Rattle.typst_edits.specs.Hole.{Deep, fill, path_in, Hole, plug, path_of}
-use Rattle.typst_edits.specs.Hole.Deep.{bare as alone, under}
-use Rattle.typst_edits.specs.InnerBytes.{inner_end, inner_both}
-use Rattle.typst_edits.specs.InnerPieces.{block_run, kids_in, markup_from}
-use Rattle.typst_edits.specs.Laws.{blocks_of_text}
-use Rattle.typst_edits.specs.Leading.{bytes_of, opening_child, token_byte}
-use Rattle.typst_edits.specs.Occurrences.{goes}
-use Rattle.typst_edits.specs.OpensApart.{OpensApartLaw}
-use Rattle.typst_edits.specs.PieceNotes.{listed}
-use Rattle.typst_edits.specs.Runs.{AllGo, End}
-use Rattle.typst_edits.specs.Sequence.{Sequence, turn_of, first_of, first_end}
-use Rattle.typst_edits.specs.Spot.{Spot, kind_of, block_head, unit_at}
-use Rattle.typst_edits.specs.Standing.{IsOf, Stems, from_unit, from_second}
-use Rattle.typst_edits.proofs.BareCandidates.{bare-candidates-law}
-use Rattle.typst_edits.proofs.BlockPlaces.{hole-same, early-by as sooner}
+use Rattle.std.proofs.Common.{◌≡◌, ℕ, ◌<◌, ◌==◌, Bool, true, false, ◌&&◌, if◌then◌else◌, List, [], ◌∷◌, ◌++◌, length, Some, refl, ap, sym, subst, arith, zero, suc, ◌+◌, ◌-◌, ◌≤◌, length-append, take, ◌∙◌}
+use Rattle.typst_edits.proofs.Words.{eqb-true, CharClasses, Tree, text_of, forest, trees, bare, inner_of, width, Mark, Note, opens_content, starts, up_to_end, after_first, cuts_in, top_cuts, log, max_depth, start_of, parsed, tree, Among, text_with, Hole, Deep, fill, path_in, plug, path_of, listed, Spot, kind_of, block_head, unit_at, seconds_of_text, IsOf, Stems, from_unit, from_second, take-append_seam, is_block, Head, Place, moved, start_at, Block, run, Trivia, gap_of, point_of, peek, texts, ahead-left, moved-sum, Child, laid, child_at, is_among, Candidate, candidates, inner, bracket, run_at, opened_at, IsPieces, InnerPiecesOfLaw, Every, is_over, under, inner_end, inner_both, block_run, kids_in, markup_from, blocks_of_text, bytes_of, opening_child, token_byte, goes, OpensApartLaw, AllGo, End, Sequence, turn_of, first_of, first_end}
+use Rattle.typst_edits.specs.CandidateRuns.{InnerPiecesOf}
+use Rattle.typst_edits.specs.Hole.Deep.{bare as alone}
+use Rattle.typst_edits.proofs.BlockPlaces.{hole-same, second-place, early-by as sooner}
+use Rattle.typst_edits.proofs.BlockTest.{never-second}
+use Rattle.typst_edits.proofs.Walk.{left_text, deep_text}
+use Rattle.typst_edits.proofs.CandidatePlaces.{bare-candidates-law}
 use Rattle.typst_edits.proofs.BlockRuns.{sane as in-sane}
 use Rattle.typst_edits.proofs.Boundary.{KnownAt}
-use Rattle.typst_edits.proofs.CandidateBlocks.{block-head}
+use Rattle.typst_edits.proofs.MarkupCandidates.{block-head, Covers, of-run}
 use Rattle.typst_edits.proofs.CandidateEnds.{begun}
-use Rattle.typst_edits.proofs.CandidateRuns.{cut-token, is-cut, picked, standing, matches, is-pieces}
-use Rattle.typst_edits.proofs.Cuts.{tokens-rise, cuts-within}
+use Rattle.typst_edits.proofs.RootRuns.{cut-token, is-cut, picked, standing, matches, is-pieces}
+use Rattle.typst_edits.proofs.Cuts.{tokens-rise, cuts-within, BlockCuts}
 use Rattle.typst_edits.proofs.Deepest.{some-level}
 use Rattle.typst_edits.proofs.Edit.{among, trees-of}
-use Rattle.typst_edits.proofs.InnerCandidates.{OfBlock, of-block, joined-trees, lies, parted-in, plain-shape, seat-of}
-use Rattle.typst_edits.proofs.InnerCuts.{BlockCuts}
+use Rattle.typst_edits.proofs.RunCandidates.{OfBlock, of-block, joined-trees, lies, parted-in, plain-shape, seat-of}
 use Rattle.typst_edits.proofs.Leading.{Plain, block-leads, turn-over}
 use Rattle.typst_edits.proofs.Every.{some_or}
-use Rattle.typst_edits.proofs.MarkupCandidates.{Covers, of-run}
 use Rattle.typst_edits.proofs.MarkupPlaces.{InContent, in-tree, of-content}
-use Rattle.typst_edits.proofs.NoteNumbers.{go-fewer, take-longer}
+use Rattle.typst_edits.proofs.NumberedNotes.{go-fewer, take-longer}
 use Rattle.typst_edits.proofs.OneReading.{end-split-at}
-use Rattle.typst_edits.proofs.Placed.{deep_text, left_text}
 use Rattle.typst_edits.proofs.Resumed.{block-known}
 use Rattle.typst_edits.proofs.RunTrees.{tree-is}
-use Rattle.typst_edits.proofs.SecondBlocks.{none-there}
-use Rattle.typst_edits.proofs.StandingLevels.{standing-law}
+use Rattle.typst_edits.proofs.Standing.{standing-law}
 use Rattle.typst_edits.proofs.StartBytes.{start-plug, start-same}
-use Rattle.typst_edits.proofs.TokenNodes.{NoMarkup, no-wrong}
-use Rattle.typst_edits.proofs.InnerChildren.{tree-by-block}
+use Rattle.typst_edits.proofs.Positions.{NoMarkup, no-wrong}
+use Rattle.typst_edits.proofs.Children.{tree-by-block}
 use Rattle.typst_edits.proofs.Widths.{width-append}
+use Rattle.typst_language.specs.declared.calls.Block.TheVariants as block
+use Rattle.typst_language.specs.declared.calls.Mark.TheVariants as mark
+use Rattle.typst_kinds.specs.declared.kind.SyntaxKind.TheVariants as kind
+use Rattle.typst_candidates.specs.Candidates as candidate
+
+-- ---- where a block within a reading that was given up begins, no run of a content block is noted
+
+-- ---- the note of a run
+
+-- A content block begins at a byte at one of several notes.
+record Begins (at : ℕ) (ns : List Note) : Type 0 where
+  earlier : List Note
+  note : Note
+  later : List Note
+  is : ns ≡ earlier ++ note ∷ later
+  mark : note.mark ≡ mark.Opens block.Content
+  start : note.start ≡ at
+
+content-is : (m : Mark) → opens_content m ≡ true → m ≡ mark.Opens block.Content
+content-is (mark.Piece line brackets) e = absurd (cc)
+content-is (mark.Opens block.Code) e = absurd (cc)
+content-is (mark.Opens block.Content) e = refl
+content-is mark.Closes e = absurd (cc)
+
+begins-at : (at : ℕ) (ns : List Note) (cuts : List ℕ) → cuts_in at ns ≡ Some cuts → Begins at ns
+begins-at at [] cuts e = absurd (cc)
+begins-at at (n ∷ ns) cuts e = by-tests (opens_content n.mark) (n.start == at) refl refl (λ f. begins-at at ns cuts f) e
+  where
+    next : Begins at ns → Begins at (n ∷ ns)
+    next b = record { earlier = n ∷ b.earlier; note = b.note; later = b.later; is = ap (λ us. n ∷ us) b.is; mark = b.mark; start = b.start }
+
+    by-tests : (a b : Bool) → opens_content n.mark ≡ a → (n.start == at) ≡ b → (cuts_in at ns ≡ Some cuts → Begins at ns) → (if a && b then after_first (starts n.levels (up_to_end n.levels ns)) else cuts_in at ns) ≡ Some cuts → Begins at (n ∷ ns)
+    by-tests true true f g more e = record { earlier = []; note = n; later = ns; is = refl; mark = content-is n.mark f; start = eqb-true n.start at g }
+    by-tests true false f g more e = next (more e)
+    by-tests false b f g more e = next (more e)
+
+-- ---- none is there
+
+pub none-there : (k : CharClasses) (front more : List ℕ) (hole : Hole) (node : Tree) (s : Spot (Unit {0})) (cuts : List ℕ) → Among s (seconds_of_text k (front ++ more)) → IsOf hole node s → 0 < length (text_of node) → length (left_text hole) < width front
+    → cuts_in (length (left_text hole)) (listed (log k (front ++ more)).notes) ≡ Some cuts → ⊥
+none-there k front more hole node s cuts there of full starts noted =
+    let text = front ++ more in
+    let same = hole-same s.hole hole s.node node of.path of.nodes in
+    let some : 0 < length (text_of s.node) = subst (λ (t : Tree). 0 < length (text_of t)) (sym same.1) full in
+    let o = begins-at (length (left_text hole)) (listed (log k text).notes) cuts noted in
+    never-second k front more s there o.earlier o.note o.later block.Content o.is o.mark (omega (arith, second-place k text s there some, ap length same.0, o.start)) (omega (arith, starts, o.start))
 
 -- ---- the markup of a block
 
@@ -112,13 +119,10 @@ record InBlock (k : CharClasses) (text : List ℕ) (rs re : ℕ) (c : Candidate)
   covers : Covers rs re child
   content : InContent (listed (log k text).notes) (length (left_text hole)) node.head.kind child.node.head.kind
 
-kinds-apart : (h : SyntaxKind) → h ≡ kind.ContentBlock → kind.Markup ≡ h → ⊥
-kinds-apart h e f = let no = f ∙ e in absurd (cc)
-
 in-block : (k : CharClasses) (text : List ℕ) (rs re : ℕ) (c : Candidate) (d : Deep) (x : Tree) → tree k text ≡ fill d x → x.head.is_inner ≡ true → (step : ℕ) → c.path ≡ path_in d ++ step ∷ [] → (child : Child)
     → child_at (laid ((0 + length (deep_text d)) + length x.head.text) (trees x.kids)) step ≡ Some child → Covers rs re child → InContent (listed (log k text).notes) (0 + length (deep_text d)) x.head.kind child.node.head.kind → InBlock k text rs re c
 unfolding tree
-in-block k text rs re c alone x is inner step path child there on content = absurd (kinds-apart x.head.kind content.content (ap (λ (t : Tree). t.head.kind) is))
+in-block k text rs re c alone x is inner step path child there on content = absurd (let no : kind.Markup ≡ kind.ContentBlock = ap (λ (t : Tree). t.head.kind) is ∙ content.content in cc)
 in-block k text rs re c (under head left d right) x is inner step path child there on content =
     let hole : Hole = record { left = left; deep = d; right = right } in
     let none_more : length head.text ≡ 0 = sym (ap (λ (t : Tree). length t.head.text) is) in

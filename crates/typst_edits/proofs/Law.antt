@@ -1,44 +1,19 @@
 -- The law of an edit inside a block, for every parser of the language.
 use Rattle.std.proofs.Common.{◌≡◌, ℕ, zero, suc, ◌+◌, Bool, true, false, if◌then◌else◌, List, [], ◌∷◌, ◌++◌, append_assoc, refl, ap, sym, ◌∙◌, arith}
-use Rattle.std.proofs.lemmas.List.{map-append}
-use Rattle.typst_kinds.specs.Kinds.{is_error}
-use Rattle.typst_tree.specs.Tree.{Tree}
-use Rattle.typst_lines.specs.Place.{Place, moved}
-use Rattle.typst_lines.specs.Classes.{CharClasses}
-use Rattle.typst_language.specs.declared.calls.Block.{Block}
+use Rattle.typst_edits.proofs.Words.{map-append, is_error, Tree, Place, moved, CharClasses, Block, Reading, shift, shift_one, sunk, sink_one, marked, Call, Answer, Point, state_of, forgot, peek, Parser, ◌>>◌, flushes, gives, does, next, pick, repeat, wraps, grows, nests, scoped, either, calls, block, Rules, blocks_of, meaning_of, level_of, Outcome, Meaning, Level, blockless, plain, less, followed, before, bounded, deeper_by_one, entered, left_to, done, run, left, closed, same_in-first, same_in-sunk, Sane, sane-run, sane-plain, sane-meaning, sane-block, Spot, around, Fits, block_head, lowered, after_spot, sunk_spot, closed_spot, ended, last_node, here_spot, Spots, scoped_spot, bounded_spots, spots, call_spots, block_spots, level_spots, left-empties}
+use Rattle.typst_language.specs.Meaning.{chosen}
 use Rattle.typst_language.specs.declared.calls.Block.TheVariants as block_kind
 use Rattle.typst_language.specs.declared.calls.Mark.TheVariants as mark
-use Rattle.typst_language.specs.declared.reading.Reading.{Reading}
-use Rattle.typst_language.specs.Ask.{shift, shift_one, sunk, sink_one}
-use Rattle.typst_language.specs.Ask.Ask.{marked}
-use Rattle.typst_language.specs.Calls.{Call, Answer}
-use Rattle.typst_language.specs.Point.{Point, state_of, forgot}
-use Rattle.typst_language.specs.Steps.{peek}
-use Rattle.typst_language.specs.Syntax.{Parser, ◌>>◌}
-use Rattle.typst_language.specs.Syntax.Op.{flushes}
-use Rattle.typst_language.specs.Syntax.Parser.{gives, does, next, pick, repeat, wraps, grows, nests, scoped, either, calls, block}
-use Rattle.typst_language.specs.Knot.{Rules, blocks_of, meaning_of, level_of}
-use Rattle.typst_language.specs.Meaning.{Outcome, Meaning, Level, blockless, plain, less, followed, before, closed, bounded, deeper_by_one, chosen, entered, left_to, done, run, left}
-use Rattle.typst_language.proofs.Looks.{same_in-first, same_in-sunk}
 use Rattle.typst_language.proofs.Frame.{framed-done}
-use Rattle.typst_language.proofs.Backs.{left-empties}
-use Rattle.typst_language.proofs.Knot.{Sane, sane-run, sane-plain, sane-meaning, sane-block}
-use Rattle.typst_edits.specs.Spot.{Spot, around, Fits, block_head, lowered, after_spot, sunk_spot, closed_spot, ended, last_node, here_spot}
-use Rattle.typst_edits.specs.Occurrences.{Spots, scoped_spot, bounded_spots, spots, call_spots, block_spots, level_spots}
 use Rattle.typst_edits.proofs.Every.{Every, every-map, every-if}
 use Rattle.typst_edits.proofs.Outcomes.{same-outcome, shift-zero, lowered-zero, sunk-lowered, sunk-shift, or-false}
-use Rattle.typst_edits.proofs.Inside.{Edits, Lawful, lawful-after}
-use Rattle.typst_edits.proofs.Spots.{Inside, if-true, if-false, lawful-same, lawful-by, joined-inside, value-same, inside-repeated, inside-wrapped, inside-nesting, edits-as}
-use Rattle.typst_edits.proofs.Grows.{inside-growing}
+use Rattle.typst_edits.proofs.Spots.{Edits, Lawful, lawful-after, Inside, if-true, if-false, lawful-same, lawful-by, joined-inside, value-same, inside-repeated, inside-wrapped, inside-nesting, edits-as, inside-growing}
 
 -- ---- another way to read
 
-edits-scoped : {A : Type 0} (outer : Reading) (z w : Place) (c : Spot A) (x : Tree) → Edits z w (scoped_spot outer c) x → Edits z w c x
-edits-scoped outer z w c x e = edits-as z w c.value (left outer c.state) c.hole c x e
-
 lawful-scoped : {A : Type 0} (outer : Reading) (z w : Place) (o n : Outcome A) (c : Spot A) → Lawful z w o n c → Lawful z w (left_to outer o) (left_to outer n) (scoped_spot outer c)
 lawful-scoped outer z w o n c l =
-    lawful-by (left_to outer) z w o n c (scoped_spot outer c) l (λ b x e. refl) (λ y. refl) refl (record { state = l.fits.state; back = l.fits.back; hints = l.fits.hints; nodes = l.fits.nodes; head = l.fits.head }) (let f = l.few in omega (arith, f, left-empties outer c.state)) l.solid (edits-scoped outer z w c)
+    lawful-by (left_to outer) z w o n c (scoped_spot outer c) l (λ b x e. refl) (λ y. refl) refl (record { state = l.fits.state; back = l.fits.back; hints = l.fits.hints; nodes = l.fits.nodes; head = l.fits.head }) (let f = l.few in omega (arith, f, left-empties outer c.state)) l.solid (λ x e. edits-as z w c.value (left outer c.state) c.hole c x e)
 
 -- ---- one level deeper
 
@@ -60,9 +35,6 @@ sunk-around c b x =
     ∙ ap (λ u. sunk c.before ++ u) (map-append sink_one own rest ∙ ap (λ u. u ++ sunk rest) (sunk-shift c.at (lowered c.fewer b.asks) ∙ ap (shift c.at) (sunk-lowered c.fewer b.asks))
     ∙ ap (λ u. shift c.at (lowered (suc c.fewer) b.asks) ++ u) (sunk-shift (c.at + b.taken) c.after)) in
     same-outcome c.value _ _ c.state c.state _ _ _ _ _ _ _ _ _ _ refl refl refl refl refl e refl
-
-lawful-sunk : {A : Type 0} (z w : Place) (o n : Outcome A) (c : Spot A) → Lawful z w o n c → Lawful z w (deeper_by_one o) (deeper_by_one n) (sunk_spot c)
-lawful-sunk z w o n c l = lawful-by deeper_by_one z w o n c (sunk_spot c) l (λ b x e. sunk-around c b x) (λ y. refl) refl (record { state = l.fits.state; back = l.fits.back; hints = l.fits.hints; nodes = l.fits.nodes; head = l.fits.head }) l.few l.solid (edits-sunk z w c)
 
 -- ---- a block
 
@@ -118,12 +90,12 @@ closed-around b s c d x =
     same-outcome tt _ _ _ _ _ _ _ _ _ _ _ _ _ _ refl refl refl refl refl
     (ap (λ u. marked 0 0 0 (mark.Opens b) (state_of s) ∷ u) (append_assoc c.before (own ++ shift m c.after) (end (c.at + (d.taken + c.rest)) ∷ []) ∙ ap (λ u. c.before ++ u) e)) refl
 
-lawful-closed : (b : Block) (s : Point) (z w : Place) (o n : Outcome (Unit {0})) (c : Spot (Unit {0})) → Lawful z w o n c → Lawful z w (closed b s o) (closed b s n) (closed_spot b s c)
-lawful-closed b s z w o n c l = lawful-by (closed b s) z w o n c (closed_spot b s c) l (λ d x e. closed-around b s c d x) (λ y. refl) refl (record { state = l.fits.state; back = l.fits.back; hints = l.fits.hints; nodes = l.fits.nodes; head = l.fits.head }) l.few l.solid (edits-closed b s z w c)
-
 inside-bounded : (b : Block) (m : Meaning (Unit {0})) (sp : Spots (Unit {0})) → ((z : Place) (s : Point) → Ends b (m z s)) → Inside m sp → Inside (bounded b m) (bounded_spots b m sp)
-inside-bounded b m sp ends i z w s =
-    (lawful-here b m z w s (ends z (forgot s)), every-map (Lawful z w (m z (forgot s)) (m w (forgot s))) _ (closed_spot b s) (λ c l. lawful-closed b s z w _ _ c l) (sp z (forgot s)) (i z w (forgot s)))
+inside-bounded b m sp ends i z w s = (
+  lawful-here b m z w s (ends z (forgot s)),
+  every-map (Lawful z w (m z (forgot s)) (m w (forgot s))) _ (closed_spot b s)
+      (λ c l. lawful-by (closed b s) z w _ _ c (closed_spot b s c) l (λ d x e. closed-around b s c d x) (λ y. refl) refl (record { state = l.fits.state; back = l.fits.back; hints = l.fits.hints; nodes = l.fits.nodes; head = l.fits.head }) l.few l.solid (edits-closed b s z w c)) (sp z (forgot s)) (i z w (forgot s)),
+)
 
 -- ---- the law
 
@@ -163,7 +135,8 @@ module _ (l : Level) (deep : (c : Call) → Spots (Answer c)) (in_block : Block 
         every-right : {B : Type 0} (z w : Place) (o n p q : Outcome B) (is_wrong : B → Bool) (cs : List (Spot B)) → p ≡ o → (n.value ≡ o.value → q ≡ n) → Every (Lawful z w o n) cs → Every (Lawful z w p q) cs
         every-right z w o n p q is_wrong [] a b h = tt
         every-right z w o n p q is_wrong (c ∷ cs) a b h = (lawful-same z w o p n q c a h.0 (λ x e. b (value-same z w o n c x h.0 e)), every-right z w o n p q is_wrong cs a b h.1)
-    inside-run (calls c) z w s = every-map (Lawful z w (l.deeper c z s) (l.deeper c w s)) _ sunk_spot (λ x k. lawful-sunk z w _ _ x k) (deep c z s) (i c z w s)
+    inside-run (calls c) z w s = every-map (Lawful z w (l.deeper c z s) (l.deeper c w s)) _ sunk_spot
+        (λ c l. lawful-by deeper_by_one z w _ _ c (sunk_spot c) l (λ b x e. sunk-around c b x) (λ y. refl) refl (record { state = l.fits.state; back = l.fits.back; hints = l.fits.hints; nodes = l.fits.nodes; head = l.fits.head }) l.few l.solid (edits-sunk z w c)) (deep c z s) (i c z w s)
     inside-run (block b) z w s =
         let o = done l flushes z s in
         let n = done l flushes w s in

@@ -1,62 +1,27 @@
 -- Where the pieces of a run begin among the nodes that it gives.
 use Rattle.std.proofs.Common.{◌≡◌, ℕ, zero, suc, ◌+◌, ◌-◌, ◌<◌, ◌≤◌, Bool, true, false, ◌&&◌, nat_lt, List, [], ◌∷◌, ◌++◌, length, take, drop, length-append, append_assoc, append-nil, Option, None, Some, refl, ap, sym, ◌∙◌, subst, arith, codes}
-use borrow.Author.Tests.{lt-ltb}
-use Rattle.std.proofs.lemmas.List.{nil_from_length}
+use Rattle.typst_edits.proofs.Words.{lt-ltb, nil_from_length, Place, moved, CharClasses, Tree, forest, trees, text_of, inner_of, made_error, width, as_at_hand, hand_at, utf8_ahead, Trivia, Point, point_of, gap_of, pending, turns_wrong, itself, keeps, peek, flush_trivia, does, repeat, Outcome, Meaning, plain, less, standing, joined, repeated, start_point, entered, hand_of, asked, run, Tidy, Backs, Stands, Sane, sane-run, sane-meaning, sane-block, texts, texts-append, texts-one, texts-first, text-shaped, text-add, Holds, kept-joined, less-none, moved-sum, ends, markup_turn, markup_reading, rules, max_depth, level_at, start_of, whole, tree, parsed, inner, look_first, look_again, bracket, inner_run, run_at, opened_at, tail_at, close_at, Settles, together, read_from, standing_before, nodes_with, Among, Every, inner_end, inner_both, standing_in, nodes_in, block_with, onwards_in, text_run, onwards_from, bytes_of, LeadsAt, opening_child, token_byte, both, LeadingInner, Leading, blocks_of_text, goes, given, made, start, AllGo, End, end_of, chain, pieces, end_at, pieces_from, end_from, rest_from, tail, Sequence, turn_of, first_of, first_end, then_of, then_end, then_place, rest_of, Spot, last_node, unit_at, ended}
+use Rattle.typst_language.proofs.Leaves.{Keeps, blank-nil}
+use Rattle.typst_edits.specs.Leading.{is_over, LeadingLaw, LeadingInnerLaw}
 use Rattle.typst_kinds.specs.declared.kind.SyntaxKind.TheVariants as kind
-use Rattle.typst_lines.specs.Place.{Place, moved}
-use Rattle.typst_lines.specs.Classes.{CharClasses}
-use Rattle.typst_tree.specs.Tree.{Tree, forest, trees, text_of, inner_of, made_error}
-use Rattle.typst_tokens.specs.Sight.{width}
 use Rattle.typst_language.specs.declared.calls.Block.TheVariants as block
-use Rattle.typst_language.specs.Hand.{as_at_hand, hand_at, utf8_ahead}
-use Rattle.typst_language.specs.Point.{Trivia, Point, point_of, gap_of, pending}
-use Rattle.typst_language.specs.Shape.NodeChange.{turns_wrong}
-use Rattle.typst_language.specs.Shape.Making.{itself}
-use Rattle.typst_language.specs.Shape.Shape.{keeps}
-use Rattle.typst_language.specs.Steps.{peek, flush_trivia}
 use Rattle.typst_language.specs.Syntax.Op.{takes as takes_token}
-use Rattle.typst_language.specs.Syntax.Parser.{does, repeat}
-use Rattle.typst_language.specs.Meaning.{Outcome, Meaning, plain, less, standing, joined, repeated, start_point, entered, hand_of, asked, run}
-use Rattle.typst_language.specs.Sound.{Tidy, Backs, Stands}
-use Rattle.typst_language.proofs.Knot.{Sane, sane-run, sane-meaning, sane-block}
-use Rattle.typst_language.proofs.Leaves.{texts, texts-append, texts-one, texts-first, text-shaped, text-add, Holds, Keeps, kept-joined, blank-nil}
-use Rattle.typst_language.proofs.Places.{less-none, moved-sum}
-use Rattle.typst_grammar.specs.Markup.{ends, markup_turn, markup_reading}
-use Rattle.typst_grammar.specs.Grammar.{rules, max_depth, level_at, start_of, whole, tree, parsed}
-use Rattle.typst_edits.specs.BlockRuns.{inner, look_first, look_again, bracket, inner_run, run_at, opened_at, tail_at, close_at}
-use Rattle.typst_edits.specs.Children.{Settles, together, read_from, standing_before, nodes_with}
-use Rattle.typst_edits.specs.Edit.{Among}
-use Rattle.typst_edits.specs.Every.{Every}
-use Rattle.typst_edits.specs.InnerBytes.{inner_end, inner_both}
-use Rattle.typst_edits.specs.InnerChildren.{standing_in, nodes_in, block_with}
-use Rattle.typst_edits.specs.InnerJoint.{onwards_in}
-use Rattle.typst_edits.specs.Joint.{text_run, onwards_from}
-use Rattle.typst_edits.specs.Leading.{bytes_of, LeadsAt, opening_child, token_byte, both, is_over, Leading, LeadingInner, LeadingLaw, LeadingInnerLaw}
-use Rattle.typst_edits.specs.Laws.{blocks_of_text}
-use Rattle.typst_edits.specs.Occurrences.{goes}
-use Rattle.typst_edits.specs.RunTrees.{given}
-use Rattle.typst_edits.specs.Runs.{made, start, AllGo, End, end_of, chain, pieces, end_at, pieces_from, end_from, rest_from, tail}
-use Rattle.typst_edits.specs.Sequence.{Sequence, turn_of, first_of, first_end, then_of, then_end, then_place, rest_of}
-use Rattle.typst_edits.specs.Spot.{Spot, last_node, unit_at, ended}
 use Rattle.typst_edits.proofs.BlockRuns.{sane as in-sane, content-split}
 use Rattle.typst_edits.proofs.Blocks.{ends as block-ends, last-is}
 use Rattle.typst_edits.proofs.Boundary.{KnownAt, turn-goes, known-made}
-use Rattle.typst_edits.proofs.Children.{Fronts, fronts-joined, turn-fronts, pieces-front, given-together, tidy-together, stretch-is, back-law, run-apart, text-known}
+use Rattle.typst_edits.proofs.Children.{Fronts, fronts-joined, turn-fronts, pieces-front, given-together, tidy-together, stretch-is, back-law, run-apart, text-known, opens-by, node-is, pieces-quiet, close-quiet, kids-are, inner-back-law, begun-at}
 use Rattle.typst_edits.proofs.Edit.{among, trees-of}
-use Rattle.typst_edits.proofs.Fitting.{same-here}
+use Rattle.typst_edits.proofs.Content.{same-here}
 use Rattle.typst_edits.proofs.Fronts.{Full, full-append, full-less}
-use Rattle.typst_edits.proofs.InnerChildren.{opens-by, node-is, pieces-quiet, close-quiet, kids-are, inner-back-law, begun-at}
-use Rattle.typst_edits.proofs.InnerJoint.{inner-fronted, block-taking}
-use Rattle.typst_edits.proofs.Inside.{Lawful}
-use Rattle.typst_edits.proofs.Joint.{onwards-fronted, text-taking}
+use Rattle.typst_edits.proofs.Joint.{block-taking, onwards-fronted, text-taking}
+use Rattle.typst_edits.proofs.Spots.{Lawful}
 use Rattle.typst_edits.proofs.Law.{inside-level}
-use Rattle.typst_edits.proofs.Led.{before_trivia, drop-front, less-behind}
+use Rattle.typst_edits.proofs.Turns.{before_trivia, drop-front, less-behind, Taking, stopped}
 use Rattle.typst_edits.proofs.Runs.{repeated-chain, chain-state, chain-taken, moved-three}
 use Rattle.typst_edits.proofs.RunTrees.{standing-none, tree-is}
-use Rattle.typst_edits.proofs.SpotPlaces.{width-encodes}
+use Rattle.typst_edits.proofs.Walk.{width-encodes}
 use Rattle.typst_edits.proofs.Text.{content-reads}
-use Rattle.typst_edits.proofs.TokenNodes.{NoMarkup, bracket-plain, close-plain}
-use Rattle.typst_edits.proofs.Turns.{Taking, stopped}
+use Rattle.typst_edits.proofs.Positions.{NoMarkup, bracket-plain, close-plain}
 use Rattle.typst_edits.proofs.Widths.{width-none}
 use Rattle.typst_edits.proofs.Every.{first_or}
 
@@ -230,21 +195,11 @@ module _ (r : Sequence) (leads : Leads r) where
     holds-p : Holds w p
     holds-p = kept-together turn (λ x. (sane x).kept) (λ x. (sane x).backs) n e.value w e.state stands-e
 
-    stands-f : Stands (moved f.taken w) f.state.known
-    stands-f = subst (λ (s : Point). Stands (moved f.taken w) s.known) p-state (subst (λ d. Stands (moved d w) p.state.known) p-taken holds-p.known)
-
-    tidy-p : Tidy e.state p
-    tidy-p = tidy-together turn (λ x. (sane x).backs) n e.value w e.state
-
     -- What stands before them holds what the i pieces take.
     before-text : texts before ≡ utf8_ahead e.taken r.place
     before-text =
-        let few : p.back ≤ q.state.empties = subst (λ (s : Point). p.back ≤ s.empties) (sym q-state) tidy-p.back in
+        let few : p.back ≤ q.state.empties = subst (λ (s : Point). p.back ≤ s.empties) (sym q-state) (tidy-together turn (λ x. (sane x).backs) n e.value w e.state).back in
         ap (λ ts. texts (less p.back ts)) (given-together e.state (first_of i r) [] ∙ standing-none q) ∙ holds-q.blank p.back few ∙ holds-q.text ∙ ap (λ d. utf8_ahead d r.place) q-taken
-
-    -- They hold what they take.
-    own-text : (back : ℕ) → back ≤ f.state.empties → texts (less back p.nodes) ≡ utf8_ahead f.taken w
-    own-text back few = holds-p.blank back (subst (λ (s : Point). back ≤ s.empties) (sym p-state) few) ∙ holds-p.text ∙ ap (λ d. utf8_ahead d w) p-taken
 
     pending-text : (z : Place) (u : Option Trivia) → Stands z u → texts (pending u) ≡ utf8_ahead (gap_of u) z
     pending-text z None s = refl
@@ -280,9 +235,9 @@ module _ (r : Sequence) (leads : Leads r) where
         → from + bytes_of (before ++ (less back p.nodes ++ t.nodes)) ≡ at
     ends-at from at back t known_there from_is at_is few =
         let olds = less back p.nodes ++ t.nodes in
-        let ts_is : texts t.nodes ≡ utf8_ahead (gap_of f.state.known) (moved f.taken w) = ap (λ u. texts (pending u)) (sym known_there) ∙ pending-text (moved f.taken w) f.state.known stands-f in
+        let ts_is : texts t.nodes ≡ utf8_ahead (gap_of f.state.known) (moved f.taken w) = ap (λ u. texts (pending u)) (sym known_there) ∙ pending-text (moved f.taken w) f.state.known (subst (λ (s : Point). Stands (moved f.taken w) s.known) p-state (subst (λ d. Stands (moved d w) p.state.known) p-taken holds-p.known)) in
         let olds_is : texts olds ≡ utf8_ahead (f.taken + gap_of f.state.known) w =
-        texts-append (less back p.nodes) t.nodes ∙ ap (λ xs. xs ++ texts t.nodes) (own-text back few) ∙ ap (λ xs. utf8_ahead f.taken w ++ xs) ts_is ∙ text-add f.taken (gap_of f.state.known) w in
+        texts-append (less back p.nodes) t.nodes ∙ ap (λ xs. xs ++ texts t.nodes) (holds-p.blank back (subst (λ (s : Point). back ≤ s.empties) (sym p-state) few) ∙ holds-p.text ∙ ap (λ d. utf8_ahead d w) p-taken) ∙ ap (λ xs. utf8_ahead f.taken w ++ xs) ts_is ∙ text-add f.taken (gap_of f.state.known) w in
         let text_is : texts (before ++ olds) ≡ utf8_ahead (e.taken + (f.taken + gap_of f.state.known)) r.place =
         texts-append before olds ∙ ap (λ xs. xs ++ texts olds) before-text ∙ ap (λ xs. utf8_ahead e.taken r.place ++ xs) olds_is ∙ text-add e.taken (f.taken + gap_of f.state.known) r.place in
         let apart : e.taken + (f.taken + gap_of f.state.known) ≡ (e.taken + f.taken) + gap_of f.state.known = omega arith in
@@ -319,7 +274,7 @@ module _ (k : CharClasses) (text : List ℕ) (i n : ℕ) (t : Trivia) (g : AllGo
       let e = end_at k i z0 in
       let f = end_from k i n z0 in
       let ts = given (pieces k i z0) [] in
-      let front = onwards-fronted k i n z0 t known in
+      let front = onwards-fronted (text_run k z0) (text-taking k) i n t known in
       let back = (back-law k text i n).after_back in
       let apart = run-apart r (text-taking k) (text-known k z0) i n o some back g h in
       let before = standing_before k i n z0 in
@@ -429,7 +384,7 @@ module _ (k : CharClasses) (levels : ℕ) (text : List ℕ) (c : Spot (Unit {0})
   -- which of its children is markup
   pub plain-block : Plain c.node
   plain-block =
-      let front = inner-fronted k levels i n c z1 t known in
+      let front = onwards-fronted (run_at k levels c z1) (block-taking k levels) i n t known in
       let held = node-of front.rest front.hints front.nodes in
       record { closed = held.closed; bracket = held.bracket; kids = kids_of front.rest; closing = held.closing; node = held.node; first = held.plain; last = held.plain_end }
 
@@ -439,7 +394,7 @@ module _ (k : CharClasses) (levels : ℕ) (text : List ℕ) (c : Spot (Unit {0})
       let o = onwards_in k levels i n c z1 in
       let e = first_end i r in
       let f = then_end i n r in
-      let front = inner-fronted k levels i n c z1 t known in
+      let front = onwards-fronted (run_at k levels c z1) (block-taking k levels) i n t known in
       let back = (inner-back-law k levels text c i n).after_back in
       let rest = rest_of i n r in
       let last = tail_at k levels i n c z1 in

@@ -1,25 +1,14 @@
 -- Where a candidate that is pieces and doesn't stand at the root comes from: from a child that covers the replaced bytes and is the markup of a content block.
 use Rattle.std.proofs.Common.{◌≡◌, ℕ, zero, suc, ◌+◌, Bool, true, false, ◌&&◌, if◌then◌else◌, List, [], ◌∷◌, ◌++◌, length, Option, Some, None, refl, ap, sym, ◌∙◌, subst, arith, append_assoc, append-nil, length-append}
-use Rattle.typst_kinds.specs.Kinds.{same}
-use Rattle.typst_kinds.specs.Head.{Head}
-use Rattle.typst_kinds.specs.declared.kind.SyntaxKind.{SyntaxKind}
+use Rattle.typst_edits.proofs.Words.{same, Head, SyntaxKind, Note, texts, Forest, none, more, Tree, forest, trees, Child, laid, first_near, child_at, Candidate, of_run, run_in, candidates_at, cuts_in, Among, Every, Deep, fill, path_in, under, forest_trees}
+use Rattle.typst_tree.specs.Tree.{joined}
+use Rattle.typst_edits.specs.Hole.Deep.{bare}
 use Rattle.typst_kinds.specs.declared.kind.SyntaxKind.TheVariants as kind
 use Rattle.typst_kinds.proofs.Sameness.{same-is}
-use Rattle.typst_language.specs.declared.calls.Note.{Note}
-use Rattle.typst_language.proofs.Leaves.{texts}
-use Rattle.typst_tree.specs.Tree.{Forest, none, more, Tree, forest, trees, joined}
-use Rattle.typst_candidates.specs.Candidates.{Child, laid, first_near, child_at, Candidate, of_run, run_in, candidates_at}
-use Rattle.typst_candidates.specs.Units.{cuts_in}
-use Rattle.typst_edits.specs.Edit.{Among}
-use Rattle.typst_edits.specs.Every.{Every}
-use Rattle.typst_edits.specs.Hole.{Deep, fill, path_in}
-use Rattle.typst_edits.specs.Hole.Deep.{bare, under}
-use Rattle.typst_edits.proofs.CandidateBlocks.{split-child}
+use Rattle.typst_edits.proofs.MarkupCandidates.{split-child, Covers, covers-is, AtIndex, at-child, Below, at-index, every-both, longer-other, node-every, own-run, paths-below, run-own}
 use Rattle.typst_edits.proofs.Edit.{among}
 use Rattle.typst_edits.proofs.Every.{every-by}
-use Rattle.typst_edits.proofs.MarkupCandidates.{Covers, covers-is, AtIndex, at-child, Below, at-index, every-both, longer-other, node-every, own-run, paths-below, run-own}
-use Rattle.typst_edits.proofs.Placed.{deep_text}
-use Rattle.typst_tree.proofs.SpansAside.{forest_trees}
+use Rattle.typst_edits.proofs.Walk.{deep_text}
 
 module _ (ns : List Note) (rs re : ℕ) where
   -- In a tree that begins at a byte the candidate is children of a child of this node, which is a run and covers the replaced bytes.

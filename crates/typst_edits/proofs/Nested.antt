@@ -1,41 +1,14 @@
 -- Marks are nested: pieces of a run say its level, and blocks, with the marks in them, a deeper one.
 use Rattle.std.proofs.Common.{◌≡◌, ℕ, zero, suc, ◌+◌, ◌-◌, ◌≤◌, ◌<◌, max, min, Bool, true, false, List, [], ◌∷◌, ◌++◌, append_assoc, refl, ap, sym, subst, arith}
-use Rattle.std.proofs.lemmas.List.{map-append}
-use Rattle.typst_kinds.specs.declared.kind.SyntaxKind.{SyntaxKind}
-use Rattle.typst_lines.specs.Place.{Place, moved}
-use Rattle.typst_lines.specs.Classes.{CharClasses}
-use Rattle.typst_tokens.specs.Sight.{far, near}
-use Rattle.typst_candidates.specs.Nested.{Nested}
+use Rattle.typst_edits.proofs.Words.{map-append, SyntaxKind, Place, moved, CharClasses, far, near, Nested, Block, Mark, State, Ask, shift, shift_one, sunk, sink_one, looked, marked, meaning_of, level_of, blocks_of, Point, forgot, state_of, Call, Answer, anywhere, too_deep, deeper, peek, eat, eat_making, node, note, flush_trivia, within, Parser, ◌>>◌, flushes, gives, does, next, pick, repeat, wraps, grows, nests, scoped, either, calls, block, Level, plain, joined, bound, repeated, before, growing, nesting, given_up, bounded, blockless, entered, start_point, done, run, on_both, on_if, rules, production, max_depth, start_of, whole, parsed, log, block_production, markup_reading, note_piece, markup_turn, markup_run, Guarded, op_notes, guarded-production, block_at, Noting, ended}
+use Rattle.typst_language.specs.Depth.{skip_one}
+use Rattle.typst_grammar.proofs.GuardedCode.{guarded-blocks}
 use Rattle.typst_candidates.specs.Nested.Nested.{none as nothing, piece as one_piece, block as one_block}
-use Rattle.typst_language.specs.declared.calls.Block.{Block}
-use Rattle.typst_language.specs.declared.calls.Mark.{Mark}
 use Rattle.typst_language.specs.declared.calls.Mark.TheVariants as mark
-use Rattle.typst_language.specs.declared.reading.State.{State}
-use Rattle.typst_language.specs.Ask.{Ask, shift, shift_one, sunk, sink_one}
-use Rattle.typst_language.specs.Ask.Ask.{looked, marked}
-use Rattle.typst_language.specs.Knot.{meaning_of, level_of, blocks_of}
-use Rattle.typst_language.specs.Point.{Point, forgot, state_of}
-use Rattle.typst_language.specs.Calls.{Call, Answer}
-use Rattle.typst_language.specs.Depth.{anywhere, skip_one, too_deep, deeper}
-use Rattle.typst_language.specs.Steps.{peek, eat, eat_making, node, within, note, flush_trivia}
-use Rattle.typst_language.specs.Syntax.{Parser, ◌>>◌}
-use Rattle.typst_language.specs.Syntax.Op.{flushes}
-use Rattle.typst_language.specs.Syntax.Parser.{gives, does, next, pick, repeat, wraps, grows, nests, scoped, either, calls, block}
-use Rattle.typst_language.specs.Meaning.{Meaning, Level, plain, joined, bound, repeated, before, growing, nesting, given_up, bounded, blockless, entered, start_point, done, run}
-use Rattle.typst_language.proofs.Within.{on_both, on_if}
-use Rattle.typst_grammar.specs.Grammar.{rules, production, max_depth, start_of, whole, parsed, log, block_production}
-use Rattle.typst_grammar.specs.Markup.{markup_reading, note_piece, markup_turn, markup_run}
-use Rattle.typst_grammar.proofs.Guarded.{Guarded, op_notes}
-use Rattle.typst_grammar.proofs.GuardedCode.{guarded-production, guarded-blocks}
 use Rattle.typst_edits.specs.Nested.{NestedLaw}
-use Rattle.typst_edits.specs.Laws.{block_at}
-use Rattle.typst_edits.specs.Splice.{Noting}
-use Rattle.typst_edits.specs.Spot.{ended}
-use Rattle.typst_edits.proofs.LogNotes.{none_yet, note_by, notes_from, fresh_notes, next_note, logged-listed, notes-around}
-use Rattle.typst_edits.proofs.Marks.{AllMarks}
-use Rattle.typst_edits.proofs.Rising.{pieces}
+use Rattle.typst_edits.proofs.Bytes.{none_yet, note_by, notes_from, fresh_notes, next_note, logged-listed, notes-around, AllMarks}
+use Rattle.typst_edits.proofs.Rising.{pieces, Joins, Spans, from-joined, from-parts, from-looks, from-hand, from-done}
 use Rattle.typst_edits.proofs.Traversal.{all-turns, all-growths, all-nestings}
-use Rattle.typst_edits.proofs.Upward.{Joins, Spans, from-joined, from-parts, from-looks, from-hand, from-done}
 
 -- ---- marks in a list of asks
 
@@ -120,16 +93,13 @@ module _ (end lo : ℕ) where
   abbrev Nest : ℕ → ℕ → List Ask → Type 0
   Nest from to ls = Nests end lo ls
 
-  abbrev AllNest : {A : Type 0} → Meaning A → Type 0
-  AllNest m = (z : Place) (s : Point) → Nests end lo (m z s).asks
-
   nest : Joins Nest
   nest = record { append = λ from mid to. nests-append end lo; shifted = λ d to. nests-shift d end lo; none = λ from to ls e. nests-none end lo ls }
 
   module _ (l : Level) (notes : Mark → Bool) (blocks : Bool) (own : (m : Mark) (gap : ℕ) (s : State) → notes m ≡ true → Nests end lo (marked 0 gap 0 m s ∷ []))
       (deep : (call : Call) (z : Place) (s : Point) → Nests end lo (sunk (l.deeper call z s).asks))
       (held : blocks ≡ true → (b : Block) → l.has b ≡ true → (z : Place) (s : Point) → Nests end lo (bounded b (l.blocks b) z s).asks) where
-    nest-run : {A : Type 0} (p : Parser A) → Notes notes blocks p → AllNest (run l p)
+    nest-run : {A : Type 0} (p : Parser A) → Notes notes blocks p → (z : Place) (s : Point) → Nests end lo (run l p z s).asks
     unfolding run repeated growing nesting
     nest-run (gives a) q z s = bare end lo
     nest-run (does o) q z s = from-done Nest nest l notes own o q z s
@@ -207,11 +177,6 @@ run-whole : Notes pieces false whole
 unfolding whole markup_run flush_trivia
 run-whole = ((refl, λ _. (λ _. (refl, λ _. run-deep _), λ _. (refl, λ _. (refl, λ _. (λ x. run-turn _ x, λ _. tt))))), λ _. (refl, λ _. (refl, λ _. tt)))
 
-whole-nests : (k : CharClasses) (levels : ℕ) (z : Place) (s : Point) → Nests (suc levels) 1 (run (level_of (rules k) k levels) whole z s).asks
-whole-nests k levels =
-    nest-run (suc levels) 1 (level_of (rules k) k levels) pieces false (own-piece (suc levels))
-    (λ call z s. nests-deep levels 1 _ (omega arith) (call-nests k levels call z s)) (λ e. absurd (cc)) whole run-whole
-
 -- ---- their notes
 
 pub notes-nested : (lv own : ℕ) (z : Place) (asks : List Ask) (reach least : ℕ) → own ≤ lv → Nests (suc lv) (suc own) asks → Nested (lv - own) (notes_from lv z reach least asks)
@@ -231,7 +196,8 @@ unfolding log
 nested-law k text =
     let z = start_of text in
     let asks = (parsed k max_depth text).asks in
-    subst (λ ns. Nested max_depth ns) (sym (logged-listed max_depth z asks)) (notes-nested max_depth 0 z asks 0 none_yet (omega arith) (whole-nests k max_depth z (start_point markup_reading)))
+    subst (λ ns. Nested max_depth ns) (sym (logged-listed max_depth z asks)) (notes-nested max_depth 0 z asks 0 none_yet (omega arith)
+    (nest-run (suc max_depth) 1 (level_of (rules k) k max_depth) pieces false (own-piece (suc max_depth)) (λ call y s. nests-deep max_depth 1 _ (omega arith) (call-nests k max_depth call y s)) (λ e. absurd (cc)) whole run-whole z (start_point markup_reading)))
 
 -- ---- of a block
 

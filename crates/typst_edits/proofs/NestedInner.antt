@@ -1,18 +1,10 @@
 -- The notes between the two of a content block are nested, so no other note ends it.
 use Rattle.std.proofs.Common.{◌≡◌, ℕ, suc, ◌<◌, ◌==◌, eq-eqb, Bool, true, nat_lt, List, [], ◌∷◌, ◌++◌, length, drop, length-append, refl, ap, sym, ◌∙◌, subst, arith}
-use Rattle.typst_language.specs.declared.calls.Note.{Note}
-use Rattle.typst_candidates.specs.Nested.{Nested}
-use Rattle.typst_grammar.specs.Grammar.{start_of}
-use Rattle.typst_grammar.specs.Markup.{ends_block, markup_turn}
-use Rattle.typst_edits.specs.BlockRuns.{run_at}
+use Rattle.typst_edits.proofs.Words.{Note, Nested, start_of, ends_block, markup_turn, run_at, of_level, NumberedInner, listed, turn_of}
 use Rattle.typst_edits.specs.Nested.{NestedInnerLaw}
-use Rattle.typst_edits.specs.NumberedNotes.{of_level, NumberedInner}
-use Rattle.typst_edits.specs.PieceNotes.{listed}
-use Rattle.typst_edits.specs.Sequence.{turn_of}
 use Rattle.typst_edits.proofs.BlockRuns.{sane as in-sane}
-use Rattle.typst_edits.proofs.InnerCuts.{few-go}
-use Rattle.typst_edits.proofs.NoteNumbers.{level-append}
-use Rattle.typst_edits.proofs.NumberedNotes.{NestedNumbers, nested-numbers}
+use Rattle.typst_edits.proofs.Cuts.{few-go}
+use Rattle.typst_edits.proofs.NumberedNotes.{level-append, NestedNumbers, nested-numbers}
 use Rattle.typst_edits.proofs.OpensApart.{opens-apart-law}
 use Rattle.typst_edits.proofs.Spots.{if-true}
 use Rattle.typst_edits.proofs.Every.{first_or}

@@ -1,56 +1,113 @@
 -- The notes of a run by their numbers.
-use Rattle.std.proofs.Common.{◌≡◌, ℕ, zero, suc, ◌+◌, ◌-◌, ◌<◌, Bool, true, false, ◌&&◌, nat_lt, List, [], ◌∷◌, ◌++◌, length, take, Some, refl, ap, sym, ◌∙◌, subst, arith}
-use borrow.Author.Tests.{ltb-true, lt-ltb}
-use Rattle.typst_kinds.specs.declared.kind.SyntaxKind.{SyntaxKind}
-use Rattle.typst_kinds.specs.Kinds.{same}
-use Rattle.typst_lines.specs.Place.{Place, moved}
-use Rattle.typst_candidates.specs.Nested.{Nested}
-use Rattle.typst_lines.specs.Classes.{CharClasses}
-use Rattle.typst_tokens.specs.Sight.{width, position}
-use Rattle.typst_language.specs.declared.calls.Block.TheVariants as block
-use Rattle.typst_language.specs.Calls.Call.{MarkupExpr}
-use Rattle.typst_language.specs.declared.calls.Mark.{Mark}
-use Rattle.typst_language.specs.declared.calls.Mark.TheVariants as mark
-use Rattle.typst_language.specs.declared.calls.Note.{Note}
-use Rattle.typst_language.specs.declared.reading.State.{State}
-use Rattle.typst_language.specs.Ask.{Ask, shift}
-use Rattle.typst_language.specs.Depth.{deeper, is_end}
-use Rattle.typst_language.specs.Hand.{as_at_hand}
-use Rattle.typst_language.specs.Point.{Point, gap_of, point_of, state_of}
-use Rattle.typst_language.specs.Shape.{after_node}
-use Rattle.typst_language.specs.Meaning.{Outcome, Meaning, Level, joined, turns, as_last, bound, repeated, hand_of, hand_asks_of, asked, run}
-use Rattle.typst_language.proofs.Knot.{sane-run}
-use Rattle.typst_language.proofs.Places.{moved-sum}
-use Rattle.typst_language.proofs.Within.{and-second}
-use Rattle.typst_grammar.specs.Markup.{ends, markup_turn, ends_block}
-use Rattle.typst_grammar.specs.Grammar.{max_depth, level_at, start_of, parsed, log}
-use Rattle.typst_edits.specs.BlockRuns.{inner, bracket, inner_lead, inner_run, inner_tail, inner_close, run_at, opened_at}
-use Rattle.typst_edits.specs.Edit.{Among}
-use Rattle.typst_edits.specs.InnerBytes.{inner_end}
-use Rattle.typst_edits.specs.Laws.{blocks_of_text, block_at}
-use Rattle.typst_edits.specs.NumberedNotes.{of_level, Numbered, cut_after, SaysOf, NumberedRunLaw, NumberedInner, NumberedInnerLaw}
-use Rattle.typst_edits.specs.Occurrences.{goes}
-use Rattle.typst_edits.specs.PieceNotes.{listed, Says}
-use Rattle.typst_edits.specs.Runs.{made, AllGo, End, end_of, piece_at, end_at, start, lead, tail}
-use Rattle.typst_edits.specs.Sequence.{Sequence, turn_of}
-use Rattle.typst_edits.specs.Splice.{notes_in}
-use Rattle.typst_edits.specs.Spot.{Spot, unit_at}
-use Rattle.typst_edits.proofs.BlockRuns.{content-is}
+use Rattle.std.proofs.Common.{◌≡◌, ℕ, zero, suc, ◌+◌, ◌-◌, ◌<◌, ◌==◌, eq-eqb, ne_eqb, max, min, List, [], ◌∷◌, ◌++◌, length, refl, ap, sym, subst, arith, Bool, true, false, ◌&&◌, nat_lt, take, Some, ◌∙◌, ◌≤◌, if◌then◌else◌, length-append}
+use Rattle.typst_edits.proofs.Words.{Place, moved, position, far, near, width, Mark, Note, State, Ask, shift, looked, marked, of_level, Numbered, cut_after, SaysOf, NumberedInner, ltb-true, lt-ltb, SyntaxKind, same, Nested, CharClasses, MarkupExpr, deeper, is_end, as_at_hand, Point, gap_of, point_of, state_of, after_node, Outcome, Meaning, Level, joined, turns, as_last, bound, repeated, hand_of, hand_asks_of, asked, run, sane-run, sane-at, moved-sum, and-second, ends, markup_turn, ends_block, max_depth, level_at, start_of, parsed, log, rules, inner, bracket, inner_lead, inner_run, inner_tail, inner_close, run_at, opened_at, Among, inner_end, blocks_of_text, block_at, goes, listed, made, AllGo, End, end_of, piece_at, end_at, start, lead, tail, pieces, Sequence, turn_of, notes_in, Spot, unit_at, width-positive, peek, Within}
+use Rattle.typst_edits.specs.NumberedNotes.{NumberedRunLaw, NumberedInnerLaw, NumberLaw}
+use Rattle.typst_edits.specs.PieceNotes.{Says}
+use Rattle.typst_edits.proofs.Bytes.{none_yet, note_by, notes_from, fresh_notes, AllMarks, marks-append, marks-shift, none-hand, none-close, logged-listed}
+use Rattle.typst_edits.proofs.Spots.{if-true, if-false}
+use Rattle.typst_edits.proofs.BlockRuns.{content-is, whole-is, within}
 use Rattle.typst_edits.proofs.Boundary.{KnownAt, stopped-is, stopped-asks, turn-asks, early-marks, turn-goes, turn-known, piece_mark}
 use Rattle.typst_edits.proofs.BlockLog.{block-log}
-use Rattle.typst_edits.proofs.InnerBytes.{asks_before, run_mark, content-asks, before-marks}
-use Rattle.typst_edits.proofs.InTurn.{InTurn, turn-append, turn-next, turn-by, turn-shift, Deeper, turn-none, NoteNth, noted-nth, numbered-by}
-use Rattle.typst_edits.proofs.Joint.{known-is, text-taking}
-use Rattle.typst_edits.proofs.Marks.{marks-append, marks-shift, none-hand, none-close}
-use Rattle.typst_edits.proofs.LogNotes.{none_yet, fresh_notes, logged-listed}
-use Rattle.typst_edits.proofs.Root.{whole-is}
+use Rattle.typst_edits.proofs.RunBytes.{asks_before, inner_run_mark as run_mark, content-asks, before-marks}
+use Rattle.typst_edits.proofs.Joint.{known-is, text-taking, block-taking}
 use Rattle.typst_edits.proofs.RunTrees.{whole-asks}
-use Rattle.typst_edits.proofs.Spots.{if-true, if-false}
 use Rattle.typst_edits.proofs.Text.{content-reads}
 use Rattle.typst_edits.proofs.Widths.{width-moved}
 use Rattle.typst_edits.proofs.EmptyRuns.{none-flush as flush-marks}
 use Rattle.typst_edits.proofs.Turns.{Taking, turn-led}
-use Rattle.typst_edits.proofs.InnerJoint.{block-taking}
+use Rattle.typst_language.specs.declared.calls.Block.TheVariants as block
+use Rattle.typst_language.specs.declared.calls.Mark.TheVariants as mark
+
+-- ---- the marks of a run among those of all that is asked in it, in turn
+
+-- Those where as many levels are left have numbers in turn, from one number up to another.
+abbrev pub InTurn : (ℕ → ℕ → ℕ → Mark → State → Type 0) → ℕ → ℕ → List Ask → Type 0
+InTurn P i j [] = i ≡ j
+InTurn P i j (looked at look ∷ asks) = InTurn P i j asks
+InTurn P i j (marked at gap zero m s ∷ asks) = P i at gap m s × InTurn P (suc i) j asks
+InTurn P i j (marked at gap (suc fewer) m s ∷ asks) = InTurn P i j asks
+
+pub turn-append : (P : ℕ → ℕ → ℕ → Mark → State → Type 0) (i j n : ℕ) (ls ks : List Ask) → InTurn P i j ls → InTurn P j n ks → InTurn P i n (ls ++ ks)
+turn-append P i j n [] ks h e = subst (λ x. InTurn P x n ks) (sym h) e
+turn-append P i j n (looked at look ∷ ls) ks h e = turn-append P i j n ls ks h e
+turn-append P i j n (marked at gap zero m s ∷ ls) ks h e = (h.0, turn-append P (suc i) j n ls ks h.1 e)
+turn-append P i j n (marked at gap (suc fewer) m s ∷ ls) ks h e = turn-append P i j n ls ks h e
+
+-- with a number more
+pub turn-next : (P Q : ℕ → ℕ → ℕ → Mark → State → Type 0) → ((i at gap : ℕ) (m : Mark) (s : State) → P i at gap m s → Q (suc i) at gap m s) → (i j : ℕ) (ls : List Ask) → InTurn P i j ls → InTurn Q (suc i) (suc j) ls
+turn-next P Q f i j [] h = ap suc h
+turn-next P Q f i j (looked at look ∷ ls) h = turn-next P Q f i j ls h
+turn-next P Q f i j (marked at gap zero m s ∷ ls) h = (f i at gap m s h.0, turn-next P Q f (suc i) j ls h.1)
+turn-next P Q f i j (marked at gap (suc fewer) m s ∷ ls) h = turn-next P Q f i j ls h
+
+-- of the numbers from one on
+pub turn-by : (P Q : ℕ → ℕ → ℕ → Mark → State → Type 0) → ((i at gap : ℕ) (m : Mark) (s : State) → P (suc i) at gap m s → Q (suc i) at gap m s) → (i j : ℕ) (ls : List Ask) → InTurn P (suc i) j ls → InTurn Q (suc i) j ls
+turn-by P Q f i j [] h = h
+turn-by P Q f i j (looked at look ∷ ls) h = turn-by P Q f i j ls h
+turn-by P Q f i j (marked at gap zero m s ∷ ls) h = (f i at gap m s h.0, turn-by P Q f (suc i) j ls h.1)
+turn-by P Q f i j (marked at gap (suc fewer) m s ∷ ls) h = turn-by P Q f i j ls h
+
+-- counted from a given number of characters before
+pub turn-shift : (P : ℕ → ℕ → ℕ → Mark → State → Type 0) (d i j : ℕ) (ls : List Ask) → InTurn (λ n at gap m s. P n (d + at) gap m s) i j ls → InTurn P i j (shift d ls)
+turn-shift P d i j [] h = h
+turn-shift P d i j (looked at look ∷ ls) h = turn-shift P d i j ls h
+turn-shift P d i j (marked at gap zero m s ∷ ls) h = (h.0, turn-shift P d (suc i) j ls h.1)
+turn-shift P d i j (marked at gap (suc fewer) m s ∷ ls) h = turn-shift P d i j ls h
+
+-- whatever is one level deeper
+abbrev pub Deeper : ℕ → ℕ → Mark → State → Type 0
+Deeper at fewer m s = 0 < fewer
+
+pub turn-none : (P : ℕ → ℕ → ℕ → Mark → State → Type 0) (i : ℕ) (ls : List Ask) → AllMarks Deeper ls → InTurn P i i ls
+turn-none P i [] h = refl
+turn-none P i (looked at look ∷ ls) h = turn-none P i ls h
+turn-none P i (marked at gap zero m s ∷ ls) h = absurd (omega (arith, h.0))
+turn-none P i (marked at gap (suc fewer) m s ∷ ls) h = turn-none P i ls h.1
+
+-- ---- their notes
+
+-- A note is that of the mark of a number.
+pub record NoteNth (P : ℕ → ℕ → ℕ → Mark → State → Type 0) (z : Place) (i : ℕ) (n : Note) : Type 0 where
+  pub at : ℕ
+  pub gap : ℕ
+  pub says : Mark
+  pub told : State
+  pub holds : P i at gap says told
+  pub mark : n.mark ≡ says
+  pub before : n.before ≡ position (moved at z)
+  pub start : n.start ≡ position (moved gap (moved at z))
+  pub state : n.state ≡ told
+
+-- Those of the level among some notes have these numbers.
+pub record NotedNth (P : ℕ → ℕ → ℕ → Mark → State → Type 0) (levels : ℕ) (z : Place) (i j : ℕ) (ns : List Note) : Type 0 where
+  pub each : Numbered (NoteNth P z) i (of_level levels ns)
+  pub all : i + length (of_level levels ns) ≡ j
+
+pub noted-nth : (P : ℕ → ℕ → ℕ → Mark → State → Type 0) (levels : ℕ) (z : Place) (asks : List Ask) (reach least i j : ℕ) → InTurn P i j asks → NotedNth P (suc levels) z i j (notes_from (suc levels) z reach least asks)
+noted-nth P levels z [] reach least i j a = record { each = tt; all = omega (arith, a) }
+noted-nth P levels z (looked at look ∷ asks) reach least i j a = noted-nth P levels z asks (max reach (far look.front (moved at z))) (min least (near look.back (moved at z))) i j a
+noted-nth P levels z (marked at gap zero m s ∷ asks) reach least i j a =
+    let left = suc levels - 0 in
+    let note = note_by (suc levels) z reach least at gap 0 m s in
+    let more = fresh_notes (suc levels) z asks in
+    let r = noted-nth P levels z asks 0 none_yet (suc i) j a.1 in
+    let own : of_level (suc levels) (note ∷ more) ≡ note ∷ of_level (suc levels) more = if-true (left == suc levels) _ _ (eq-eqb left (suc levels) (omega arith)) in
+    let long : length (of_level (suc levels) (note ∷ more)) ≡ suc (length (of_level (suc levels) more)) = ap length own in
+    record {
+      each = subst (λ xs. Numbered (NoteNth P z) i xs) (sym own) (record { at = at; gap = gap; says = m; told = s; holds = a.0; mark = refl; before = refl; start = refl; state = refl }, r.each);
+      all = omega (arith, r.all, long);
+    }
+noted-nth P levels z (marked at gap (suc fewer) m s ∷ asks) reach least i j a =
+    let left = suc levels - suc fewer in
+    let note = note_by (suc levels) z reach least at gap (suc fewer) m s in
+    let more = fresh_notes (suc levels) z asks in
+    let r = noted-nth P levels z asks 0 none_yet i j a in
+    let other : of_level (suc levels) (note ∷ more) ≡ of_level (suc levels) more = if-false (left == suc levels) _ _ (ne_eqb left (suc levels) (omega arith)) in
+    record { each = subst (λ xs. Numbered (NoteNth P z) i xs) (sym other) r.each; all = omega (arith, r.all, ap length other) }
+
+pub numbered-by : (P Q : ℕ → Note → Type 0) → ((i : ℕ) (n : Note) → P i n → Q i n) → (i : ℕ) (ns : List Note) → Numbered P i ns → Numbered Q i ns
+numbered-by P Q f i [] h = tt
+numbered-by P Q f i (n ∷ ns) h = (f i n h.0, numbered-by P Q f (suc i) ns h.1)
 
 -- The mark of a number stands where that number of turns end.
 pub record EndsNth (m : Bool × ℕ → Meaning (Bool × (Bool × ℕ))) (x : Bool × ℕ) (z : Place) (s : Point) (i at gap : ℕ) (what : Mark) (state : State) : Type 0 where
@@ -317,3 +374,106 @@ nested-numbers k levels text c chosen name left =
 
 pub numbered-inner-law : NumberedInnerLaw
 numbered-inner-law k levels text c chosen name left = (nested-numbers k levels text c chosen name left).numbers
+
+-- ---- the number of a note where pieces of a run end
+
+pub less-than : (m n : ℕ) → m ≤ n → (m ≡ n → ⊥) → m < n
+less-than zero zero l f = absurd (f refl)
+less-than zero (suc n) l f = omega arith
+less-than (suc m) zero l f = absurd (omega (arith, l))
+less-than (suc m) (suc n) l f = let i = less-than m n (omega (arith, l)) (λ e. f (ap suc e)) in omega (arith, i)
+
+-- ---- notes
+
+level-by : (b : Bool) (n : Note) (xs ys zs : List Note) → xs ≡ ys ++ zs → (if b then n ∷ xs else xs) ≡ (if b then n ∷ ys else ys) ++ zs
+level-by true n xs ys zs e = ap (λ us. n ∷ us) e
+level-by false n xs ys zs e = e
+
+pub level-append : (lv : ℕ) (ms ns : List Note) → of_level lv (ms ++ ns) ≡ of_level lv ms ++ of_level lv ns
+level-append lv [] ns = refl
+level-append lv (m ∷ ms) ns = level-by (m.levels == lv) m (of_level lv (ms ++ ns)) (of_level lv ms) (of_level lv ns) (level-append lv ms ns)
+
+-- The note after a given number of notes has that number.
+pub numbered-at : (P : ℕ → Note → Type 0) (i : ℕ) (ms : List Note) (n : Note) (ns : List Note) → Numbered P i (ms ++ n ∷ ns) → P (i + length ms) n
+numbered-at P i [] n ns h = subst (λ j. P j n) (omega arith) h.0
+numbered-at P i (m ∷ ms) n ns h = subst (λ j. P j n) (omega arith) (numbered-at P (suc i) ms n ns h.1)
+
+-- ---- turns
+
+module _ {A : Type 0} (m : A → Meaning (Bool × A)) where
+  -- If so many go on, fewer of them do too.
+  pub go-fewer : (i n : ℕ) (x : A) (z : Place) (s : Point) → i ≤ n → AllGo (made m n x z s) → AllGo (made m i x z s)
+  go-fewer zero n x z s l g = tt
+  go-fewer (suc i) zero x z s l g = absurd (omega (arith, l))
+  go-fewer (suc i) (suc n) x z s l g = let o = m x z s in (g.0, go-fewer i n o.value.1 (moved o.taken z) o.state (omega (arith, l)) g.1)
+
+  -- Fewer of them take no more.
+  pub least-taken : (i n : ℕ) (x : A) (z : Place) (s : Point) → i ≤ n → (end_of x s (made m i x z s)).taken ≤ (end_of x s (made m n x z s)).taken
+  least-taken zero n x z s l = omega arith
+  least-taken (suc i) zero x z s l = absurd (omega (arith, l))
+  least-taken (suc i) (suc n) x z s l = let o = m x z s in let more = least-taken i n o.value.1 (moved o.taken z) o.state (omega (arith, l)) in omega (arith, more)
+
+  -- The turn after the first ones goes on if more do.
+  pub go-next : (n : ℕ) (x : A) (z : Place) (s : Point) → AllGo (made m (suc n) x z s) → (let e = end_of x s (made m n x z s) in goes (m e.value (moved e.taken z) e.state) ≡ true)
+  go-next zero x z s g = g.0
+  go-next (suc n) x z s g =
+      let o = m x z s in
+      let e = end_of o.value.1 o.state (made m n o.value.1 (moved o.taken z) o.state) in
+      ap (λ w. goes (m e.value w e.state)) (moved-sum o.taken e.taken z) ∙ go-next n o.value.1 (moved o.taken z) o.state g.1
+
+  -- More of them take more.
+  pub more-taken : (i n : ℕ) (x : A) (z : Place) (s : Point) → i < n → AllGo (made m n x z s) → (end_of x s (made m i x z s)).taken < (end_of x s (made m n x z s)).taken
+  more-taken i zero x z s l g = absurd (omega (arith, l))
+  more-taken zero (suc n) x z s l g = let o = m x z s in let some : 0 < o.taken = ltb-true 0 o.taken (and-second o.value.0 (nat_lt 0 o.taken) g.0) in omega (arith, some)
+  more-taken (suc i) (suc n) x z s l g = let o = m x z s in let more = more-taken i n o.value.1 (moved o.taken z) o.state (omega (arith, l)) g.1 in omega (arith, more)
+
+module _ {A : Type 0} (m : A → Meaning (Bool × A)) (within : (x : A) → Within (m x)) where
+  -- They take no more than there is, with the trivia after them.
+  pub turns-within : (n : ℕ) (x : A) (z : Place) (s : Point) → (let e = end_of x s (made m n x z s) in e.taken + gap_of e.state.known ≤ bound z s)
+  turns-within zero x z s = omega arith
+  turns-within (suc n) x z s = let o = m x z s in let most = within x z s in let more = turns-within n o.value.1 (moved o.taken z) o.state in omega (arith, most, more)
+
+-- ---- bytes
+
+pub take-longer : (a b : ℕ) (xs : List ℕ) → a < b → b ≤ length xs → width (take a xs) < width (take b xs)
+unfolding width
+take-longer a zero xs l e = absurd (omega (arith, l))
+take-longer a (suc b) [] l e = absurd (omega (arith, e))
+take-longer zero (suc b) (x ∷ xs) l e = omega (arith, width-positive x)
+take-longer (suc a) (suc b) (x ∷ xs) l e = let i = take-longer a b xs (omega (arith, l)) (omega (arith, e)) in omega (arith, i)
+
+-- ---- the law
+
+pub neither : (a b : ℕ) → (a < b → ⊥) → (b < a → ⊥) → a ≡ b
+neither zero zero f g = refl
+neither zero (suc b) f g = absurd (f (omega arith))
+neither (suc a) zero f g = absurd (g (omega arith))
+neither (suc a) (suc b) f g = ap suc (neither a b (λ l. f (omega (arith, l))) (λ l. g (omega (arith, l))))
+
+pub number-law : NumberLaw
+unfolding run
+number-law k text i g p =
+    let z = start_of text in
+    let s = (lead k z).state in
+    let m = piece_at k in
+    let says = SaysOf text (λ n. end_at k n z) in
+    let numbered = numbered-run-law k text in
+    let before = of_level max_depth p.earlier in
+    let behind = of_level max_depth p.later in
+    let j = length before in
+    let own : of_level max_depth (p.note ∷ p.later) ≡ p.note ∷ behind = if-true (p.note.levels == max_depth) _ _ (eq-eqb p.note.levels max_depth p.levels) in
+    let split : of_level max_depth (listed (log k text).notes) ≡ before ++ p.note ∷ behind =
+    ap (λ ns. of_level max_depth (listed ns)) p.notes ∙ level-append max_depth p.earlier (p.note ∷ p.later) ∙ ap (λ ns. before ++ ns) own in
+    let there = numbered-at says 0 before p.note behind (subst (λ ns. Numbered says 0 ns) split numbered.each) in
+    let zero_more : 0 + j ≡ j = omega arith in
+    let fits : j ≤ numbered.count = omega (arith, numbered.all, ap length split, length-append before (p.note ∷ behind)) in
+    let go_j : AllGo (pieces k j z) = go-fewer m j numbered.count (true, 0) z s fits numbered.go in
+    let at_i = (end_at k i z).taken in
+    let at_j = (end_at k j z).taken in
+    let same : width (take at_i text) ≡ width (take at_j text) = sym p.before ∙ (subst (λ n. says n p.note) zero_more there).says.before in
+    let known = (sane-at (rules k) k max_depth peek).within z start in
+    let room_i : at_i ≤ length text = omega (arith, known, turns-within m (within k) i (true, 0) z s) in
+    let room_j : at_j ≤ length text = omega (arith, known, turns-within m (within k) j (true, 0) z s) in
+    neither j i
+    (λ l. (let more = take-longer at_j at_i text (more-taken m j i (true, 0) z s l g) room_i in omega (arith, more, same)))
+    (λ l. (let more = take-longer at_i at_j text (more-taken m i j (true, 0) z s l go_j) room_j in omega (arith, more, same)))

@@ -1,57 +1,37 @@
 -- One reading of a new text serves every candidate of a run.
-use Rattle.std.proofs.Common.{◌≡◌, ℕ, zero, suc, ◌+◌, ◌-◌, ◌<◌, ◌≤◌, ◌==◌, ne_eqb, if◌then◌else◌, Bool, true, false, ◌&&◌, nat_lt, List, [], ◌∷◌, ◌++◌, length, drop, length-append, append_assoc, Some, refl, ap, sym, ◌∙◌, subst, arith}
-use Rattle.std.proofs.lemmas.List.{drop-append-le}
-use borrow.Author.Tests.{lt-ltb}
-use Rattle.typst_lines.specs.Place.{Place, moved}
-use Rattle.typst_lines.specs.Classes.{CharClasses}
-use Rattle.typst_language.specs.declared.calls.Block.TheVariants as block
-use Rattle.typst_language.specs.Calls.Call.{MarkupExpr}
-use Rattle.typst_language.specs.declared.reading.Reading.{Reading}
-use Rattle.typst_language.specs.Ask.{Ask, shift}
-use Rattle.typst_language.specs.Depth.{is_end}
-use Rattle.typst_language.specs.Hand.{hand_at}
-use Rattle.typst_language.specs.Point.{Trivia, Point, gap_of, pending, point_of}
-use Rattle.typst_language.specs.Steps.{peek}
-use Rattle.typst_language.specs.Syntax.{Parser}
-use Rattle.typst_language.specs.Meaning.{Outcome, Meaning, Level, plain, less, joined, hand_of, run}
-use Rattle.typst_language.specs.Shape.{hinted}
-use Rattle.typst_language.proofs.Knot.{sane-run}
-use Rattle.typst_language.proofs.Places.{moved-sum, less-none}
-use Rattle.typst_grammar.specs.Markup.{ends, ends_block, markup_turn, markup_head}
-use Rattle.typst_grammar.specs.Grammar.{rules, max_depth}
-use Rattle.typst_edits.specs.BlockRuns.{inner as block_level, bracket, inner_lead, run_at, opened_at, EndsBefore}
-use Rattle.typst_edits.specs.Children.{together}
-use Rattle.typst_edits.specs.Edit.{Among, text_with, AllEndBy}
-use Rattle.typst_edits.specs.Frame.{Run, top, inner, read_as, opened_by, end_by, is_over, nodes_now, Before, Agrees, PassesPieces}
-use Rattle.typst_edits.specs.Heads.{first_place, minds_at, read_by, onwards_by}
-use Rattle.typst_edits.specs.Joint.{minds, text_run}
-use Rattle.typst_edits.specs.Laws.{blocks_of_text}
-use Rattle.typst_edits.specs.Occurrences.{goes}
-use Rattle.typst_edits.specs.OneReading.{TakesNone, EndsOld, EndsNew, ServesMore, OneReadingLaw, GivesAgain, GivesAgainLaw}
-use Rattle.typst_edits.specs.Resumed.{fresh, SamePiece, Resumes}
-use Rattle.typst_edits.specs.Runs.{made, AllGo, End, end_of, asks_of, chain, lead, start, pieces, end_at}
-use Rattle.typst_edits.specs.Sequence.{Sequence, turn_of, first_of, first_end, then_of, then_end, then_place}
-use Rattle.typst_edits.specs.Spot.{Spot}
+use Rattle.std.proofs.Common.{◌≡◌, ℕ, zero, suc, ◌+◌, ◌-◌, ◌<◌, ◌≤◌, ◌==◌, ne_eqb, if◌then◌else◌, Bool, true, false, ◌&&◌, nat_lt, List, [], ◌∷◌, ◌++◌, length, drop, length-append, append_assoc, Some, refl, ap, sym, ◌∙◌, subst, arith, map, take, slice_get, inl}
+use Rattle.typst_edits.proofs.Words.{lt-ltb, Place, moved, CharClasses, MarkupExpr, Reading, Ask, shift, is_end, hand_at, Trivia, Point, gap_of, pending, point_of, peek, Parser, Outcome, Meaning, Level, plain, less, joined, hand_of, run, hinted, sane-run, moved-sum, less-none, ends, ends_block, markup_turn, markup_head, rules, max_depth, start_of, tree, bracket, inner_lead, run_at, opened_at, EndsBefore, tail_at, close_at, together, standing_before, nodes_with, read_from, Among, text_with, AllEndBy, Run, top, read_as, opened_by, end_by, is_over, nodes_now, Before, Agrees, PassesPieces, cut_at, path_to, first_place, minds_at, read_by, onwards_by, minds, text_run, onwards_from, blocks_of_text, goes, TakesNone, ServesMore, fresh, SamePiece, made, AllGo, End, end_of, asks_of, chain, lead, start, pieces, end_at, Sequence, turn_of, first_of, first_end, then_of, then_end, then_place, rest_of, Spot, unit_at, made-sum, map-append, drop-map, drop-append-le, take-map, length-map, take-append-drop, Tree, bare, forest, trees, inner_of, replaced_at, At, kids_of, width, Deep, Hole, fill, plug, path_in, path_of, inner_end, inner_both, read_in, standing_in, nodes_in, block_with, onwards_in, kids_in, markup_from, LeadsAt, LeadingInner, both, root_run, given, AtPath, kids_of_run, run_from, StandsBetween, Begins}
+use Rattle.typst_edits.specs.BlockRuns.{inner as block_level}
+use Rattle.typst_edits.specs.Frame.{inner}
+use Rattle.typst_edits.specs.OneReading.{EndsOld, EndsNew, OneReadingLaw, GivesAgain, GivesAgainLaw}
+use Rattle.typst_edits.specs.Resumed.{Resumes}
+use Rattle.typst_grammar.proofs.Pieces.{asks-append}
+use Rattle.std.proofs.lemmas.List.{length-take-le}
+use Rattle.typst_edits.specs.Hole.{under}
+use Rattle.typst_edits.specs.KeptNodes.{KeptNodes, KeptNodesLaw, PutAfterLaw}
 use Rattle.typst_edits.proofs.Boundary.{KnownAt, first-of, made-add, looks_in, each-ends, end-split, going-on, known-made}
-use Rattle.typst_edits.proofs.Children.{tidy-together, gives-pieces}
-use Rattle.typst_edits.proofs.Edit.{before-same}
-use Rattle.typst_edits.proofs.Heads.{erring-call, headed, Erring}
-use Rattle.typst_edits.proofs.InnerJoint.{block-taking}
-use Rattle.typst_edits.proofs.Joint.{text-taking}
-use Rattle.typst_edits.proofs.LeadingTrivia.{Leads, leads-pieces}
-use Rattle.typst_edits.proofs.Led.{drop-front, before_trivia, standing-led}
-use Rattle.typst_edits.proofs.NoteNumbers.{go-next, go-fewer, least-taken}
+use Rattle.typst_edits.proofs.Children.{tidy-together, gives-pieces, Leads, leads-pieces, back-law, inner-back-law, tree-by-block}
+use Rattle.typst_edits.proofs.Edit.{before-same, trees-of}
+use Rattle.typst_edits.proofs.Heads.{erring-call, headed, Erring, text-minds, block-minds}
+use Rattle.typst_edits.proofs.Joint.{block-taking, text-taking, onwards-is}
+use Rattle.typst_edits.proofs.Turns.{drop-front, before_trivia, standing-led, Taking, none-less, take-front}
+use Rattle.typst_edits.proofs.NumberedNotes.{go-next, go-fewer, least-taken}
 use Rattle.typst_edits.proofs.Outcomes.{shift-zero}
 use Rattle.typst_edits.proofs.Resumed.{takes-more, resume-law, inner-resume-law}
 use Rattle.typst_edits.proofs.RunTrees.{standing-still}
-use Rattle.typst_edits.proofs.Root.{first-same as pieces-same}
+use Rattle.typst_edits.proofs.BlockRuns.{pieces-same, first-same, content-split, content-taken}
 use Rattle.typst_edits.proofs.Seen.{Sees, end-first, end-second, end-shift, sees-plain, sees-run, sees-meaning, sees-level}
-use Rattle.typst_edits.proofs.Turns.{Taking}
-use Rattle.typst_edits.proofs.NoneBack.{text-minds, block-minds}
 use Rattle.typst_edits.proofs.Every.{not-less}
-use Rattle.typst_edits.proofs.BlockRuns.{first-same}
-use Rattle.typst_grammar.proofs.Pieces.{asks-append, made-sum}
 pub use Rattle.typst_grammar.proofs.Pieces.{go-append as go-both}
+use Rattle.typst_edits.proofs.RunPieces.{kids-of, same-place}
+use Rattle.typst_edits.proofs.Leading.{leading-law, leading-inner-law}
+use Rattle.typst_edits.proofs.Replaced.{front-law, trees-bare}
+use Rattle.typst_edits.proofs.Text.{content-reads}
+use Rattle.typst_candidates.proofs.Tallies.{fewer}
+use Rattle.typst_edits.proofs.Runs.{split-taken}
+use Rattle.typst_language.specs.declared.calls.Block.TheVariants as block
+use Rattle.typst_kinds.specs.declared.kind.SyntaxKind.TheVariants as kind
+use Rattle.typst_edits.specs.Hole as deep
 
 -- ---- pieces in two parts
 
@@ -115,25 +95,15 @@ module _ (q : Sequence) where
   abbrev read_later : ℕ → ℕ → ℕ → List (Outcome (Bool × (Bool × ℕ)))
   read_later a d m = let f = then_end a d q in made (turn_of q) m f.value (moved f.taken (first_place a q)) f.state
 
-  later-is : (a d m : ℕ) → then_of (a + d) m q ≡ read_later a d m
-  later-is a d m =
-      let f = then_end a d q in
-      ap (λ (e : End (Bool × ℕ)). made (turn_of q) m e.value (moved e.taken q.place) e.state) (end-split-at a d) ∙ ap (λ w. made (turn_of q) m f.value w f.state) (later-place a d)
-
-  later-end : (a d m : ℕ) → then_end (a + d) m q ≡ (let f = then_end a d q in end_of f.value f.state (read_later a d m))
-  later-end a d m =
-      let f = then_end a d q in
-      ap (λ (e : End (Bool × ℕ)). end_of e.value e.state (made (turn_of q) m e.value (moved e.taken q.place) e.state)) (end-split-at a d) ∙ ap (λ w. end_of f.value f.state (made (turn_of q) m f.value w f.state)) (later-place a d)
-
   then-split : (a d m : ℕ) → then_of a (d + m) q ≡ then_of a d q ++ then_of (a + d) m q
   then-split a d m =
       let e = first_end a q in
-      made-sum (turn_of q) d m e.value (first_place a q) e.state ∙ ap (λ us. then_of a d q ++ us) (sym (later-is a d m))
+      made-sum (turn_of q) d m e.value (first_place a q) e.state ∙ ap (λ us. then_of a d q ++ us) (sym (ap (λ (e : End (Bool × ℕ)). made (turn_of q) m e.value (moved e.taken q.place) e.state) (end-split-at a d) ∙ ap (λ w. made (turn_of q) m (then_end a d q).value w (then_end a d q).state) (later-place a d)))
 
   then-end-split : (a d m : ℕ) → then_end a (d + m) q ≡ record (then_end (a + d) m q) { taken = (then_end a d q).taken + (then_end (a + d) m q).taken }
   then-end-split a d m =
       let e = first_end a q in
-      made-add (turn_of q) (looks_in q) (each-ends q) d m e.value (first_place a q) e.state ∙ ap (λ (f : End (Bool × ℕ)). record f { taken = (then_end a d q).taken + f.taken }) (sym (later-end a d m))
+      made-add (turn_of q) (looks_in q) (each-ends q) d m e.value (first_place a q) e.state ∙ ap (λ (f : End (Bool × ℕ)). record f { taken = (then_end a d q).taken + f.taken }) (sym (ap (λ (e : End (Bool × ℕ)). end_of e.value e.state (made (turn_of q) m e.value (moved e.taken q.place) e.state)) (end-split-at a d) ∙ ap (λ w. let f = then_end a d q in end_of f.value f.state (made (turn_of q) m f.value w f.state)) (later-place a d)))
 
   -- one more goes on
   go-longer : (i n : ℕ) → AllGo (first_of i q) → AllGo (then_of i (suc n) q) → AllGo (first_of (suc i) q)
@@ -189,12 +159,6 @@ module _ (q : Sequence) (taking : Taking q.level q.stops)
       let one : suc i ≡ i + 1 = omega arith in
       omega (arith, takes-more q.level q.stops taking e.value w e.state at (first-of _ _ go), ap (λ n. (first_end n q).taken) one, ap (λ (u : End (Bool × ℕ)). u.taken) (end-split-at q i 1))
 
-  few-fresh : (x : Bool × ℕ) (w : Place) → goes (turn_of q x w (fresh q.level w)) ≡ true → (turn_of q x w (fresh q.level w)).state.empties < length (turn_of q x w (fresh q.level w)).nodes
-  few-fresh x w g =
-      let c = turn_of q x w (fresh q.level w) in
-      let gives = (gives-pieces q.level q.stops taking 1 x w (fresh q.level w) (omega arith) (fresh-known q.level w) (g, tt)).few in
-      omega (arith, gives, ap length (standing-still (plain (tt {0}) c.state) c.nodes refl refl refl))
-
   facts : Facts q
   facts = record {
     leads = λ i n t g h k.
@@ -204,7 +168,10 @@ module _ (q : Sequence) (taking : Taking q.level q.stops)
     hints = none-hinted;
     back = λ i n g h none. none-back i n g h (minds_at q (first_place i q) (first_end i q)) refl none;
     further = goes-further;
-    few = few-fresh;
+    few = λ x w g.
+        (let c = turn_of q x w (fresh q.level w) in
+        let gives = (gives-pieces q.level q.stops taking 1 x w (fresh q.level w) (omega arith) (fresh-known q.level w) (g, tt)).few in
+        omega (arith, gives, ap length (standing-still (plain (tt {0}) c.state) c.nodes refl refl refl)));
     not_over = λ i g.
         (let e = first_end i q in
         going-on q.level q.stops e.value (first_place i q) e.state (first-of _ _ (go-next (turn_of q) i (true, 0) q.place q.point g)));
@@ -526,3 +493,253 @@ pub gives-again-law : GivesAgainLaw
 gives-again-law k text top z i m t u some more g h known none = gives k text top z (text-facts k z) (resume-law k z) i m t u some more g h known none
 gives-again-law k text (inner c levels chosen name left) z i m t u some more g h known none =
     gives k text (inner c levels chosen name left) z (block-facts k levels c z) (inner-resume-law k levels (moved c.at z) (point_of c.start)) i m t u some more g h known none
+
+-- ---- the old nodes that a larger candidate gives before those of a reading stand where it begins
+
+-- ---- along a path of a tree that is the same, spans aside
+
+at-lists : (P Q : Tree → Type 0) → ((u v : Tree) → bare v ≡ bare u → P u → Q v) → (us vs : List Tree) (i : ℕ) → map bare vs ≡ map bare us → At P (slice_get us i) → At Q (slice_get vs i)
+at-lists P Q f [] vs i e h = absurd h
+at-lists P Q f (u ∷ us) [] i e h = absurd (omega (arith, ap length e))
+at-lists P Q f (u ∷ us) (v ∷ vs) zero e h = f u v (cc) h
+at-lists P Q f (u ∷ us) (v ∷ vs) (suc i) e h = at-lists P Q f us vs i (cc) h
+
+kids-bare : (t u : Tree) → bare u ≡ bare t → map bare (kids_of u) ≡ map bare (kids_of t)
+kids-bare t u e = sym (trees-bare u.kids) ∙ ap (λ (v : Tree). trees v.kids) e ∙ trees-bare t.kids
+
+at-bare : (P Q : Tree → Type 0) → ((u v : Tree) → bare v ≡ bare u → P u → Q v) → (path : List ℕ) (t root : Tree) → bare root ≡ bare t → AtPath P path t → AtPath Q path root
+at-bare P Q f [] t root e h = f t root e h
+at-bare P Q f (i ∷ path) t root e h = at-lists (AtPath P path) (AtPath Q path) (λ u v same. at-bare P Q f path u v same) (kids_of t) (kids_of root) i (kids-bare t root e) h
+
+-- ---- stretches
+
+-- Children that are these, spans aside, begin with them there.
+begins-there : (from mid to : ℕ) (left kept right : List Tree) (t root : Tree) → bare root ≡ bare t → kids_of t ≡ left ++ (kept ++ right) → length left ≡ from → from + length kept ≡ mid → mid ≤ to → Begins from to kept root
+begins-there from mid to left kept right t root e is here there l =
+    let n = length kept in
+    let all : map bare (kids_of root) ≡ map bare left ++ (map bare kept ++ map bare right) = kids-bare t root e ∙ ap (map bare) is ∙ map-append bare left (kept ++ right) ∙ ap (λ us. map bare left ++ us) (map-append bare kept right) in
+    let few : n ≤ to - from = omega (arith, there, l) in
+    ap (map bare) (sym (fewer n (to - from) (drop from (kids_of root)) few))
+    ∙ sym (take-map bare n (drop from (kids_of root))) ∙ ap (take n) (sym (drop-map bare from (kids_of root)))
+    ∙ ap (λ us. take n (drop from us)) all
+    ∙ ap (take n) (drop-front (map bare left) (map bare kept ++ map bare right) from (sym (length-map left bare ∙ here)))
+    ∙ take-front (map bare kept) (map bare right) n (sym (length-map kept bare))
+
+-- ---- any run
+
+-- where the pieces of a run stand among the nodes
+record Layout (k : CharClasses) (text : List ℕ) (r : Run k text) (a d : ℕ) (t : Trivia) : Type 0 where
+  before : List Tree
+  behind : List Tree
+  children : kids_of_run r ≡ before ++ (((read_by a d (read_as r (start_of text))).nodes ++ t.nodes) ++ behind)
+  none_before : a ≡ 0 → before ≡ []
+  first : 0 < a → LeadsAt (run_from r) (kids_of_run r) (width (take (cut_at r a (start_of text)) text)) (length before + length (pending (first_end a (read_as r (start_of text))).state.known))
+  next : LeadsAt (run_from r) (kids_of_run r) (width (take (cut_at r (a + d) (start_of text)) text)) (length before + length ((read_by a d (read_as r (start_of text))).nodes ++ t.nodes))
+
+module _ (k : CharClasses) (text : List ℕ) (r : Run k text) (a d : ℕ) (t : Trivia) (from mid : ℕ) (root : Tree) (f : Facts (read_as r (start_of text))) (y : Layout k text r a d t) (s : StandsBetween k text r a d from mid)
+    (go : AllGo (first_of (a + d) (read_as r (start_of text)))) (known : (first_end (a + d) (read_as r (start_of text))).state.known ≡ Some t) (same : bare root ≡ bare (tree k text))
+    (at : AtPath (λ u. kids_of u ≡ kids_of_run r) (path_to r) (tree k text)) where
+  abbrev own_run : Sequence
+  own_run = read_as r (start_of text)
+
+  abbrev all : List Tree
+  all = (read_by a d own_run).nodes ++ t.nodes
+
+  fits : leading a (first_end a own_run) ≤ length all
+  fits =
+      let split = subst (λ os. AllGo os) (first-split own_run a d) go in
+      let leads = f.leads a d t (go-first (first_of a own_run) (then_of a d own_run) split) (go-second (first_of a own_run) (then_of a d own_run) split) (ap (λ (e : End (Bool × ℕ)). e.state.known) (sym (end-split-at own_run a d)) ∙ known) in
+      omega (arith, leading-most a (first_end a own_run), ap length leads.is ∙ length-append (pending (first_end a own_run).state.known) leads.rest)
+
+  from-is : (b : ℕ) → b ≡ a → from ≡ length y.before + leading b (first_end a own_run)
+  from-is zero e = let none = ap length (y.none_before (sym e)) in let first = s.first (sym e) in omega (arith, none, first)
+  from-is (suc b) e =
+      let some : 0 < a = omega (arith, e) in
+      omega (arith, same-place (run_from r) (kids_of_run r) from _ _ (s.starts some) (y.first some), leading-some b (first_end a own_run))
+
+  kept : KeptNodes k text r a d t from mid root
+  kept =
+      let start = from-is a refl in
+      let n = leading a (first_end a own_run) in
+      let nodes = drop n all in
+      let left = y.before ++ take n all in
+      let cut : take n all ++ nodes ≡ all = take-append-drop n all in
+      let children : kids_of_run r ≡ left ++ (nodes ++ y.behind) = y.children ∙ ap (λ us. y.before ++ (us ++ y.behind)) (sym cut) ∙ ap (λ us. y.before ++ us) (append_assoc (take n all) nodes y.behind) ∙ sym (append_assoc y.before (take n all) (nodes ++ y.behind)) in
+      let taken = length-take-le n all fits in
+      let here : length left ≡ from = omega (arith, start, length-append y.before (take n all), taken) in
+      let there : from + length nodes ≡ mid = omega (arith, start, same-place (run_from r) (kids_of_run r) mid _ _ s.ends y.next, sym (length-append (take n all) nodes) ∙ ap length cut, taken) in
+      record {
+        left = left;
+        right = y.behind;
+        children = children;
+        here = here;
+        there = there;
+        replaced = λ to others l.
+            front-law (path_to r) from to nodes others root (at-bare (λ u. kids_of u ≡ kids_of_run r) (Begins from to nodes) (λ u v e is. begins-there from mid to left nodes y.behind u v e (is ∙ children) here there l) (path_to r) (tree k text) root same at)
+            ∙ ap (λ j. replaced_at (path_to r) j to others root) there;
+      }
+
+-- ---- where the pieces stand
+
+cut-some : (a o x : ℕ) → 0 < a → o + (if a == 0 then 0 else x) ≡ o + x
+cut-some a o x some = ap (λ b. o + (if b then 0 else x)) (ne_eqb a 0 (omega (arith, some)))
+
+module _ (q : Sequence) (a d : ℕ) where
+  -- The run doesn't end after pieces that are followed by another which goes on.
+  goes-past : Facts q → AllGo (first_of (suc (a + d)) q) → is_over a d q ≡ false
+  goes-past f go =
+      let e = then_end a d q in
+      sym (ap (λ (x : End (Bool × ℕ)). ends q.stops x.value.1 (hand_of q.level (moved x.taken q.place) x.state).kind) (end-split-at q a d)
+      ∙ ap (λ w. ends q.stops e.value.1 (hand_of q.level w e.state).kind) (later-place q a d)) ∙ f.not_over (a + d) go
+
+  -- All after them takes no errors back, since there are none or the next piece doesn't mind them.
+  none-taken : Facts q → AllGo (first_of a q) → AllGo (then_of a d q) → TakesNone (a + d) q → (onwards_by a d q).back ≤ (then_end a d q).state.empties
+      → (b : Bool) → minds_at q (first_place (a + d) q) (first_end (a + d) q) ≡ b → (onwards_by a d q).back ≡ 0
+  none-taken f g h none few false m = f.behind a d g h (sym (ap (λ (x : End (Bool × ℕ)). minds_at q (moved x.taken q.place) x) (end-split-at q a d) ∙ ap (λ w. minds_at q w (then_end a d q)) (later-place q a d)) ∙ m)
+  none-taken f g h none few true m =
+      omega (arith, few, none m, ap (λ (e : End (Bool × ℕ)). e.state.empties) (end-split-at q a d))
+
+  go-before : AllGo (first_of (suc (a + d)) q) → AllGo (first_of (a + d) q)
+  go-before go = go-fewer (turn_of q) (a + d) (suc (a + d)) (true, 0) q.place q.point (omega arith) go
+
+  go-a : AllGo (first_of (suc (a + d)) q) → AllGo (first_of a q)
+  go-a go = go-first (first_of a q) (then_of a d q) (subst (λ os. AllGo os) (first-split q a d) (go-before go))
+
+  go-d : AllGo (first_of (suc (a + d)) q) → AllGo (then_of a d q)
+  go-d go = go-second (first_of a q) (then_of a d q) (subst (λ os. AllGo os) (first-split q a d) (go-before go))
+
+  known-d : (t : Trivia) → (first_end (a + d) q).state.known ≡ Some t → (then_end a d q).state.known ≡ Some t
+  known-d t known = ap (λ (e : End (Bool × ℕ)). e.state.known) (sym (end-split-at q a d)) ∙ known
+
+-- Nothing stands before the first piece.
+none-stand : (a : ℕ) (back : ℕ) (ts : ℕ → List Tree) → a ≡ 0 → ts 0 ≡ [] → less back (ts a) ≡ []
+none-stand a back ts e h = ap (λ j. less back (ts j)) e ∙ ap (less back) h ∙ none-less back
+
+module _ (k : CharClasses) (text : List ℕ) (a d : ℕ) (t : Trivia) (some : 0 < d) (go : AllGo (first_of (suc (a + d)) (text_run k (start_of text)))) (known : (first_end (a + d) (text_run k (start_of text))).state.known ≡ Some t)
+    (none : TakesNone (a + d) (text_run k (start_of text))) where
+  text-layout : Layout k text top a d t
+  text-layout =
+      let z = start_of text in
+      let q = text_run k z in
+      let f = text-facts k z in
+      let e = first_end a q in
+      let back_is = ap (λ (o : Outcome (Unit {0})). o.back) (onwards-is (text_run k z) a d) in
+      let few = (back-law k text a d).after_back in
+      let back : (onwards_from k a d z).back ≡ 0 = back_is ∙ none-taken q a d f (go-a q a d go) (go-d q a d go) none (omega (arith, few, back_is)) (minds_at q (first_place (a + d) q) (first_end (a + d) q)) refl in
+      let led = leading-law k text a d t (go-a q a d go) (go-d q a d go) (known-d q a d t known) (inl some) in
+      let before = standing_before k a d z in
+      let own_run : nodes_with k a d t z ≡ (read_by a d q).nodes ++ t.nodes = ap (λ b. less b (read_by a d q).nodes ++ t.nodes) back ∙ ap (λ us. us ++ t.nodes) (less-none (read_by a d q).nodes) in
+      let kids = trees (tree k text).kids in
+      let sum = end-split-at q a d in
+      let at_end : (both k a d z).taken + gap_of (both k a d z).state.known ≡ cut_at (root_run k text) (a + d) z =
+      omega (arith, ap (λ (x : End (Bool × ℕ)). x.taken) sum, ap (λ (x : End (Bool × ℕ)). gap_of x.state.known) sum, cut-some (a + d) 0 ((first_end (a + d) q).taken + gap_of (first_end (a + d) q).state.known) (omega (arith, some))) in
+      record {
+        before = before;
+        behind = led.behind;
+        children = led.children ∙ ap (λ us. before ++ (us ++ led.behind)) own_run;
+        none_before = λ e. none-stand a (read_from k a d z).back (λ j. given (pieces k j z) []) e refl;
+        first = λ l.
+            (let at_start : e.taken + gap_of e.state.known ≡ cut_at (root_run k text) a z = (let cut = cut-some a 0 (e.taken + gap_of e.state.known) l in omega (arith, cut)) in
+            subst (λ b. LeadsAt 0 kids b (length before + length (pending e.state.known))) (ap (λ n. width (take n text)) at_start) (led.first some));
+        next = subst (λ us. LeadsAt 0 kids (width (take (cut_at (root_run k text) (a + d) z) text)) (length before + length us)) own_run
+            (subst (λ b. LeadsAt 0 kids b (length before + length (nodes_with k a d t z))) (ap (λ n. width (take n text)) at_end) (led.next (goes-past q a d f go)));
+      }
+
+-- ---- a content block's place
+
+at-left : (P : Tree → Type 0) (left : List Tree) (x : Tree) (right : List Tree) → P x → At P (slice_get (left ++ x ∷ right) (length left))
+at-left P [] x right h = h
+at-left P (y ∷ left) x right h = at-left P left x right h
+
+at-kids : (P : Tree → Type 0) (left : List Tree) (x : Tree) (right : List Tree) → P x → At P (slice_get (trees (forest (left ++ x ∷ right))) (length left))
+at-kids P left x right h = subst (λ us. At P (slice_get us (length left))) (sym (trees-of (left ++ x ∷ right))) (at-left P left x right h)
+
+at-fill : (P : Tree → Type 0) (path : List ℕ) (d : Deep) (x : Tree) → AtPath P path x → AtPath P (path_in d ++ path) (fill d x)
+at-fill P path deep.bare x h = h
+at-fill P path (under head left d right) x h = at-kids (AtPath P (path_in d ++ path)) left (fill d x) right (at-fill P path d x h)
+
+at-block : (h : Hole) (closed : Bool) (lb : Tree) (kids ends : List Tree) → AtPath (λ u. kids_of u ≡ kids) (path_of h ++ 1 ∷ []) (inner_of kind.Markup (forest (plug h (block_with closed lb kids ends))))
+at-block h closed lb kids ends =
+    let P = λ (u : Tree). kids_of u ≡ kids in
+    at-kids (AtPath P (path_in h.deep ++ 1 ∷ [])) h.left (fill h.deep (block_with closed lb kids ends)) h.right (at-fill P (1 ∷ []) h.deep (block_with closed lb kids ends) (trees-of kids))
+
+module _ (k : CharClasses) (levels : ℕ) (text : List ℕ) (c : Spot (Unit {0})) (chosen : Among c (blocks_of_text k text)) (name : c.name ≡ block.Content) (left : max_depth - c.fewer ≡ suc levels) (a d : ℕ) (t : Trivia) (some : 0 < d)
+    (go : AllGo (first_of (suc (a + d)) (run_at k levels c (start_of text)))) (known : (first_end (a + d) (run_at k levels c (start_of text))).state.known ≡ Some t) (none : TakesNone (a + d) (run_at k levels c (start_of text))) where
+  abbrev z1 : Place
+  z1 = start_of text
+
+  abbrev block_run : Sequence
+  block_run = run_at k levels c z1
+
+  -- The block takes something, as a piece does.
+  takes : 0 < (unit_at c z1).taken
+  takes =
+      let z = moved c.at z1 in
+      let p = point_of c.start in
+      let i = suc (a + d) in
+      let reads = content-reads k text c chosen levels name left z1 in
+      let split = ap (λ (o : Outcome (Unit {0})). o.taken) (content-split k levels z p i 0 go tt) in
+      let all = content-taken k levels z p (chain (first_of i block_run) (chain (then_of i 0 block_run) (rest_of i 0 block_run))) (tail_at k levels i 0 c z1) (close_at k levels i 0 c z1) in
+      omega (arith, ap (λ (o : Outcome (Unit {0})). o.taken) reads, split, all, split-taken block_run i 0, (block-facts k levels c z1).further (a + d) go)
+
+  none-behind : (onwards_in k levels a d c z1).back ≡ 0
+  none-behind =
+      let back_is = ap (λ (o : Outcome (Unit {0})). o.back) (onwards-is (run_at k levels c z1) a d) in
+      let few = (inner-back-law k levels text c a d).after_back in
+      let q = block_run in
+      back_is ∙ none-taken q a d (block-facts k levels c z1) (go-a q a d go) (go-d q a d go) none (omega (arith, few, back_is)) (minds_at q (first_place (a + d) q) (first_end (a + d) q)) refl
+
+  abbrev led : LeadingInner k levels text c a d t
+  led = leading-inner-law k levels text c a d t chosen name left takes (go-a block_run a d go) (go-d block_run a d go) (known-d block_run a d t known) (inl some)
+
+  abbrev here : Run k text
+  here = inner c levels chosen name left
+
+  kids-are : kids_in c.node ≡ led.kids
+  kids-are = ap kids_in led.node ∙ kids-of led.closed led.bracket led.kids led.closing
+
+  block-layout : Layout k text here a d t
+  block-layout =
+      let q = block_run in
+      let e = first_end a q in
+      let opened = opened_at k levels c z1 in
+      let own_run : nodes_in k levels a d t c z1 ≡ (read_by a d q).nodes ++ t.nodes = ap (λ b. less b (read_by a d q).nodes ++ t.nodes) none-behind ∙ ap (λ us. us ++ t.nodes) (less-none (read_by a d q).nodes) in
+      let before = standing_in k levels a d c z1 in
+      let from = markup_from k levels text c in
+      let kids = kids_in c.node in
+      let sum = end-split-at q a d in
+      let u = inner_both k levels a d c z1 in
+      let v = inner_end k levels a c z1 in
+      let at_end : u.taken + gap_of u.state.known ≡ cut_at here (a + d) z1 =
+      omega (arith, ap (λ (x : End (Bool × ℕ)). x.taken) sum, ap (λ (x : End (Bool × ℕ)). gap_of x.state.known) sum, cut-some (a + d) opened ((first_end (a + d) q).taken + gap_of (first_end (a + d) q).state.known) (omega (arith, some))) in
+      let lead_in = λ (at index : ℕ) (l : LeadsAt led.from led.kids at index). subst (λ ts. LeadsAt from ts at index) (sym kids-are) (subst (λ f. LeadsAt f led.kids at index) led.begins l) in
+      record {
+        before = before;
+        behind = led.behind;
+        children = kids-are ∙ led.children ∙ ap (λ us. before ++ (us ++ led.behind)) own_run;
+        none_before = λ e. none-stand a (read_in k levels a d c z1).back (λ j. given (first_of j q) []) e refl;
+        first = λ l.
+            (let at_start : v.taken + gap_of v.state.known ≡ cut_at here a z1 = (let cut = cut-some a opened (e.taken + gap_of e.state.known) l in omega (arith, cut)) in
+            subst (λ b. LeadsAt from kids b (length before + length (pending e.state.known))) (ap (λ n. width (take n text)) at_start) (lead_in _ _ (led.first some)));
+        next = subst (λ us. LeadsAt from kids (width (take (cut_at here (a + d) z1) text)) (length before + length us)) own_run
+            (subst (λ b. LeadsAt from kids b (length before + length (nodes_in k levels a d t c z1))) (ap (λ n. width (take n text)) at_end) (lead_in _ _ (led.next (goes-past q a d (block-facts k levels c z1) go))));
+      }
+
+  block-at : AtPath (λ u. kids_of u ≡ kids_in c.node) (path_of c.hole ++ 1 ∷ []) (tree k text)
+  block-at =
+      subst (λ ts. AtPath (λ u. kids_of u ≡ ts) (path_of c.hole ++ 1 ∷ []) (tree k text)) (sym kids-are)
+      (subst (λ u. AtPath (λ v. kids_of v ≡ led.kids) (path_of c.hole ++ 1 ∷ []) u) (sym (tree-by-block k [] [] text c chosen _ led.node)) (at-block c.hole led.closed led.bracket led.kids led.closing))
+
+pub kept-nodes-law : KeptNodesLaw
+kept-nodes-law k text top a d t from mid root same some go known none s =
+    kept k text top a d t from mid root (text-facts k (start_of text)) (text-layout k text a d t some go known none) s (go-before (text_run k (start_of text)) a d go) known same refl
+kept-nodes-law k text (inner c levels chosen name left) a d t from mid root same some go known none s =
+    kept k text (inner c levels chosen name left) a d t from mid root (block-facts k levels c (start_of text)) (block-layout k levels text c chosen name left a d t some go known none) s
+    (go-before (run_at k levels c (start_of text)) a d go) known same (block-at k levels text c chosen name left a d t some go known none)
+
+pub put-behind-law : PutAfterLaw
+put-behind-law k front old new rest r a d m t u from mid to root same some go before known none s l go_m known_now =
+    let w = text_with front new rest in
+    let serves = one-reading-law k front old new rest r a d (go-before (read_as r (text_with front old rest)) a d go) before in
+    let kept = kept-nodes-law k (front ++ (old ++ rest)) r a d t from mid root same some go known none s in
+    ap (λ ts. replaced_at (path_to r) from to ts root) (serves.nodes m t u (omega (arith, some)) none known go_m known_now) ∙ kept.replaced to (nodes_now r (a + d) m u w) l

@@ -1,13 +1,7 @@
 -- Of two notes at which blocks begin the later one's token begins at a later byte.
 use Rattle.std.proofs.Common.{◌≡◌, ℕ, ◌+◌, ◌≤◌, List, [], ◌∷◌, ◌++◌, ap, subst, arith, true}
-use Rattle.typst_lines.specs.Classes.{CharClasses}
-use Rattle.typst_language.specs.declared.calls.Block.{Block}
+use Rattle.typst_edits.proofs.Words.{CharClasses, Block, Note, log, is_opening, OpensApartLaw, listed}
 use Rattle.typst_language.specs.declared.calls.Mark.TheVariants as mark
-use Rattle.typst_language.specs.declared.calls.Note.{Note}
-use Rattle.typst_grammar.specs.Grammar.{log}
-use Rattle.typst_edits.specs.Lost.{is_opening}
-use Rattle.typst_edits.specs.OpensApart.{OpensApartLaw}
-use Rattle.typst_edits.specs.PieceNotes.{listed}
 use Rattle.typst_edits.proofs.Rising.{taken_behind, Spread, notes-spread}
 
 -- a note among several, and those after it

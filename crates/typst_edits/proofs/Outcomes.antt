@@ -1,19 +1,11 @@
 -- A block in a larger whole.
 use Rattle.std.proofs.Common.{◌≡◌, ℕ, suc, ◌+◌, ◌-◌, ◌<◌, ◌≤◌, Bool, true, false, ◌||◌, List, [], ◌∷◌, ◌++◌, length, map, take, length-append, append_assoc, refl, ap, sym, ◌∙◌, arith}
-use Rattle.std.proofs.lemmas.List.{map-append}
-use borrow.Author.Tests.{lt-ltb}
-use Rattle.typst_kinds.specs.Kinds.{is_error}
-use Rattle.typst_kinds.specs.Head.{Head}
-use Rattle.typst_tree.specs.Tree.{Tree}
-use Rattle.typst_language.specs.Ask.{Ask, shift, shift_one, sunk, sink_one}
-use Rattle.typst_language.specs.Ask.Ask.{looked, marked}
-use Rattle.typst_language.specs.Point.{Point}
-use Rattle.typst_language.specs.Shape.{hinted_error, hinted_last, hinted, seen}
-use Rattle.typst_language.specs.Meaning.{Outcome, less, hints_before, joined}
+use Rattle.typst_edits.proofs.Words.{map-append, lt-ltb, is_error, Head, Tree, Ask, shift, shift_one, sunk, sink_one, looked, marked, Point, hinted, seen, hinted_last, Outcome, less, joined, Deep, fill, Hole, plug, under, Spot, around, then_spot, after_spot, lowered, lower}
+use Rattle.typst_language.specs.Shape.{hinted_error}
+use Rattle.typst_language.specs.Meaning.{hints_before}
+use Rattle.typst_edits.specs.Hole.{top}
+use Rattle.typst_edits.specs.Hole.Deep.{bare}
 pub use Rattle.typst_grammar.proofs.Pieces.{shift-zero, shift-twice}
-use Rattle.typst_edits.specs.Hole.{Deep, fill, top, Hole, plug}
-use Rattle.typst_edits.specs.Hole.Deep.{bare, under}
-use Rattle.typst_edits.specs.Spot.{Spot, around, then_spot, after_spot, lower, lowered}
 
 -- ---- outcomes that are the same
 

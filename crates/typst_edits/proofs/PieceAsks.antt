@@ -1,25 +1,12 @@
 -- What is asked of pieces of any run, cut at the note where some of them end.
 use Rattle.std.proofs.Common.{◌≡◌, ℕ, zero, suc, ◌+◌, ◌<◌, true, List, [], ◌∷◌, ◌++◌, append_assoc, append-nil, refl, ap, sym, ◌∙◌, subst, arith, Bool}
-use Rattle.std.proofs.lemmas.List.{map-append}
-use Rattle.typst_lines.specs.Place.{Place, moved}
+use Rattle.typst_edits.proofs.Words.{map-append, Place, moved, Ask, shift, shift_one, SameIn, looked, marked, hand_asks_of, Point, gap_of, state_of, AllEndBy, AllBeginIn, note_at, looks_next, own_of, AllGo, asks_of, End, end_of, Sequence, turn_of, first_of, first_end, then_of, then_end, then_place, Noting, noting, notes_in, lowered, lower, same_in-shift, same_in-second}
 use Rattle.typst_language.specs.declared.calls.Mark.TheVariants as mark
-use Rattle.typst_language.specs.Ask.{Ask, shift, shift_one, SameIn}
-use Rattle.typst_language.specs.Ask.Ask.{looked, marked}
-use Rattle.typst_language.specs.Meaning.{hand_asks_of}
-use Rattle.typst_language.specs.Point.{Point, gap_of, state_of}
-use Rattle.typst_edits.specs.Edit.{AllEndBy, AllBeginIn}
-use Rattle.typst_edits.specs.InnerSplice.{note_at, looks_next, own_of}
-use Rattle.typst_edits.specs.Runs.{AllGo, asks_of, End, end_of}
-use Rattle.typst_edits.specs.Sequence.{Sequence, turn_of, first_of, first_end, then_of, then_end, then_place}
-use Rattle.typst_edits.specs.Splice.{Noting, noting, notes_in}
-use Rattle.typst_edits.specs.Spot.{lower, lowered}
 use Rattle.typst_edits.proofs.Boundary.{looks_in, piece_mark, each-ends, made-ends, end-split, end-both}
 use Rattle.typst_edits.proofs.EmptyRuns.{Never}
-use Rattle.typst_edits.proofs.Marks.{AllMarks, none-hand}
+use Rattle.typst_edits.proofs.Bytes.{AllMarks, none-hand}
 use Rattle.typst_edits.proofs.Outcomes.{shift-zero, shift-twice, lowered-zero}
-use Rattle.typst_edits.proofs.Sides.{Side, entries_at, back_at, count-append, count-none, bare-shift, side-closed, side-open}
-use Rattle.typst_edits.proofs.Splice.{token-at}
-use Rattle.typst_language.proofs.Looks.{same_in-shift, same_in-second}
+use Rattle.typst_edits.proofs.Splice.{Side, entries_at, back_at, count-append, count-none, bare-shift, side-closed, side-open, token-at}
 
 -- ---- asks of a larger whole
 

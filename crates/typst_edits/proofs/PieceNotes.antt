@@ -1,17 +1,8 @@
 -- From a note back to the pieces of a run: it is one of the run's notes by their numbers.
 use Rattle.std.proofs.Common.{◌≡◌, ℕ, suc, ◌+◌, ◌<◌, ◌==◌, eq-eqb, Bool, true, false, if◌then◌else◌, List, ◌∷◌, length, sym, ◌∙◌, arith}
-use Rattle.typst_language.specs.declared.calls.Note.{Note}
-use Rattle.typst_grammar.specs.Grammar.{max_depth, start_of, log}
-use Rattle.typst_edits.specs.BlockRuns.{run_at}
-use Rattle.typst_edits.specs.Edit.{Among}
-use Rattle.typst_edits.specs.Edit.Among.{this, that}
-use Rattle.typst_edits.specs.InnerBytes.{inner_end}
-use Rattle.typst_edits.specs.NumberedNotes.{of_level, Numbered, SaysOf}
-use Rattle.typst_edits.specs.PieceNotes.{listed, RunNotesLaw, InnerNotesLaw}
-use Rattle.typst_edits.specs.Runs.{piece_at, end_at, lead}
-use Rattle.typst_edits.specs.Sequence.{turn_of}
-use Rattle.typst_edits.proofs.NoteNumbers.{go-fewer}
-use Rattle.typst_edits.proofs.NumberedNotes.{numbered-run-law, numbered-inner-law}
+use Rattle.typst_edits.proofs.Words.{Note, max_depth, start_of, log, run_at, Among, this, that, inner_end, of_level, Numbered, SaysOf, listed, piece_at, end_at, lead, turn_of}
+use Rattle.typst_edits.specs.PieceNotes.{RunNotesLaw, InnerNotesLaw}
+use Rattle.typst_edits.proofs.NumberedNotes.{go-fewer, numbered-run-law, numbered-inner-law}
 
 -- a note has a number among several, the first of which has this one
 record HasNumber (P : ℕ → Note → Type 0) (i : ℕ) (ns : List Note) (note : Note) : Type 0 where
@@ -57,9 +48,5 @@ inner-notes-law k levels text c chosen name left =
       name_end = n.name_end;
       each = λ note i own.
           (let a = number-of (SaysOf text (λ j. inner_end k levels j c (start_of text))) note (suc levels) 0 n.inner i own n.each in
-          record {
-            count = a.number;
-            go = go-fewer (turn_of r) a.number n.count (true, 0) r.place r.point (omega (arith, a.less, n.all)) n.go;
-            says = a.holds.says;
-          });
+          record { count = a.number; go = go-fewer (turn_of r) a.number n.count (true, 0) r.place r.point (omega (arith, a.less, n.all)) n.go; says = a.holds.says });
     }

@@ -1,37 +1,16 @@
 -- What is logged of pieces that are read again: of any run.
 use Rattle.std.proofs.Common.{◌≡◌, ℕ, zero, suc, ◌+◌, Bool, false, List, [], ◌∷◌, ◌++◌, Some, refl, ap, sym, ◌∙◌, subst, arith}
-use Rattle.std.proofs.lemmas.List.{map-append}
+use Rattle.typst_edits.proofs.Words.{map-append, Place, moved, look, token, Ask, shift, shift_one, looked, at_trivia, no_log, logged, Outcome, hand_asks_of, start_point, run, Trivia, point_of, peek, moved-sum, max_depth, markup_reading, inner_lead, run_at, own_of, text_run, read_again, SamePieces, End, asks_of, lead, end_at, Sequence, first_end, then_of}
 use Rattle.typst_kinds.specs.declared.mode.SyntaxMode.TheVariants as mode
-use Rattle.typst_lines.specs.Place.{Place, moved}
-use Rattle.typst_tokens.specs.Reader.{look}
-use Rattle.typst_language.specs.Tokens.{token}
-use Rattle.typst_language.specs.Ask.{Ask, shift, shift_one}
-use Rattle.typst_language.specs.Ask.Ask.{looked}
-use Rattle.typst_language.specs.Hand.{at_trivia}
-use Rattle.typst_language.specs.Log.{no_log, logged}
-use Rattle.typst_language.specs.Meaning.{Outcome, hand_asks_of, start_point, run}
-use Rattle.typst_language.specs.Point.{Trivia, point_of}
-use Rattle.typst_language.specs.Steps.{peek}
-use Rattle.typst_language.proofs.Places.{moved-sum}
 use Rattle.typst_language.proofs.Logs.{logged-shift}
-use Rattle.typst_grammar.specs.Grammar.{max_depth}
-use Rattle.typst_grammar.specs.Markup.{markup_reading}
-use Rattle.typst_edits.specs.BlockRuns.{inner_lead, run_at}
 use Rattle.typst_edits.specs.InnerPiecesLog.{asks_again, InnerPiecesLogLaw}
-use Rattle.typst_edits.specs.InnerSplice.{own_of}
 use Rattle.typst_edits.specs.PiecesLog.{PiecesLogLaw}
-use Rattle.typst_edits.specs.Joint.{text_run}
-use Rattle.typst_edits.specs.Resumed.{SamePieces, read_again}
-use Rattle.typst_edits.specs.Runs.{End, asks_of, lead, end_at}
-use Rattle.typst_edits.specs.Sequence.{Sequence, first_end, then_of}
 use Rattle.typst_edits.proofs.EmptyRuns.{hand-asks}
-use Rattle.typst_edits.proofs.InnerJoint.{block-read}
-use Rattle.typst_edits.proofs.InnerSplice.{hand-direct}
-use Rattle.typst_edits.proofs.Joint.{known-is, text-read}
-use Rattle.typst_edits.proofs.Led.{before_trivia}
-use Rattle.typst_edits.proofs.Meeting.{ReadAs}
+use Rattle.typst_edits.proofs.Joint.{block-read, known-is, text-read, ReadAs}
+use Rattle.typst_edits.proofs.RunSplice.{hand-direct}
+use Rattle.typst_edits.proofs.Turns.{before_trivia}
 use Rattle.typst_edits.proofs.Outcomes.{shift-twice}
-use Rattle.typst_edits.proofs.Reached.{Reached}
+use Rattle.typst_edits.proofs.Known.{Reached}
 use Rattle.typst_edits.proofs.Resumed.{text-reached, block-reached, resume-law, inner-resume-law}
 
 -- pieces that are the same except for the trivia before the first

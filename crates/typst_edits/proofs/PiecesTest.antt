@@ -1,40 +1,335 @@
--- What code finds of a candidate that is pieces of a text's own run, by the numbers of its entries and a reading from its first token on.
-use Rattle.std.proofs.Common.{◌≡◌, ℕ, zero, suc, ◌+◌, ◌<◌, ◌≤◌, Bool, true, false, List, ◌++◌, length, take, refl, ap, sym, ◌∙◌, subst, arith}
-use Rattle.typst_lines.specs.Place.{Place}
-use Rattle.typst_lines.specs.Classes.{CharClasses}
-use Rattle.typst_tokens.specs.Sight.{width}
-use Rattle.typst_language.specs.Meaning.{run}
-use Rattle.typst_candidates.specs.Entries.{units_of, spliced}
-use Rattle.typst_grammar.specs.Grammar.{max_depth, log}
-use Rattle.typst_edits.specs.Edit.{text_with}
-use Rattle.typst_edits.specs.Frame.{top, inner, Gives, of_block, of_pieces, Before}
-use Rattle.typst_edits.specs.Hole.{path_of}
-use Rattle.typst_edits.specs.InOrder.{InOrderLaw}
-use Rattle.typst_edits.specs.NumberedNotes.{of_level, cut_after}
+-- What code finds of a candidate that is pieces of a run, a content block's or a text's, by the numbers of its entries and a reading from its first token on.
+use Rattle.std.proofs.Common.{◌≡◌, ◌↔◌, ℕ, zero, suc, ◌+◌, ◌-◌, ◌<◌, ◌≤◌, nat_le, Bool, true, false, if◌then◌else◌, List, [], ◌∷◌, ◌++◌, length, take, None, Some, refl, ap, sym, ◌∙◌, subst, arith}
+use Rattle.typst_edits.proofs.Words.{nat_tests, Place, moved, CharClasses, Tree, bare, width, position, Note, shift, Outcome, start_point, entered, run, itself, takes, does, peek, Log, no_log, logged, markup_reading, Trivia, gap_of, pending, point_of, moved-sum, Entry, Candidate, units_of, entry_of, entries_by, spliced, Units, units_by, front_of, rear_of, IsRising, AllEnd, AllBegin, max_depth, log, tree, first_look, look_first, look_again, bracket, inner_lead, run_at, opened_at, EndsBefore, highest, lowest, Among, text_with, Run, top, cut_at, is_over, Agrees, PassesPieces, Gives, of_block, of_pieces, Before, candidates, path_of, OpensApartLaw, first_place, minds_at, block_run, Around, inner_end, inner_both, InOrderLaw, read_alone, level_in, end_alone, InnerPart, TakesNone, fresh, blocks_of_text, listed, made, AllGo, End, asks_of, pieces, end_at, pieces_from, piece_at, lead, turn_of, first_of, first_end, then_of, then_end, Sequence, Spot, entries_from, notes_in, token_start, of_level, cut_after, root_run, text_run, end_note, pieces_log, front-law, rear-law, both_ways, PieceNote}
+use Rattle.typst_grammar.specs.Pieces.{given}
+use Rattle.typst_edits.specs.Frame.{inner as block_inner, inner}
+use Rattle.typst_edits.specs.InnerPiecesTest.{front_count, rear_count, InnerEntriesLaw, InnerReadLaw, InnerOnceLaw, InnerTestLaw, InnerPartLaw, InnerUnitsLaw}
+use Rattle.typst_edits.specs.RunBytes.{both_end}
+use Rattle.typst_language.specs.declared.calls.Block.TheVariants as block
+use Rattle.typst_edits.specs.InnerJoint.{BeginsPast}
+use Rattle.typst_edits.proofs.RunCandidates.{no-errors, inner-candidate-law, root-candidate-law}
+use Rattle.typst_edits.proofs.PiecesLog.{inner-pieces-log-law}
+use Rattle.typst_edits.proofs.RunSplice.{inner-splice-law, run-splice-law}
+use Rattle.typst_edits.proofs.Outcomes.{shift-zero}
+use Rattle.typst_edits.proofs.Resumed.{block-known, block-then-known, block-fresh, bracket-gap, inner-count-law, inner-goes-too, start-asks, start-known, start-same, start-goes, text-fresh, text-goes-too}
+use Rattle.typst_edits.proofs.RunBytes.{inner-decision-law, text-note, text-both, text-count, text-token, reaches, reaches-too, begins-past, begins-past-too, trivia-end}
+use Rattle.typst_edits.proofs.OneReading.{block-seen, block-sees, block-clear, takes-some, text-seen, text-clear}
+use Rattle.typst_edits.proofs.ReadAlone.{Rereads, first-goes, begun, alike, goes-there, gives-to, reads-to}
+use Rattle.typst_edits.proofs.RunPieces.{take-past}
+use Rattle.typst_edits.proofs.Seen.{end-first, end-second, end-shift}
+use Rattle.typst_edits.proofs.Widths.{width-append}
+use Rattle.typst_edits.proofs.BlockRuns.{first-same, pieces-same}
 use Rattle.typst_edits.specs.PiecesTest.{CutOnceLaw, RunEntriesLaw, RunReadLaw, RunGives, RunGivesLaw, RunPartLaw}
-use Rattle.typst_edits.specs.RootPieces.{root_run}
-use Rattle.typst_edits.specs.RunBytes.{PieceNote, both_end}
-use Rattle.typst_edits.specs.Runs.{AllGo, End, asks_of, pieces, end_at, pieces_from, piece_at, lead}
-use Rattle.typst_edits.specs.Sequence.{Sequence, first_of, first_end, then_of, then_end}
-use Rattle.typst_edits.specs.Joint.{text_run}
-use Rattle.typst_edits.specs.RunSplice.{end_note, pieces_log}
-use Rattle.typst_edits.specs.Splice.{notes_in, token_start, entries_from}
-use Rattle.typst_edits.proofs.Fitting.{tail-none}
+use Rattle.typst_edits.proofs.Content.{tail-none}
 use Rattle.typst_edits.proofs.Boundary.{KnownAt, looks_in, each-ends, made-add, go-add}
-use Rattle.typst_edits.proofs.InnerPiecesTest.{numbers-of, behind-end, short}
 use Rattle.typst_edits.proofs.Children.{top-known}
 use Rattle.typst_edits.proofs.Cuts.{cuts-law}
 use Rattle.typst_edits.proofs.Edit.{before-same}
-use Rattle.typst_edits.proofs.RunBytes.{text-note, text-both, text-count, text-token, reaches, reaches-too, begins-past, begins-past-too, trivia-end}
-use Rattle.typst_edits.proofs.NoteNumbers.{neither, number-law}
-use Rattle.typst_edits.proofs.OneReading.{text-seen, text-clear}
-use Rattle.typst_edits.proofs.ReadAlone.{Rereads, gives-to, reads-to}
-use Rattle.typst_edits.proofs.Resumed.{text-fresh, text-goes-too}
-use Rattle.typst_edits.proofs.Root.{first-same as pieces-same}
-use Rattle.typst_edits.proofs.RootCandidates.{root-candidate-law}
-use Rattle.typst_edits.proofs.RootPieces.{take-past}
-use Rattle.typst_edits.proofs.RunSplice.{run-splice-law}
-use Rattle.typst_edits.proofs.Sides.{count-made}
+use Rattle.typst_edits.proofs.NumberedNotes.{neither, number-law}
+use Rattle.typst_edits.proofs.Splice.{count-made}
+
+-- ---- numbers of notes
+
+-- The greatest of some numbers shows that all are no greater.
+pub all-end : (at : ℕ) (ns : List Note) (n : Note) → (AllEnd at (ns ++ n ∷ []) → highest ns n.reach ≤ at) × (highest ns n.reach ≤ at → AllEnd at (ns ++ n ∷ []))
+all-end at [] n = ((λ h. h.0), (λ h. (h, tt)))
+all-end at (m ∷ ns) n = let i = all-end at ns n in ((λ h. (let a = h.0 in let b = i.0 h.1 in omega (arith, a, b))), (λ h. (omega (arith, h), i.1 (omega (arith, h)))))
+
+pub all-begin : (at : ℕ) (ns : List Note) (least : ℕ) → (AllBegin at ns least → at < lowest ns least) × (at < lowest ns least → AllBegin at ns least)
+all-begin at [] least = ((λ h. h), (λ h. h))
+all-begin at (m ∷ ns) least = let i = all-begin at ns least in ((λ h. (let a = h.0 in let b = i.0 h.1 in omega (arith, a, b))), (λ h. (omega (arith, h), i.1 (omega (arith, h)))))
+
+-- Where a note is among the first that stand at a byte or before it with all looks, so is its token.
+counts-on : (here reach at rest : ℕ) (b : Bool) → nat_le (here + (reach - here)) at ≡ b → 0 < (if b then suc rest else 0) → here ≤ at
+counts-on here reach at rest true e l = let d : here + (reach - here) ≤ at = grind (arith, nat_tests, e) in omega (arith, d)
+counts-on here reach at rest false e l = absurd (omega (arith, l))
+
+counts-more : (n rest : ℕ) (b : Bool) → suc n < (if b then suc rest else 0) → n < rest
+counts-more n rest true l = omega (arith, l)
+counts-more n rest false l = absurd (omega (arith, l))
+
+here-is : (start : ℕ) (n : Note) → start ≤ n.before → n.before ≤ n.start → (start + (n.before - start)) + (n.start - n.before) ≡ n.start
+here-is start n a b = omega arith
+
+step-front : (at start : ℕ) (n : Note) (es : List Entry) → start ≤ n.before → n.before ≤ n.start
+    → front_of at start (entry_of start n ∷ es) ≡ (if nat_le (n.start + (n.reach - n.start)) at then suc (front_of at n.start es) else 0)
+step-front at start n es a b = ap (λ here. if nat_le (here + (n.reach - n.start)) at then suc (front_of at here es) else 0) (here-is start n a b)
+
+pub front-start : (ns more : List Note) (n : Note) (at start : ℕ) → IsRising start (ns ++ n ∷ more) → length ns < front_of at start (entries_by start (ns ++ n ∷ more)) → n.start ≤ at
+front-start [] more n at start r l = counts-on n.start n.reach at (front_of at n.start (entries_by n.start more)) _ refl (subst (λ j. 0 < j) (step-front at start n (entries_by n.start more) r.0 r.1) l)
+front-start (m ∷ ns) more n at start r l =
+    let es = entries_by m.start (ns ++ n ∷ more) in
+    front-start ns more n at m.start r.2 (counts-more (length ns) (front_of at m.start es) (nat_le (m.start + (m.reach - m.start)) at) (subst (λ j. suc (length ns) < j) (step-front at start m es r.0 r.1) l))
+
+pub units-are : (h : Log) (ns : List Note) → h.notes ≡ Some ns → units_of h ≡ units_by ns h.least
+units-are h ns e = ap (λ o. units_by (elim o as (λ _. List Note) [ None ↦ [] | Some ms ↦ ms ]) h.least) e
+
+-- What the number of a note among all says of looks: they end at a byte that isn't before its token, or begin after one that isn't after it.
+pub record NumbersOf (k : CharClasses) (text : List ℕ) (earlier : List Note) (note : Note) (later : List Note) : Type 0 where
+  pub before : (at : ℕ) → length earlier < front_count k text at → highest earlier note.reach ≤ at
+  pub before_too : (at : ℕ) → note.start ≤ at → highest earlier note.reach ≤ at → length earlier < front_count k text at
+  pub after : (end : ℕ) → end ≤ note.start → rear_count k text end ≤ length earlier → end < lowest later (log k text).least
+  pub after_too : (end : ℕ) → end ≤ note.start → end < lowest later (log k text).least → rear_count k text end ≤ length earlier
+
+pub numbers-of : InOrderLaw → (k : CharClasses) (text : List ℕ) (earlier : List Note) (note : Note) (later : List Note) → (log k text).notes ≡ Some (earlier ++ note ∷ later) → NumbersOf k text earlier note later
+numbers-of ordered k text earlier note later is =
+    let l = log k text in
+    let order = subst (λ ns. IsRising 0 ns) (ap listed is) (ordered k text) in
+    let units = units-are l _ is in
+    let fronts : (at : ℕ) → front_count k text at ≡ front_of at 0 (entries_by 0 (earlier ++ note ∷ later)) = λ at. ap (λ (u : Units). front_of at 0 u.entries) units in
+    let rears = λ (end : ℕ). ap (λ (u : Units). rear_of end 0 0 u.entries u.back) units in
+    record {
+      before = λ at p.
+          (let q = subst (λ j. length earlier < j) (fronts at) p in
+          (all-end at earlier note).0 ((front-law earlier later note at order (front-start earlier later note at 0 order q)).0 q));
+      before_too = λ at here h. subst (λ j. length earlier < j) (sym (fronts at)) ((front-law earlier later note at order here).1 ((all-end at earlier note).1 h));
+      after = λ end behind q. (all-begin end later l.least).0 ((rear-law earlier later note end l.least order behind).0 (subst (λ j. j ≤ length earlier) (rears end) q));
+      after_too = λ end behind h. subst (λ j. j ≤ length earlier) (sym (rears end)) ((rear-law earlier later note end l.least order behind).1 ((all-begin end later l.least).1 h));
+    }
+
+pub behind-end : (front old rest : List ℕ) (past : ℕ) {start : ℕ} → start ≡ width (front ++ (old ++ take past rest)) → width (front ++ old) ≤ start
+behind-end front old rest past here =
+    omega (arith, here, width-append front old, width-append front (old ++ take past rest), width-append old (take past rest))
+
+-- ---- from characters to bytes
+
+pub short : (n : ℕ) (xs ys : List ℕ) → n ≤ length xs → width (take n (xs ++ ys)) ≤ width xs
+unfolding width
+short zero xs ys l = omega arith
+short (suc n) [] ys l = absurd (omega (arith, l))
+short (suc n) (x ∷ xs) ys l = let i = short n xs ys (omega (arith, l)) in omega (arith, i)
+
+-- Where the looks before a token end before a stretch, the token begins there.
+token-before : (k : CharClasses) (levels : ℕ) (front old rest : List ℕ) (s : Spot (Unit {0})) (i : ℕ) → 0 < i → EndsBefore k levels front old rest s i → 0 < (first_end i (run_at k levels s (text_with front old rest))).taken
+    → (let e = inner_end k levels i s (text_with front old rest) in e.taken + gap_of e.state.known ≤ length front)
+token-before k levels front old rest s i some looks more =
+    let z = text_with front old rest in
+    let opened = opened_at k levels s z in
+    let r = run_at k levels s z in
+    let o = inner_lead k levels (moved s.at z) (point_of s.start) in
+    let a = block-seen k levels s z i (length front - opened) (end-shift opened (length front - opened) (length front) (o.asks ++ asks_of (first_of i r)) (omega arith) (looks.before_run some)) in
+    omega (arith, a, more)
+
+-- Where the looks at a block's bracket end before a stretch, its run begins there.
+run-before : (k : CharClasses) (levels : ℕ) (front old rest : List ℕ) (s : Spot (Unit {0})) (i : ℕ) → s.at < length front → EndsBefore k levels front old rest s i → opened_at k levels s (text_with front old rest) ≤ length front
+unfolding run
+run-before k levels front old rest s i starts looks =
+    let z = text_with front old rest in
+    let y = moved s.at z in
+    let p = point_of s.start in
+    let most = length front - s.at in
+    let first = look_first k levels y p in
+    let again = look_again k levels y p in
+    let b = bracket k levels y p in
+    let all = end-shift s.at most (length front) (first.asks ++ (again.asks ++ b.asks)) (omega arith) looks.opens in
+    let behind = end-second most first.asks (again.asks ++ b.asks) all in
+    let gap_one : gap_of first.state.known ≤ most = omega (arith, (block-sees k levels s z peek y p most (omega arith)).ends (end-first most first.asks (again.asks ++ b.asks) all)) in
+    let gap_two : gap_of again.state.known ≤ most = omega (arith, (block-sees k levels s z peek y first.state most gap_one).ends (end-first most again.asks b.asks behind)) in
+    let three = (block-sees k levels s z (does (takes false itself)) y (entered markup_reading again.state) most gap_two).ends (end-second most again.asks b.asks behind) in
+    omega (arith, three, starts)
+
+-- So does the token of its first note.
+first-before : (k : CharClasses) (levels : ℕ) (front old rest : List ℕ) (s : Spot (Unit {0})) (i : ℕ) (note : Note) → s.at < length front → EndsBefore k levels front old rest s i → AllGo (first_of i (run_at k levels s (text_with front old rest)))
+    → (let e = inner_end k levels i s (text_with front old rest) in
+    (0 < i → note.start ≡ width (take (e.taken + gap_of e.state.known) (front ++ (old ++ rest)))) → (i ≡ 0 → note.start ≡ width (take e.taken (front ++ (old ++ rest)))) → note.start ≤ width front)
+first-before k levels front old rest s zero note starts looks g more none =
+    let v = inner_end k levels 0 s (text_with front old rest) in
+    subst (λ j. j ≤ width front) (sym (none refl)) (short v.taken front (old ++ rest) (omega (arith, run-before k levels front old rest s 0 starts looks)))
+first-before k levels front old rest s (suc j) note starts looks g more none =
+    let v = inner_end k levels (suc j) s (text_with front old rest) in
+    subst (λ j. j ≤ width front) (sym (more (omega arith)))
+    (short (v.taken + gap_of v.state.known) front (old ++ rest) (token-before k levels front old rest s (suc j) (omega arith) looks (takes-some k levels front old old rest s (suc j) (omega arith) g)))
+
+-- ---- the law
+
+pub inner-entries-law : InOrderLaw → InnerEntriesLaw
+inner-entries-law ordered k levels front old rest s i n past t chosen name level g h known sum big =
+    let d = inner-decision-law k levels front old rest s i n chosen name level g h in
+    let b = d.begins in
+    let e = d.ends in
+    let f = inner_both k levels i n s (text_with front old rest) in
+    let first = numbers-of ordered k (front ++ (old ++ rest)) b.earlier b.note b.later b.notes in
+    let last = numbers-of ordered k (front ++ (old ++ rest)) e.earlier e.note e.later e.notes in
+    let ends_at : 0 < i + n → e.note.start ≡ width (front ++ (old ++ take past rest)) = λ more.
+    d.trivia_end more ∙ ap width (take-past front old rest past (f.taken + gap_of f.state.known) (ap (λ v. f.taken + gap_of v) known ∙ sum)) in
+    record {
+      begins = b;
+      ends = e;
+      start = d.token;
+      start_first = d.token_first;
+      number = d.number;
+      number_end = d.number_end;
+      end = ends_at;
+      before = λ p. d.before (first.before (width front) p);
+      before_too = λ starts looks. first.before_too (width front) (first-before k levels front old rest s i b.note starts looks g d.token d.token_first) (d.before_too looks);
+      after = λ more q. d.after_trivia past t known sum (last.after (width (front ++ old)) (behind-end front old rest past (ends_at more)) q);
+      after_too = λ more looks. last.after_too (width (front ++ old)) (behind-end front old rest past (ends_at more)) (d.after_trivia_too past t known sum more big looks);
+    }
+
+-- ---- the pieces that are read
+
+-- A block's run begins as if nothing were known except that it is markup.
+module _ (k : CharClasses) (levels : ℕ) (front old new rest : List ℕ) (s : Spot (Unit {0})) (chosen : Among s (blocks_of_text k (front ++ (old ++ rest)))) (name : s.name ≡ block.Content) (level : max_depth - s.fewer ≡ suc levels) where
+  abbrev w : Place
+  w = text_with front new rest
+
+  -- where a block begins
+  pub begins-none : EndsBefore k levels front old rest s 0 → (run_at k levels s (text_with front old rest)).point.empties ≡ 0 → (run_at k levels s w).point.empties ≡ 0
+  unfolding run
+  begins-none looks clear = ap (λ (o : Outcome (Unit {0})). o.state.empties) (first-same k levels front old new rest s 0 looks).opened ∙ clear
+
+  pub rereads : Rereads k front old new rest (block_run s levels chosen name level)
+  rereads =
+      let y = moved s.at w in
+      let t = point_of s.start in
+      record {
+        place = sym (moved-sum s.at (bracket k levels y t).taken w);
+        opened = λ i looks. ap (λ (o : Outcome (Unit {0})). s.at + o.taken) (first-same k levels front old new rest s i looks).opened;
+        first = λ i looks. (first-same k levels front old new rest s i looks).first;
+        none = λ i some g looks none. block-clear k levels front old new rest s i some g looks none;
+        known = block-known k levels y t;
+        then_known = block-then-known k levels y t;
+        bare = block-fresh k levels y t;
+        goes_too = inner-goes-too k levels y t;
+        start_known = start-known k levels y t;
+        start_same = λ clear looks m go. start-same k levels y t m (λ minds. begins-none looks clear) go;
+        start_goes = λ clear looks m go. start-goes k levels y t m (λ minds. begins-none looks clear) go;
+      }
+
+pub inner-read-law : InnerReadLaw
+inner-read-law k levels front old new rest s chosen name level i n m past t ts g h known sum around none looks behind =
+    let own = block_run s levels chosen name level in
+    let clear = no-errors k levels (front ++ (old ++ rest)) s chosen name level (omega (arith, around.starts, around.ends)) in
+    let again = rereads k levels front old new rest s chosen name level in (
+      (λ reads. (let x = gives-to k front old new rest own again i n past t ts g clear none looks m h known sum behind (record { go = reads.go; ends = reads.ends; agrees = reads.agrees; nodes = reads.nodes }) in record { behind = x.behind; passes = x.passes; are = x.are })),
+      (λ gives. (let x = reads-to k front old new rest own again i n past t ts g clear none looks m (record { behind = gives.behind; passes = gives.passes; are = gives.are }) in record { go = x.go; ends = x.ends; agrees = x.agrees; nodes = x.nodes })),
+    )
+
+pub inner-once-law : InnerOnceLaw
+inner-once-law k levels front old new rest s chosen name level i n m j past ts us g around none looks one two =
+    let z = text_with front old rest in
+    let w = text_with front new rest in
+    let a = cut_at (block_run s levels chosen name level) i z in
+    let x = (first_end i (run_at k levels s z)).value in
+    let clear = no-errors k levels (front ++ (old ++ rest)) s chosen name level (omega (arith, around.starts, around.ends)) in
+    let own = block_run s levels chosen name level in
+    let again = rereads k levels front old new rest s chosen name level in
+    let g_now = first-goes k front old new rest own again i looks g in
+    let go = goes-there k front old new rest own again i m g clear none looks one.go in
+    let go_too = goes-there k front old new rest own again i j g clear none looks two.go in
+    let u = block-then-known k levels (moved s.at w) (point_of s.start) i m g_now go in
+    let v = block-then-known k levels (moved s.at w) (point_of s.start) i j g_now go_too in
+    let b = alike k front old new rest own again i m u.trivia g clear none looks go u.is in
+    let d = alike k front old new rest own again i j v.trivia g clear none looks go_too v.is in
+    let same : m ≡ j = inner-count-law k levels (moved s.at w) (point_of s.start) i m j g_now go go_too (omega (arith, b.sum, d.sum, one.ends, two.ends, ap gap_of u.is, ap gap_of v.is)) in
+    (same, one.nodes ∙ ap (λ c. given (read_alone k levels x c (moved a w)) [] ++ pending (end_alone k levels x c (moved a w)).state.known) same ∙ sym two.nodes)
+
+-- ---- a candidate
+
+-- As it stands, it passes the test of looks only if it takes back no errors.
+well : OpensApartLaw → (k : CharClasses) (levels : ℕ) (front old rest : List ℕ) (root : Tree) (s : Spot (Unit {0})) (chosen : Among s (blocks_of_text k (front ++ (old ++ rest)))) (name : s.name ≡ block.Content) (level : max_depth - s.fewer ≡ suc levels)
+    (c : Candidate) (i n past : ℕ) (t : Trivia) → bare root ≡ bare (tree k (front ++ (old ++ rest))) → Among c (candidates k (front ++ (old ++ rest)) (width front) (width (front ++ old)) root)
+    → c.is_block ≡ false → c.path ≡ path_of s.hole ++ 1 ∷ []
+    → c.start ≡ width (take (cut_at (block_run s levels chosen name level) i (text_with front old rest)) (front ++ (old ++ rest))) → (0 < i ↔ 0 < c.from) → c.end ≡ width (front ++ (old ++ take past rest)) → 0 < n
+    → AllGo (first_of i (run_at k levels s (text_with front old rest))) → AllGo (then_of i n (run_at k levels s (text_with front old rest)))
+    → (let e = inner_both k levels i n s (text_with front old rest) in e.state.known ≡ Some t → e.taken + t.gap ≡ (length front + length old) + past
+    → EndsBefore k levels front old rest s i → BeginsPast k levels front old rest s i n past t
+    → Around front old rest s × (0 < i → TakesNone i (run_at k levels s (text_with front old rest))))
+well apart k levels front old rest root s chosen name level c i n past t same candidate pieces path start led end some g h known sum looks behind =
+    let own = block_run s levels chosen name level in
+    let p = run_at k levels s (text_with front old rest) in
+    let stays : PassesPieces k front old old rest own i n n past t t = record {
+      first_go = g;
+      old_go = h;
+      new_go = h;
+      before = looks;
+      after = behind;
+      known = known;
+      known_now = known;
+      ends = sum;
+      shifted = sum;
+      agrees = agrees-itself own (is_over i n p) n (then_end i n p).value some;
+    } in
+    let b = inner-candidate-law apart k levels front old old rest root s chosen name level c i n n past t t same candidate pieces path start led end stays in
+    (b.0, (λ l minds. absurd (both_ways (minds_at p (first_place i p) (first_end i p)) (b.1.starts l).1 minds)))
+  where
+    agrees-itself : {text : List ℕ} (r : Run k text) (over : Bool) (m : ℕ) (x : Bool × ℕ) → 0 < m → Agrees r over m x x
+    agrees-itself r false m x l = (l, refl)
+    agrees-itself top true m x l = tt
+    agrees-itself (block_inner c levels a b d) true m x l = refl
+
+pub inner-test-law : InOrderLaw → OpensApartLaw → InnerTestLaw
+inner-test-law ordered apart k levels front old new rest root s chosen name level c i n m past t ts same candidate pieces path start led end some g h known sum big =
+    let own = block_run s levels chosen name level in
+    let e = inner-entries-law ordered k levels front old rest s i n past t chosen name level g h known sum big in
+    let more : 0 < i + n = omega (arith, some) in
+    let fine = well apart k levels front old rest root s chosen name level c i n past t same candidate pieces path start led end some g h known sum in
+    let read = λ (a : EndsBefore k levels front old rest s i) (b : BeginsPast k levels front old rest s i n past t).
+    (let f = fine a b in inner-read-law k levels front old new rest s chosen name level i n m past t ts g h known sum f.0 f.1 a b) in
+    record {
+      entries = e;
+      passes = λ first last reads.
+          (let gives = (read (e.before first) (e.after more last)).0 reads in
+          of_pieces own i n m past t gives.behind pieces (sym path) start led end gives.passes gives.are);
+      front_too = λ gives. e.before_too (fine gives.passes.before gives.passes.after).0.starts gives.passes.before;
+      rear_too = λ gives. e.after_too more gives.passes.after;
+      reads_too = λ gives. (read gives.passes.before gives.passes.after).1 gives;
+    }
+
+-- ---- the entries that are read
+
+pub inner-part-law : InnerPartLaw
+inner-part-law k levels front old new rest s chosen name level zero m some g none looks go = absurd (omega (arith, some))
+inner-part-law k levels front old new rest s chosen name level (suc j) m some g none looks go =
+    let i = suc j in
+    let z = text_with front old rest in
+    let w = text_with front new rest in
+    let p = run_at k levels s z in
+    let q = run_at k levels s w in
+    let b = begun k front old new rest (block_run s levels chosen name level) (rereads k levels front old new rest s chosen name level) j g none looks in
+    let e = first_end i q in
+    let taken = ap (λ (v : End (Bool × ℕ)). v.taken) b.same in
+    let gap_was = ap (λ (v : End (Bool × ℕ)). gap_of v.state.known) b.same in
+    let gap = gap_of e.state.known in
+    let y = moved b.trivia.gap (first_place i q) in
+    let log_of = λ (v : Bool × ℕ) (y : Place). logged (suc levels) y no_log ((run q.level peek y (start_point markup_reading)).asks ++ asks_of (made (turn_of q) m v y (fresh q.level y))) in
+    let count : (opened_at k levels s w + e.taken) + gap ≡ cut_at (block_run s levels chosen name level) i z = omega (arith, b.opened, b.cut, taken, gap_was) in
+    record {
+      log_is = inner-pieces-log-law k levels s w i m b.trivia some b.go go b.known b.none ∙ ap (λ v. log_of v y) (ap (λ (v : End (Bool × ℕ)). v.value) b.same) ∙ ap (log_of (first_end i p).value) b.place;
+      token = ap position (sym (moved-sum (opened_at k levels s w + e.taken) gap w) ∙ ap (λ n. moved n w) count);
+    }
+
+-- The law of a part for pieces of a block's run that follow no others.
+pub first-part : (k : CharClasses) (levels : ℕ) (front old new rest : List ℕ) (s : Spot (Unit {0})) (chosen : Among s (blocks_of_text k (front ++ (old ++ rest)))) (name : s.name ≡ block.Content) (level : max_depth - s.fewer ≡ suc levels)
+    (m : ℕ) → Around front old rest s → EndsBefore k levels front old rest s 0 → AllGo (then_of 0 m (run_at k levels s (text_with front new rest)))
+    → InnerPart k levels front old new rest s (cut_at (block_run s levels chosen name level) 0 (text_with front old rest)) 0 m
+first-part k levels front old new rest s chosen name level m around looks go =
+    let z = text_with front old rest in
+    let w = text_with front new rest in
+    let q = run_at k levels s w in
+    let a = cut_at (block_run s levels chosen name level) 0 z in
+    let opened : opened_at k levels s w ≡ opened_at k levels s z = ap (λ (o : Outcome (Unit {0})). s.at + o.taken) (first-same k levels front old new rest s 0 looks).opened in
+    let b = (bracket k levels (moved s.at w) (point_of s.start)).taken in
+    let x : Bool × ℕ = (true, 0) in
+    let count : s.at + b ≡ a = omega (arith, opened) in
+    let place : q.place ≡ moved a w = sym (moved-sum s.at b w) ∙ ap (λ n. moved n w) count in
+    let clear = no-errors k levels (front ++ (old ++ rest)) s chosen name level (omega (arith, around.starts, around.ends)) in
+    let same : then_of 0 m q ≡ read_alone k levels x m q.place = start-same k levels (moved s.at w) (point_of s.start) m (λ minds. begins-none k levels front old new rest s chosen name level looks clear) go in
+    let lead = (inner_lead k levels (moved s.at w) (point_of s.start)).asks in
+    let asks = λ (v : Place). (first_look (level_in k levels) v).asks ++ asks_of (read_alone k levels x m v) in
+    let own : lead ++ shift 0 (asks_of (then_of 0 m q)) ≡ asks q.place =
+    ap (λ us. lead ++ us) (shift-zero (asks_of (then_of 0 m q))) ∙ ap (λ os. lead ++ asks_of os) same ∙ ap (λ us. us ++ asks_of (read_alone k levels x m q.place)) (start-asks k levels (moved s.at w) (point_of s.start)) in
+    record {
+      log_is = ap (logged (suc levels) q.place no_log) own ∙ ap (λ v. logged (suc levels) v no_log (asks v)) place;
+      token = ap (λ g. position (moved g (moved (opened_at k levels s w + 0) w))) (bracket-gap k levels (moved s.at w) (point_of s.start)) ∙ ap (λ j. position (moved j w)) (omega (arith, count));
+    }
+
+pub inner-units-law : InnerUnitsLaw
+inner-units-law k levels front old new rest s chosen name level i n m past t u some h none big big_new e =
+    let never : (j a : ℕ) → i + j ≡ 0 → a ≡ 0 = λ j a l. absurd (omega (arith, some, l)) in
+    let v = inner-splice-law k levels front old new rest s i n m past t u chosen h (never n t.gap) (never m u.gap) big big_new in
+    let part = inner-part-law k levels front old new rest s chosen name level i m some h.pieces.first_go none h.pieces.looks h.pieces.new_go in
+    v ∙ (λ a. spliced (sym e.number a) (sym e.number_end a) (entries_from (part.token a) (part.log_is a).notes) (units_of (log k (front ++ (old ++ rest)))))
 
 -- ---- the entries at its ends
 
@@ -82,32 +377,28 @@ cut-once-law k text i j g h e = neither i j (λ l. (let c = cuts-law k text i j 
 -- ---- the pieces that are read
 
 module _ (k : CharClasses) (front old new rest : List ℕ) where
-  abbrev w : Place
-  w = text_with front new rest
+  abbrev text_w : Place
+  text_w = text_with front new rest
 
   abbrev q : Sequence
-  q = text_run k w
-
-  -- More pieces of the new text end where trivia are known.
-  pub then-known : (i m : ℕ) → AllGo (first_of i q) → AllGo (then_of i m q) → KnownAt (then_end i m q).state
-  then-known i m g h =
-      let both : end_at k (i + m) w ≡ record (then_end i m q) { taken = (first_end i q).taken + (then_end i m q).taken } = made-add (piece_at k) (looks_in q) (each-ends q) i m (true, 0) w (lead k w).state in
-      subst (λ (v : End (Bool × ℕ)). KnownAt v.state) both (top-known k (i + m) w (go-add (piece_at k) (looks_in q) (each-ends q) i m (true, 0) w (lead k w).state g h))
+  q = text_run k text_w
 
   pub no-errors-before : (text_run k (text_with front old rest)).point.empties ≡ 0
   unfolding run
   no-errors-before = refl
 
-  pub rereads : Rereads k front old new rest (root_run k (front ++ (old ++ rest)))
-  rereads = record {
+  pub text-rereads : Rereads k front old new rest (root_run k (front ++ (old ++ rest)))
+  text-rereads = record {
     place = refl;
     opened = λ i looks. refl;
-    first = λ i looks. (pieces-same k i (text_with front old rest) w (λ l. before-same _ front old new rest (looks l))).pieces_same;
+    first = λ i looks. (pieces-same k i (text_with front old rest) text_w (λ l. before-same _ front old new rest (looks l))).pieces_same;
     none = λ i some g looks none. text-clear k front old new rest i some g (looks some) none;
-    known = λ i g. top-known k i w g;
-    then_known = then-known;
-    bare = text-fresh k w;
-    goes_too = text-goes-too k w;
+    known = λ i g. top-known k i text_w g;
+    then_known = λ i m g h.
+        (let both : end_at k (i + m) text_w ≡ record (then_end i m q) { taken = (first_end i q).taken + (then_end i m q).taken } = made-add (piece_at k) (looks_in q) (each-ends q) i m (true, 0) text_w (lead k text_w).state in
+        subst (λ (v : End (Bool × ℕ)). KnownAt v.state) both (top-known k (i + m) text_w (go-add (piece_at k) (looks_in q) (each-ends q) i m (true, 0) text_w (lead k text_w).state g h)));
+    bare = text-fresh k text_w;
+    goes_too = text-goes-too k text_w;
     start_known = refl;
     start_same = λ clear looks m go. refl;
     start_goes = λ clear looks m go. go;
@@ -116,7 +407,7 @@ module _ (k : CharClasses) (front old new rest : List ℕ) where
 pub run-read-law : RunReadLaw
 run-read-law k front old new rest i n m past t ts g h known sum none looks behind =
     let own = root_run k (front ++ (old ++ rest)) in
-    let again = rereads k front old new rest in
+    let again = text-rereads k front old new rest in
     let clear = no-errors-before k front old new rest in (
       (λ reads. (let x = gives-to k front old new rest own again i n past t ts g clear none looks m h known (omega (arith, sum)) behind (record { go = reads.go; ends = reads.ends; agrees = reads.agrees; nodes = reads.nodes }) in record { behind = x.behind; passes = x.passes; are = x.are })),
       (λ gives. (let x = reads-to k front old new rest own again i n past t ts g clear none looks m (record { behind = gives.behind; passes = gives.passes; are = gives.are }) in record { go = x.go; ends = x.ends; agrees = x.agrees; nodes = x.nodes })),
@@ -149,8 +440,8 @@ run-gives-law k front old new rest root c ts same among pieces at_root = (to, (�
 
 pub run-part-law : RunPartLaw
 run-part-law k front old new rest i n m past t u h over over_new big big_new e =
-    let w = text_with front new rest in
-    let part = entries_from (token_start w (end_note k i w)) (pieces_log k i m w).notes in
+    let text_w = text_with front new rest in
+    let part = entries_from (token_start text_w (end_note k i text_w)) (pieces_log k i m text_w).notes in
     let units = units_of (log k (front ++ (old ++ rest))) in
     let count = notes_in (asks_of (pieces_from k i n (text_with front old rest))) in
     run-splice-law k front old new rest i n m past t u h over over_new big big_new ∙ ap (λ a. spliced a (a + count) part units) (sym e.from) ∙ ap (λ b. spliced (length e.begins.earlier) b part units) (sym e.to)

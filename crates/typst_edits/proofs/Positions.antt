@@ -1,27 +1,23 @@
--- What holds where an inner node of a block's kind stands among several nodes.
-use Rattle.std.proofs.Common.{◌≡◌, ◌⊎◌, inl, inr, ℕ, zero, suc, ◌+◌, ◌-◌, ◌<◌, ◌≤◌, Bool, true, false, ◌&&◌, ◌||◌, nat_le, List, [], ◌∷◌, ◌++◌, length, take, drop, length-take, None, refl, ap, sym, ◌∙◌, subst, arith}
-use Rattle.std.proofs.lemmas.Bool.Decides.{nat_tests}
-use Rattle.std.proofs.lemmas.Bool.{and_left, and_parts, or_from, or_left}
-use Rattle.typst_kinds.specs.Kinds.{is_error}
+-- What holds where an inner node of a block's kind stands among several nodes, and what of each token's node.
+use Rattle.std.proofs.Common.{◌≡◌, ◌⊎◌, inl, inr, ℕ, zero, suc, ◌+◌, ◌-◌, ◌<◌, ◌≤◌, Bool, true, false, ◌&&◌, ◌||◌, nat_le, List, [], ◌∷◌, ◌++◌, length, take, drop, length-take, None, refl, ap, sym, ◌∙◌, subst, arith, ◌==◌, nat_lt, Option, Some, encode_utf8_all}
+use Rattle.typst_edits.proofs.Words.{nat_tests, and_left, and_parts, or_left, is_error, same, Head, inner_head, SyntaxKind, hint_with, Tree, Forest, forest, trees, text_of, error_of, with_kind, made_error, advised, inner_of, topped, all_advised, leaf_of, less, Level, hand_of, Outcome, plain, joined, entered, asked, run, taken_node, done, hand_asks_of, hinted, NodeChange, is_delimited, in_parens, without_parens, first_changed, Shape, shaped, Making, after_node, hinted_last, renamed_last, parens_renamed, stays, turns_wrong, is_not, renamed, unparened, keeps, holds, lacks, warns, fails, on_both, on_if, is_ordinary, change_by, shape_by, Deep, fill, path_in, Hole, plug, warned_head, under, SyntaxMode, CharClasses, Place, moved, token_node, plain_node, fault_node, is_raw, has_fields, Token, Reading, Point, Trivia, pending, Ahead, ahead, ahead_by, after_trivia, direct, hand_at, token_at, len_at, at_trivia, as_at_hand, text_ahead, itself, surprise, of_kind, flush_trivia, close_if, takes, markup_reading, inner, look_again, bracket, inner_tail, inner_close, Every, last_node, made_expected, drop-all, is_block_head, codes, raw_node, hints, message, access_node}
+use Rattle.std.proofs.lemmas.Bool.{or_from}
+use Rattle.typst_language.specs.Shape.{made}
+use Rattle.typst_grammar.proofs.Fine.{making_by}
+use Rattle.typst_edits.specs.Hole.Deep.{bare}
+use Rattle.typst_language.specs.Shape.Making.{wanted}
+use Rattle.typst_tree.specs.Messages.{expected_error, expected_message, is_lost_name, keyword_hint, made_unexpected, unexpected_message}
+use Rattle.typst_edits.specs.Standing.{is_block}
+use Rattle.typst_language.specs.Raw.{delimited_node, closed_node, block_node, inline_node, delimited, two_delimiters, tag_leaves, is_pair, before_ticks, ticks}
+use Rattle.typst_language.specs.Fields.{field_node, fields_node, name_node, named_node, names_of}
 use Rattle.typst_kinds.specs.Names.{name_of}
-use Rattle.typst_kinds.specs.Head.{Head, inner_head}
-use Rattle.typst_kinds.specs.declared.kind.SyntaxKind.{SyntaxKind}
-use Rattle.typst_kinds.specs.declared.kind.SyntaxKind.TheVariants as kind
-use Rattle.typst_tree.specs.Diagnostic.{hint_with}
-use Rattle.typst_tree.specs.Messages.{made_expected, expected_error, expected_message, is_lost_name, keyword_hint}
-use Rattle.typst_tree.specs.Tree.{Tree, Forest, forest, trees, text_of, error_of, topped, with_kind, made_error, advised, all_advised}
 use Rattle.typst_tree.specs.Tree.Forest.{none, more}
-use Rattle.typst_language.specs.Meaning.{less}
-use Rattle.typst_language.specs.Shape.{hinted_last, hinted, NodeChange, is_delimited, in_parens, renamed_last, parens_renamed, without_parens, first_changed, Shape, shaped}
-use Rattle.typst_language.specs.Shape.NodeChange.{stays, turns_wrong, is_not, renamed, unparened}
-use Rattle.typst_language.specs.Shape.Shape.{keeps, holds, lacks, warns, fails}
-use Rattle.typst_language.proofs.Places.{drop-all}
-use Rattle.typst_language.proofs.Within.{on_both, on_if}
-use Rattle.typst_grammar.proofs.Fine.{is_ordinary, change_by, shape_by}
 use Rattle.typst_candidates.proofs.Found.{forest_trees as trees-forest}
-use Rattle.typst_edits.specs.Hole.{Deep, fill, path_in, Hole, plug, warned_head}
-use Rattle.typst_edits.specs.Hole.Deep.{bare, under}
-use Rattle.typst_edits.specs.Standing.{is_block, is_block_head}
+use Rattle.typst_language.specs.RawLines.{leaf, RawLine, trimmed, first_line, later_lines, is_blank, dedent, front, closing, line_leaves, first_leaves, block_of, block_leaves, inline_leaves}
+use Rattle.typst_language.specs.RawTag.{tag, warned, is_whole, only_tag}
+use Rattle.typst_grammar.proofs.Lists.{All, all-append}
+use Rattle.typst_edits.proofs.Blocks.{last-is}
+use Rattle.typst_kinds.specs.declared.kind.SyntaxKind.TheVariants as kind
 
 -- ---- positions
 
@@ -316,3 +312,185 @@ each-fill P n (under head left d right) x r e h =
 
 pub each-plug : (P : ℕ → List ℕ → Type 0) (hole : Hole) (x : Tree) → is_block_head x.head ≡ true → Each P 0 (forest (plug hole x)) → P (length hole.left) (path_in hole.deep)
 each-plug P hole x e h = each-fill P (length hole.left) hole.deep x (forest hole.right) e (each-skip P 0 (length hole.left) hole.left (fill hole.deep x ∷ hole.right) (omega arith) h)
+
+-- ---- what holds of each token's node: none has a node of a block's kind in it
+
+-- ---- what holds of each token's node
+
+-- WHAT A TOKEN'S NODE IS MADE OF: a property that these keep holds of each.
+pub record OfTokens (P : Tree → Type 0) : Type 0 where
+  pub leaves : (k : SyntaxKind) (s : List ℕ) → P (leaf_of k s)
+  pub errors : (message text : List ℕ) → P (error_of message text)
+  pub advice : (hs : List (List ℕ)) (t : Tree) → P t → P (all_advised hs t)
+  pub tags : (n : ℕ) (now : List ℕ) (t : Tree) → P t → P (only_tag n now t)
+  pub raws : (ts : List Tree) → All P ts → P (inner_of kind.Raw (forest ts))
+  pub accesses : (ts : List Tree) → All P ts → P (inner_of kind.MathFieldAccess (forest ts))
+
+module _ (P : Tree → Type 0) (of : OfTokens P) where
+  -- names with fields
+  of-fields : (left : Tree) (names : List (List ℕ)) → P left → P (fields_node left names)
+  of-fields left [] h = h
+  of-fields left (name ∷ names) h = of-fields (field_node left name) names (of.accesses (left ∷ leaf_of kind.Dot (codes ".") ∷ name_node name ∷ []) (h, (of.leaves _ _, (of.leaves _ _, tt))))
+
+  of-access : (taken : List ℕ) → P (access_node taken)
+  unfolding access_node
+  of-access taken = by-names (names_of taken)
+    where
+      by-names : (names : List (List ℕ)) → P (named_node names)
+      by-names [] = of.leaves _ _
+      by-names (name ∷ names) = of-fields (name_node name) names (of.leaves _ _)
+
+  -- raw texts
+  of-trimmed : (cs : List ℕ) → All P (trimmed cs)
+  of-trimmed [] = tt
+  of-trimmed (c ∷ cs) = (of.leaves _ _, tt)
+
+  of-lines : (d : ℕ) (held : List ℕ) (rs : List RawLine) (closing : List ℕ) → All P (line_leaves d held rs closing)
+  of-lines d held [] closing = of-trimmed (held ++ closing)
+  of-lines d held (r ∷ rs) closing = (of.leaves _ _, (of.leaves _ _, of-lines d [] rs closing))
+
+  of-start : (cs : List ℕ) → All P (first_leaves cs)
+  of-start [] = (of.leaves _ _, tt)
+  of-start (c ∷ cs) = on_both (All P) (c == 32) _ _ (of.leaves _ _, (of.leaves _ _, tt)) (of.leaves _ _, tt)
+
+  of-block : (cs : List ℕ) → All P (block_leaves cs)
+  unfolding block_leaves
+  of-block cs = by-parts (dedent cs) (first_line (front cs)) (later_lines (front cs)) (closing cs)
+    where
+      by-parts : (d : ℕ) (first : List ℕ) (rs : List RawLine) (closing : List ℕ) → All P (block_of d first rs closing)
+      by-parts d first rs closing = on_both (All P) (is_blank first) _ _ (of-lines d first rs closing) (all-append P (first_leaves first) (line_leaves d [] rs closing) (of-start first) (of-lines d [] rs closing))
+
+  of-inline : (cs : List ℕ) → All P (inline_leaves cs)
+  unfolding inline_leaves
+  of-inline cs = (of.leaves _ _, of-lines 0 [] (later_lines cs) [])
+
+  of-tag : (cs : List ℕ) → All P (tag_leaves cs)
+  of-tag [] = tt
+  of-tag (c ∷ cs) = (of.leaves _ _, tt)
+
+  of-delimited : (delim : List ℕ) (leaves : List Tree) → All P leaves → P (delimited delim leaves)
+  of-delimited delim leaves h = of.raws (leaf kind.RawDelim delim ∷ (leaves ++ leaf kind.RawDelim delim ∷ [])) (of.leaves _ _, all-append P leaves (leaf kind.RawDelim delim ∷ []) h (of.leaves _ _, tt))
+
+  of-warned : (n : ℕ) (now cs : List ℕ) (t : Tree) → P t → P (warned n now cs t)
+  unfolding warned
+  of-warned n now cs t h = on_both P (is_whole now cs) (only_tag n now t) t (of.tags n now t h) h
+
+  of-raw : (cs : List ℕ) → P (raw_node cs)
+  unfolding raw_node
+  of-raw cs = by-sides (ticks cs) (drop (length (ticks cs)) cs)
+    where
+      by-end : (delim message text : List ℕ) (o : Option (List ℕ)) → P (elim o as (λ _. Tree) [ None ↦ error_of message text | Some inner ↦ closed_node delim inner ])
+      by-end delim message text None = of.errors message text
+      by-end delim message text (Some inner) =
+          on_both P (nat_lt 2 (length delim)) (block_node delim inner) (inline_node delim inner)
+          (of-warned (length delim) (tag inner) inner _
+          (of-delimited delim _ (all-append P (tag_leaves (tag inner)) (block_leaves (drop (length (tag inner)) inner)) (of-tag (tag inner)) (of-block (drop (length (tag inner)) inner)))))
+          (of-delimited delim _ (of-inline inner))
+
+      by-sides : (delim rest : List ℕ) → P (delimited_node cs delim rest)
+      by-sides delim rest = on_both P (is_pair delim rest) two_delimiters _ (of.raws (leaf kind.RawDelim (96 ∷ []) ∷ leaf kind.RawDelim (96 ∷ []) ∷ []) (of.leaves _ _, (of.leaves _ _, tt))) (by-end delim _ _ (before_ticks (length delim) rest))
+
+  pub of-token : (k : CharClasses) (t : Token) (taken : List ℕ) → P (token_node k t taken)
+  of-token k t taken = elim t.fault as (λ o. P (elim o as (λ _. Tree) [ None ↦ plain_node k t taken | Some f ↦ fault_node f taken ])) [
+    | None ↦ on_both P (is_error t.kind) (error_of [] (encode_utf8_all taken)) _ (of.errors [] (encode_utf8_all taken))
+        (on_both P (is_raw t.kind) (raw_node taken) _ (of-raw taken)
+        (on_both P (has_fields t.kind) (access_node taken) (leaf_of t.kind (encode_utf8_all taken)) (of-access taken) (of.leaves t.kind (encode_utf8_all taken))))
+    | Some f ↦ of.advice (hints f taken) (error_of (message f taken) (encode_utf8_all taken)) (of.errors (message f taken) (encode_utf8_all taken))
+  ]
+
+-- ---- no node of a block's kind
+
+abbrev pub CleanTree : Tree → Type 0
+CleanTree t = Clean (t ∷ [])
+
+clean-all : (ts : List Tree) → All CleanTree ts → Clean ts
+clean-all [] h = tt
+clean-all (t ∷ ts) h = (h.0.0, (h.0.1.0, each-clean Nowhere 1 (forest ts) (clean-all ts h.1)))
+
+clean-inner : (k : SyntaxKind) (ts : List Tree) → is_ordinary k ≡ true → All CleanTree ts → CleanTree (inner_of k (forest ts))
+clean-inner k ts a h = each-inner Nowhere 0 k (inner_head k) (forest ts) refl refl a (clean-all ts h)
+
+pub clean-token : (k : CharClasses) (t : Token) (taken : List ℕ) → CleanTree (token_node k t taken)
+clean-token = of-token CleanTree (record {
+  leaves = λ k s. (λ u. absurd (cc), (tt, tt));
+  errors = λ message text. (λ u. absurd (cc), (tt, tt));
+  advice = λ hs t h. each-advised Nowhere 0 hs t none h;
+  tags = λ n now t h. h;
+  raws = λ ts h. clean-inner kind.Raw ts refl h;
+  accesses = λ ts h. clean-inner kind.MathFieldAccess ts refl h;
+})
+
+-- ---- what a token becomes, and trivia
+
+pub clean-made : (m : Making) (t : Tree) → making_by is_ordinary m ≡ true → CleanTree t → CleanTree (made m t)
+clean-made itself t a h = h
+clean-made (of_kind k) t a h = each-kind Nowhere Nowhere 0 k t none a (λ i q p. p) h tt
+clean-made (surprise hints) t a h = each-advised Nowhere 0 hints (made_unexpected t) none (each-wrong Nowhere Nowhere 0 (unexpected_message (name_of t.head.kind)) t none h tt)
+clean-made (wanted thing) t a h = each-wanted Nowhere Nowhere 0 thing t none h tt
+
+head-first : (t : Tree) (ts : List Tree) → CleanTree t → Clean ts → Clean (t ∷ ts)
+head-first t ts h k = (h.0, (h.1.0, each-clean Nowhere 1 (forest ts) k))
+
+clean-ahead : (k : CharClasses) (m : SyntaxMode) (n : ℕ) (z : Place) → Clean (ahead_by k m n z).trivia
+clean-ahead k m zero z = tt
+clean-ahead k m (suc n) z =
+    let t = token_at k m z in
+    let l = len_at k m z in
+    let node = token_node k t (take l z.ahead) in
+    on_both (λ (a : Ahead). Clean a.trivia) (at_trivia k m z) (after_trivia t l node (ahead_by k m n (moved l z))) (direct t l)
+    (head-first node _ (clean-token k t (take l z.ahead)) (clean-ahead k m n (moved l z))) tt
+
+clean-known : (k : CharClasses) (held : Reading) (known : Option Trivia) (z : Place) → Clean (pending known) → Clean (hand_at k held known z).trivia
+unfolding hand_at ahead
+clean-known k held None z h = clean-ahead k held.mode (length z.ahead) z
+clean-known k held (Some t) z h = h
+
+pub clean-hand : (l : Level) (z : Place) (s : Point) → Clean (pending s.known) → Clean (hand_of l z s).trivia
+clean-hand l z s h = clean-known l.classes s.held s.known z h
+
+-- ---- no token's node is an inner node of markup, and so no bracket of a content block
+
+-- no inner node of markup
+abbrev pub NoMarkup : Tree → Type 0
+NoMarkup t = t.head.is_inner ≡ true → t.head.kind ≡ kind.Markup → ⊥
+
+no-advised : (hs : List (List ℕ)) (t : Tree) → NoMarkup t → NoMarkup (all_advised hs t)
+no-advised [] t h = h
+no-advised (m ∷ hs) t h = no-advised hs _ h
+
+pub no-token : (k : CharClasses) (t : Token) (taken : List ℕ) → NoMarkup (token_node k t taken)
+no-token = of-token NoMarkup (record {
+  leaves = λ k s e f. absurd (cc);
+  errors = λ message text e f. absurd (cc);
+  advice = no-advised;
+  tags = λ n now t h. h;
+  raws = λ ts h e f. absurd (cc);
+  accesses = λ ts h e f. absurd (cc);
+})
+
+-- Nor are they as an error in its place.
+pub no-wrong : (message : List ℕ) (t : Tree) → NoMarkup t → NoMarkup (made_error message t)
+no-wrong message t h = on_both NoMarkup (is_error t.head.kind) t (error_of message _) h (λ e f. absurd (cc))
+
+-- ---- a content block's brackets
+
+pub bracket-plain : (k : CharClasses) (levels : ℕ) (z : Place) (s : Point) (node : Tree) → (bracket k levels z s).nodes ≡ node ∷ [] → NoMarkup node
+bracket-plain k levels z s node e =
+    let h = hand_of (inner k levels) z (entered markup_reading (look_again k levels z s).state) in
+    let taken = taken_node k itself h z in
+    let is : taken ≡ node = sym (last-is h.trivia taken) ∙ ap last_node e in
+    subst NoMarkup is (no-token k h.token (text_ahead h.len (moved h.gap z)))
+
+-- The one after flushed trivia, if there is one.
+pub close-plain : (k : CharClasses) (levels m n : ℕ) (s : Point) (z w : Place) → Every NoMarkup (inner_close k levels n (inner_tail k levels m s w).state z).nodes
+unfolding run close_if flush_trivia hand_at less
+close-plain k levels m n s z w =
+    let l = inner k levels in
+    let y = moved n z in
+    let p = after_node false [] (inner_tail k levels m s w).state in
+    let h = hand_of l y p in
+    let a = asked h p in
+    let first = record (plain (as_at_hand h) a) { asks = hand_asks_of l y p } in
+    let took = done l (takes false itself) (moved 0 y) a in
+    let g = hand_of l (moved 0 y) a in
+    on_both (λ (o : Outcome _). Every NoMarkup (joined first o).nodes) (same kind.RightBracket (as_at_hand h).kind) (joined took (plain true took.state)) (plain false a) (no-token k g.token (text_ahead g.len (moved g.gap (moved 0 y))), tt) tt

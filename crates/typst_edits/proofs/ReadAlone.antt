@@ -1,22 +1,9 @@
 -- Pieces of a run that are read by themselves on a new text are those that the run has there: for any run.
 use Rattle.std.proofs.Common.{◌≡◌, ℕ, zero, suc, ◌+◌, ◌<◌, if◌then◌else◌, ne_eqb, Bool, true, List, [], ◌∷◌, ◌++◌, length, drop, Some, refl, ap, sym, ◌∙◌, subst, arith}
-use Rattle.typst_lines.specs.Place.{Place, moved}
-use Rattle.typst_lines.specs.Classes.{CharClasses}
-use Rattle.typst_tree.specs.Tree.{Tree}
-use Rattle.typst_language.specs.Meaning.{Outcome, less}
-use Rattle.typst_language.specs.Point.{Trivia, Point, gap_of, pending}
-use Rattle.typst_language.specs.Shape.{hinted}
-use Rattle.typst_language.proofs.Places.{moved-sum, drop-all}
+use Rattle.typst_edits.proofs.Words.{Place, moved, CharClasses, Tree, Outcome, Trivia, Point, gap_of, pending, hinted, moved-sum, drop-all, together, text_with, Run, read_as, opened_by, cut_at, end_by, is_over, nodes_now, Agrees, Before, After, PassesPieces, first_place, TakesNone, fresh, read_again, made, AllGo, End, end_of, Sequence, turn_of, first_of, first_end, then_of, then_end}
+use Rattle.typst_edits.specs.OneReading.{again_end}
 use Rattle.typst_grammar.specs.Pieces.{given}
-use Rattle.typst_edits.specs.Children.{together}
-use Rattle.typst_edits.specs.Edit.{text_with}
-use Rattle.typst_edits.specs.Frame.{Run, read_as, opened_by, cut_at, end_by, is_over, nodes_now, Agrees, Before, After, PassesPieces}
-use Rattle.typst_edits.specs.Heads.{first_place}
-use Rattle.typst_edits.specs.OneReading.{TakesNone, again_end}
-use Rattle.typst_edits.specs.Resumed.{fresh, read_again}
-use Rattle.typst_edits.specs.Runs.{made, AllGo, End, end_of}
-use Rattle.typst_edits.specs.Sequence.{Sequence, turn_of, first_of, first_end, then_of, then_end}
-use Rattle.typst_edits.proofs.Led.{none-less}
+use Rattle.typst_edits.proofs.Turns.{none-less}
 use Rattle.typst_edits.proofs.Boundary.{KnownAt}
 use Rattle.typst_edits.proofs.Children.{given-together}
 use Rattle.typst_edits.proofs.OneReading.{gives-again-law}
@@ -28,11 +15,8 @@ hinted-empty : (hs : List (List ℕ)) → hinted hs [] ≡ []
 hinted-empty [] = refl
 hinted-empty (h ∷ hs) = refl
 
-hinted-nothing : (hs : List (List ℕ)) (n : ℕ) → hinted hs (less n []) ≡ []
-hinted-nothing hs n = ap (hinted hs) (none-less n) ∙ hinted-empty hs
-
 pub given-nodes : (s : Point) (os : List (Outcome (Bool × (Bool × ℕ)))) → (together s os).nodes ≡ given os []
-given-nodes s os = let o = together s os in sym (given-together s os [] ∙ ap (λ ts. ts ++ o.nodes) (hinted-nothing o.hints o.back))
+given-nodes s os = let o = together s os in sym (given-together s os [] ∙ ap (λ ts. ts ++ o.nodes) (ap (hinted o.hints) (none-less o.back) ∙ hinted-empty o.hints))
 
 -- ---- a run in two texts
 

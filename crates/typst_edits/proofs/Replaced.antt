@@ -1,20 +1,17 @@
 -- Children replaced: an equal front stays as it stands, and spans aside they are those exchanged.
 use Rattle.std.proofs.Common.{◌≡◌, ℕ, zero, suc, true, ◌+◌, ◌-◌, List, [], ◌∷◌, ◌++◌, length, take, drop, reverse, map, Option, Some, None, refl, ap, sym, ◌∙◌, arith, length-append}
-use Rattle.std.specs.Prelude.{option_map, option_and_then, slice_get, slice_set, slice_range}
-use Rattle.std.proofs.Math.Seq.{drop-append-add, take-nil}
-use Rattle.std.proofs.lemmas.List.{drop-drop, map-append, take-map, drop-map}
-use Rattle.typst_kinds.specs.Span.{SpanValue}
-use Rattle.typst_kinds.specs.Head.{Head, bare_head}
-use Rattle.typst_tree.specs.Tree.{Forest, none, more, Tree, forest, trees, bare, bare_forest, at_tree}
+use Rattle.typst_edits.proofs.Words.{option_map, slice_get, map-append, drop-map, take-map, Head, bare_head, Forest, none, more, Tree, forest, trees, bare, bare_forest, replaced_at, At, kids_of, put_at, AtPath, forest_trees, with_children, alter, drop-append-add, SpanValue, Begins}
+use Rattle.std.specs.Prelude.{option_and_then, slice_set, slice_range}
+use Rattle.std.proofs.lemmas.List.{drop-drop}
+use Rattle.typst_tree.specs.Tree.{at_tree}
+use Rattle.typst_tree.specs.Replace.{with_kids, middle, back, swapped, exchanged, in_file}
+use Rattle.typst_tree.proofs.SpansAside.{forest_bare}
+use Rattle.typst_edits.specs.Children.{exchanged as exchanged_nodes}
+use Rattle.std.proofs.Math.Seq.{take-nil}
+use Rattle.typst_edits.specs.Replaced.{FrontLaw, ReplacedLaw, PutLaw, ExchangedLaw}
 use Rattle.typst_tree.specs.Same.{same_tree, front}
-use Rattle.typst_tree.specs.Replace.{kids_of, with_kids, middle, back, swapped, exchanged, in_file, replaced_at, At}
-use Rattle.typst_tree.specs.Laws.{AtPath, put_at}
-use Rattle.typst_tree.proofs.SpansAside.{forest_trees, forest_bare}
 use Rattle.typst_tree.proofs.SameTree.{same_from_bare}
 use Rattle.typst_tree.proofs.ReplacesChildren.{replaces_children}
-use Rattle.typst_edits.specs.Children.{with_children, exchanged as exchanged_nodes}
-use Rattle.typst_edits.specs.Edit.{alter}
-use Rattle.typst_edits.specs.Replaced.{Begins, FrontLaw, ReplacedLaw, PutLaw, ExchangedLaw}
 
 -- ---- an equal front
 
@@ -37,10 +34,6 @@ drop-of-take (suc d) zero m xs is =
 drop-of-take (suc d) (suc n) m [] is = sym (take-nil m)
 drop-of-take (suc d) (suc n) m (x ∷ xs) is = drop-of-take d n m xs (omega (arith, is))
 
-stretch-behind : (xs : List Tree) (from to d : ℕ) → drop d (slice_range xs from to) ≡ slice_range xs (from + d) to
-stretch-behind xs from to d =
-    drop-of-take d (to - from) (to - (from + d)) (drop from xs) (omega arith) ∙ ap (take (to - (from + d))) (drop-drop d from xs)
-
 -- what stays at the end, and what is between, where d more stay at the front
 back-behind : (old kept new rest : List Tree) (a all : ℕ) → drop (length kept) old ≡ rest → all ≡ length kept + a → back all old (kept ++ new) ≡ back a rest new
 back-behind old kept new rest a all e is =
@@ -59,7 +52,7 @@ swapped-behind : (file : ℕ) (h : Head) (xs : List Tree) (from to : ℕ) (kept 
 swapped-behind file h xs from to kept new e =
     let old = slice_range xs from to in
     let rest = slice_range xs (from + length kept) to in
-    let behind : drop (length kept) old ≡ rest = stretch-behind xs from to (length kept) in
+    let behind : drop (length kept) old ≡ rest = drop-of-take (length kept) (to - from) (to - (from + length kept)) (drop from xs) (omega arith) ∙ ap (take (to - (from + length kept))) (drop-drop (length kept) from xs) in
     let a = front rest new in
     let all = front old (kept ++ new) in
     let is : all ≡ length kept + a = front-kept old kept new e ∙ ap (λ ts. length kept + front ts new) behind in

@@ -1,36 +1,13 @@
 -- Pieces that are read again from their first token are those that stood there, and their number follows from where they end.
-use borrow.Author.Tests.{ltb-true, lt-ltb}
 use Rattle.std.proofs.Common.{◌≡◌, ℕ, zero, suc, ◌+◌, ◌<◌, ◌&&◌, Bool, true, false, nat_lt, List, [], ◌∷◌, ◌++◌, None, Some, refl, ap, sym, ◌∙◌, subst, arith}
-use Rattle.std.proofs.lemmas.Bool.{and_parts}
-use Rattle.typst_kinds.specs.declared.kind.SyntaxKind.{SyntaxKind}
-use Rattle.typst_lines.specs.Place.{Place, moved}
-use Rattle.typst_lines.specs.Classes.{CharClasses}
-use Rattle.typst_language.specs.Depth.{is_end}
-use Rattle.typst_language.specs.Hand.{as_at_hand, at_trivia, hand_at}
-use Rattle.typst_language.specs.Point.{Trivia, Point, gap_of, no_newlines}
-use Rattle.typst_language.specs.Steps.{peek}
-use Rattle.typst_language.specs.Meaning.{Outcome, Meaning, Level, start_point, asked, hand_of, run}
-use Rattle.typst_language.proofs.Ends.{hand-takes}
-use Rattle.typst_language.proofs.Places.{moved-sum}
-use Rattle.typst_grammar.specs.Markup.{ends, ends_block, markup_turn, markup_head, markup_reading}
-use Rattle.typst_grammar.specs.Grammar.{rules, level_at, max_depth}
-use Rattle.typst_edits.specs.BlockRuns.{inner, bracket, inner_lead, inner_run}
-use Rattle.typst_edits.specs.Heads.{first_place, minds_at}
-use Rattle.typst_edits.specs.InnerPiecesTest.{read_alone, end_alone}
-use Rattle.typst_edits.specs.Joint.{minds, text_run}
-use Rattle.typst_edits.specs.Occurrences.{goes}
-use Rattle.typst_edits.specs.Resumed.{fresh, read_again, SamePiece, SamePieces, ResumeLaw, InnerResumeLaw, CountLaw, InnerCountLaw}
-use Rattle.typst_edits.specs.Runs.{made, AllGo, End, end_of, lead, start}
-use Rattle.typst_edits.specs.Sequence.{Sequence, turn_of, first_of, first_end, then_of, then_end}
+use Rattle.typst_edits.proofs.Words.{ltb-true, lt-ltb, and_parts, SyntaxKind, Place, moved, CharClasses, is_end, as_at_hand, at_trivia, hand_at, Trivia, Point, gap_of, no_newlines, peek, Outcome, Meaning, Level, start_point, asked, hand_of, run, hand-takes, moved-sum, ends, ends_block, markup_turn, markup_head, markup_reading, rules, level_at, max_depth, inner, bracket, inner_lead, inner_run, first_place, minds_at, read_alone, end_alone, minds, text_run, goes, fresh, read_again, SamePiece, SamePieces, made, AllGo, End, end_of, lead, start, Sequence, turn_of, first_of, first_end, then_of, then_end}
+use Rattle.typst_edits.specs.Resumed.{ResumeLaw, InnerResumeLaw, CountLaw, InnerCountLaw}
 use Rattle.typst_edits.proofs.BlockModes.{hand-first}
 use Rattle.typst_edits.proofs.Boundary.{KnownAt, first-of, turn-known, going-on, known-made}
 use Rattle.typst_edits.proofs.Children.{top-known}
-use Rattle.typst_edits.proofs.InnerJoint.{block-read, block-taking}
-use Rattle.typst_edits.proofs.Joint.{known-is, text-read, text-taking}
-use Rattle.typst_edits.proofs.Led.{kind-behind, Led, before_trivia}
-use Rattle.typst_edits.proofs.Meeting.{ReadAs, judged-alike}
-use Rattle.typst_edits.proofs.Reached.{Reached, Reaches, reached-run, reached-meaning}
-use Rattle.typst_edits.proofs.Turns.{takes-turn, end-by, Taking, turn-led}
+use Rattle.typst_edits.proofs.Joint.{block-read, block-taking, known-is, text-read, text-taking, ReadAs, judged-alike}
+use Rattle.typst_edits.proofs.Turns.{kind-behind, Led, before_trivia, takes-turn, end-by, Taking, turn-led}
+use Rattle.typst_edits.proofs.Known.{Reached, Reaches, reached-run, reached-meaning}
 
 -- After turns the trivia at hand are all of them.
 pub reached-made : {A : Type 0} (k : CharClasses) (m : A → Meaning (Bool × A)) → ((x : A) → Reaches k (m x)) → (n : ℕ) (x : A) (z : Place) (s : Point) → Reached k z s

@@ -1,36 +1,21 @@
--- The entries of a text's run, by their numbers.
-use Rattle.std.proofs.Common.{◌≡◌, ℕ, suc, ◌+◌, ◌≤◌, ◌==◌, Bool, true, false, nat_lt, List, [], append-nil, refl, ap, sym, ◌∙◌, subst, arith}
-use Rattle.std.proofs.lemmas.Bool.{eqb-true, eqb-false}
-use Rattle.typst_lines.specs.Place.{moved}
-use Rattle.typst_lines.specs.Classes.{CharClasses}
-use Rattle.typst_language.specs.declared.calls.Note.{Note}
-use Rattle.typst_language.specs.Meaning.{Meaning, hand_of, run}
-use Rattle.typst_language.proofs.Places.{moved-sum}
-use Rattle.typst_candidates.specs.Entries.{entries_by}
-use Rattle.typst_candidates.specs.Records.{IsRising}
-use Rattle.typst_grammar.specs.Markup.{ends}
-use Rattle.typst_grammar.specs.Grammar.{max_depth, start_of, log}
-use Rattle.typst_edits.specs.BlockTest.{entries_in}
-use Rattle.typst_edits.specs.Frame.{is_over}
-use Rattle.typst_edits.specs.InOrder.{InOrderLaw}
-use Rattle.typst_edits.specs.Joint.{text_run}
+-- The entries of a run, by their numbers: of a text's run and of a content block's.
+use Rattle.std.proofs.Common.{◌≡◌, ℕ, suc, ◌+◌, ◌≤◌, ◌==◌, Bool, true, false, nat_lt, List, [], append-nil, refl, ap, sym, ◌∙◌, subst, arith, ◌-◌, ◌<◌, ◌∷◌, ◌++◌, length, take, drop, length-append, append_assoc, Some}
+use Rattle.typst_edits.proofs.Words.{eqb-true, eqb-false, moved, Place, CharClasses, Note, Meaning, hand_of, run, moved-sum, entries_by, entry_kind_of, count_of, entry_of, last_start, IsRising, opening_of, ends, ends_block, markup_turn, max_depth, start_of, log, entries_in, SaysBlock, is_over, InOrderLaw, text_run, of_level, NumberedInner, goes, listed, number_of, RunNumbersLaw, number_in, InnerNumbersLaw, cut_of, cut_in, AllGo, End, pieces, piece_at, end_at, lead, asks_of, Sequence, turn_of, first_of, first_end, then_end, width, Block, shift, point_of, closing_of, closing-found, run_at, Among, inner_end, blocks_of_text, BeginsAt, notes_in, Spot}
 use Rattle.typst_edits.specs.NumberedNotes.{NumberedRun}
-use Rattle.typst_edits.specs.Occurrences.{goes}
-use Rattle.typst_edits.specs.PieceNotes.{listed}
-use Rattle.typst_edits.specs.RunNumbers.{cut_of, number_of, RunNumbersLaw}
-use Rattle.typst_edits.specs.Runs.{AllGo, End, pieces, piece_at, end_at, lead}
-use Rattle.typst_edits.specs.Sequence.{Sequence, turn_of, first_of, first_end, then_end}
 use Rattle.typst_edits.proofs.BlockTest.{units-listed}
 use Rattle.typst_edits.proofs.Boundary.{looks_in, each-ends, made-add, first-of, going-on, known-made}
-use Rattle.typst_edits.proofs.Cuts.{cuts-law}
-use Rattle.typst_edits.proofs.FoundPieces.{NoteAt, RunAmong, FoundPieces, found-pieces}
-use Rattle.typst_edits.proofs.InnerCuts.{few-go}
-use Rattle.typst_edits.proofs.Leading.{Leads, text-leads, turn-over}
+use Rattle.typst_edits.proofs.Cuts.{cuts-law, inner-cuts-law, few-go}
+use Rattle.typst_edits.proofs.FoundPieces.{NoteAt, RunAmong, FoundPieces, found-pieces, says-by, level-long, closing, own-none, head-same, tail-same}
+use Rattle.typst_edits.proofs.Leading.{Leads, text-leads, turn-over, block-leads}
 use Rattle.typst_edits.proofs.Nested.{nested-law}
-use Rattle.typst_edits.proofs.NoteNumbers.{less-than, go-fewer, go-next, number-law}
-use Rattle.typst_edits.proofs.NumberedNotes.{numbered-run-law}
-use Rattle.typst_edits.proofs.Root.{within}
-use Rattle.typst_edits.proofs.RunBytes.{text-note, text-count}
+use Rattle.typst_edits.proofs.NumberedNotes.{less-than, go-fewer, go-next, number-law, neither, numbered-run-law, NestedNumbers, nested-numbers}
+use Rattle.typst_edits.proofs.BlockRuns.{within, sane as in-sane}
+use Rattle.typst_edits.proofs.RunBytes.{text-note, text-count, asks_before, asks_first, inner_run_mark as run_mark, opened, inner_asks_by as asks_by, block-asks, inner-decision-law, cut-here}
+use Rattle.typst_language.specs.declared.calls.Block.TheVariants as block
+use Rattle.typst_candidates.specs.declared.entry.EntryKind.TheVariants as entry_kind
+use Rattle.typst_edits.proofs.EntryNumbers.{NoneAt, opening-some, got-entry, past-entry}
+use Rattle.typst_edits.proofs.OpensApart.{opens-apart-law}
+use Rattle.typst_edits.proofs.Splice.{count-append, count-shift}
 
 -- ---- where a run is over
 
@@ -120,5 +105,187 @@ run-numbers-law ordered k text =
       rises = f.rises;
       last = f.last;
       not_last = f.not_last;
+      says = f.says;
+    }
+
+-- ---- a note by the number of those before it
+
+record Inside (ns : List Note) (inner_n : Note) (x : ℕ) : Type 0 where
+  earlier : List Note
+  later : List Note
+  is : ns ≡ earlier ++ inner_n ∷ later
+  long : length earlier ≡ x
+
+inside-at : (ns suf es : List Note) (inner_n : Note) (ls : List Note) → ns ++ suf ≡ es ++ inner_n ∷ ls → length es < length ns → Inside ns inner_n (length es)
+inside-at [] suf es inner_n ls e l = absurd (omega (arith, l))
+inside-at (m ∷ ns) suf [] inner_n ls e l = record { earlier = []; later = ns; is = ap (λ u. u ∷ ns) (head-same m inner_n (ns ++ suf) ls e); long = refl }
+inside-at (m ∷ ns) suf (x ∷ es) inner_n ls e l =
+    let i = inside-at ns suf es inner_n ls (tail-same m x (ns ++ suf) (es ++ inner_n ∷ ls) e) (omega (arith, l)) in
+    record { earlier = m ∷ i.earlier; later = i.later; is = ap (λ us. m ∷ us) i.is; long = ap suc i.long }
+
+inside-behind : (pre ns suf es : List Note) (inner_n : Note) (ls : List Note) (x : ℕ) → pre ++ (ns ++ suf) ≡ es ++ inner_n ∷ ls → length es ≡ length pre + x → x < length ns → Inside ns inner_n x
+inside-behind [] ns suf es inner_n ls x e long l = let same : length es ≡ x = omega (arith, long) in subst (λ j. Inside ns inner_n j) same (inside-at ns suf es inner_n ls e (omega (arith, same, l)))
+inside-behind (p ∷ pre) ns suf [] inner_n ls x e long l = absurd (omega (arith, long))
+inside-behind (p ∷ pre) ns suf (y ∷ es) inner_n ls x e long l = inside-behind pre ns suf es inner_n ls x (tail-same p y (pre ++ (ns ++ suf)) (es ++ inner_n ∷ ls) e) (omega (arith, long)) l
+
+-- ---- a content block's run
+
+module _ (ordered : InOrderLaw) (k : CharClasses) (levels : ℕ) (text : List ℕ) (s : Spot (Unit {0})) (chosen : Among s (blocks_of_text k text)) (name : s.name ≡ block.Content) (left : max_depth - s.fewer ≡ suc levels) where
+  abbrev known : NestedNumbers k levels text s
+  known = nested-numbers k levels text s chosen name left
+
+  abbrev inner_n : NumberedInner k levels text s
+  inner_n = known.numbers
+
+  abbrev tail : List Note
+  tail = inner_n.inner ++ inner_n.closes ∷ inner_n.later
+
+  abbrev pre : List Note
+  pre = inner_n.earlier ++ inner_n.opens ∷ []
+
+  abbrev all : List Note
+  all = inner_n.earlier ++ inner_n.opens ∷ tail
+
+  abbrev z0 : Place
+  z0 = start_of text
+
+  notes-are : listed (log k text).notes ≡ all
+  notes-are = ap listed inner_n.notes
+
+  all-is : pre ++ tail ≡ all
+  all-is = append_assoc inner_n.earlier (inner_n.opens ∷ []) tail
+
+  rising : IsRising 0 all
+  rising = subst (λ us. IsRising 0 us) notes-are (ordered k text)
+
+  pre-long : length pre ≡ suc (length inner_n.earlier)
+  pre-long = let nothing : List Note = [] in let long = length-append inner_n.earlier (inner_n.opens ∷ nothing) in omega (arith, long)
+
+  inner-goes-up-to : (i : ℕ) → i ≤ inner_n.count → AllGo (first_of i (run_at k levels s z0))
+  inner-goes-up-to i l = let r = run_at k levels s z0 in go-fewer (turn_of r) i inner_n.count (true, 0) r.place r.point l inner_n.go
+
+  -- Fewer notes are made in a given number of pieces than in the block.
+  few-notes : (i : ℕ) → AllGo (first_of i (run_at k levels s z0)) → notes_in (asks_of (first_of i (run_at k levels s z0))) < length inner_n.inner
+  few-notes i g =
+      let y = moved s.at z0 in
+      let p = point_of s.start in
+      let r = run_at k levels s z0 in
+      let e = first_end i r in
+      let firsts = asks_first k levels y p in
+      let os = asks_of (first_of i r) in
+      let late = asks_by k levels y p e in
+      let own = run_mark k levels y p ∷ ((firsts ++ os) ++ shift e.taken late) in
+      let a = count-append (asks_before k levels y p) (shift (opened k levels y p) own) in
+      let c = count-append (firsts ++ os) (shift e.taken late) in
+      omega (arith, ap notes_in (known.asks ∙ block-asks k levels y p i g), known.long, a, count-shift (opened k levels y p) own, c, count-append firsts os)
+
+  -- the note where a given number of pieces end
+  inner-note-at : (i : ℕ) → i ≤ inner_n.count → NoteAt (suc levels) (length pre) inner_n.inner i (number_in k levels text s i)
+  inner-note-at i l =
+      let g = inner-goes-up-to i l in
+      let lv = suc levels in
+      let d = inner-decision-law k levels [] [] text s i 0 chosen name left g tt in
+      let p = d.begins in
+      let x = notes_in (asks_of (first_of i (run_at k levels s z0))) in
+      let before = known.number in
+      let long = pre-long in
+      let h = inside-behind pre inner_n.inner (inner_n.closes ∷ inner_n.later) p.earlier p.note p.later x (all-is ∙ sym notes-are ∙ ap listed p.notes) (omega (arith, d.number, before, long)) (few-notes i g) in
+      let j = length (of_level lv h.earlier) in
+      let says = says-by lv inner_n.inner text (λ m. inner_end k levels m s z0) h.earlier p.note h.later j inner_n.each h.is p.levels refl in
+      let fits : j ≤ inner_n.count = omega (arith, ap (λ us. length (of_level lv us)) h.is, level-long lv h.earlier p.note h.later p.levels, inner_n.all) in
+      let here = cut-here text i (inner_end k levels i s z0) p.note.start d.token d.token_first in
+      record {
+        earlier = h.earlier;
+        note = p.note;
+        later = h.later;
+        is = h.is;
+        own = p.levels;
+        index = neither j i
+            (λ less. (let rise = inner-cuts-law k levels text s j i less g in omega (arith, rise, here, says.start)))
+            (λ less. (let rise = inner-cuts-law k levels text s i j less (inner-goes-up-to j fits) in omega (arith, rise, here, says.start)));
+        all = omega (arith, h.long, before, long);
+      }
+
+  inner-among : RunAmong (suc levels) pre inner_n.inner (inner_n.closes ∷ inner_n.later) text (λ i. inner_end k levels i s z0) inner_n.count (number_in k levels text s)
+  inner-among = record {
+    nested = known.nested;
+    rising = subst (λ us. IsRising 0 us) (sym all-is) rising;
+    each = inner_n.each;
+    long = inner_n.all;
+    at = inner-note-at;
+    cuts_rise = λ i j less l. inner-cuts-law k levels text s i j less (inner-goes-up-to j l);
+    over = λ number. own-none (λ m. true) number inner_n.closes inner_n.later inner_n.name_end;
+  }
+
+  entries-are : entries_by 0 (pre ++ tail) ≡ entries_in k text
+  entries-are = ap (entries_by 0) (all-is ∙ sym notes-are) ∙ sym (units-listed (log k text))
+
+  inner-found : FoundPieces (entries_in k text) (number_in k levels text s) (cut_in k levels text s) (λ i. (inner_end k levels i s z0).value) inner_n.count
+  inner-found =
+      subst (λ es. FoundPieces es (number_in k levels text s) (cut_in k levels text s) (λ i. (inner_end k levels i s z0).value) inner_n.count) entries-are
+      (found-pieces (suc levels) pre inner_n.inner (inner_n.closes ∷ inner_n.later) text (λ i. inner_end k levels i s z0) inner_n.count (number_in k levels text s) inner-among)
+
+  closes-at : (let m = suc (number_in k levels text s inner_n.count) in closing_of 0 m (drop m (entries_in k text)) ≡ Some (length pre + length inner_n.inner))
+  closes-at =
+      let m = suc (number_in k levels text s inner_n.count) in
+      ap (λ es. closing_of 0 m (drop m es)) (sym entries-are)
+      ∙ closing (suc levels) pre inner_n.inner (inner_n.closes ∷ inner_n.later) text (λ i. inner_end k levels i s z0) inner_n.count (number_in k levels text s) inner-among inner_n.closes inner_n.later refl inner_n.name_end
+
+  opens-at : opening_of (width (take s.at text)) 0 0 (entries_in k text) ≡ Some (length inner_n.earlier)
+  opens-at =
+      let at = width (take s.at text) in
+      let start = inner_n.start in
+      let alone : NoneAt at inner_n.earlier = λ xs m ys b e f g.
+      (let less = opens-apart-law k text xs ys tail m inner_n.opens b s.name (notes-are ∙ ap (λ us. us ++ inner_n.opens ∷ tail) e ∙ append_assoc xs (m ∷ ys) (inner_n.opens ∷ tail)) f inner_n.name in absurd (omega (arith, less, g, start))) in
+      let same : 0 + length inner_n.earlier ≡ length inner_n.earlier = omega arith in
+      ap (opening_of at 0 0) (units-listed (log k text) ∙ ap (entries_by 0) notes-are) ∙ opening-some at 0 0 inner_n.earlier inner_n.opens tail s.name rising inner_n.name inner_n.start alone ∙ ap Some same
+
+  says-at : SaysBlock (entries_in k text) (length inner_n.earlier) (length pre + length inner_n.inner) (suc levels) block.Content s.start.held.mode
+  says-at =
+      let from = length inner_n.earlier in
+      let same : suc from + length inner_n.inner ≡ length pre + length inner_n.inner = omega (arith, pre-long) in
+      let says : SaysBlock (entries_by 0 all) from (length pre + length inner_n.inner) (suc levels) block.Content s.start.held.mode = record {
+        entry = entry_of (last_start 0 inner_n.earlier) inner_n.opens;
+        is = got-entry 0 inner_n.earlier inner_n.opens tail;
+        kind = (λ i. entry_kind_of (inner_n.name i) (inner_n.state i)) ∙ ap (λ (b : Block). entry_kind.Opens b s.start.held.mode) name;
+        count = (λ i. count_of (inner_n.name i) (inner_n.levels_there i));
+        closes = ap (closing_of 0 (suc from)) (past-entry 0 inner_n.earlier inner_n.opens tail) ∙ closing-found (suc levels) (suc from) inner_n.opens.start inner_n.inner inner_n.closes inner_n.later known.nested inner_n.name_end ∙ ap Some same;
+      } in
+      subst (λ es. SaysBlock es from (length pre + length inner_n.inner) (suc levels) block.Content s.start.held.mode) (ap (entries_by 0) (sym notes-are) ∙ sym (units-listed (log k text))) says
+
+  begins-at : (i : ℕ) → i ≤ inner_n.count → BeginsAt (entries_in k text) (suc (length inner_n.earlier)) (cut_in k levels text s i) (number_in k levels text s i)
+  begins-at i l =
+      let first : number_in k levels text s 0 ≡ suc (length inner_n.earlier) = omega (arith, known.number) in
+      subst (λ m. BeginsAt (entries_in k text) m (cut_in k levels text s i) (number_in k levels text s i)) first (inner-found.goes_on 0 i (omega arith) l)
+
+  block-over : (i m : ℕ) → i + m ≤ inner_n.count → is_over i m (run_at k levels s z0) ≡ (i + m == inner_n.count)
+  unfolding run
+  block-over i m l =
+      over-at (run_at k levels s z0) (block-leads k levels (moved s.at z0) (point_of s.start)) inner_n.count i m inner_n.go inner_n.over l
+
+pub inner-numbers-law : InOrderLaw → InnerNumbersLaw
+inner-numbers-law ordered k levels text s chosen name left =
+    let r = run_at k levels s (start_of text) in
+    let h = nested-numbers k levels text s chosen name left in
+    let inner_n = h.numbers in
+    let f = inner-found ordered k levels text s chosen name left in
+    record {
+      opens = length inner_n.earlier;
+      closes = length (inner_n.earlier ++ inner_n.opens ∷ []) + length inner_n.inner;
+      mode = s.start.held.mode;
+      before = h.number;
+      opening = opens-at ordered k levels text s chosen name left;
+      says_block = says-at ordered k levels text s chosen name left;
+      mode_is = refl;
+      count = inner_n.count;
+      go = inner_n.go;
+      most = λ i g. few-go (turn_of r) (λ x. (in-sane k levels (markup_turn true ends_block x)).within) inner_n.count i (true, 0) r.place r.point (nat_lt inner_n.count i) refl g inner_n.over;
+      over = block-over ordered k levels text s chosen name left;
+      begins = begins-at ordered k levels text s chosen name left;
+      goes_on = f.goes_on;
+      rises = f.rises;
+      last = f.last;
+      not_last = f.not_last;
+      closing = closes-at ordered k levels text s chosen name left;
       says = f.says;
     }

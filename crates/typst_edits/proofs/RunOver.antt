@@ -1,22 +1,12 @@
 -- Where a run that is read by itself ends, no more pieces go on.
 use Rattle.std.proofs.Common.{◌≡◌, ℕ, suc, ◌+◌, ◌<◌, ◌≤◌, Bool, true, false, nat_lt, length, sym, ◌∙◌, arith}
-use Rattle.typst_lines.specs.Place.{moved}
-use Rattle.typst_lines.specs.Classes.{CharClasses}
-use Rattle.typst_language.specs.declared.calls.Block.{Block}
-use Rattle.typst_language.specs.Meaning.{Meaning, Level, start_point, run}
-use Rattle.typst_language.specs.Point.{gap_of}
-use Rattle.typst_language.specs.Sound.{Within}
-use Rattle.typst_language.specs.Steps.{peek}
-use Rattle.typst_language.proofs.Knot.{Sane, sane-run, sane-meaning, sane-block, sane-plain}
-use Rattle.typst_grammar.specs.declared.part.RunKind.{RunKind}
+use Rattle.typst_edits.proofs.Words.{moved, CharClasses, Block, Meaning, Level, start_point, run, gap_of, Within, peek, Sane, sane-run, sane-meaning, sane-block, sane-plain, RunKind, rules, markup_turn, markup_reading, first_look, run_level, stops_of, end_on}
+use Rattle.typst_grammar.specs.Pieces.{AllGo, blocks_in}
 use Rattle.typst_grammar.specs.declared.part.RunKind.TheVariants as of
-use Rattle.typst_grammar.specs.Grammar.{rules}
-use Rattle.typst_grammar.specs.Markup.{markup_turn, markup_reading}
-use Rattle.typst_grammar.specs.Pieces.{AllGo, run_level, stops_of, blocks_in, first_look, end_on}
 use Rattle.typst_grammar.specs.Part.{IsOver}
 use Rattle.typst_edits.specs.RunTest.{Reading, read_by, OverLaw}
 use Rattle.typst_edits.proofs.Boundary.{first-of, stopped-is}
-use Rattle.typst_edits.proofs.NoteNumbers.{go-fewer, go-next, turns-within}
+use Rattle.typst_edits.proofs.NumberedNotes.{go-fewer, go-next, turns-within}
 use Rattle.typst_edits.proofs.Every.{not-less}
 
 sane-in : (k : CharClasses) (levels : ℕ) (which : RunKind) (b : Block) → Sane (blocks_in k levels which b)
@@ -33,10 +23,6 @@ module _ (k : CharClasses) (r : Reading) where
   within : (x : Bool × ℕ) → Within (turn x)
   within x = (sane-run level (sane-meaning (rules k) k r.levels) (sane-in k r.levels r.which) (markup_turn true (stops_of r.which) x)).within
 
-  -- If so many pieces go on, fewer of them do too.
-  pub fewer-go : (m j : ℕ) → m ≤ j → AllGo (read_by k r j) → AllGo (read_by k r m)
-  fewer-go m j l g = go-fewer turn m j r.carried r.place (first_look level r.place).state l g
-
   -- how far they go, with the trivia after them
   pub ends-in : (m : ℕ) → (let e = end_on level (stops_of r.which) r.carried m r.place in e.taken + gap_of e.state.known ≤ length r.place.ahead)
   ends-in m =
@@ -47,7 +33,7 @@ module _ (k : CharClasses) (r : Reading) where
   none-behind m j over go l =
       let e = end_on level (stops_of r.which) r.carried m r.place in
       let o = turn e.value (moved e.taken r.place) e.state in
-      let on = first-of o.value.0 (nat_lt 0 o.taken) (go-next turn m r.carried r.place (first_look level r.place).state (fewer-go (suc m) j l go)) in
+      let on = first-of o.value.0 (nat_lt 0 o.taken) (go-next turn m r.carried r.place (first_look level r.place).state (go-fewer turn (suc m) j r.carried r.place (first_look level r.place).state l go)) in
       let stopped : o.value.0 ≡ false = stopped-is level (stops_of r.which) e.value (moved e.taken r.place) e.state over in
       let no : true ≡ false = sym on ∙ stopped in cc
 

@@ -1,51 +1,85 @@
--- The units of a text with an edit inside some pieces of its run.
-use Rattle.std.proofs.Common.{◌≡◌, ◌==◌, inl, inr, ◌⊎◌, ℕ, zero, suc, ◌+◌, ◌-◌, ◌<◌, ◌^◌, Bool, true, List, [], ◌∷◌, ◌++◌, length, map, append_assoc, Some, refl, ap, sym, ◌∙◌, subst, arith}
-use Rattle.std.proofs.lemmas.List.{map-append}
-use Rattle.typst_kinds.specs.Kinds.{same}
-use Rattle.typst_kinds.specs.declared.kind.SyntaxKind.TheVariants as kind
-use Rattle.typst_kinds.specs.declared.mode.SyntaxMode.TheVariants as mode
-use Rattle.typst_candidates.specs.declared.entry.Entry.{Entry}
-use Rattle.typst_lines.specs.Place.{Place, moved}
-use Rattle.typst_lines.specs.Classes.{CharClasses}
-use Rattle.typst_tokens.specs.Reader.{Look, no_look}
-use Rattle.typst_tokens.specs.Sight.{width, position}
-use Rattle.typst_language.specs.Ask.{Ask, SameIn, shift, shift_one}
-use Rattle.typst_language.specs.Ask.Ask.{looked, marked}
-use Rattle.typst_language.specs.Depth.{is_end}
-use Rattle.typst_language.specs.Hand.{AtHand, Hand, as_at_hand, hand_at}
-use Rattle.typst_language.specs.Meaning.{Outcome, hand_of, hand_asks_of, repeated, run}
-use Rattle.typst_language.specs.Point.{Trivia, Point, gap_of}
-use Rattle.typst_language.specs.Steps.{peek}
-use Rattle.typst_language.proofs.Ends.{hand-ends}
-use Rattle.typst_language.proofs.Knot.{sane-at}
-use Rattle.typst_grammar.specs.Markup.{ends, markup_reading}
-use Rattle.typst_grammar.specs.Grammar.{rules, level_at, max_depth, start_of, parsed, log}
-use Rattle.typst_edits.specs.Edit.{text_with, AllEndBy, AllBeginIn}
-use Rattle.typst_edits.specs.Looks.{AllFrom}
-use Rattle.typst_edits.specs.Joint.{passed, onwards, text_run, place_from, onwards_from}
-use Rattle.typst_edits.specs.JointBytes.{asked_past}
-use Rattle.typst_edits.specs.RunSplice.{end_note, next_looks, own_asks, OverAt, RunSpliceLaw}
-use Rattle.typst_edits.specs.RunTrees.{run_mark}
-use Rattle.typst_edits.specs.Runs.{start, AllGo, asks_of, chain, lead, pieces, end_at, pieces_from, end_from, rest_from, tail, whole_of}
-use Rattle.typst_edits.specs.Sequence.{Sequence, turn_of}
-use Rattle.typst_edits.specs.Splice.{Noting, noting, notes_in}
-use Rattle.typst_edits.proofs.Boundary.{Begins, begins-append, looks_in, pieces-begin, from-both, split-from}
+-- The units of a text with an edit inside a block, and inside some pieces of a run, its own or a content block's.
+use Rattle.std.proofs.Common.{◌≡◌, ℕ, suc, ◌+◌, ◌≤◌, List, [], ◌∷◌, ◌++◌, length, ap, sym, ◌∙◌, subst, arith, ◌==◌, inl, inr, ◌⊎◌, zero, ◌-◌, ◌<◌, ◌^◌, Bool, true, map, append_assoc, Some, refl, ◌&&◌, if◌then◌else◌, false, None}
+use Rattle.typst_edits.proofs.Words.{units_of, spliced, moved, Place, position, width, Ask, shift, SameIn, shift_one, marked, looked, no_log, logged, Outcome, start_point, hand_of, hand_asks_of, repeated, run, state_of, Trivia, Point, gap_of, point_of, markup_reading, ends, rules, max_depth, whole, parsed, log, level_at, start_of, text_with, AllEndBy, AllBeginIn, Noting, noting, notes_in, entries_from, token_start, block_log, closing, Spot, unit_at, lowered, map-append, same, Entry, CharClasses, Look, look, no_look, is_end, AtHand, Hand, as_at_hand, hand_at, len_at, at_trivia, column_look, column_asks, ahead, asks_by, ahead_asks, hand_asks, peek, sane-at, AllFrom, passed, onwards, text_run, place_from, onwards_from, asked_past, end_note, OverAt, run_mark, start, AllGo, asks_of, chain, lead, pieces, end_at, pieces_from, end_from, rest_from, tail, whole_of, Sequence, turn_of, first_of, first_end, then_of, then_end, then_place, rest_of, note_at, looks_next, own_of, token, same_in-shift, same_in-first, same_in-second, moved-sum, inner, look_first, look_again, bracket, inner_lead, inner_run, content_with, run_at, tail_at, close_at, onwards_past, left_past, hand-ends}
+use Rattle.typst_edits.specs.BlockSplice.{BlockSpliceLaw}
+use Rattle.typst_edits.specs.RunSplice.{next_looks, own_asks, RunSpliceLaw}
+use Rattle.typst_edits.specs.InnerSplice.{end_note_in, pieces_log_in, InnerSpliceLaw, AroundSpliceLaw}
+use Rattle.typst_edits.proofs.Bytes.{asks-are, notes-one, notes-own, both-end, AllMarks, marks-append, logged-lowered}
+use Rattle.typst_edits.proofs.Seen.{AllSeen, end-first, seen-first, sees-level}
+use Rattle.typst_edits.proofs.Splice.{splice-law, Side, Last, entries_at, back_at, count-append, count-shift, each-bare, each-from, from-zero, bare-shift, side-none, side-by, same-at, last-at, splice-texts, count-none, take-width}
+use Rattle.typst_edits.proofs.Text.{block-law, names-law}
+use Rattle.typst_edits.proofs.Boundary.{Begins, begins-append, looks_in, pieces-begin, from-both, split-from, piece_mark}
 use Rattle.typst_edits.proofs.Edit.{before-same}
 use Rattle.typst_edits.proofs.EmptyRuns.{Knows, Never, hand-asks, hand-gap, passed-kind, onwards-looks, end-look, token_look, end-any}
 use Rattle.typst_edits.proofs.Every.{Every}
 use Rattle.typst_edits.proofs.Forward.{ahead-from, lead-ahead}
-use Rattle.typst_edits.proofs.Joint.{text-read, onwards-is, onwards-fronted, joint-law}
-use Rattle.typst_edits.proofs.Marks.{AllMarks, marks-append}
+use Rattle.typst_edits.proofs.Joint.{text-read, onwards-is, onwards-fronted, joint-law, block-read, inner-joint-law, known-is, text-taking, block-taking}
 use Rattle.typst_edits.proofs.Outcomes.{shift-zero, shift-twice}
-use Rattle.typst_edits.proofs.Root.{whole-is, split-at, split-taken}
-use Rattle.typst_edits.proofs.RunBytes.{lead-bare}
+use Rattle.typst_edits.proofs.BlockRuns.{whole-is, within, sane, seq_by, first-same}
+use Rattle.typst_edits.proofs.RunBytes.{lead-bare, asks_before, content-asks, inner-lead-bare, before-marks, past-both}
 use Rattle.typst_edits.proofs.RunTrees.{whole-asks, chained-asks}
-use Rattle.typst_edits.proofs.Runs.{chain-state}
-use Rattle.typst_edits.proofs.Sides.{Side, Last, entries_at, back_at, count-append, count-shift, each-bare, each-from, from-zero, bare-shift, side-none, side-by, same-at, last-at, splice-texts}
-use Rattle.typst_edits.proofs.Splice.{take-width}
+use Rattle.typst_edits.proofs.Runs.{chain-state, split, split-taken}
 use Rattle.typst_edits.proofs.Widths.{width-moved}
-use Rattle.typst_edits.proofs.PieceAsks.{lifted, lifted_note, lifted-none, Cut as AnyCut, cut as cut-any, next-none as next-none-any, side-in, again}
-use Rattle.typst_edits.specs.InnerSplice.{note_at, looks_next, own_of}
+use Rattle.typst_edits.proofs.PieceAsks.{lifted, lifted_note, lifted-none, Cut as AnyCut, cut as cut-any, next-none as next-none-any, side-in, again, lifted-append, lifted-count, lifted-ends, lifted-shift, begins-lowered, begins-both, begins-further, next-none as inner-next-none, Cut as InnerCut, cut as inner-cut, again as again-any, Plain}
+use Rattle.typst_edits.proofs.Spots.{same_in-at}
+use Rattle.typst_edits.proofs.Turns.{before_trivia}
+use Rattle.typst_edits.proofs.Known.{Reached}
+use Rattle.typst_edits.proofs.Resumed.{block-reached}
+use Rattle.typst_language.specs.declared.calls.Mark.TheVariants as mark
+use Rattle.typst_kinds.specs.declared.kind.SyntaxKind.TheVariants as kind
+use Rattle.typst_kinds.specs.declared.mode.SyntaxMode.TheVariants as mode
+
+-- ---- the units of a text with an edit inside a block
+
+-- the note where a block begins
+abbrev opening : {A : Type 0} → Spot A → Noting
+opening c = record { at = c.at; gap = 0; fewer = c.fewer; mark = mark.Opens c.name; state = c.start }
+
+-- what is asked of a text, by the two notes of a block
+block-asks : {A : Type 0} (c : Spot A) (u : Outcome (Unit {0})) (asks earlier later : List Ask) (end : ℕ) → asks ≡ c.before ++ (shift c.at (lowered c.fewer u.asks) ++ shift (c.at + u.taken) c.after)
+    → c.before ≡ earlier ++ noting (opening c) ∷ [] → c.after ≡ marked 0 0 c.fewer mark.Closes (state_of c.reached) ∷ later → c.at + u.taken ≡ end
+    → asks ≡ earlier ++ noting (opening c) ∷ (shift c.at (lowered c.fewer u.asks) ++ noting (closing c u.taken) ∷ shift end later)
+block-asks c u asks earlier later end e f g h =
+    let stop = c.at + u.taken in
+    let none : stop + 0 ≡ stop = omega arith in
+    let behind : shift stop c.after ≡ noting (closing c u.taken) ∷ shift end later =
+    ap (shift stop) g ∙ ap (λ n. marked n 0 c.fewer mark.Closes (state_of c.reached) ∷ shift stop later) none ∙ ap (λ n. noting (closing c u.taken) ∷ shift n later) h in
+    asks-are asks c.before earlier (shift c.at (lowered c.fewer u.asks)) (shift stop c.after) (shift end later) (noting (opening c)) (noting (closing c u.taken)) e f behind
+
+pub block-splice-law : BlockSpliceLaw
+unfolding log
+block-splice-law k front old new rest c past i h big more =
+    let z = text_with front old rest in
+    let w = text_with front new rest in
+    let a = unit_at c z in
+    let b = unit_at c w in
+    let named = names-law k (front ++ (old ++ rest)) c i in
+    let kept = block-law k front old new rest c past i h in
+    let end = (length front + length old) + past in
+    let stop = (length front + length new) + past in
+    let own = shift c.at (lowered c.fewer a.asks) in
+    let fresh = shift c.at (lowered c.fewer b.asks) in
+    let ends : c.at + a.taken ≡ end = omega (arith, h.ends) in
+    let stops : c.at + b.taken ≡ stop = omega (arith, h.shifted) in
+    let starts : c.at + 0 ≤ length front = omega (arith, h.starts) in
+    let was = block-asks c a (parsed k max_depth (front ++ (old ++ rest))).asks named.earlier named.later end kept.reading.was named.opened named.closed ends in
+    let now = block-asks c b (parsed k max_depth (front ++ (new ++ rest))).asks named.earlier named.later stop kept.reading.log named.opened named.closed stops in
+    let seen = sees-level (rules k) k max_depth whole z (start_point markup_reading) (length front) (omega arith) in
+    let early = end-first (length front) named.earlier _ (subst (AllEndBy (length front)) named.opened h.before) in
+    let noted = seen-first (length front) named.earlier _ (subst (AllSeen (length front)) was seen.noted) early in
+    let late = subst (AllBeginIn past rest) named.closed h.after in
+    let from = notes_in named.earlier in
+    let part = entries_from (position (moved c.at w)) (block_log (front ++ (new ++ rest)) c b).notes in
+    let last_old : (c.at + a.taken) + 0 ≡ end + 0 = omega (arith, h.ends) in
+    let last_new : (c.at + b.taken) + 0 ≡ stop + 0 = omega (arith, h.shifted) in
+    let law = splice-law max_depth front old new rest past 0 named.earlier own fresh named.later (opening c) (closing c a.taken) (closing c b.taken) big more early noted starts last_old last_new late in
+    record {
+      opens = from;
+      number = ap notes_in named.opened ∙ notes-one named.earlier c.at 0 c.fewer (mark.Opens c.name) c.start;
+      units = ap (λ asks. units_of (logged max_depth w no_log asks)) now ∙ law
+          ∙ ap (λ n. spliced from (suc (from + n)) part (units_of (logged max_depth z no_log (named.earlier ++ noting (opening c) ∷ (own ++ noting (closing c a.taken) ∷ shift end named.later))))) (notes-own c.at c.fewer a.asks)
+          ∙ ap (λ asks. spliced from (suc (from + notes_in a.asks)) part (units_of (logged max_depth z no_log asks))) (sym was);
+    }
 
 -- ---- lists of asks
 
@@ -92,9 +126,9 @@ module _ (k : CharClasses) where
       let e = end_at k i z in
       let u = tail k ((e.taken + (end_from k i n z).taken) + q.taken) q.state z in
       let tail_is : tail k r.taken r.state z ≡ u =
-      ap (λ a. tail k a r.state z) (split-taken k i n z) ∙ ap (λ s. tail k ((e.taken + (end_from k i n z).taken) + q.taken) s z) (chain-state os (chain ps q) ∙ chain-state ps q) in
+      ap (λ a. tail k a r.state z) (split-taken (text_run k z) i n) ∙ ap (λ s. tail k ((e.taken + (end_from k i n z).taken) + q.taken) s z) (chain-state os (chain ps q) ∙ chain-state ps q) in
       let is : parsed k max_depth text ≡ whole_of (lead k z) r u =
-      whole-is k text ∙ ap (λ o. whole_of (lead k z) o (tail k o.taken o.state z)) (split-at k i n z g h) ∙ ap (whole_of (lead k z) r) tail_is in
+      whole-is k text ∙ ap (λ o. whole_of (lead k z) o (tail k o.taken o.state z)) (split (text_run k z) (within k) i n g h) ∙ ap (whole_of (lead k z) r) tail_is in
       ap (λ (o : Outcome (Unit {0})). o.asks) is ∙ whole-asks k z r u ∙ ap (λ ls. run_mark ∷ ls) (chained-asks (lead k z).asks (true, 0) e.value (lead k z).state e.state os ps q u)
 
   -- all that is asked after the note where i pieces end
@@ -261,13 +295,13 @@ run-splice-law k front old new rest i n m past t u h over over_new big big_new =
     -- the token after the old pieces, and after the new ones
     let hand_old : hand_asks_of l y s ≡ looked t.gap seen ∷ [] = hand-asks l y t.gap s (record { held = held; trivia = t; known = h.meets.known; gap = refl }) in
     let hand_new = hand-asks l v u.gap q (record { held = (text-read k i m w).held; trivia = u; known = h.meets.known_now; gap = refl }) in
-    let on_old : (onwards_from k i n z).asks ≡ shift t.gap asks = (onwards-fronted k i n z t h.meets.known).asks in
+    let on_old : (onwards_from k i n z).asks ≡ shift t.gap asks = (onwards-fronted (text_run k z) (text-taking k) i n t h.meets.known).asks in
     let on_new : (onwards_from k i m w).asks ≡ shift u.gap asks = kept.behind.asks_now ∙ ap (shift u.gap) (unshifted t.gap kept.behind.looks asks (sym kept.behind.asks ∙ on_old)) in
     let b = onwards-begin r x (moved t.gap y) (passed t s) in
     let first_old : asks ≡ looked 0 seen ∷ b.more = b.is ∙ ap (λ ls. ls ++ b.more) (hand-asks l (moved t.gap y) 0 (passed t s) knows_passed) in
     let c = onwards-begin (text_run k w) (end_from k i m w).value v q in
     let first_new : (onwards_from k i m w).asks ≡ looked u.gap (token_look l (moved u.gap v)) ∷ c.more =
-    ap (λ (o : Outcome (Unit {0})). o.asks) (onwards-is k i m w) ∙ c.is ∙ ap (λ ls. ls ++ c.more) hand_new in
+    ap (λ (o : Outcome (Unit {0})). o.asks) (onwards-is (text_run k w) i m) ∙ c.is ∙ ap (λ ls. ls ++ c.more) hand_new in
     let same_seen : token_look l (moved u.gap v) ≡ seen = ap first_look (sym first_new ∙ on_new) ∙ first-shift u.gap asks ∙ ap first_look first_old in
     let none : (d : ℕ) → looked d seen ∷ shift d asks ≡ shift d last = λ d. ap (λ a. looked a seen ∷ shift d asks) (omega arith) in
     let tail_old : Tail k i n z t end last = record {
@@ -321,3 +355,253 @@ run-splice-law k front old new rest i n m past t u h over over_new big big_new =
     count-append (next_looks k i z) _ ∙ ap (λ a. a + notes_in (shift (end_at k i z).taken (asks_of (pieces_from k i n z)))) (next-none k i z) ∙ omega (arith, count-shift (end_at k i z).taken (asks_of (pieces_from k i n z))) in
     splice-texts k front old new rest cuts.first p (end_note k i w) (own_asks k i n z) (all_asks k i n z) (own_asks k i m w) (all_asks k i m w) both.behind both.back (notes_in (asks_of (pieces k i z))) (notes_in (asks_of (pieces_from k i n z)))
     was now note_same (cuts.early (length front) h.before) both.one both.two cuts.count own_count
+
+-- ---- the look at a first token without trivia before it
+
+pub asks-direct : (k : CharClasses) (n : ℕ) (z : Place) → at_trivia k mode.Markup z ≡ false → asks_by k mode.Markup n z ≡ looked 0 (look (token k mode.Markup) z) ∷ []
+asks-direct k zero z h = refl
+asks-direct k (suc n) z h =
+    let l = len_at k mode.Markup z in
+    ap (λ (b : Bool). looked 0 (look (token k mode.Markup) z) ∷ (if b then shift l (asks_by k mode.Markup n (moved l z)) else [])) h
+
+pub column-none : (b : Bool) (ask : Ask) → ◌≡◌ {A = List Ask} (if b && false then ask ∷ [] else []) []
+column-none true ask = refl
+column-none false ask = refl
+
+pub hand-direct : (k : CharClasses) (z : Place) → at_trivia k mode.Markup z ≡ false → hand_asks k markup_reading None z ≡ looked 0 (look (token k mode.Markup) z) ∷ []
+unfolding hand_asks ahead_asks
+hand-direct k z clear =
+    let a = ahead k mode.Markup z in
+    ap (λ ls. ls ++ column_asks markup_reading a.newlines a.gap z) (asks-direct k (length z.ahead) z clear)
+    ∙ ap (λ ls. looked 0 (look (token k mode.Markup) z) ∷ ls) (column-none a.newlines.any (looked a.gap (column_look (moved a.gap z))))
+
+module _ (k : CharClasses) (levels : ℕ) where
+  -- a block's run without trivia before its first token
+  plain-in : (z : Place) (s : Point) (t : Trivia) → (inner_run k levels z s).point.known ≡ Some t → t.gap ≡ 0 → Plain (inner_run k levels z s) (bracket k levels z s).state (inner_lead k levels z s).asks
+  unfolding run
+  plain-in z s t known none =
+      let r = inner_run k levels z s in
+      let p = r.point in
+      let read = block-read k levels 0 0 z s in
+      let is : p ≡ before_trivia markup_reading markup_reading p.empties p.is_after_error t = known-is k p t known ∙ (λ v. before_trivia (read.reading v) (read.held v) p.empties p.is_after_error t) in
+      let clear_there : at_trivia k mode.Markup (moved t.gap r.place) ≡ false = subst (λ q. Reached k r.place q) is (block-reached k levels z s 0) in
+      let clear : at_trivia k mode.Markup r.place ≡ false = subst (λ n. at_trivia k mode.Markup (moved n r.place) ≡ false) none clear_there in
+      record {
+        looks = ap (λ h. hand_asks k h None r.place) read.held ∙ hand-direct k r.place clear ∙ sym (hand-asks (inner k levels) r.place 0 p (record { held = read.held; trivia = t; known = known; gap = none }));
+        gap = sym (ap gap_of known ∙ none);
+      }
+
+  -- ---- before the pieces, in two texts
+
+  before-again : (z w : Place) (s : Point) → SameIn (asks_before k levels z s) z w → bracket k levels w s ≡ bracket k levels z s → asks_before k levels w s ≡ asks_before k levels z s
+  before-again z w s h same =
+      let a = same_in-second (look_first k levels z s).asks _ z w h in
+      let first : look_first k levels w s ≡ look_first k levels z s = (sane k levels peek).framed z w s (same_in-first (look_first k levels z s).asks _ z w h) in
+      let second : look_again k levels w s ≡ look_again k levels z s =
+      ap (λ (o : Outcome AtHand). look_first k levels w o.state) first ∙ (sane k levels peek).framed z w (look_first k levels z s).state (same_in-first (look_again k levels z s).asks _ z w a) in
+      ap (λ (o : Outcome AtHand). o.asks ++ ((look_again k levels w s).asks ++ (bracket k levels w s).asks)) first
+      ∙ ap (λ (o : Outcome AtHand). (look_first k levels z s).asks ++ (o.asks ++ (bracket k levels w s).asks)) second
+      ∙ ap (λ (o : Outcome (Unit {0})). (look_first k levels z s).asks ++ ((look_again k levels z s).asks ++ o.asks)) same
+
+  -- the look at the first token after a bracket
+  abbrev lead_by : Outcome (Unit {0}) → Place → Outcome AtHand
+  lead_by b z = run (inner k levels) peek (moved b.taken z) b.state
+
+  -- the looks at a token that were looked at
+  inner-hands-same : (y v : Place) (s : Point) → SameIn (hand_asks_of (inner k levels) y s) y v → hand_asks_of (inner k levels) v s ≡ hand_asks_of (inner k levels) y s
+  unfolding run
+  inner-hands-same y v s h = ap (λ (o : Outcome AtHand). o.asks) ((sane k levels peek).framed y v s h)
+
+  -- what is asked up to the note where i pieces end, where this is the note and this comes before it
+  record Again (i : ℕ) (early : List Ask) (p : Noting) (w : Place) (d : Outcome (Unit {0})) : Type 0 where
+    note : note_at (seq_by k levels d w) d.state i ≡ p
+    is : piece_mark 0 (true, 0) d.state ∷ ((lead_by d w).asks ++ asks_of (first_of i (seq_by k levels d w))) ≡ early ++ noting p ∷ looks_next (seq_by k levels d w) (lead_by d w).asks i
+
+  inner-again : (i : ℕ) (z w : Place) (b : Outcome (Unit {0})) (c : InnerCut (seq_by k levels b z) b.state (lead_by b z).asks i) → first_of i (seq_by k levels b w) ≡ first_of i (seq_by k levels b z)
+      → (0 < i → SameIn ((lead_by b z).asks ++ asks_of (first_of i (seq_by k levels b z))) (moved b.taken z) (moved b.taken w)) → Again i c.early (note_at (seq_by k levels b z) b.state i) w b
+  inner-again i z w b c e h =
+      let y = moved b.taken z in
+      let v = moved b.taken w in
+      let o = lead_by b z in
+      let led = λ (some : 0 < i). (sane k levels peek).framed y v b.state (same_in-first o.asks _ y v (h some)) in
+      let a = again-any (seq_by k levels b z) (seq_by k levels b w) b.state o.asks (lead_by b w).asks i c e (λ some. ap (λ (l : Outcome AtHand). l.state) (led some)) (λ some. ap (λ (l : Outcome AtHand). l.asks) (led some)) h inner-hands-same in
+      record { note = a.note; is = a.is }
+
+  -- what is asked of a block, by its pieces and what is after them
+  inner-asks : (z : Place) (s : Point) (i n : ℕ) (tail : Outcome (Unit {0})) (close : Outcome Bool) → (let r = inner_run k levels z s in
+      (content_with k levels z s (chain (first_of i r) (chain (then_of i n r) (rest_of i n r))) tail close).asks
+      ≡ asks_before k levels z s ++ shift (bracket k levels z s).taken ((piece_mark 0 (true, 0) (bracket k levels z s).state ∷ ((inner_lead k levels z s).asks ++ asks_of (first_of i r)))
+      ++ shift (first_end i r).taken (asks_of (then_of i n r) ++ shift (then_end i n r).taken ((rest_of i n r).asks ++ shift (rest_of i n r).taken (tail.asks ++ shift tail.taken close.asks)))))
+  inner-asks z s i n tail close =
+      let r = inner_run k levels z s in
+      let e = first_end i r in
+      let q = rest_of i n r in
+      let all = record tail { asks = tail.asks ++ shift tail.taken close.asks } in
+      content-asks k levels z s (chain (first_of i r) (chain (then_of i n r) q)) tail close
+      ∙ ap (λ ls. asks_before k levels z s ++ shift (bracket k levels z s).taken (piece_mark 0 (true, 0) (bracket k levels z s).state ∷ ls))
+      (chained-asks (inner_lead k levels z s).asks (true, 0) e.value r.point e.state (first_of i r) (then_of i n r) q all)
+
+-- what is asked of a text, by the note where pieces of a block end
+whole-cut : (a f b e g : ℕ) (before opens early next own behind after first : List Ask) (p : Noting) → first ≡ early ++ noting p ∷ next
+    → before ++ (lifted a f (opens ++ shift b (first ++ shift e (own ++ shift g behind))) ++ after)
+    ≡ (before ++ (lifted a f opens ++ lifted (a + b) f early)) ++ noting (lifted_note (a + b) f p) ∷ (lifted (a + b) f (next ++ shift e own) ++ (lifted (a + b) f (shift (e + g) behind) ++ after))
+whole-cut a f b e g before opens early next own behind after first p is =
+    let low = lifted (a + b) f in
+    let q = noting (lifted_note (a + b) f p) in
+    let over = shift (e + g) behind in
+    let more = next ++ shift e own in
+    let inner : first ++ shift e (own ++ shift g behind) ≡ early ++ noting p ∷ (more ++ over) =
+    ap (λ u. u ++ shift e (own ++ shift g behind)) is ∙ append_assoc early (noting p ∷ next) (shift e (own ++ shift g behind))
+    ∙ ap (λ u. early ++ noting p ∷ (next ++ u)) (map-append (shift_one e) own (shift g behind) ∙ ap (λ u. shift e own ++ u) (shift-twice e g behind))
+    ∙ ap (λ u. early ++ noting p ∷ u) (sym (append_assoc next (shift e own) over)) in
+    let low_is : low (early ++ noting p ∷ (more ++ over)) ≡ low early ++ q ∷ (low more ++ low over) = lifted-append (a + b) f early _ ∙ ap (λ u. low early ++ q ∷ u) (lifted-append (a + b) f more over) in
+    let block : lifted a f (opens ++ shift b (first ++ shift e (own ++ shift g behind))) ≡ lifted a f opens ++ (low early ++ q ∷ (low more ++ low over)) =
+    lifted-append a f opens _ ∙ ap (λ u. lifted a f opens ++ u) (lifted-shift a f b _ ∙ ap low inner ∙ low_is) in
+    let opens_low = lifted a f opens in
+    ap (λ u. before ++ (u ++ after)) block
+    ∙ ap (λ u. before ++ u) (append_assoc opens_low (low early ++ q ∷ (low more ++ low over)) after ∙ ap (λ u. opens_low ++ u) (append_assoc (low early) (q ∷ (low more ++ low over)) after ∙ ap (λ u. low early ++ q ∷ u) (append_assoc (low more) (low over) after))
+    ∙ sym (append_assoc opens_low (low early) (q ∷ (low more ++ (low over ++ after)))))
+    ∙ sym (append_assoc before (opens_low ++ low early) (q ∷ (low more ++ (low over ++ after))))
+
+-- what is asked from the token after pieces on
+late-is : (a f n gap end left : ℕ) (seen : Look) (hand behind asks after : List Ask) → hand ≡ looked gap seen ∷ [] → behind ≡ shift gap asks → (a + n) + gap ≡ end
+    → lifted a f (shift n hand) ++ (lifted a f (shift n behind) ++ shift (end + left) after) ≡ shift end (lowered f (looked 0 seen ∷ asks) ++ shift left after)
+late-is a f n gap end left seen hand behind asks after hand_is behind_is sum =
+    let at : a + (n + gap) ≡ end + 0 = omega (arith, sum) in
+    let there : a + (n + gap) ≡ end = omega (arith, sum) in
+    let rest : lifted a f (shift n behind) ≡ shift end (lowered f asks) =
+    ap (λ u. lifted a f (shift n u)) behind_is ∙ ap (lifted a f) (shift-twice n gap asks) ∙ lifted-shift a f (n + gap) asks ∙ ap (λ d. shift d (lowered f asks)) there in
+    ap (λ u. lifted a f (shift n u) ++ (lifted a f (shift n behind) ++ shift (end + left) after)) hand_is
+    ∙ ap (λ d. looked d seen ∷ (lifted a f (shift n behind) ++ shift (end + left) after)) at
+    ∙ ap (λ u. looked (end + 0) seen ∷ u) (ap (λ u. u ++ shift (end + left) after) rest ∙ ap (λ u. shift end (lowered f asks) ++ u) (sym (shift-twice end left after)) ∙ sym (map-append (shift_one end) (lowered f asks) (shift left after)))
+
+-- a run at its start, where no piece is read
+start-known : (r : Sequence) (i n : ℕ) (t : Trivia) → (then_end i n r).state.known ≡ Some t → i + n ≡ 0 → r.point.known ≡ Some t
+start-known r zero zero t h e = h
+start-known r (suc i) n t h e = absurd (omega (arith, e))
+start-known r zero (suc n) t h e = absurd (omega (arith, e))
+
+-- ---- the laws
+
+pub around-splice-law : AroundSpliceLaw
+around-splice-law k levels front old new rest c i n m past t u among h =
+    block-splice-law k front old new rest c _ among (inner-joint-law k levels front old new rest c i n m past t u among h).passes
+
+pub inner-splice-law : InnerSpliceLaw
+unfolding log
+inner-splice-law k levels front old new rest c i n m past t u among h none none_new big big_new =
+    let z0 = text_with front old rest in
+    let w0 = text_with front new rest in
+    let z = moved c.at z0 in
+    let w = moved c.at w0 in
+    let s = point_of c.start in
+    let f = c.fewer in
+    let end = (length front + length old) + past in
+    let stop = (length front + length new) + past in
+    let kept = inner-joint-law k levels front old new rest c i n m past t u among h in
+    let same = first-same k levels front old new rest c i h.pieces.looks in
+    let r = run_at k levels c z0 in
+    let q = run_at k levels c w0 in
+    let b = bracket k levels z s in
+    let d = bracket k levels w s in
+    let l = inner k levels in
+    let e = first_end i r in
+    let j = first_end i q in
+    let x = then_end i n r in
+    let v = then_end i m q in
+    let new_first : AllGo (first_of i q) = subst (λ os. AllGo os) (sym same.first) h.pieces.first_go in
+    let close = close_at k levels i n c z0 in
+    let tail_old = tail_at k levels i n c z0 in
+    let tail_new = tail_at k levels i m c w0 in
+    let rest_old = rest_of i n r in
+    let rest_new = rest_of i m q in
+    let on = onwards_past k levels i n t c z0 in
+    let left = left_past k levels i n t c z0 in
+    let y = then_place i n r in
+    let o = then_place i m q in
+    let asks = on.asks ++ shift on.taken close.asks in
+    let seen = token_look l (moved t.gap y) in
+    let last = lowered f (looked 0 seen ∷ asks) ++ shift left c.after in
+    -- all after the pieces, in both texts
+    let fronted = onwards-fronted (run_at k levels c z0) (block-taking k levels) i n t h.meets.known in
+    let more_is : kept.behind.more ≡ on.taken = omega (arith, kept.behind.taken, fronted.taken) in
+    let on_is : kept.behind.looks ≡ on.asks = unshifted t.gap kept.behind.looks on.asks (sym kept.behind.asks ∙ fronted.asks) in
+    let behind_old = past-both rest_old tail_old close.asks on.asks t.gap on.taken fronted.asks fronted.taken in
+    let behind_new = past-both rest_new tail_new close.asks on.asks u.gap on.taken (kept.behind.asks_now ∙ ap (shift u.gap) on_is) (kept.behind.taken_now ∙ ap (λ a. u.gap + a) more_is) in
+    -- the token there
+    let read = block-read k levels i n z s in
+    let hand_old : hand_asks_of l y x.state ≡ looked t.gap seen ∷ [] = hand-asks l y t.gap x.state (record { held = read.held; trivia = t; known = h.meets.known; gap = refl }) in
+    let hand_new = hand-asks l o u.gap v.state (record { held = (block-read k levels i m w s).held; trivia = u; known = h.meets.known_now; gap = refl }) in
+    let begun = onwards-begin r x.value (moved t.gap y) (passed t x.state) in
+    let first_old : asks ≡ looked 0 seen ∷ (begun.more ++ shift on.taken close.asks) =
+    ap (λ ls. ls ++ shift on.taken close.asks) (begun.is ∙ ap (λ ls. ls ++ begun.more) (hand-asks l (moved t.gap y) 0 (passed t x.state) (record { held = read.held; trivia = _; known = refl; gap = refl }))) in
+    let begun_new = pieces-begin q v.value o v.state in
+    let rest_asks = shift rest_new.taken (tail_new.asks ++ shift tail_new.taken close.asks) in
+    let first_new : rest_new.asks ++ rest_asks ≡ looked u.gap (token_look l (moved u.gap o)) ∷ (begun_new.more ++ rest_asks) =
+    ap (λ ls. ls ++ rest_asks) (begun_new.is ∙ ap (λ ls. ls ++ begun_new.more) hand_new) in
+    let same_seen : token_look l (moved u.gap o) ≡ seen = ap first_look (sym first_new ∙ behind_new) ∙ first-shift u.gap asks ∙ ap first_look first_old in
+    let hand_now : hand_asks_of l o v.state ≡ looked u.gap seen ∷ [] = hand_new ∙ ap (λ a. looked u.gap a ∷ []) same_seen in
+    let first_begins = subst (AllBeginIn past rest) first_old h.looks.inside in
+    let begins : AllBeginIn past rest last =
+    begins-both past rest (lowered f (looked 0 seen ∷ asks)) (shift left c.after) (begins-lowered past rest f (looked 0 seen ∷ asks) (first_begins.0, first_begins.1, h.looks.inside)) (begins-further past left rest c.after h.looks.behind) in
+    -- where the pieces and the block end
+    let at = c.at + b.taken in
+    let at_new = c.at + d.taken in
+    let block_end : c.at + (unit_at c z0).taken ≡ end + left = omega (arith, kept.passes.ends) in
+    let block_stop : c.at + (unit_at c w0).taken ≡ stop + left = omega (arith, kept.passes.shifted) in
+    let more_old = lifted at f (shift (e.taken + x.taken) (rest_old.asks ++ shift rest_old.taken (tail_old.asks ++ shift tail_old.taken close.asks))) ++ shift (end + left) c.after in
+    let more_new = lifted at_new f (shift (j.taken + v.taken) (rest_new.asks ++ rest_asks)) ++ shift (stop + left) c.after in
+    let late_old = late-is at f (e.taken + x.taken) t.gap end left seen _ _ asks c.after hand_old behind_old h.ends in
+    let late_new = late-is at_new f (j.taken + v.taken) u.gap stop left seen _ _ asks c.after hand_now behind_new h.shifted in
+    let ls = (inner_lead k levels z s).asks in
+    let ls_new = (inner_lead k levels w s).asks in
+    let here : (at + (e.taken + x.taken)) + gap_of x.state.known ≡ end = ap (λ a. (at + (e.taken + x.taken)) + gap_of a) h.meets.known ∙ h.ends in
+    let here_new : (at_new + (j.taken + v.taken)) + gap_of v.state.known ≡ stop = ap (λ a. (at_new + (j.taken + v.taken)) + gap_of a) h.meets.known_now ∙ h.shifted in
+    let side_old = side-in r b.state ls max_depth at f z0 more_old end last i n h.pieces.old_go late_old here (λ a. plain-in k levels z s t (start-known r i n t h.meets.known a) (none a)) in
+    let side_new = side-in q d.state ls_new max_depth at_new f w0 more_new stop last i m h.pieces.new_go late_new here_new (λ a. plain-in k levels w s u (start-known q i m u h.meets.known_now a) (none_new a)) in
+    let alike = same-at max_depth front old new rest past last big big_new begins in
+    -- what is asked before them
+    let cuts = inner-cut r b.state ls i (inner-lead-bare k levels z s) h.pieces.first_go in
+    let shown : 0 < i → SameIn (ls ++ asks_of (first_of i r)) (moved b.taken z) (moved b.taken w) = λ some.
+    same_in-at _ _ _ _ _ (sym (moved-sum c.at b.taken z0)) (sym (moved-sum c.at b.taken w0)) (same_in-shift at _ z0 w0 (before-same _ front old new rest (h.pieces.looks.before_run some))) in
+    let first_by : first_of i (seq_by k levels b w) ≡ first_of i r = ap (λ (a : Outcome (Unit {0})). first_of i (seq_by k levels a w)) (sym same.opened) ∙ same.first in
+    let p = note_at r b.state i in
+    let once : Again k levels i cuts.early p w d = subst (Again k levels i cuts.early p w) (sym same.opened) (inner-again k levels i z w b cuts first_by shown) in
+    let opens = asks_before k levels z s in
+    let opens_new : asks_before k levels w s ≡ opens = before-again k levels z w s (same_in-shift c.at _ z0 w0 (before-same _ front old new rest h.pieces.looks.opens)) same.opened in
+    let at_same : at_new ≡ at = ap (λ (a : Outcome (Unit {0})). c.at + a.taken) same.opened in
+    let first = c.before ++ (lifted c.at f opens ++ lifted at f cuts.early) in
+    let note = lifted_note at f p in
+    let own = lifted at f (own_of r ls i n) in
+    let own_new = lifted at_new f (own_of q ls_new i m) in
+    let was : (parsed k max_depth (front ++ (old ++ rest))).asks ≡ first ++ noting note ∷ (own ++ more_old) =
+    kept.kept.reading.was ∙ ap (λ a. c.before ++ (lifted c.at f (unit_at c z0).asks ++ shift a c.after)) block_end
+    ∙ ap (λ a. c.before ++ (lifted c.at f a ++ shift (end + left) c.after)) (ap (λ (a : Outcome (Unit {0})). a.asks) kept.was ∙ inner-asks k levels z s i n tail_old close)
+    ∙ whole-cut c.at f b.taken e.taken x.taken c.before opens cuts.early (looks_next r ls i) (asks_of (then_of i n r)) _ (shift (end + left) c.after) _ p cuts.is in
+    let now_by : unit_at c w0 ≡ content_with k levels w s (chain (first_of i q) (chain (then_of i m q) rest_new)) tail_new close =
+    kept.now ∙ ap (λ os. content_with k levels w s (chain os (chain (then_of i m q) rest_new)) tail_new close) (sym same.first) in
+    let now : (parsed k max_depth (front ++ (new ++ rest))).asks ≡ first ++ noting note ∷ (own_new ++ more_new) =
+    kept.kept.reading.log ∙ ap (λ a. c.before ++ (lifted c.at f (unit_at c w0).asks ++ shift a c.after)) block_stop
+    ∙ ap (λ a. c.before ++ (lifted c.at f a ++ shift (stop + left) c.after)) (ap (λ (a : Outcome (Unit {0})). a.asks) now_by ∙ inner-asks k levels w s i m tail_new close)
+    ∙ whole-cut c.at f d.taken j.taken v.taken c.before (asks_before k levels w s) cuts.early (looks_next q ls_new i) (asks_of (then_of i m q)) _ (shift (stop + left) c.after) _ p once.is
+    ∙ ap (λ a. (c.before ++ (lifted c.at f a ++ lifted at_new f cuts.early)) ++ noting (lifted_note at_new f p) ∷ (own_new ++ more_new)) opens_new
+    ∙ ap (λ a. (c.before ++ (lifted c.at f opens ++ lifted a f cuts.early)) ++ noting (lifted_note a f p) ∷ (own_new ++ more_new)) at_same in
+    let early : AllEndBy (length front) first =
+    both-end (length front) c.before _ h.pieces.looks.before (both-end (length front) (lifted c.at f opens) (lifted at f cuts.early) (lifted-ends c.at f (length front) opens h.pieces.looks.opens)
+    (lifted-ends at f (length front) cuts.early (cuts.ends (length front) at h.pieces.looks.before_run))) in
+    let note_new : lifted_note at_new f (note_at q d.state i) ≡ note = ap (λ a. lifted_note a f (note_at q d.state i)) at_same ∙ ap (lifted_note at f) once.note in
+    -- in numbers
+    let pieces = asks_of (first_of i r) in
+    let own_pieces = asks_of (then_of i n r) in
+    let opens_none = lifted-count c.at f opens ∙ count-none opens (before-marks k levels Never z s) in
+    let from_early = lifted-count at f cuts.early ∙ cuts.count in
+    let from_is : notes_in first ≡ notes_in c.before + notes_in pieces =
+    count-append c.before _ ∙ ap (λ a. notes_in c.before + a) (count-append (lifted c.at f opens) (lifted at f cuts.early) ∙ ap (λ a. a + notes_in (lifted at f cuts.early)) opens_none ∙ omega (arith, from_early)) in
+    let from = notes_in c.before + notes_in pieces in
+    let own_is : notes_in own ≡ notes_in own_pieces =
+    lifted-count at f (own_of r ls i n) ∙ count-append (looks_next r ls i) _ ∙ ap (λ a. a + notes_in (shift e.taken own_pieces)) (inner-next-none r b.state ls i (inner-lead-bare k levels z s)) ∙ omega (arith, count-shift e.taken own_pieces) in
+    let log_is : logged max_depth w0 no_log own_new ≡ pieces_log_in k levels i m c w0 =
+    logged-lowered max_depth f at_new w0 no_log (own_of q ls_new i m) ∙ ap (λ a. logged a (moved at_new w0) no_log (own_of q ls_new i m)) h.pieces.level ∙ ap (λ a. logged (suc levels) a no_log (own_of q ls_new i m)) (moved-sum c.at d.taken w0) in
+    splice-texts k front old new rest first note (lifted_note at_new f (note_at q d.state i)) own (own ++ more_old) own_new (own_new ++ more_new) (entries_at max_depth z0 end last) (back_at max_depth z0 end last) from (notes_in own_pieces)
+    was now note_new early side_old (side-by max_depth _ _ _ _ _ _ _ _ alike.entries alike.back side_new) from_is own_is
+    ∙ ap (λ a. spliced from (from + notes_in own_pieces) (entries_from (token_start w0 (end_note_in k levels i c w0)) a.notes) (units_of (log k (front ++ (old ++ rest))))) log_is

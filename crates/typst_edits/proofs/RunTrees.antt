@@ -1,27 +1,14 @@
 -- A text's tree and log, where pieces of its run are exchanged.
 use Rattle.std.proofs.Common.{◌≡◌, ℕ, ◌+◌, Bool, true, false, List, [], ◌∷◌, ◌++◌, append_assoc, append-nil, refl, ap, sym, ◌∙◌, arith}
-use Rattle.std.proofs.lemmas.List.{map-append}
+use Rattle.typst_edits.proofs.Words.{map-append, Tree, forest, inner_of, Place, CharClasses, Ask, shift, shift_one, no_log, logged, Outcome, plain, less, standing, joined, run, Level, Point, gap_of, state_of, hinted, less-none, max_depth, start_of, parsed, tree, log, level_at, text_with, onwards_from, text_run, given, run_mark, start, AllGo, End, end_of, asks_of, chain, lead, pieces, end_at, pieces_from, end_from, rest_from, tail, whole_of, peek, marked, run_of, standing-joined}
+use Rattle.typst_edits.specs.RunTrees.{tree_by, RunTreeLaw}
 use Rattle.typst_kinds.specs.declared.kind.SyntaxKind.TheVariants as kind
-use Rattle.typst_tree.specs.Tree.{Tree, forest, inner_of}
-use Rattle.typst_lines.specs.Place.{Place}
-use Rattle.typst_lines.specs.Classes.{CharClasses}
-use Rattle.typst_language.specs.Ask.{Ask, shift, shift_one}
-use Rattle.typst_language.specs.Log.{no_log, logged}
-use Rattle.typst_language.specs.Meaning.{Outcome, plain, less, standing, joined, run}
-use Rattle.typst_language.specs.Point.{Point}
-use Rattle.typst_language.specs.Shape.{hinted}
-use Rattle.typst_language.proofs.HintedNodes.{standing-joined}
-use Rattle.typst_language.proofs.Places.{less-none}
-use Rattle.typst_grammar.specs.Grammar.{max_depth, start_of, parsed, tree, log}
 pub use Rattle.typst_grammar.proofs.Heads.{standing-none}
-use Rattle.typst_edits.specs.Edit.{text_with}
-use Rattle.typst_edits.specs.Joint.{onwards_from}
-use Rattle.typst_edits.specs.RunTrees.{given, tree_by, run_mark, RunTreeLaw}
-use Rattle.typst_edits.specs.Runs.{start, AllGo, End, end_of, asks_of, chain, lead, pieces, end_at, pieces_from, end_from, rest_from, tail, whole_of}
 use Rattle.typst_edits.proofs.Outcomes.{shift-zero, shift-twice}
-use Rattle.typst_edits.proofs.Root.{run-law, whole-is, split-at, split-taken}
+use Rattle.typst_edits.proofs.BlockRuns.{run-law, whole-is, within}
 use Rattle.typst_edits.proofs.Boundary.{chain-asks}
-use Rattle.typst_edits.proofs.Runs.{chain-state, chain-taken}
+use Rattle.typst_edits.proofs.Runs.{chain-state, chain-taken, split, split-taken}
+use Rattle.typst_language.specs.declared.calls.Mark.TheVariants as mark
 
 -- ---- nodes
 
@@ -36,23 +23,24 @@ standing-chain (o ∷ os) q ts = standing-joined o (chain os q) ts ∙ standing-
 
 -- ---- a text's reading
 
-module _ (k : CharClasses) (y : Place) (c : Outcome (Bool × ℕ)) (t : Outcome (Unit {0})) where
-  whole-nodes : (whole_of (lead k y) c t).nodes ≡ standing t (standing c [])
-  unfolding run
-  whole-nodes =
-      let none : List Tree = [] in
-      let one = plain false start in
-      let two = record (plain (tt {0}) start) { asks = run_mark ∷ [] } in
-      let first = lead k y in
-      let four = joined c (plain (tt {0}) c.state) in
-      let three = joined first four in
-      sym (standing-none (whole_of first c t))
-      ∙ standing-joined (joined one (joined two three)) t none
-      ∙ ap (standing t) (standing-joined one (joined two three) none ∙ ap (standing (joined two three)) (standing-still one none refl refl refl)
-      ∙ standing-joined two three none ∙ ap (standing three) (standing-still two none refl refl refl)
-      ∙ standing-joined first four none ∙ ap (standing four) (standing-still first none refl refl refl)
-      ∙ standing-joined c (plain (tt {0}) c.state) none ∙ standing-still (plain (tt {0}) c.state) (standing c none) refl refl refl)
+-- the nodes of a run with the trivia after it, by its pieces
+pub run-nodes : (l : Level) (s : Point) (y : Place) (r : Outcome (Bool × ℕ)) (t : Outcome (Unit {0})) → (run_of s (run l peek y s) r t).nodes ≡ standing t (standing r [])
+unfolding run
+run-nodes l s y r t =
+    let none : List Tree = [] in
+    let one = plain false s in
+    let two = record (plain (tt {0}) s) { asks = marked 0 (gap_of s.known) 0 (mark.Piece true 0) (state_of s) ∷ [] } in
+    let first = run l peek y s in
+    let four = joined r (plain (tt {0}) r.state) in
+    let three = joined first four in
+    sym (standing-none (run_of s first r t))
+    ∙ standing-joined (joined one (joined two three)) t none
+    ∙ ap (standing t) (standing-joined one (joined two three) none ∙ ap (standing (joined two three)) (standing-still one none refl refl refl)
+    ∙ standing-joined two three none ∙ ap (standing three) (standing-still two none refl refl refl)
+    ∙ standing-joined first four none ∙ ap (standing four) (standing-still first none refl refl refl)
+    ∙ standing-joined r (plain (tt {0}) r.state) none ∙ standing-still (plain (tt {0}) r.state) (standing r none) refl refl refl)
 
+module _ (k : CharClasses) (y : Place) (c : Outcome (Bool × ℕ)) (t : Outcome (Unit {0})) where
   pub whole-asks : (whole_of (lead k y) c t).asks ≡ run_mark ∷ (((lead k y).asks ++ c.asks) ++ shift c.taken t.asks)
   unfolding run
   whole-asks =
@@ -98,11 +86,11 @@ tree-is k text i n g h =
     let r = chain os (chain ps q) in
     let u = tail k (((end_at k i z).taken + (end_from k i n z).taken) + q.taken) q.state z in
     let tail_is : tail k r.taken r.state z ≡ u =
-    ap (λ a. tail k a r.state z) (split-taken k i n z) ∙ ap (λ s. tail k (((end_at k i z).taken + (end_from k i n z).taken) + q.taken) s z) (chain-state os (chain ps q) ∙ chain-state ps q) in
+    ap (λ a. tail k a r.state z) (split-taken (text_run k z) i n) ∙ ap (λ s. tail k (((end_at k i z).taken + (end_from k i n z).taken) + q.taken) s z) (chain-state os (chain ps q) ∙ chain-state ps q) in
     let is : parsed k max_depth text ≡ whole_of (lead k z) r u =
-    whole-is k text ∙ ap (λ o. whole_of (lead k z) o (tail k o.taken o.state z)) (split-at k i n z g h) ∙ ap (whole_of (lead k z) r) tail_is in
+    whole-is k text ∙ ap (λ o. whole_of (lead k z) o (tail k o.taken o.state z)) (split (text_run k z) (within k) i n g h) ∙ ap (whole_of (lead k z) r) tail_is in
     ap (λ (o : Outcome (Unit {0})). inner_of kind.Markup (forest o.nodes)) is
-    ∙ ap (λ ts. inner_of kind.Markup (forest ts)) (whole-nodes k z r u ∙ ap (standing u) (standing-chain os (chain ps q) [] ∙ standing-chain ps q (given os [])) ∙ sym (standing-joined q u (given ps (given os []))))
+    ∙ ap (λ ts. inner_of kind.Markup (forest ts)) (run-nodes (level_at k max_depth) start z r u ∙ ap (standing u) (standing-chain os (chain ps q) [] ∙ standing-chain ps q (given os [])) ∙ sym (standing-joined q u (given ps (given os []))))
 
 pub run-tree-law : RunTreeLaw
 unfolding tree log
@@ -121,13 +109,13 @@ run-tree-law k front old new rest i n m past h =
     let r = chain os (chain ps q) in
     let u = tail k ((e.taken + f.taken) + q.taken) q.state z in
     -- the trivia at the end
-    let taken : r.taken ≡ (e.taken + f.taken) + q.taken = split-taken k i n z in
+    let taken : r.taken ≡ (e.taken + f.taken) + q.taken = split-taken (text_run k z) i n in
     let state : r.state ≡ q.state = chain-state os (chain ps q) ∙ chain-state ps q in
     let tail_is : tail k r.taken r.state z ≡ u = ap (λ a. tail k a r.state z) taken ∙ ap (λ s. tail k ((e.taken + f.taken) + q.taken) s z) state in
     let was : parsed k max_depth (front ++ (old ++ rest)) ≡ whole_of (lead k z) r u = kept.was ∙ ap (whole_of (lead k z) r) tail_is in
     let now : parsed k max_depth (front ++ (new ++ rest)) ≡ whole_of (lead k w) (chain os (chain qs q)) u = kept.now ∙ ap (whole_of (lead k w) (chain os (chain qs q))) tail_is in
     let nodes : (y : Place) (xs : List (Outcome (Bool × (Bool × ℕ)))) → (whole_of (lead k y) (chain os (chain xs q)) u).nodes ≡ standing (joined q u) (given xs (given os [])) = λ y xs.
-    whole-nodes k y (chain os (chain xs q)) u ∙ ap (standing u) (standing-chain os (chain xs q) [] ∙ standing-chain xs q (given os [])) ∙ sym (standing-joined q u (given xs (given os []))) in
+    run-nodes (level_at k max_depth) start y (chain os (chain xs q)) u ∙ ap (standing u) (standing-chain os (chain xs q) [] ∙ standing-chain xs q (given os [])) ∙ sym (standing-joined q u (given xs (given os []))) in
     let made_tree = λ (ts : List Tree). inner_of kind.Markup (forest ts) in
     let same_end : end_of (true, 0) (lead k w).state os ≡ end_of (true, 0) (lead k w).state (pieces k i w) = ap (end_of (true, 0) (lead k w).state) (sym kept.first) in
     record {

@@ -1,16 +1,6 @@
 -- The law of an edit inside some turns of a loop.
-use Rattle.std.proofs.Common.{◌≡◌, ℕ, zero, suc, ◌+◌, ◌<◌, Bool, nat_lt, List, [], ◌∷◌, refl, ap, sym, ◌∙◌, arith}
-use borrow.Author.Tests.{ltb-true}
-use Rattle.typst_lines.specs.Place.{Place, moved}
-use Rattle.typst_language.specs.Ask.{SameIn}
-use Rattle.typst_language.specs.Point.{Point}
-use Rattle.typst_language.specs.Meaning.{Outcome, Meaning, joined, turns, bound, repeated}
-use Rattle.typst_language.specs.Sound.{Framed, Within}
-use Rattle.typst_language.proofs.Looks.{same_in-shift, same_in-first, same_in-second}
-use Rattle.typst_language.proofs.Places.{moved-sum}
-use Rattle.typst_language.proofs.Within.{turns-enough, and-second}
-use Rattle.typst_edits.specs.Occurrences.{goes}
-use Rattle.typst_edits.specs.Runs.{made, AllGo, end_of, asks_of, chain}
+use Rattle.std.proofs.Common.{◌≡◌, ℕ, zero, suc, ◌+◌, ◌<◌, Bool, nat_lt, List, [], ◌∷◌, refl, ap, sym, ◌∙◌, arith, true, ◌++◌}
+use Rattle.typst_edits.proofs.Words.{ltb-true, Place, moved, SameIn, Point, Outcome, Meaning, joined, turns, bound, repeated, Level, run, Framed, Within, same_in-shift, same_in-first, same_in-second, moved-sum, and-second, turns-enough, goes, made, AllGo, end_of, asks_of, chain, End, SyntaxKind, Sequence, turn_of, first_of, first_end, then_of, then_end, rest_of, peek, AtHand, repeat, markup_turn}
 use Rattle.typst_edits.proofs.Spots.{if-true}
 
 module _ {A : Type 0} (m : A → Meaning (Bool × A)) where
@@ -54,3 +44,41 @@ moved-four a b d e z = ap (λ u. moved e (moved d u)) (sym (moved-sum a b z)) �
 
 pub moved-three : (a b d : ℕ) (z : Place) → moved ((a + b) + d) z ≡ moved d (moved b (moved a z))
 moved-three a b d z = moved-sum (a + b) d z ∙ ap (moved d) (moved-sum a b z)
+
+-- ---- any run
+
+module _ (r : Sequence) where
+  -- its pieces, and the rest
+  pub split : ((x : Bool × ℕ) → Within (turn_of r x)) → (i n : ℕ) → AllGo (first_of i r) → AllGo (then_of i n r) → repeated (turn_of r) (true, 0) r.place r.point ≡ chain (first_of i r) (chain (then_of i n r) (rest_of i n r))
+  split within i n g h =
+      let e = first_end i r in
+      repeated-chain (turn_of r) within i (true, 0) r.place r.point g ∙ ap (chain (first_of i r)) (repeated-chain (turn_of r) within n e.value (moved e.taken r.place) e.state h)
+
+  -- how many characters they take
+  pub split-taken : (i n : ℕ) → (chain (first_of i r) (chain (then_of i n r) (rest_of i n r))).taken ≡ ((first_end i r).taken + (then_end i n r).taken) + (rest_of i n r).taken
+  split-taken i n =
+      let e = first_end i r in
+      omega (arith, chain-taken (true, 0) r.point (first_of i r) (chain (then_of i n r) (rest_of i n r)), chain-taken e.value e.state (then_of i n r) (rest_of i n r))
+
+  pub split-state : (i n : ℕ) → (chain (first_of i r) (chain (then_of i n r) (rest_of i n r))).state ≡ (rest_of i n r).state
+  split-state i n = chain-state (first_of i r) _ ∙ chain-state (then_of i n r) _
+
+  -- By the frame law what follows is the same where it shows the same.
+  pub rest-again : ((x : Bool × ℕ) → Framed (run r.level (repeat (markup_turn true r.stops) x))) → (f g : End (Bool × ℕ)) (v y : Place) → g.value ≡ f.value → g.state ≡ f.state
+      → SameIn (repeated (turn_of r) f.value v f.state).asks v y → repeated (turn_of r) g.value y g.state ≡ repeated (turn_of r) f.value v f.state
+  unfolding run
+  rest-again framed f g v y e d same = ap (λ x. repeated (turn_of r) x y g.state) e ∙ ap (λ s. repeated (turn_of r) f.value y s) d ∙ framed f.value v y f.state same
+
+-- a run that begins at this point with a look at its first token
+abbrev pub begun_at : Level → (SyntaxKind → Bool) → Point → Place → Sequence
+begun_at l stops p y = record { level = l; stops = stops; place = y; point = (run l peek y p).state }
+
+-- Its first pieces are the same where all up to their end shows the same.
+pub first-again : (l : Level) (stops : SyntaxKind → Bool) → Framed (run l peek) → ((x : Bool × ℕ) → Framed (run l (markup_turn true stops x))) → (p : Point) (i : ℕ) (y v : Place)
+    → (0 < i → SameIn ((run l peek y p).asks ++ asks_of (first_of i (begun_at l stops p y))) y v) → first_of i (begun_at l stops p v) ≡ first_of i (begun_at l stops p y)
+first-again l stops looks turns p zero y v h = refl
+first-again l stops looks turns p (suc i) y v h =
+    let o = run l peek y p in
+    let m = turn_of (begun_at l stops p y) in
+    let same = h (omega arith) in
+    ap (λ (u : Outcome AtHand). made m (suc i) (true, 0) v u.state) (looks y v p (same_in-first o.asks _ y v same)) ∙ made-same m turns (suc i) (true, 0) y v o.state (same_in-second o.asks _ y v same)

@@ -1,29 +1,17 @@
 -- A block's spot at a position among the nodes of an outcome.
 use Rattle.std.proofs.Common.{◌≡◌, ◌⊎◌, inl, inr, ℕ, suc, ◌+◌, ◌-◌, ◌<◌, ◌≤◌, Bool, true, false, ◌&&◌, if◌then◌else◌, nat_le, nat_lt, List, [], ◌∷◌, ◌++◌, length, map, take, drop, length-append, length-take, length-drop, append_assoc, refl, ap, sym, ◌∙◌, subst, arith}
-use Rattle.std.proofs.lemmas.Bool.{and_left, and_parts, and_right, le-leb, lt-leb}
-use Rattle.std.specs.List.{flat_map}
-use Rattle.typst_kinds.specs.Kinds.{is_error}
-use Rattle.typst_kinds.specs.Head.{Head, inner_head}
-use Rattle.typst_kinds.specs.declared.kind.SyntaxKind.{SyntaxKind}
-use Rattle.typst_tree.specs.Tree.{Tree, forest, error_of}
-use Rattle.typst_language.specs.declared.calls.Block.{Block}
+use Rattle.typst_edits.proofs.Words.{and_left, and_parts, and_right, flat_map, is_error, Head, inner_head, SyntaxKind, Tree, forest, error_of, Block, Outcome, answered, joined, less, plain, reshaped, hinted, NodeChange, is_delimited, in_parens, Shape, shaped, after_shape, is_sign, ends_with, stays, turns_wrong, is_not, renamed, unparened, keeps, holds, lacks, warns, fails, on_if, is_ordinary, change_by, shape_by, under, Deep, fill, path_in, Hole, plug, stub, between_parens, changed_deep, first_hole, change_hole, in_node, in_nodes, after_nodes, lack_hole, warned_head, wrap_in, wrap_past, wrap_hole, last_spot, reshaped_spot, Spot, block_head, then_spot, after_spot, rehole}
+use Rattle.std.proofs.lemmas.Bool.{le-leb, lt-leb}
+use Rattle.typst_grammar.proofs.Fine.{or-left as or-first, or-right as or-second, or-both}
+use Rattle.typst_edits.specs.Hole.Deep.{bare}
+use Rattle.typst_edits.specs.Hole.{top}
 use Rattle.typst_language.specs.declared.calls.Block.TheVariants as block
-use Rattle.typst_language.specs.Meaning.{Outcome, answered, joined, less, plain, reshaped}
-use Rattle.typst_language.specs.Shape.{hinted, NodeChange, is_delimited, is_sign, ends_with, in_parens, Shape, shaped, after_shape}
-use Rattle.typst_language.specs.Shape.NodeChange.{stays, turns_wrong, is_not, renamed, unparened}
-use Rattle.typst_language.specs.Shape.Shape.{keeps, holds, lacks, warns, fails}
-use Rattle.typst_language.proofs.Within.{on_if}
-use Rattle.typst_grammar.proofs.Fine.{is_ordinary, change_by, shape_by, or-left as or-first, or-right as or-second, or-both}
 use Rattle.typst_language.proofs.Backs.{changed-long as length-changed}
-use Rattle.typst_edits.specs.Hole.Deep.{bare, under}
-use Rattle.typst_edits.specs.Hole.{Deep, fill, top, path_in, Hole, plug, stub, between_parens, changed_deep, first_hole, change_hole, in_node, in_nodes, after_nodes, lack_hole, warned_head, wrap_in, wrap_past, wrap_hole}
-use Rattle.typst_edits.specs.Occurrences.{last_spot, reshaped_spot}
-use Rattle.typst_edits.specs.Spot.{Spot, block_head, then_spot, after_spot, rehole}
 use Rattle.typst_edits.proofs.Complete.{Any, any-left, any-right}
 use Rattle.typst_edits.proofs.Every.{Every}
 use Rattle.typst_edits.proofs.Outcomes.{hints-first, then-around}
 use Rattle.typst_edits.proofs.Positions.{has_text, is_hollow, Each, each-by, each-from, each-take, each-drop, each-append, each-shaped, each-holds, not-error, Stays, Step}
-use Rattle.typst_edits.proofs.Wrap.{Wraps, wraps-hole}
+use Rattle.typst_edits.proofs.Spots.{Wraps, wraps-hole}
 
 -- ---- holes
 

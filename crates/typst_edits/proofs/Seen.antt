@@ -1,29 +1,8 @@
 -- Whatever is taken was looked at, and the token of each note before the note: they end where the looks end, or before.
 use Rattle.std.proofs.Common.{◌≡◌, ℕ, zero, suc, ◌+◌, ◌-◌, ◌≤◌, Bool, true, false, if◌then◌else◌, List, [], ◌∷◌, ◌++◌, length, Option, Some, None, ap, arith}
-use Rattle.typst_kinds.specs.declared.mode.SyntaxMode.{SyntaxMode}
-use Rattle.typst_lines.specs.Place.{Place, moved}
-use Rattle.typst_lines.specs.Classes.{CharClasses}
-use Rattle.typst_tokens.specs.Reader.{look}
-use Rattle.typst_language.specs.declared.calls.Block.{Block}
-use Rattle.typst_language.specs.Calls.{Call}
-use Rattle.typst_language.specs.declared.reading.Reading.{Reading}
-use Rattle.typst_language.specs.Ask.{Ask, shift, sunk, only_looks}
-use Rattle.typst_language.specs.Ask.Ask.{looked, marked}
-use Rattle.typst_language.specs.Hand.{Ahead, len_at, len_by, at_trivia, ahead_by, asks_by, ahead_asks, ahead, hand_at, hand_asks}
-use Rattle.typst_language.specs.Knot.{Rules, meaning_of, level_of, blocks_of}
-use Rattle.typst_language.specs.Point.{Trivia, Point, gap_of, forgot}
-use Rattle.typst_language.specs.Shape.{Shape}
-use Rattle.typst_language.specs.Steps.{peek}
-use Rattle.typst_language.specs.Tokens.{token}
-use Rattle.typst_language.specs.Syntax.{Op, Parser, ◌>>◌}
-use Rattle.typst_language.specs.Syntax.Op.{hand, so, further, column, erred, takes, takes_so, flushes, complains, advises, marks, is_deepest}
-use Rattle.typst_language.specs.Meaning.{Outcome, Meaning, Level, plain, joined, answered, inside, reshaped, deeper_by_one, given_up, bounded, blockless, left_to, same_mode, hand_of, hand_asks_of, reader_so, done, run}
+use Rattle.typst_edits.proofs.Words.{SyntaxMode, Place, moved, CharClasses, look, Block, Call, Reading, Ask, shift, sunk, only_looks, looked, marked, Ahead, len_at, at_trivia, ahead_by, asks_by, ahead_asks, ahead, hand_at, hand_asks, Rules, meaning_of, level_of, blocks_of, Trivia, Point, gap_of, forgot, peek, token, Op, Parser, ◌>>◌, hand, so, further, column, erred, takes, takes_so, flushes, complains, advises, marks, is_deepest, Outcome, Meaning, Level, plain, joined, inside, bounded, blockless, same_mode, hand_of, hand_asks_of, done, run, reader_so, on_both, shape-known, AllEndBy, AllNotedBy}
 use Rattle.typst_language.proofs.Looks.{len-covers}
-use Rattle.typst_language.proofs.Within.{on_both}
-use Rattle.typst_language.proofs.Runs.{shape-known}
-use Rattle.typst_edits.specs.Edit.{AllEndBy}
-use Rattle.typst_edits.specs.Splice.{AllNotedBy}
-use Rattle.typst_edits.proofs.Marks.{AllMarks, none-hand}
+use Rattle.typst_edits.proofs.Bytes.{AllMarks, none-hand}
 use Rattle.typst_edits.proofs.Traversal.{Parts, all-run}
 pub use Rattle.typst_edits.proofs.Bytes.{end-first}
 
@@ -86,9 +65,6 @@ seen-none n [] h = tt
 seen-none n (looked at look ∷ ls) h = λ e. seen-none n ls h
 seen-none n (marked at gap fewer mark s ∷ ls) h = absurd h.0
 
-seen-looks : (n at : ℕ) (l : _) (ls : List Ask) → AllSeen n ls → AllSeen n (ls ++ looked at l ∷ [])
-seen-looks n at l ls h = seen-append n ls (looked at l ∷ []) h (λ e f. tt)
-
 -- ---- the token at hand
 
 seen-if : (b : Bool) (n : ℕ) (asks : List Ask) (a c : Ahead) → (AllEndBy n asks → a.gap + a.len ≤ n) → c.gap + c.len ≤ n → AllEndBy n (if b then asks else []) → (if b then a else c).gap + (if b then a else c).len ≤ n
@@ -122,36 +98,11 @@ Sees m = (z : Place) (s : Point) (n : ℕ) → gap_of s.known ≤ n → Seen n (
 pub sees-plain : {A : Type 0} (a : A) → Sees (λ z s. plain a s)
 sees-plain a z s n g = record { noted = tt; ends = λ e. omega (arith, g) }
 
-joined-notes : {A B : Type 0} (n : ℕ) (o : Outcome B) (p : Outcome A) → o.taken + gap_of o.state.known ≤ n → ((m : ℕ) → gap_of o.state.known ≤ m → Seen m p) → AllSeen n (shift o.taken p.asks)
-joined-notes n o p l k =
-    let m = n - o.taken in
-    seen-shift o.taken m n p.asks (omega (arith, l)) (k m (omega (arith, l))).noted
-
-joined-ends : {A B : Type 0} (n : ℕ) (o : Outcome B) (p : Outcome A) → o.taken + gap_of o.state.known ≤ n → ((m : ℕ) → gap_of o.state.known ≤ m → Seen m p) → AllEndBy n (shift o.taken p.asks) → (joined o p).taken + gap_of p.state.known ≤ n
-joined-ends n o p l k e =
-    let m = n - o.taken in
-    omega (arith, l, (k m (omega (arith, l))).ends (end-shift o.taken m n p.asks (omega arith) e))
-
 seen-joined : {A B : Type 0} (n : ℕ) (o : Outcome B) (p : Outcome A) → Seen n o → ((m : ℕ) → gap_of o.state.known ≤ m → Seen m p) → Seen n (joined o p)
 seen-joined n o p a k = record {
-  noted = seen-append n o.asks (shift o.taken p.asks) a.noted (λ e. joined-notes n o p (a.ends e) k);
-  ends = λ e. joined-ends n o p (a.ends (end-first n o.asks (shift o.taken p.asks) e)) k (end-second n o.asks (shift o.taken p.asks) e);
+  noted = seen-append n o.asks (shift o.taken p.asks) a.noted (λ e. (let l = a.ends e in seen-shift o.taken (n - o.taken) n p.asks (omega (arith, l)) (k (n - o.taken) (omega (arith, l))).noted));
+  ends = λ e. (let l = a.ends (end-first n o.asks (shift o.taken p.asks) e) in omega (arith, l, (k (n - o.taken) (omega (arith, l))).ends (end-shift o.taken (n - o.taken) n p.asks (omega arith) (end-second n o.asks (shift o.taken p.asks) e))));
 }
-
-seen-reshaped : {A : Type 0} (n : ℕ) (shape : Shape) (i : ℕ) (o : Outcome A) → Seen n o → Seen n (reshaped shape i o)
-seen-reshaped n shape i o a = record { noted = a.noted; ends = λ e. omega (arith, a.ends e, ap gap_of (shape-known shape (inside i o) o.state)) }
-
-seen-answered : {A B : Type 0} (n : ℕ) (b : B) (o : Outcome A) → Seen n o → Seen n (answered b o)
-seen-answered n b o a = record { noted = a.noted; ends = a.ends }
-
-seen-left : {A : Type 0} (n : ℕ) (outer : Reading) (o : Outcome A) → Seen n o → Seen n (left_to outer o)
-seen-left n outer o a = record { noted = a.noted; ends = λ e. (let l = a.ends e in on_both (λ (t : Point). o.taken + gap_of t.known ≤ n) (same_mode o.state.reading.mode outer.mode) _ _ l (omega (arith, l))) }
-
-seen-given-up : {A : Type 0} (n : ℕ) (o p : Outcome A) → Seen n p → Seen n (given_up o p)
-seen-given-up n o p a = record { noted = seen-only n (o.asks ++ p.asks); ends = λ e. a.ends (end-second n o.asks p.asks (end-only n (o.asks ++ p.asks) e)) }
-
-seen-deeper : {A : Type 0} (n : ℕ) (o : Outcome A) → Seen n o → Seen n (deeper_by_one o)
-seen-deeper n o a = record { noted = seen-sunk n o.asks a.noted; ends = λ e. a.ends (end-sunk n o.asks e) }
 
 abbrev SeenBy : (A : Type 0) → Place → Point → Outcome A → Type 0
 SeenBy A z s o = (n : ℕ) → gap_of s.known ≤ n → Seen n o
@@ -160,10 +111,10 @@ seen : Parts SeenBy
 seen = record {
   nothing = λ A z s a n g. sees-plain a z s n g;
   both = λ A B z s o p h k n g. seen-joined n o p (h n g) k;
-  answer = λ A B z s b o h n g. seen-answered n b o (h n g);
-  in_shape = λ A z s shape i o h n g. seen-reshaped n shape i o (h n g);
-  in_scope = λ A z s r o h n g. seen-left n s.reading o (h n g);
-  instead = λ A z s o p h k n g. seen-given-up n o p (k n g);
+  answer = λ A B z s b o h n g. record { noted = (h n g).noted; ends = (h n g).ends };
+  in_shape = λ A z s shape i o h n g. record { noted = (h n g).noted; ends = λ e. omega (arith, (h n g).ends e, ap gap_of (shape-known shape (inside i o) o.state)) };
+  in_scope = λ A z s r o h n g. record { noted = (h n g).noted; ends = λ e. (let l = (h n g).ends e in on_both (λ (t : Point). o.taken + gap_of t.known ≤ n) (same_mode o.state.reading.mode s.reading.mode) _ _ l (omega (arith, l))) };
+  instead = λ A z s o p h k n g. record { noted = seen-only n (o.asks ++ p.asks); ends = λ e. (k n g).ends (end-second n o.asks p.asks (end-only n (o.asks ++ p.asks) e)) };
 }
 
 module _ (l : Level) where
@@ -178,17 +129,10 @@ module _ (l : Level) where
 
   -- and another look after it
   more-notes : (z : Place) (s : Point) (n at : ℕ) (look : _) → AllSeen n (hand_asks_of l z s ++ looked at look ∷ [])
-  more-notes z s n at look = seen-looks n at look (hand_asks_of l z s) (notes-none z s n)
+  more-notes z s n at look = seen-append n (hand_asks_of l z s) (looked at look ∷ []) (notes-none z s n) (λ e f. tt)
 
   more-ends : (z : Place) (s : Point) (n at : ℕ) (look : _) → gap_of s.known ≤ n → AllEndBy n (hand_asks_of l z s ++ looked at look ∷ []) → (hand_of l z s).gap ≤ n
   more-ends z s n at look g e = sees-trivia z s n g (end-first n (hand_asks_of l z s) (looked at look ∷ []) e)
-
-  so-ends : (z : Place) (s : Point) (n : ℕ) (way : _) → (let h = hand_of l z s in let w = moved h.gap z in AllEndBy n (hand_asks_of l z s ++ looked h.gap (look (reader_so l way) w) ∷ []) → h.gap + len_by (reader_so l way) w ≤ n)
-  so-ends z s n way e =
-      let h = hand_of l z s in
-      let w = moved h.gap z in
-      let last = end-second n (hand_asks_of l z s) (looked h.gap (look (reader_so l way) w) ∷ []) e in
-      omega (arith, last.0, len-covers (reader_so l way) w)
 
   sees-done : {A : Type 0} (o : Op A) → Sees (done l o)
   sees-done hand z s n g = record { noted = notes-none z s n; ends = λ e. omega (arith, sees-trivia z s n g e) }
@@ -197,7 +141,7 @@ module _ (l : Level) where
   sees-done column z s n g = record { noted = more-notes z s n _ _; ends = λ e. omega (arith, more-ends z s n _ _ g e) }
   sees-done erred z s n g = record { noted = tt; ends = λ e. omega (arith, g) }
   sees-done (takes trims making) z s n g = record { noted = notes-none z s n; ends = λ e. omega (arith, sees-hand z s n g e) }
-  sees-done (takes_so way making) z s n g = record { noted = more-notes z s n _ _; ends = λ e. omega (arith, so-ends z s n way e) }
+  sees-done (takes_so way making) z s n g = record { noted = more-notes z s n _ _; ends = λ e. (let h = hand_of l z s in let w = moved h.gap z in omega (arith, (end-second n (hand_asks_of l z s) (looked h.gap (look (reader_so l way) w) ∷ []) e).0, len-covers (reader_so l way) w)) }
   sees-done flushes z s n g = record { noted = notes-none z s n; ends = λ e. omega (arith, sees-trivia z s n g e) }
   sees-done (complains message) z s n g = record { noted = tt; ends = λ e. omega (arith, g) }
   sees-done (advises hint) z s n g = record { noted = tt; ends = λ e. omega (arith, g) }
@@ -212,7 +156,7 @@ module _ (l : Level) where
         record { noted = (omega arith, seen-append n o.asks _ a.noted (λ e. (omega (arith, a.ends e), tt))); ends = λ e. omega (arith, a.ends (end-first n o.asks _ e)) }
 
     pub sees-run : {A : Type 0} (p : Parser A) → Sees (run l p)
-    sees-run p = all-run SeenBy seen l (λ A o. sees-done o) (λ c z s n g. seen-deeper n (l.deeper c z s) (i c z s n g)) sees-bounded p
+    sees-run p = all-run SeenBy seen l (λ A o. sees-done o) (λ c z s n g. (let o = l.deeper c z s in let a = i c z s n g in record { noted = seen-sunk n o.asks a.noted; ends = λ e. a.ends (end-sunk n o.asks e) })) sees-bounded p
 
 -- ---- by any rules, at every level
 

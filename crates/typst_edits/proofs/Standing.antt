@@ -1,32 +1,18 @@
 -- Each node of a block's kind stands where a spot of the reading is, or where one of a second reading is.
-use Rattle.std.proofs.Common.{◌≡◌, ◌⊎◌, inl, inr, ℕ, zero, suc, ◌+◌, ◌-◌, ◌<◌, Bool, true, false, ◌&&◌, if◌then◌else◌, nat_lt, List, [], ◌∷◌, ◌++◌, length, map, take, drop, Option, Some, None, refl, ap, sym, ◌∙◌, subst, arith}
-use Rattle.std.specs.List.{flat_map}
-use Rattle.typst_tree.specs.Tree.{Tree, forest}
-use Rattle.typst_language.specs.Nodes.{token_node}
-use Rattle.typst_lines.specs.Place.{Place, moved}
-use Rattle.typst_language.specs.declared.calls.Block.{Block}
-use Rattle.typst_language.specs.declared.reading.Reading.{Reading}
-use Rattle.typst_language.specs.Calls.{Call, Answer}
+use Rattle.std.proofs.Common.{◌≡◌, ◌⊎◌, inl, inr, ℕ, zero, suc, ◌+◌, ◌-◌, ◌<◌, Bool, true, false, ◌&&◌, if◌then◌else◌, nat_lt, List, [], ◌∷◌, ◌++◌, length, map, take, drop, Option, Some, None, refl, ap, sym, ◌∙◌, subst, arith, length-append, append-nil}
+use Rattle.typst_edits.proofs.Words.{flat_map, Tree, forest, token_node, Place, moved, Block, Reading, Call, Answer, Outcome, Meaning, Level, less, joined, answered, followed, turns, as_last, bound, repeated, before, inside, reshaped, wrapped, grown, is_more, growths, growing, nestings, nesting, bounded, given_up, plain, same_mode, entered, left, left_to, deeper_by_one, taken_node, hand_of, hand_asks_of, done, run, blockless, start_point, closed, reader_so, gave, Point, Trivia, pending, forgot, Shape, hinted, after_shape, seen, shaped, Op, Begin, Parser, hand, so, further, column, erred, takes, takes_so, flushes, complains, advises, marks, is_deepest, gives, does, next, pick, repeat, wraps, grows, nests, scoped, either, calls, block, length-less, less-none, on_both, is_ordinary, shape_by, plug, path_in, Spots, joined_spots, goes, last_spot, turns_spots, repeated_spots, reshaped_spot, wrapped_spot, grown_spot, growths_spots, growing_spots, nestings_spots, nesting_spots, scoped_spot, bounded_spots, spots, call_spots, block_spots, level_spots, Spot, valued, then_spot, after_spot, sunk_spot, closed_spot, kind_of, seconds, call_seconds, block_seconds, level_seconds, seconds_of_text, IsOf, Stems, is_error, CharClasses, blocks_of, meaning_of, level_of, stays, turns_wrong, peek, node, at_token, rules, max_depth, start_of, whole, parsed, production, markup_reading, content_block, code_block, blocks_of_text, op_by, PlainBy, ordinary-whole, ordinary-production, ordinary-content, ordinary-code, inside_content, inside_code}
+use Rattle.typst_language.specs.Meaning.{node_by}
+use Rattle.typst_edits.specs.Standing.{StandingLaw}
+use Rattle.typst_grammar.proofs.FineRuns.{if_by, gives-run, after-shape-known}
 use Rattle.typst_language.specs.Hand.{token_by, len_by}
-use Rattle.typst_language.specs.Meaning.{Outcome, Meaning, Level, less, joined, answered, followed, turns, as_last, bound, repeated, before, inside, reshaped, wrapped, grown, is_more, growths, growing, nestings, nesting, closed, bounded, given_up, plain, same_mode, entered, left, left_to, deeper_by_one, taken_node, node_by, reader_so, gave, hand_of, hand_asks_of, done, run}
-use Rattle.typst_language.specs.Point.{Point, Trivia, pending, forgot}
-use Rattle.typst_language.specs.Shape.{Shape, hinted, after_shape, seen}
-use Rattle.typst_language.specs.Syntax.{Op, Begin, Parser}
-use Rattle.typst_language.specs.Syntax.Op.{hand, so, further, column, erred, takes, takes_so, flushes, complains, advises, marks, is_deepest}
-use Rattle.typst_language.specs.Syntax.Parser.{gives, does, next, pick, repeat, wraps, grows, nests, scoped, either, calls, block}
-use Rattle.typst_language.proofs.Places.{length-less}
-use Rattle.typst_language.proofs.Within.{on_both}
-use Rattle.typst_grammar.proofs.Fine.{is_ordinary, shape_by}
-use Rattle.typst_grammar.proofs.FineRuns.{if_by, op_by, PlainBy, gives-run, after-shape-known}
-use Rattle.typst_edits.specs.Hole.{plug}
-use Rattle.typst_edits.specs.Occurrences.{Spots, joined_spots, goes, last_spot, turns_spots, repeated_spots, reshaped_spot, wrapped_spot, grown_spot, growths_spots, growing_spots, nestings_spots, nesting_spots, scoped_spot, bounded_spots, spots}
-use Rattle.typst_edits.specs.Spot.{Spot, valued, then_spot, after_spot, sunk_spot, closed_spot}
-use Rattle.typst_edits.specs.Standing.{seconds}
-use Rattle.typst_edits.proofs.CleanTokens.{CleanTree, clean-token, clean-made, clean-hand}
-use Rattle.typst_edits.proofs.Complete.{Any, any-left, any-right, any-map}
+use Rattle.typst_edits.proofs.Positions.{CleanTree, clean-token, clean-made, clean-hand, Nowhere, Clean, Each, each-by, each-clean, each-move, each-append, each-hinted, each-less, each-plug}
+use Rattle.typst_edits.proofs.Complete.{Any, any-left, any-right, any-map, chosen}
 use Rattle.typst_edits.proofs.Law.{Ends}
-use Rattle.typst_edits.proofs.Positions.{Nowhere, Clean, Each, each-by, each-clean, each-move, each-append, each-hinted, each-less}
-use Rattle.typst_edits.proofs.Seats.{Sits, Stood, then-sits, after-sits, last-sits, reshape-sits, each-reshaped, Goes, stood-flat}
+use Rattle.typst_edits.proofs.Seats.{Sits, Stood, then-sits, after-sits, last-sits, reshape-sits, each-reshaped, Goes, stood-flat, Lift, each-enclosed}
+use Rattle.typst_edits.specs.Standing.Stems.{from_unit, from_second}
+use Rattle.typst_edits.proofs.BlockPlaces.{hole-same}
+use Rattle.typst_edits.proofs.Blocks.{enclosing, ends}
+use Rattle.typst_language.specs.declared.calls.Block.TheVariants as block
 
 -- Each node of a block's kind that an outcome gives is that of one of these spots, of the one kind or of the other, and none is known to come.
 pub record Stand {A : Type 0} (o : Outcome A) (cs ds : List (Spot A)) : Type 0 where
@@ -95,14 +81,11 @@ stand-nest f n o cs ds a h = record {
   known = clean-shaped (f o.value) (inside n o) o.state h.known;
 }
 
-valued-sits : {A B : Type 0} (v w : B) (o : Outcome A) (i : ℕ) (q : List ℕ) (c : Spot A) → v ≡ w → Sits o i q c → Sits (answered w o) i q (valued v c)
-valued-sits v w o i q c e s = record { first = s.first; path = s.path; value = e; back = s.back; hints = s.hints; nodes = s.nodes; head = s.head; passes = s.passes }
-
 pub wrap-sits : {A : Type 0} (f : A → Shape) (n : ℕ) (o : Outcome A) (i j : ℕ) (q r : List ℕ) → Goes (f o.value) n o i j q r → (c : Spot A) → Sits o i q c → Any (Sits (wrapped f n o) j r) (wrapped_spot f n c)
 wrap-sits f n o i j q r g c s =
     let value : (c.value, map seen (drop (n + c.back) (plug c.hole c.node))) ≡ (o.value, map seen (drop (n + o.back) o.nodes)) =
     ap (λ v. (v, map seen (drop (n + c.back) (plug c.hole c.node)))) s.value ∙ ap (λ m. (o.value, map seen (drop (n + m) (plug c.hole c.node)))) s.back ∙ ap (λ ts. (o.value, map seen (drop (n + o.back) ts))) s.nodes in
-    any-map (Sits (reshaped (f o.value) n o) j r) (Sits (wrapped f n o) j r) (valued _) (λ d t. valued-sits _ _ (reshaped (f o.value) n o) j r d value t) (reshaped_spot (f c.value) n c)
+    any-map (Sits (reshaped (f o.value) n o) j r) (Sits (wrapped f n o) j r) (valued _) (λ d t. record { first = t.first; path = t.path; value = value; back = t.back; hints = t.hints; nodes = t.nodes; head = t.head; passes = t.passes }) (reshaped_spot (f c.value) n c)
     (subst (λ v. Any (Sits (reshaped (f o.value) n o) j r) (reshaped_spot (f v) n c)) (sym s.value) (reshape-sits (f o.value) n o i j q r c s (g c s)))
 
 stand-wrapped : {A : Type 0} (f : A → Shape) (n : ℕ) (o : Outcome A) (cs ds : List (Spot A)) → shape_by is_ordinary (f o.value) ≡ true → Stand o cs ds → Stand (wrapped f n o) (flat_map (wrapped_spot f n) cs) (flat_map (wrapped_spot f n) ds)
@@ -209,9 +192,6 @@ stand-bounded b m sp se z s e h = record { nodes = each-by _ _ 0 (forest o.nodes
 
 -- ---- whatever the language can say
 
-clean-both : (ts : List Tree) (t : Tree) → Clean ts → CleanTree t → Clean (ts ++ t ∷ [])
-clean-both ts t h k = each-append Nowhere 0 (length ts) ts (t ∷ []) (omega arith) h (each-clean Nowhere (length ts) (forest (t ∷ [])) k)
-
 stand-clean : {A : Type 0} (o : Outcome A) → Clean o.nodes → Clean (pending o.state.known) → Stand o [] []
 stand-clean o h k = record { nodes = each-clean (Stood o [] []) 0 (forest o.nodes) h; known = k }
 
@@ -231,30 +211,21 @@ stand-given o p cs ds h = record { nodes = each-by (Stood p cs ds) (Stood (given
     step i q (inl x) = inr (any-left (Sits (given_up o p) i q) cs ds (any-by (Sits p i q) (Sits (given_up o p) i q) (λ c t. given-sits o p i q c t) cs x))
     step i q (inr x) = inr (any-right (Sits (given_up o p) i q) cs ds (any-by (Sits p i q) (Sits (given_up o p) i q) (λ c t. given-sits o p i q c t) ds x))
 
-scoped-sits : {A : Type 0} (outer : Reading) (o : Outcome A) (i : ℕ) (q : List ℕ) (c : Spot A) → Sits o i q c → Sits (left_to outer o) i q (scoped_spot outer c)
-scoped-sits outer o i q c t = record { first = t.first; path = t.path; value = t.value; back = t.back; hints = t.hints; nodes = t.nodes; head = t.head; passes = t.passes }
-
-clean-left : (outer : Reading) (s : Point) → Clean (pending s.known) → Clean (pending (left outer s).known)
-clean-left outer s h = on_both (λ (t : Point). Clean (pending t.known)) (same_mode s.reading.mode outer.mode) _ _ h tt
-
 stand-scoped : {A : Type 0} (outer : Reading) (o : Outcome A) (cs ds : List (Spot A)) → Stand o cs ds → Stand (left_to outer o) (map (scoped_spot outer) cs) (map (scoped_spot outer) ds)
 stand-scoped outer o cs ds h = record {
-  nodes = each-by (Stood o cs ds) _ 0 (forest o.nodes) (λ i q x. stood-map (Sits o i q) (Sits (left_to outer o) i q) (scoped_spot outer) (λ c t. scoped-sits outer o i q c t) cs ds x) h.nodes;
-  known = clean-left outer o.state h.known;
+  nodes = each-by (Stood o cs ds) _ 0 (forest o.nodes) (λ i q x. stood-map (Sits o i q) (Sits (left_to outer o) i q) (scoped_spot outer) (λ c t. record { first = t.first; path = t.path; value = t.value; back = t.back; hints = t.hints; nodes = t.nodes; head = t.head; passes = t.passes }) cs ds x) h.nodes;
+  known = on_both (λ (t : Point). Clean (pending t.known)) (same_mode o.state.reading.mode outer.mode) _ _ h.known tt;
 }
-
-sunk-sits : {A : Type 0} (o : Outcome A) (i : ℕ) (q : List ℕ) (c : Spot A) → Sits o i q c → Sits (deeper_by_one o) i q (sunk_spot c)
-sunk-sits o i q c t = record { first = t.first; path = t.path; value = t.value; back = t.back; hints = t.hints; nodes = t.nodes; head = t.head; passes = t.passes }
 
 stand-sunk : {A : Type 0} (o : Outcome A) (cs ds : List (Spot A)) → Stand o cs ds → Stand (deeper_by_one o) (map sunk_spot cs) (map sunk_spot ds)
 stand-sunk o cs ds h = record {
-  nodes = each-by (Stood o cs ds) _ 0 (forest o.nodes) (λ i q x. stood-map (Sits o i q) (Sits (deeper_by_one o) i q) sunk_spot (λ c t. sunk-sits o i q c t) cs ds x) h.nodes;
+  nodes = each-by (Stood o cs ds) _ 0 (forest o.nodes) (λ i q x. stood-map (Sits o i q) (Sits (deeper_by_one o) i q) sunk_spot (λ c t. record { first = t.first; path = t.path; value = t.value; back = t.back; hints = t.hints; nodes = t.nodes; head = t.head; passes = t.passes }) cs ds x) h.nodes;
   known = h.known;
 }
 
 module _ (l : Level) where
   stand-gave : (z : Place) (s : Point) (trims : Bool) (len : ℕ) (node : Tree) (asks : List _) → Clean (pending s.known) → CleanTree node → Stand (gave (hand_of l z s) trims len node asks s) [] []
-  stand-gave z s trims len node asks k f = stand-clean (gave (hand_of l z s) trims len node asks s) (clean-both (hand_of l z s).trivia node (clean-hand l z s k) f) tt
+  stand-gave z s trims len node asks k f = stand-clean (gave (hand_of l z s) trims len node asks s) (each-append Nowhere 0 (length (hand_of l z s).trivia) (hand_of l z s).trivia (node ∷ []) (omega arith) (clean-hand l z s k) (each-clean Nowhere (length (hand_of l z s).trivia) (forest (node ∷ [])) f)) tt
 
   pub stand-done : {A : Type 0} (o : Op A) → op_by is_ordinary o ≡ true → (z : Place) (s : Point) → Clean (pending s.known) → Stand (done l o z s) [] []
   stand-done hand e z s h = record { nodes = tt; known = clean-hand l z s h }
@@ -320,3 +291,122 @@ module _ (l : Level) where
           (λ t. stand-joined o (m v o.state) [] [] (bounded_spots b (l.blocks b) (in_block b) v o.state) (map (closed_spot b o.state) (seconds_inside b v (forgot o.state))) (stand-done flushes refl z s h)
           (stand-bounded b (l.blocks b) (in_block b) (seconds_inside b) v o.state (ends b v (forgot o.state) t) (e b v (forgot o.state) t tt)))
           (λ _. stand-plain tt s h)
+
+-- ---- each node of a block's kind in the tree of a text is that of a spot, or of a second reading
+
+-- ---- a block's node around what stands in it
+
+mostly-after : {A B : Type 0} (o : Outcome B) (p : Outcome A) (cs ds : List (Spot B)) (es fs : List (Spot A)) → Stand o cs ds → Mostly p es fs → Mostly (joined o p) (joined_spots o cs p es) (joined_spots o ds p fs)
+mostly-after o p cs ds es fs h k = record { nodes = each-joined (Stood o cs ds) _ _ o p (λ i q l x. inl (stood-then o p cs ds es fs i q l x)) second h.nodes k.nodes; known = k.known }
+  where
+    second : (i j : ℕ) (q : List ℕ) → j ≡ i + length (hinted p.hints (less p.back o.nodes)) → Stood p es fs i q ⊎ Own p i q → Stood (joined o p) (joined_spots o cs p es) (joined_spots o ds p fs) j q ⊎ Own (joined o p) j q
+    second i j q e (inl x) = inl (stood-after o p cs ds es fs i j q e x)
+    second i j q e (inr x) =
+        inr (omega (arith, length-append (hinted p.hints (less p.back o.nodes)) p.nodes, x.0, e), x.1)
+
+mostly-plain : {A B : Type 0} (a : A) (o : Outcome B) (cs ds : List (Spot B)) → Mostly o cs ds → Mostly (joined o (plain a o.state)) (joined_spots o cs (plain a o.state) []) (joined_spots o ds (plain a o.state) [])
+mostly-plain a o cs ds h = record { nodes = each-joined _ Nowhere _ o (plain a o.state) first (λ i j q e x. elim x [ ]) h.nodes tt; known = h.known }
+  where
+    first : (i : ℕ) (q : List ℕ) → i < length o.nodes - 0 → Stood o cs ds i q ⊎ Own o i q
+        → Stood (joined o (plain a o.state)) (joined_spots o cs (plain a o.state) []) (joined_spots o ds (plain a o.state) []) i q ⊎ Own (joined o (plain a o.state)) i q
+    first i q l (inl x) = inl (stood-then o (plain a o.state) cs ds [] [] i q l x)
+    first i q l (inr x) = inr (x.0 ∙ sym (ap length (append-nil (less 0 o.nodes) ∙ less-none o.nodes)), x.1)
+
+sound-block : (b : Block) → is_error (kind_of b) ≡ false
+sound-block block.Code = refl
+sound-block block.Content = refl
+
+mostly-enclosed : (b : Block) (n : ℕ) (o : Outcome Bool) (cs ds : List (Spot Bool)) → Stand o cs ds → Mostly (wrapped (enclosing b) n o) (flat_map (wrapped_spot (enclosing b) n) cs) (flat_map (wrapped_spot (enclosing b) n) ds)
+mostly-enclosed b n o cs ds h = record { nodes = by-end o.value (inr (own o.value, refl)) lift; known = clean-shaped (enclosing b o.value) (inside n o) o.state h.known }
+  where
+    Q : ℕ → List ℕ → Type 0
+    Q i q = Stood (wrapped (enclosing b) n o) (flat_map (wrapped_spot (enclosing b) n) cs) (flat_map (wrapped_spot (enclosing b) n) ds) i q ⊎ Own (wrapped (enclosing b) n o) i q
+
+    by-end : (closed : Bool) → Q (length (take (n + o.back) o.nodes)) [] → Lift n o Q cs ds (enclosing b closed) → Each Q 0 (forest (reshaped (enclosing b closed) n o).nodes)
+    by-end true e f = each-enclosed n o Q cs ds stays (kind_of b) refl (sound-block b) e f h.nodes
+    by-end false e f = each-enclosed n o Q cs ds (turns_wrong _) (kind_of b) refl (sound-block b) e f h.nodes
+
+    own : (closed : Bool) → suc (length (take (n + o.back) o.nodes)) ≡ length (reshaped (enclosing b closed) n o).nodes
+    own true = let l = length-append (take (n + o.back) o.nodes) (shaped (enclosing b true) (inside n o)) in omega (arith, l)
+    own false = let l = length-append (take (n + o.back) o.nodes) (shaped (enclosing b false) (inside n o)) in omega (arith, l)
+
+    lift : Lift n o Q cs ds (enclosing b o.value)
+    lift i j q r g x = inl (stood-flat (Sits o i q) (Sits (wrapped (enclosing b) n o) j r) (wrapped_spot (enclosing b) n) (λ c s. wrap-sits (enclosing b) n o i j q r g c s) cs ds x)
+
+-- ---- blocks, by what is read one level deeper
+
+module _ (k : CharClasses) (levels : ℕ) (d : (c : Call) → Standing (meaning_of (rules k) k levels c) (call_spots (rules k) k levels c) (call_seconds (rules k) k levels c)) where
+  abbrev inner : Level
+  inner = blockless k levels (meaning_of (rules k) k levels)
+
+  abbrev inner_firsts : {A : Type 0} → Parser A → Spots A
+  inner_firsts p = spots inner (call_spots (rules k) k levels) (λ c y t. []) p
+
+  abbrev inner_others : {A : Type 0} → Parser A → Spots A
+  inner_others p = seconds inner (call_spots (rules k) k levels) (λ c y t. []) (call_seconds (rules k) k levels) (λ c y t. []) p
+
+  mostly-node : (b : Block) (p : Parser Bool) → PlainBy is_ordinary p → (z : Place) (s : Point) → Clean (pending s.known) → Mostly (run inner (node (enclosing b) p) z s) (inner_firsts (node (enclosing b) p) z s) (inner_others (node (enclosing b) p) z s)
+  unfolding run node spots seconds
+  mostly-node b p w z s h =
+      let o = run inner peek z s in
+      let v = moved o.taken z in
+      let first = stand-done inner hand refl z s h in
+      let q = run inner p v o.state in
+      let n = before at_token o.state in
+      mostly-after o _ [] [] _ _ first
+      (mostly-plain q.value (wrapped (enclosing b) n q) _ _ (mostly-enclosed b n q (inner_firsts p v o.state) (inner_others p v o.state) (stand-run inner (call_spots (rules k) k levels) (λ c y t. []) (call_seconds (rules k) k levels) (λ c y t. []) d (λ b z s t. absurd (cc)) (λ b z s t h. absurd (cc)) p w v o.state first.known)))
+
+  mostly-block : (b : Block) (z : Place) (s : Point) → Clean (pending s.known) → Mostly (blocks_of (rules k) k levels (meaning_of (rules k) k levels) b z s) (block_spots (rules k) k levels b z s) (block_seconds (rules k) k levels b z s)
+  unfolding run spots seconds content_block code_block
+  mostly-block block.Content z s h =
+      let o = run inner peek z s in
+      let v = moved o.taken z in
+      let first = stand-done inner hand refl z s h in
+      mostly-after o _ [] [] _ _ first (mostly-plain tt (run inner (node (enclosing block.Content) inside_content) v o.state) _ _ (mostly-node block.Content inside_content ordinary-content v o.state first.known))
+  mostly-block block.Code z s h =
+      let o = run inner peek z s in
+      let v = moved o.taken z in
+      let first = stand-done inner hand refl z s h in
+      mostly-after o _ [] [] _ _ first (mostly-plain tt (run inner (node (enclosing block.Code) inside_code) v o.state) _ _ (mostly-node block.Code inside_code ordinary-code v o.state first.known))
+
+  stand-level : {A : Type 0} (p : Parser A) → PlainBy is_ordinary p → Standing (run (level_of (rules k) k levels) p) (level_spots (rules k) k levels p) (level_seconds (rules k) k levels p)
+  stand-level p w =
+      stand-run (level_of (rules k) k levels) (call_spots (rules k) k levels) (block_spots (rules k) k levels) (call_seconds (rules k) k levels) (block_seconds (rules k) k levels) d
+      (λ b z s t. ends k levels b t z s) (λ b z s t h. mostly-block b z s h) p w
+
+module _ (k : CharClasses) where
+  stand-call : (levels : ℕ) (c : Call) → Standing (meaning_of (rules k) k levels c) (call_spots (rules k) k levels c) (call_seconds (rules k) k levels c)
+  unfolding meaning_of call_spots call_seconds
+  stand-call zero c z s h = record { nodes = tt; known = h }
+  stand-call (suc levels) c z s h = stand-level k levels (stand-call levels) (production k c) (ordinary-production k c) z s h
+
+-- ---- of a text
+
+pub standing-law : StandingLaw
+unfolding blocks_of_text seconds_of_text
+standing-law k text hole x e b = said (each-plug (Stood o cs ds) hole x b (subst (λ ts. Each (Stood o cs ds) 0 (forest ts)) e (stand-level k max_depth (stand-call k max_depth) whole ordinary-whole z s tt).nodes))
+  where
+    z : Place
+    z = start_of text
+
+    s : Point
+    s = start_point markup_reading
+
+    o : Outcome (Unit {0})
+    o = parsed k max_depth text
+
+    cs : List (Spot (Unit {0}))
+    cs = level_spots (rules k) k max_depth whole z s
+
+    ds : List (Spot (Unit {0}))
+    ds = level_seconds (rules k) k max_depth whole z s
+
+    is-of : (c : Spot (Unit {0})) → Sits o (length hole.left) (path_in hole.deep) c → IsOf hole x c
+    is-of c t =
+        let path = ap (λ n. n ∷ path_in c.hole.deep) t.first ∙ ap (λ q. length hole.left ∷ q) t.path in
+        let node = (hole-same c.hole hole c.node x path (t.nodes ∙ e)).1 in
+        record { path = path; node = node; nodes = t.nodes ∙ e; head = sym (ap (λ (u : Tree). u.head) node) ∙ t.head }
+
+    said : Stood o cs ds (length hole.left) (path_in hole.deep) → Stems k text hole x
+    said (inl h) = let r = chosen (Sits o (length hole.left) (path_in hole.deep)) cs h in from_unit r.one r.among (is-of r.one r.holds)
+    said (inr h) = let r = chosen (Sits o (length hole.left) (path_in hole.deep)) ds h in from_second r.one r.among (is-of r.one r.holds)

@@ -1,18 +1,13 @@
 -- The byte at which the children begin of the node at the end of a path, in a tree with a hole there; spans aside it is the same.
 use Rattle.std.proofs.Common.{◌≡◌, ℕ, zero, suc, ◌+◌, List, [], ◌∷◌, ◌++◌, length, take, length-append, Option, Some, None, refl, ap, sym, ◌∙◌, arith}
-use Rattle.std.specs.Prelude.{slice_get, option_map}
-use Rattle.std.proofs.Math.Seq.{take-append_seam}
-use Rattle.typst_kinds.specs.Head.{inner_head}
+use Rattle.typst_edits.proofs.Words.{slice_get, option_map, take-append_seam, inner_head, Tree, Forest, none, more, forest, trees, bare, bare_forest, inner_of, start_at, or_none, texts, Deep, fill, path_in, Hole, plug, path_of, under}
+use Rattle.typst_tree.specs.Tree.{joined}
+use Rattle.typst_edits.specs.Hole.Deep.{bare as alone}
 use Rattle.typst_kinds.specs.declared.kind.SyntaxKind.TheVariants as kind
-use Rattle.typst_tree.specs.Tree.{Tree, Forest, none, more, forest, trees, joined, bare, bare_forest, inner_of}
-use Rattle.typst_tree.specs.Laws.{start_at, or_none}
-use Rattle.typst_language.proofs.Leaves.{texts}
 use Rattle.typst_tree.proofs.Numbering.{joined_bare as joined-bare}
-use Rattle.typst_edits.specs.Hole.{Deep, fill, path_in, Hole, plug, path_of}
-use Rattle.typst_edits.specs.Hole.Deep.{bare as alone, under}
 use Rattle.typst_edits.proofs.Edit.{trees-of}
-use Rattle.typst_edits.proofs.InnerCandidates.{joined-trees}
-use Rattle.typst_edits.proofs.Placed.{deep_text, left_text}
+use Rattle.typst_edits.proofs.RunCandidates.{joined-trees}
+use Rattle.typst_edits.proofs.Walk.{deep_text, left_text}
 
 -- ---- spans aside
 

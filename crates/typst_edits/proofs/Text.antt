@@ -1,24 +1,14 @@
 -- The block law of a whole text.
 use Rattle.std.proofs.Common.{◌≡◌, ℕ, suc, ◌-◌, ◌<◌, List, ◌++◌, ap, ◌∙◌, arith}
-use Rattle.typst_lines.specs.Place.{Place, moved}
-use Rattle.typst_lines.specs.Classes.{CharClasses}
+use Rattle.typst_edits.proofs.Words.{Place, moved, CharClasses, forest, inner_of, start_point, point_of, markup_reading, rules, max_depth, start_of, whole, parsed, tree, Among, text_with, blocks_of_text, block_at, Named, Spot, ended, unit_at}
+use Rattle.typst_edits.specs.Laws.{BlockLaw, NamesLaw}
 use Rattle.typst_kinds.specs.declared.kind.SyntaxKind.TheVariants as kind
-use Rattle.typst_tree.specs.Tree.{forest, inner_of}
 use Rattle.typst_language.specs.declared.calls.Block.TheVariants as block
-use Rattle.typst_language.specs.Meaning.{start_point}
-use Rattle.typst_language.specs.Point.{point_of}
-use Rattle.typst_grammar.specs.Markup.{markup_reading}
-use Rattle.typst_grammar.specs.Grammar.{rules, max_depth, start_of, whole, parsed, tree}
-use Rattle.typst_edits.specs.Edit.{Among, text_with}
-use Rattle.typst_edits.specs.Laws.{blocks_of_text, BlockLaw, NamesLaw, block_at}
-use Rattle.typst_edits.specs.Named.{Named}
 use Rattle.typst_edits.proofs.Blocks.{ends}
 use Rattle.typst_edits.proofs.Law.{inside-level}
-use Rattle.typst_edits.specs.Spot.{Spot, ended, unit_at}
-use Rattle.typst_edits.proofs.Clear.{Clear, clear-level}
+use Rattle.typst_edits.proofs.Content.{Clear, clear-level, fitting}
 use Rattle.typst_edits.proofs.Edit.{among, before-same, edited}
-use Rattle.typst_edits.proofs.Fitting.{fitting}
-use Rattle.typst_edits.proofs.Inside.{Lawful}
+use Rattle.typst_edits.proofs.Spots.{Lawful}
 use Rattle.typst_edits.proofs.Names.{named-level}
 
 pub block-law : BlockLaw

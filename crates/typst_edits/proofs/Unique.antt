@@ -1,22 +1,9 @@
 -- Nodes that take the same place in the same tree and give the same tree are the same, so an edit has one answer.
 use Rattle.std.proofs.Common.{◌≡◌, ℕ, zero, suc, List, [], ◌∷◌, ◌++◌, drop, take, Some, ap, sym, ◌∙◌, subst, arith}
-use Rattle.std.proofs.lemmas.List.{append_cancel_left, append_cancel_right}
-use Rattle.std.specs.Prelude.{slice_get}
+use Rattle.typst_edits.proofs.Words.{slice_get, CharClasses, Tree, forest, trees, At, Reaches, replaced_at, trees_forest, width, Candidate, tree, with_children, alter, Every, Gives, OpensApartLaw, append_cancel_left, append_cancel_right, part}
+use Rattle.typst_edits.specs.Answer.IsAnswer.{whole}
 use Rattle.std.specs.declared.ops.Range.{Range}
-use Rattle.typst_lines.specs.Classes.{CharClasses}
-use Rattle.typst_tree.specs.Tree.{Tree, forest, trees}
-use Rattle.typst_tree.specs.Replace.{At, Reaches, replaced_at}
-use Rattle.typst_tree.proofs.SpansAside.{trees_forest}
-use Rattle.typst_tokens.specs.Sight.{width}
-use Rattle.typst_candidates.specs.Candidates.{Candidate}
-use Rattle.typst_grammar.specs.Grammar.{tree}
 use Rattle.typst_edits.specs.Answer.{Refused}
-use Rattle.typst_edits.specs.Answer.IsAnswer.{part, whole}
-use Rattle.typst_edits.specs.Children.{with_children, exchanged}
-use Rattle.typst_edits.specs.Edit.{alter}
-use Rattle.typst_edits.specs.Every.{Every}
-use Rattle.typst_edits.specs.Frame.{Gives}
-use Rattle.typst_edits.specs.OpensApart.{OpensApartLaw}
 use Rattle.typst_edits.specs.Unique.{UniqueLaw, OneAnswerLaw}
 use Rattle.typst_edits.proofs.AnswerTree.{chosen-of, gives-tree-law, some-is}
 use Rattle.typst_edits.proofs.CandidateWorth.{in-order, reached}
@@ -28,9 +15,6 @@ use Rattle.typst_edits.proofs.Every.{first_or}
 
 -- ---- the same tree by nodes in the same place
 
-same-between : (from to : ℕ) (ts us xs : List Tree) → exchanged from to ts xs ≡ exchanged from to us xs → ts ≡ us
-same-between from to ts us xs e = append_cancel_right ts us (drop to xs) (append_cancel_left (take from xs) (ts ++ drop to xs) (us ++ drop to xs) e)
-
 -- one of several nodes changed to the same by two functions
 same-there : (P : Tree → Type 0) (f g : Tree → Tree) (Q : Type 0) → ((t : Tree) → P t → f t ≡ g t → Q) → (n : ℕ) (ts : List Tree) → At P (slice_get ts n) → alter n f ts ≡ alter n g ts → Q
 same-there P f g Q h n [] a e = absurd a
@@ -41,7 +25,7 @@ kids-same : (xs ys : List Tree) → forest xs ≡ forest ys → xs ≡ ys
 kids-same xs ys e = sym (trees_forest xs) ∙ ap trees e ∙ trees_forest ys
 
 pub same-nodes : (path : List ℕ) (from to : ℕ) (ts us : List Tree) (t : Tree) → Reaches path from to t → with_children path from to ts t ≡ with_children path from to us t → ts ≡ us
-same-nodes [] from to ts us t r e = same-between from to ts us (trees t.kids) (kids-same _ _ (ap (λ (u : Tree). u.kids) e))
+same-nodes [] from to ts us t r e = append_cancel_right ts us (drop to (trees t.kids)) (append_cancel_left (take from (trees t.kids)) (ts ++ drop to (trees t.kids)) (us ++ drop to (trees t.kids)) (kids-same _ _ (ap (λ (u : Tree). u.kids) e)))
 same-nodes (n ∷ path) from to ts us t r e =
     same-there (Reaches path from to) (with_children path from to ts) (with_children path from to us) (ts ≡ us) (same-nodes path from to ts us) n (trees t.kids) r (kids-same _ _ (ap (λ (u : Tree). u.kids) e))
 

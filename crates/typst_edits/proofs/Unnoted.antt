@@ -1,28 +1,17 @@
 -- Where the blocks of a second reading begin, no block is noted.
 use Rattle.std.proofs.Common.{◌≡◌, ◌⊎◌, inl, inr, ℕ, zero, suc, ◌+◌, ◌<◌, ◌≤◌, Bool, true, false, ◌&&◌, if◌then◌else◌, nat_lt, List, [], ◌∷◌, ◌++◌, length, map, drop, append-nil, Option, Some, None, refl, ap, sym, ◌∙◌, subst, arith}
-use Rattle.std.specs.List.{flat_map}
-use Rattle.typst_lines.specs.Place.{Place, moved}
-use Rattle.typst_language.specs.declared.calls.Block.{Block}
-use Rattle.typst_language.specs.declared.calls.Mark.TheVariants as mark
-use Rattle.typst_language.specs.Ask.{Ask, shift, shift_one, sunk, sink_one, only_looks}
-use Rattle.typst_language.specs.Ask.Ask.{looked, marked}
-use Rattle.typst_language.specs.Calls.{Call, Answer}
-use Rattle.typst_language.specs.Meaning.{Outcome, Meaning, Level, joined, answered, followed, turns, as_last, bound, repeated, before, grown, is_more, growths, growing, nestings, nesting, bounded, given_up, entered, plain, hand_asks_of, done, run}
-use Rattle.typst_language.specs.Point.{Point, state_of, forgot}
-use Rattle.typst_kinds.specs.declared.kind.SyntaxKind.{SyntaxKind}
-use Rattle.typst_language.specs.Shape.{Shape, after_shape, seen}
-use Rattle.typst_language.specs.Syntax.{Op, Begin, Parser}
-use Rattle.typst_language.specs.Syntax.Op.{hand, so, further, column, erred, takes, takes_so, flushes, complains, advises, marks, is_deepest}
-use Rattle.typst_language.specs.Syntax.Parser.{gives, does, next, pick, repeat, wraps, grows, nests, scoped, either, calls, block}
-use Rattle.typst_language.proofs.Places.{ahead-left}
-use Rattle.typst_grammar.proofs.FineRuns.{op_by, PlainBy}
-use Rattle.typst_edits.specs.Hole.{Hole, plug, wrap_hole}
-use Rattle.typst_edits.specs.Lost.{opened}
-use Rattle.typst_edits.specs.Occurrences.{Spots, joined_spots, goes, last_spot, turns_spots, repeated_spots, reshaped_spot, wrapped_spot, grown_spot, growths_spots, growing_spots, nestings_spots, nesting_spots, scoped_spot, bounded_spots, spots}
-use Rattle.typst_edits.specs.Spot.{Spot, block_head, valued, then_spot, after_spot, rehole, sunk_spot, closed_spot}
-use Rattle.typst_edits.specs.Standing.{seconds, place_of}
+use Rattle.typst_edits.proofs.Words.{flat_map, Place, moved, Block, Ask, shift, shift_one, sunk, sink_one, only_looks, looked, marked, Call, Answer, Outcome, Meaning, Level, joined, answered, followed, turns, as_last, bound, repeated, before, grown, is_more, growths, growing, nestings, nesting, bounded, given_up, entered, plain, hand_asks_of, done, run, blockless, asked, hand_of, start_point, Point, state_of, forgot, SyntaxKind, Shape, after_shape, seen, NodeChange, Op, Begin, Parser, ◌>>◌, hand, so, further, column, erred, takes, takes_so, flushes, complains, advises, marks, is_deepest, gives, does, next, pick, repeat, wraps, grows, nests, scoped, either, calls, block, ahead-left, Hole, plug, wrap_hole, opened, Spots, joined_spots, goes, last_spot, turns_spots, repeated_spots, reshaped_spot, wrapped_spot, grown_spot, growths_spots, growing_spots, nestings_spots, nesting_spots, scoped_spot, bounded_spots, spots, call_spots, block_spots, level_spots, Spot, block_head, valued, then_spot, after_spot, rehole, sunk_spot, closed_spot, seconds, call_seconds, block_seconds, level_seconds, seconds_of_text, place_of, CharClasses, Reading, AtHand, as_at_hand, meaning_of, level_of, keeps, holds, lacks, warns, fails, itself, stays, turns_wrong, is_not, renamed, unparened, peek, eat, eat_making, node, at_token, rules, max_depth, start_of, whole, production, block_production, markup_reading, content_block, code_block, change_by, shape_by, is_ordinary, block_at, op_by, PlainBy, ordinary-whole, ordinary-production, ordinary-content, ordinary-code, inside_content, inside_code}
+use Rattle.typst_edits.specs.Standing.{UnnotedLaw}
+use Rattle.typst_grammar.proofs.FineRuns.{gives-all, plain-weaker}
 use Rattle.typst_edits.proofs.Complete.{opened-append, opened-by, opens-shift, opens-sink, opened-looks, opened-hand}
 use Rattle.typst_edits.proofs.Every.{Every, every-append, every-by, every-map, every-flat, every-any}
+use Rattle.typst_grammar.proofs.CodeMoves.{moves-inside}
+use Rattle.typst_grammar.proofs.Moves.{Moves, left-again, moves-next, moves-takes, moves-eat, moves-scoped, moves-wraps, moves-node}
+use Rattle.typst_edits.proofs.Blocks.{enclosing}
+use Rattle.typst_edits.proofs.Rising.{hand-some as some-hand}
+use Rattle.typst_edits.proofs.Edit.{among}
+use Rattle.typst_language.specs.declared.calls.Mark.TheVariants as mark
+use Rattle.typst_language.specs.declared.calls.Block.TheVariants as block
 
 -- It is before what is taken, or nothing is left there.
 abbrev pub Early : Place → ℕ → ℕ → Type 0
@@ -82,9 +71,6 @@ place-sink : (ask : Ask) → place_of (sink_one ask) ≡ place_of ask
 place-sink (looked at look) = refl
 place-sink (marked at gap fewer mark s) = refl
 
-opened-two : (n : ℕ) (xs ys : List Ask) → opened (xs ++ shift n ys) ≡ opened xs ++ map (shift_one n) (opened ys)
-opened-two n xs ys = opened-append xs (shift n ys) ∙ ap (λ u. opened xs ++ u) (opened-by (shift_one n) (opens-shift n) ys)
-
 module _ (z : Place) (n m : ℕ) where
   early-first : (i : ℕ) → Early z n i → Early z (n + m) i
   early-first i (inl l) = inl (omega (arith, l))
@@ -93,9 +79,6 @@ module _ (z : Place) (n m : ℕ) where
   early-second : (i j : ℕ) → j ≡ n + i → Early (moved n z) m i → Early z (n + m) j
   early-second i j e (inl l) = inl (omega (arith, e, l))
   early-second i j e (inr l) = inr (omega (arith, e, l, ahead-left n z))
-
-  early-ask : (ask : Ask) → Early (moved n z) m (place_of ask) → Early z (n + m) (place_of (shift_one n ask))
-  early-ask ask h = early-second (place_of ask) (place_of (shift_one n ask)) (place-shift n ask) h
 
   -- What begins in the first isn't noted in the second, and the other way round.
   differs-behind : (i : ℕ) (ask : Ask) → Early z n i → Differs z i (shift_one n ask)
@@ -117,7 +100,7 @@ split-joined {A} {B} z o p cs ds es fs h k = record {
   others = both ds fs h.others k.others;
   notes = subst (Every (λ ask. Early z (n + m) (place_of ask))) (sym is)
       (every-append (λ ask. Early z (n + m) (place_of ask)) (opened o.asks) (map (shift_one n) (opened p.asks)) (every-by (λ ask. early-first z n m (place_of ask)) (opened o.asks) h.notes)
-      (every-map (λ ask. Early (moved n z) m (place_of ask)) (λ ask. Early z (n + m) (place_of ask)) (shift_one n) (early-ask z n m) (opened p.asks) k.notes));
+      (every-map (λ ask. Early (moved n z) m (place_of ask)) (λ ask. Early z (n + m) (place_of ask)) (shift_one n) (λ ask. early-second z n m (place_of ask) (place_of (shift_one n ask)) (place-shift n ask)) (opened p.asks) k.notes));
   differ = every-append _ (map (λ c. then_spot c p) ds) (map (after_spot o) fs) (every-map Old (Apart_at) (λ c. then_spot c p) first ds (pair ds h.others h.differ))
       (every-map (λ c. Every (Differs (moved n z) c.at) (opened p.asks)) (Apart_at) (after_spot o) second fs k.differ);
 }
@@ -129,7 +112,7 @@ split-joined {A} {B} z o p cs ds es fs h k = record {
     m = p.taken
 
     is : opened (o.asks ++ shift n p.asks) ≡ opened o.asks ++ map (shift_one n) (opened p.asks)
-    is = opened-two n o.asks p.asks
+    is = opened-append o.asks (shift n p.asks) ∙ ap (λ u. opened o.asks ++ u) (opened-by (shift_one n) (opens-shift n) p.asks)
 
     Apart_at : {C : Type 0} → Spot C → Type 0
     Apart_at c = Every (Differs z c.at) (opened (o.asks ++ shift n p.asks))
@@ -327,3 +310,135 @@ module _ (l : Level) where
           (λ t. split-joined z o (m v o.state) [] [] (bounded_spots b (l.blocks b) (in_block b) v o.state) (map (closed_spot b o.state) (seconds_inside b v (forgot o.state))) (split-none z o.taken o.asks (opened-done flushes refl z s))
           (split-bounded b (l.blocks b) (in_block b) (seconds_inside b) v o.state (e b v o.state t)))
           (λ _. split-none z 0 [] refl)
+
+-- ---- where the blocks of a text's second readings begin, no block is noted
+
+-- ---- a token takes something, if something is left
+
+-- ---- what begins after the first token
+
+module _ (l : Level) (deep : (c : Call) → Spots (Answer c)) (in_block : Block → Spots (Unit {0})) (deep_seconds : (c : Call) → Spots (Answer c)) (seconds_inside : Block → Spots (Unit {0})) where
+  abbrev Later : {A : Type 0} → Parser A → Type 0
+  Later p = (z : Place) (s : Point) → 0 < (hand_of l z s).gap + (hand_of l z s).len → EveryAt (λ i. 0 < i) (seconds l deep in_block deep_seconds seconds_inside p z s)
+
+  later-next : {A B : Type 0} (p : Parser B) (f : B → Parser A) → Moves l p → Later p → Later (next p f)
+  unfolding seconds
+  later-next p f m h z s e =
+      let o = run l p z s in
+      let ds = seconds l deep in_block deep_seconds seconds_inside (f o.value) (moved o.taken z) o.state in
+      every-append _ (map (λ c. then_spot c (run l (f o.value) (moved o.taken z) o.state)) (seconds l deep in_block deep_seconds seconds_inside p z s)) (map (after_spot o) ds)
+      (every-map (λ c. 0 < c.at) (λ c. 0 < c.at) (λ c. then_spot c (run l (f o.value) (moved o.taken z) o.state)) (λ c x. x) (seconds l deep in_block deep_seconds seconds_inside p z s) (h z s e))
+      (every-map (λ c. Unit {0}) (λ c. 0 < c.at) (after_spot o) (λ c x. omega (arith, m z s e)) ds (every-any ds))
+
+  later-peek : {A : Type 0} (f : AtHand → Parser A) → ((h : AtHand) → Later (f h)) → Later (next (does hand) f)
+  unfolding seconds run
+  later-peek {A} f h z s e =
+      let t = asked (hand_of l z s) s in
+      let ds = seconds l deep in_block deep_seconds seconds_inside (f (as_at_hand (hand_of l z s))) (moved 0 z) t in
+      every-map (λ c. 0 < c.at) (λ c. 0 < c.at) (after_spot {A = A} (run l (does hand) z s)) (λ c x. omega (arith, x)) ds (h (as_at_hand (hand_of l z s)) z t (omega (arith, left-again l z s, e)))
+
+  later-scoped : {A : Type 0} (f : Reading → Reading) (p : Parser A) → Later p → Later (scoped f p)
+  unfolding seconds
+  later-scoped f p h z s e = every-map (λ c. 0 < c.at) (λ c. 0 < c.at) _ (λ c x. x) (seconds l deep in_block deep_seconds seconds_inside p z (entered (f s.reading) s)) (h z (entered (f s.reading) s) e)
+
+  later-wraps : {A : Type 0} (f : A → Shape) (begin : Begin) (p : Parser A) → Later p → Later (wraps f begin p)
+  unfolding seconds
+  later-wraps f begin p h z s e =
+      every-flat (λ c. 0 < c.at) (λ c. 0 < c.at) (wrapped_spot f (before begin s)) (λ c x. wrapped-at f (before begin s) (λ i. 0 < i) c x) (seconds l deep in_block deep_seconds seconds_inside p z s) (h z s e)
+
+  later-node : {A : Type 0} (f : A → Shape) (p : Parser A) → Moves l p → Later p → Later (node f p)
+  unfolding node
+  later-node f p m h = later-peek _ (λ a. later-next (wraps f at_token p) _ (moves-wraps l f at_token p m) (later-wraps f at_token p h))
+
+  later-takes : Later (does (takes false itself))
+  unfolding seconds
+  later-takes z s e = tt
+
+  later-eat : Later eat
+  unfolding eat eat_making
+  later-eat = later-next (does (takes false itself)) _ (moves-takes l false itself) later-takes
+
+  later-block : (b : Block) → Later (peek >> (block_production b))
+  unfolding content_block code_block
+  later-block block.Content =
+      later-peek (λ _. content_block) (λ a. later-next (node (enclosing block.Content) inside_content) _ (moves-node l (enclosing block.Content) inside_content moves-content) (later-node (enclosing block.Content) inside_content moves-content
+      (later-scoped _ _ (later-next (does (takes false itself)) _ (moves-takes l false itself) later-takes))))
+    where
+      moves-content : Moves l inside_content
+      moves-content = moves-scoped l _ _ (moves-next l (does (takes false itself)) _ (moves-takes l false itself))
+  later-block block.Code =
+      later-peek (λ _. code_block) (λ a. later-next (node (enclosing block.Code) inside_code) _ (moves-node l (enclosing block.Code) inside_code moves-code) (later-node (enclosing block.Code) inside_code moves-code
+      (later-scoped _ _ (later-next eat _ (moves-eat l) later-eat))))
+    where
+      moves-code : Moves l inside_code
+      moves-code = moves-scoped l _ _ (moves-next l eat _ (moves-eat l))
+
+-- ---- no production notes a block's begin except where it reads the block
+
+any-change : (change : NodeChange) → change_by anything change ≡ true
+any-change stays = refl
+any-change (turns_wrong message) = refl
+any-change (is_not thing) = refl
+any-change (renamed k) = refl
+any-change unparened = refl
+
+any-shape : (shape : Shape) → shape_by anything shape ≡ true
+any-shape (keeps change) = any-change change
+any-shape (holds change k) = ap (λ b. b && true) (any-change change)
+any-shape (lacks count message k) = refl
+any-shape (warns k message hint) = refl
+any-shape (fails message) = refl
+
+any-plain : {A : Type 0} (p : Parser A) → PlainBy is_ordinary p → PlainBy anything p
+any-plain p w = plain-weaker is_ordinary anything (λ k h. refl) p w
+
+any-node : (b : Block) (p : Parser Bool) → PlainBy is_ordinary p → PlainBy anything (node (enclosing b) p)
+unfolding node
+any-node b p w = (refl, λ _. ((gives-all (λ closed. shape_by anything (enclosing b closed) ≡ true) (λ closed. any-shape (enclosing b closed)) p, any-plain p w), λ _. tt))
+
+any-block : (b : Block) → PlainBy anything (peek >> block_production b)
+unfolding content_block code_block
+any-block block.Content = (refl, λ _. (any-node block.Content inside_content ordinary-content, λ _. tt))
+any-block block.Code = (refl, λ _. (any-node block.Code inside_code ordinary-code, λ _. tt))
+
+-- ---- each level
+
+module _ (k : CharClasses) (levels : ℕ) (d : (c : Call) → AllSplit (meaning_of (rules k) k levels c) (call_spots (rules k) k levels c) (call_seconds (rules k) k levels c)) where
+  abbrev within : Level
+  within = blockless k levels (meaning_of (rules k) k levels)
+
+  begins-block : (b : Block) (z : Place) (s : Point) → Begins z (block_at k levels b z (forgot s)) (block_spots (rules k) k levels b z (forgot s)) (block_seconds (rules k) k levels b z (forgot s))
+  begins-block b z s = record {
+    split = split-run within (call_spots (rules k) k levels) (λ c y t. []) (call_seconds (rules k) k levels) (λ c y t. []) d (λ c y t h. absurd (cc)) (peek >> block_production b) (any-block b) z (forgot s);
+    takes = takes-by (length z.ahead) refl;
+    behind = behind-by (length z.ahead) refl;
+  }
+    where
+      takes-by : (n : ℕ) → length z.ahead ≡ n → Early z (block_at k levels b z (forgot s)).taken 0
+      takes-by zero e = inr (omega (arith, e))
+      takes-by (suc n) e = inl (moves-inside k levels b z s (some-hand k s.held z (omega (arith, e))))
+
+      behind-by : (n : ℕ) → length z.ahead ≡ n → EveryAt (λ i. (0 < i) ⊎ (length z.ahead ≤ 0)) (block_seconds (rules k) k levels b z (forgot s))
+      behind-by zero e = every-by (λ c x. inr (omega (arith, e))) (block_seconds (rules k) k levels b z (forgot s)) (every-any (block_seconds (rules k) k levels b z (forgot s)))
+      behind-by (suc n) e =
+          every-by (λ c x. inl x) (block_seconds (rules k) k levels b z (forgot s))
+          (later-block within (call_spots (rules k) k levels) (λ c y t. []) (call_seconds (rules k) k levels) (λ c y t. []) b z (forgot s) (some-hand k s.held z (omega (arith, e))))
+
+  split-level : {A : Type 0} (p : Parser A) → PlainBy is_ordinary p → AllSplit (run (level_of (rules k) k levels) p) (level_spots (rules k) k levels p) (level_seconds (rules k) k levels p)
+  split-level p w =
+      split-run (level_of (rules k) k levels) (call_spots (rules k) k levels) (block_spots (rules k) k levels) (call_seconds (rules k) k levels) (block_seconds (rules k) k levels) d
+      (λ b z s t. begins-block b z s) p (any-plain p w)
+
+module _ (k : CharClasses) where
+  split-call : (levels : ℕ) (c : Call) → AllSplit (meaning_of (rules k) k levels c) (call_spots (rules k) k levels c) (call_seconds (rules k) k levels c)
+  unfolding meaning_of call_spots call_seconds
+  split-call zero c z s = split-none z 0 [] refl
+  split-call (suc levels) c z s = split-level k levels (split-call levels) (production k c) (ordinary-production k c) z s
+
+pub unnoted-law : UnnotedLaw
+unfolding seconds_of_text
+unnoted-law k text c ask i j =
+    let z = start_of text in
+    let s = start_point markup_reading in
+    let ds = level_seconds (rules k) k max_depth whole z s in
+    among (Differs z c.at) ask _ j (among (λ d. Every (Differs z d.at) _) c ds i (split-level k max_depth (split-call k max_depth) whole ordinary-whole z s).differ)

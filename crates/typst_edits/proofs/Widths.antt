@@ -1,8 +1,6 @@
 -- Places in characters and in bytes.
 use Rattle.std.proofs.Common.{◌≡◌, ℕ, zero, suc, ◌+◌, ◌<◌, ◌≤◌, List, [], ◌∷◌, ◌++◌, length, take, length-append, append_assoc, refl, sym, ◌∙◌, subst, arith}
-use Rattle.typst_lines.specs.Place.{moved, moved_from}
-use Rattle.typst_lines.proofs.LineTable.{width-positive}
-use Rattle.typst_tokens.specs.Sight.{width, position, stretch, far, near}
+use Rattle.typst_edits.proofs.Words.{moved, moved_from, width-positive, width, position, stretch, far, near}
 use Rattle.typst_edits.proofs.Edit.{onto}
 
 pub width-append : (xs ys : List ℕ) → width (xs ++ ys) ≡ width xs + width ys
@@ -83,15 +81,10 @@ unfolding width
 width-onto [] b = omega arith
 width-onto (c ∷ xs) b = let i = width-onto xs (c ∷ b) in omega (arith, i)
 
-begins-late : (n m : ℕ) (early rest : List ℕ) → m ≤ length rest → stretch n (moved_from m early rest).before + width early ≤ width (moved_from m early rest).before → n ≤ m
-begins-late n m early rest l h =
-    let s = since m early rest l in
-    omega (arith, s.long, begins-by n s.late early (subst (λ xs. stretch n xs + width early ≤ width xs) s.is h))
-
 -- A look from a later place begins after a place in characters if it does in bytes.
 pub near-by : (n m : ℕ) (early rest : List ℕ) → m ≤ length rest → width early < near n (moved m (record { before = early; ahead = rest })) → n ≤ m
 unfolding near position
-near-by n m early rest l h = begins-late n m early rest l (omega (arith, h))
+near-by n m early rest l h = let s = since m early rest l in omega (arith, s.long, begins-by n s.late early (subst (λ xs. stretch n xs + width early ≤ width xs) s.is (omega (arith, h))))
 
 -- It does so in bytes if it does in characters.
 begins-early : (n m : ℕ) (early rest : List ℕ) → n ≤ m → m ≤ length rest → stretch n (moved_from m early rest).before + width early ≤ width (moved_from m early rest).before

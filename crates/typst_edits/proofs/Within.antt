@@ -1,28 +1,6 @@
 -- Each look is at a place of the text, or at its end.
 use Rattle.std.proofs.Common.{ℕ, zero, suc, ◌+◌, ◌≤◌, max, false, List, [], ◌∷◌, ◌++◌, length, Option, Some, None, ap, arith}
-use Rattle.typst_kinds.specs.declared.mode.SyntaxMode.{SyntaxMode}
-use Rattle.typst_lines.specs.Place.{Place, moved}
-use Rattle.typst_lines.specs.Classes.{CharClasses}
-use Rattle.typst_tokens.specs.Reader.{look}
-use Rattle.typst_language.specs.declared.calls.Block.{Block}
-use Rattle.typst_language.specs.Calls.{Call}
-use Rattle.typst_language.specs.declared.reading.Reading.{Reading}
-use Rattle.typst_language.specs.Ask.{Ask, shift, sunk, only_looks}
-use Rattle.typst_language.specs.Ask.Ask.{looked, marked}
-use Rattle.typst_language.specs.Hand.{len_at, at_trivia, asks_by, ahead_asks, ahead_of, ahead_asks_of, asks_column, column_look, hand_at, hand_asks}
-use Rattle.typst_language.specs.Knot.{Rules, meaning_of, level_of, blocks_of}
-use Rattle.typst_language.specs.Point.{Trivia, Point, gap_of, forgot}
-use Rattle.typst_language.specs.Shape.Making.{itself}
-use Rattle.typst_language.specs.Steps.{peek}
-use Rattle.typst_language.specs.Syntax.{Op, Parser, ◌>>◌}
-use Rattle.typst_language.specs.Syntax.Op.{hand, so, further, column, erred, takes, takes_so, flushes, complains, advises, marks, is_deepest}
-use Rattle.typst_language.specs.Syntax.Parser.{does}
-use Rattle.typst_language.specs.Meaning.{Outcome, Meaning, Level, joined, bound, inside, bounded, blockless, same_mode, hand_of, hand_asks_of, done, run}
-use Rattle.typst_language.specs.Sound.{Within}
-use Rattle.typst_language.proofs.Knot.{Sane, sane-run, sane-meaning, sane-block, sane-plain}
-use Rattle.typst_language.proofs.Places.{ahead-left, moved-sum}
-use Rattle.typst_language.proofs.Runs.{shape-known}
-use Rattle.typst_language.proofs.Within.{on_both}
+use Rattle.typst_edits.proofs.Words.{SyntaxMode, Place, moved, CharClasses, look, Block, Call, Reading, Ask, shift, sunk, only_looks, looked, marked, len_at, at_trivia, asks_by, ahead_asks, ahead_of, ahead_asks_of, asks_column, column_look, hand_at, hand_asks, Rules, meaning_of, level_of, blocks_of, Trivia, Point, gap_of, forgot, itself, peek, Op, Parser, ◌>>◌, hand, so, further, column, erred, takes, takes_so, flushes, complains, advises, marks, is_deepest, does, Outcome, Meaning, Level, bound, inside, bounded, blockless, same_mode, hand_of, hand_asks_of, done, run, Within, Sane, sane-run, sane-meaning, sane-block, sane-plain, ahead-left, moved-sum, shape-known, on_both}
 use Rattle.typst_edits.proofs.Traversal.{Parts, all-run}
 
 -- Each look is at most a given number of characters further on.
@@ -92,9 +70,6 @@ hand-within k held known z h =
 abbrev pub Inbound : {A : Type 0} → Meaning A → Type 0
 Inbound m = (z : Place) (s : Point) → AllAt (bound z s) (m z s).asks
 
-in-joined : {A B : Type 0} (n : ℕ) (z : Place) (o : Outcome B) (p : Outcome A) → o.taken + bound (moved o.taken z) o.state ≤ n → AllAt n o.asks → AllAt (bound (moved o.taken z) o.state) p.asks → AllAt n (joined o p).asks
-in-joined n z o p e h k = at-append n o.asks _ h (at-shift o.taken (bound (moved o.taken z) o.state) n p.asks e k)
-
 -- What is taken ends in the text, or with known trivia, and no look is further on.
 abbrev Inside : (A : Type 0) → Place → Point → Outcome A → Type 0
 Inside A z s o = (o.taken + bound (moved o.taken z) o.state ≤ bound z s) × AllAt (bound z s) o.asks
@@ -102,7 +77,7 @@ Inside A z s o = (o.taken + bound (moved o.taken z) o.state ≤ bound z s) × Al
 inside-parts : Parts Inside
 inside-parts = record {
   nothing = λ A z s a. (omega arith, tt);
-  both = λ A B z s o p h k. (omega (arith, h.0, k.0, ap (λ (w : Place). length w.ahead) (moved-sum o.taken p.taken z)), in-joined (bound z s) z o p h.0 h.1 k.1);
+  both = λ A B z s o p h k. (omega (arith, h.0, k.0, ap (λ (w : Place). length w.ahead) (moved-sum o.taken p.taken z)), at-append (bound z s) o.asks _ h.1 (at-shift o.taken (bound (moved o.taken z) o.state) (bound z s) p.asks h.0 k.1));
   answer = λ A B z s b o h. h;
   in_shape = λ A z s shape n o h. (omega (arith, h.0, ap gap_of (shape-known shape (inside n o) o.state)), h.1);
   in_scope = λ A z s r o h. (let l = h.0 in on_both (λ (t : Point). o.taken + bound (moved o.taken z) t ≤ bound z s) (same_mode o.state.reading.mode s.reading.mode) _ _ l (omega (arith, l)), h.1);

@@ -2,14 +2,12 @@
 use Rattle.typst_edits.specs.RunTest.{InnerRunTestLaw, RunTestLaw}
 use Rattle.typst_edits.specs.Served.{ServedLaw}
 use Rattle.typst_edits.proofs.InOrder.{in-order-law}
-use Rattle.typst_edits.proofs.InnerRunNumbers.{inner-numbers-law}
+use Rattle.typst_edits.proofs.RunNumbers.{inner-numbers-law, run-numbers-law}
 use Rattle.typst_edits.proofs.InnerRuns.{inner-pieces-of-law}
-use Rattle.typst_edits.proofs.InnerRunTest.{inner-run-test-law as by-inner}
-use Rattle.typst_edits.proofs.InnerServed.{served-law as by-first}
+use Rattle.typst_edits.proofs.RunTest.{inner-run-test-law as by-inner, run-test-law as by-own}
+use Rattle.typst_edits.proofs.Served.{served-law as by-first}
 use Rattle.typst_edits.proofs.OpensApart.{opens-apart-law}
 use Rattle.typst_edits.proofs.RootRuns.{root-pieces-of-law}
-use Rattle.typst_edits.proofs.RunNumbers.{run-numbers-law}
-use Rattle.typst_edits.proofs.RunTest.{run-test-law as by-own}
 
 pub run-test-law : RunTestLaw
 run-test-law = by-own in-order-law (run-numbers-law in-order-law) root-pieces-of-law

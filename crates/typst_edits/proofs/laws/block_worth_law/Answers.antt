@@ -1,4 +1,4 @@
-use Rattle.typst_edits.proofs.BlockWorth.{block-worth-law}
+use Rattle.typst_edits.proofs.CandidateWorth.{block-worth-law}
 use Rattle.typst_edits.proofs.laws.block_worth_law.Goals as goal
 
 pub returns : goal.returns

@@ -1,7 +1,7 @@
 use Rattle.typst_edits.proofs.InOrder.{in-order-law}
-use Rattle.typst_edits.proofs.InnerRunNumbers.{inner-numbers-law}
+use Rattle.typst_edits.proofs.RunNumbers.{inner-numbers-law}
 use Rattle.typst_edits.proofs.InnerRuns.{inner-pieces-of-law}
-use Rattle.typst_edits.proofs.InnerRunTest.{inner-run-test-law}
+use Rattle.typst_edits.proofs.RunTest.{inner-run-test-law}
 use Rattle.typst_edits.proofs.OpensApart.{opens-apart-law}
 use Rattle.typst_edits.proofs.laws.inner_run_test_law.Goals as goal
 

@@ -6,20 +6,5 @@ use Rattle.typst_edits.proofs.OpensApart.{opens-apart-law}
 use Rattle.typst_edits.proofs.Rising.{rising-law}
 use Rattle.typst_edits.proofs.laws.rising_law.Goals as goal
 
-pub returns-clause-order : goal.returns-clause-order
-returns-clause-order c = rising-law
-
-pub returns-clause-tokens : goal.returns-clause-tokens
-returns-clause-tokens c = in-order-law
-
-pub returns-clause-opens : goal.returns-clause-opens
-returns-clause-opens c = opens-apart-law
-
-pub returns-clause-nested : goal.returns-clause-nested
-returns-clause-nested c = nested-law
-
-pub returns-clause-nested_inner : goal.returns-clause-nested_inner
-returns-clause-nested_inner c = nested-inner-law
-
-pub returns-clause-nested_block : goal.returns-clause-nested_block
-returns-clause-nested_block c = nested-block-law
+pub returns : goal.returns
+returns c = record { order = rising-law; tokens = in-order-law; opens = opens-apart-law; nested = nested-law; nested_inner = nested-inner-law; nested_block = nested-block-law }

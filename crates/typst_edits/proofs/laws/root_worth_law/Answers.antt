@@ -1,4 +1,4 @@
-use Rattle.typst_edits.proofs.RootWorth.{root-worth-law}
+use Rattle.typst_edits.proofs.CandidateWorth.{root-worth-law}
 use Rattle.typst_edits.proofs.laws.root_worth_law.Goals as goal
 
 pub returns : goal.returns

@@ -5,8 +5,5 @@ use Rattle.typst_edits.proofs.RunOver.{over-law}
 use Rattle.typst_edits.proofs.RunTest.{run-test-law}
 use Rattle.typst_edits.proofs.laws.run_test_law.Goals as goal
 
-pub returns-clause-root : goal.returns-clause-root
-returns-clause-root c = run-test-law in-order-law (run-numbers-law in-order-law) root-pieces-of-law
-
-pub returns-clause-over : goal.returns-clause-over
-returns-clause-over c = over-law
+pub returns : goal.returns
+returns c = record { root = run-test-law in-order-law (run-numbers-law in-order-law) root-pieces-of-law; over = over-law }

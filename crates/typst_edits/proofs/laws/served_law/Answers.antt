@@ -1,10 +1,9 @@
 use Rattle.typst_edits.proofs.InOrder.{in-order-law}
-use Rattle.typst_edits.proofs.InnerRunNumbers.{inner-numbers-law}
+use Rattle.typst_edits.proofs.RunNumbers.{inner-numbers-law, run-numbers-law}
 use Rattle.typst_edits.proofs.InnerRuns.{inner-pieces-of-law}
-use Rattle.typst_edits.proofs.InnerServed.{served-law}
+use Rattle.typst_edits.proofs.Served.{served-law}
 use Rattle.typst_edits.proofs.OpensApart.{opens-apart-law}
 use Rattle.typst_edits.proofs.RootRuns.{root-pieces-of-law}
-use Rattle.typst_edits.proofs.RunNumbers.{run-numbers-law}
 use Rattle.typst_edits.proofs.laws.served_law.Goals as goal
 
 pub returns : goal.returns

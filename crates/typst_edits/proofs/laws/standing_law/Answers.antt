@@ -1,9 +1,6 @@
-use Rattle.typst_edits.proofs.StandingLevels.{standing-law}
-use Rattle.typst_edits.proofs.UnnotedLevels.{unnoted-law}
+use Rattle.typst_edits.proofs.Standing.{standing-law}
+use Rattle.typst_edits.proofs.Unnoted.{unnoted-law}
 use Rattle.typst_edits.proofs.laws.standing_law.Goals as goal
 
-pub returns-clause-blocks : goal.returns-clause-blocks
-returns-clause-blocks c = standing-law
-
-pub returns-clause-unnoted : goal.returns-clause-unnoted
-returns-clause-unnoted c = unnoted-law
+pub returns : goal.returns
+returns c = record { blocks = standing-law; unnoted = unnoted-law }
