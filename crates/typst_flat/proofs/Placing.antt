@@ -1,9 +1,8 @@
 -- The walk through the nodes of a tree with their tags, step by step.
 use Rattle.std.proofs.Common.{◌≡◌, ℕ, ◌+◌, ◌-◌, ◌^◌, ◌<◌, ◌≤◌, Bool, true, false, ◌&&◌, not, List, [], ◌∷◌, ◌++◌, length, map, Option, None, Some, refl, ap, sym, subst, ◌∙◌, arith, cond, append_assoc, append-nil, length-append}
-use Rattle.std.specs.Prelude.{reverse, nat_le, option_and_then}
+use Rattle.std.specs.Prelude.{nat_le, option_and_then}
 use Rattle.std.specs.List.{filter}
 use Rattle.std.proofs.lemmas.Bool.Decides.{nat_tests}
-use Rattle.std.proofs.lemmas.List.{reverse-append}
 use Rattle.typst_kinds.specs.Head.{Head}
 use Rattle.typst_kinds.specs.Kinds.{is_error, is_trivia}
 use Rattle.typst_kinds.specs.declared.kind.SyntaxKind.{SyntaxKind}
@@ -38,13 +37,11 @@ use Rattle.typst_flat.proofs.Steps.{up_of, within_nodes}
 -- ---- what is around the nodes of a row
 
 -- the first leaf of the rows to come back to
-ahead_ready : (root : Tree) (n : ℕ) (ws : List Waiting) (ps : List ℕ) → AreReady root n ws ps → ahead_of ws ≡ ahead_at root n
-ahead_ready root n [] [] e = sym (ahead_is root n (places root) [] (sym (append-nil (places root))) (omega (arith, e, length_places root)))
-ahead_ready root n [] (p ∷ ps) e = absurd e
-ahead_ready root n (w ∷ ws) [] e = absurd e
-ahead_ready root n (w ∷ ws) (p ∷ ps) e =
-    let s : RowFits root n w p = e.0 in
-    ap (first_ahead (first_leaf w.level.parent w.start (forest w.nodes.now))) (ahead_ready root (n + count (forest w.nodes.now)) ws ps e.1)
+ahead_ready : (root : Tree) (n : ℕ) (ws : List Waiting) → AreReady root n ws → ahead_of ws ≡ ahead_at root n
+ahead_ready root n [] e = sym (ahead_is root n (places root) [] (sym (append-nil (places root))) (omega (arith, e, length_places root)))
+ahead_ready root n (w ∷ ws) e =
+    let s : RowFits root n w = e.0 in
+    ap (first_ahead (first_leaf w.level.parent w.start (forest w.nodes.now))) (ahead_ready root (n + count (forest w.nodes.now)) ws e.1)
     ∙ first_law root n w.start (forest w.nodes.now) s.front s.back s.up w.level.parent s.stands s.parent s.start
 
 -- the context of some nodes, and one that is like it
@@ -74,12 +71,12 @@ goes_below root k h ks r front back up c d s w n inner =
 moved : (P : Tree → ℕ → Forest → Type 0) (root r : Tree) (n m : ℕ) (f g : Forest) → r ≡ root → m ≡ n → g ≡ f → P root n f → P r m g
 moved P root r n m f g e h k p = subst (λ x. P x m g) (sym e) (subst (λ x. P root x g) (sym h) (subst (λ x. P root n x) (sym k) p))
 
-ready_moved : (root r : Tree) (n m : ℕ) (ws vs : List Waiting) (ps qs : List ℕ) → r ≡ root → m ≡ n → vs ≡ ws → qs ≡ ps → AreReady root n ws ps → AreReady r m vs qs
-ready_moved root r n m ws vs ps qs e h k l p =
-    subst (λ x. AreReady x m vs qs) (sym e) (subst (λ x. AreReady root x vs qs) (sym h) (subst (λ x. AreReady root n x qs) (sym k) (subst (λ x. AreReady root n ws x) (sym l) p)))
+ready_moved : (root r : Tree) (n m : ℕ) (ws vs : List Waiting) → r ≡ root → m ≡ n → vs ≡ ws → AreReady root n ws → AreReady r m vs
+ready_moved root r n m ws vs e h k p =
+    subst (λ x. AreReady x m vs) (sym e) (subst (λ x. AreReady root x vs) (sym h) (subst (λ x. AreReady root n x) (sym k) p))
 
-stays_at : (w : StretchNodes) (root : Tree) (n : ℕ) (f : Forest) (front back : List Tree) (up : Option ℕ) (c : Context) (ws : List Waiting) (ps : List ℕ) → nodes root < 2 ^ 64 - 1 → Stand root n f front back up → Goes root n f up c → AreReady root (n + count f) ws ps → cut (up_number up) ≡ w.parent → w.root.now ≡ root → w.number ≡ n → forest w.nodes.now ≡ f → joined w.progress ≡ c → waiting w.progress ≡ ws → reverse w.parents.items ≡ ps → Stays w
-stays_at w root n f front back up c ws ps few stands goes ready above eroot en ef ec ews eps =
+stays_at : (w : StretchNodes) (root : Tree) (n : ℕ) (f : Forest) (front back : List Tree) (up : Option ℕ) (c : Context) (ws : List Waiting) → nodes root < 2 ^ 64 - 1 → Stand root n f front back up → Goes root n f up c → AreReady root (n + count f) ws → cut (up_number up) ≡ w.parent → w.root.now ≡ root → w.number ≡ n → forest w.nodes.now ≡ f → joined w.progress ≡ c → waiting w.progress ≡ ws → Stays w
+stays_at w root n f front back up c ws few stands goes ready above eroot en ef ec ews =
     let total : w.number + count (forest w.nodes.now) ≡ n + count f = (λ i. en i + count (ef i)) in
     record {
       counted = subst (λ x. nodes x < 2 ^ 64 - 1) (sym eroot) few;
@@ -91,7 +88,7 @@ stays_at w root n f front back up c ws ps few stands goes ready above eroot en e
       context = goes.context;
       fits = moved (λ x m g. Fits x m g up goes.context) root w.root.now n w.number f (forest w.nodes.now) eroot en ef goes.fits;
       near = subst (λ x. Near x goes.context) (sym ec) goes.near;
-      ready = ready_moved root w.root.now (n + count f) (w.number + count (forest w.nodes.now)) ws (waiting w.progress) ps (reverse w.parents.items) eroot total ews eps ready;
+      ready = ready_moved root w.root.now (n + count f) (w.number + count (forest w.nodes.now)) ws (waiting w.progress) eroot total ews ready;
     }
 
 -- ---- steps
@@ -106,7 +103,7 @@ record First (w : StretchNodes) (t : Tree) (r : Forest) : Type 0 where
   context : Context
   fits : Fits w.root.now w.number (more t.head t.kids r) up context
   near : Near (joined w.progress) context
-  ready : AreReady w.root.now (w.number + count (more t.head t.kids r)) (waiting w.progress) (reverse w.parents.items)
+  ready : AreReady w.root.now (w.number + count (more t.head t.kids r)) (waiting w.progress)
 
 first_of : (w : StretchNodes) (t : Tree) (r : List Tree) → Stays w → w.nodes.now ≡ t ∷ r → First w t (forest r)
 first_of w t r s e =
@@ -120,7 +117,7 @@ first_of w t r s e =
       context = s.context;
       fits = subst (λ g. Fits w.root.now w.number g s.up s.context) row s.fits;
       near = s.near;
-      ready = subst (λ g. AreReady w.root.now (w.number + count g) (waiting w.progress) (reverse w.parents.items)) row s.ready;
+      ready = subst (λ g. AreReady w.root.now (w.number + count g) (waiting w.progress)) row s.ready;
     }
 
 -- it is one of the tree's
@@ -153,26 +150,26 @@ is_placed w t r g s e node start ends number up own =
     }
 
 -- past a node without children
-pub stays_behind : (v w : StretchNodes) (t : Tree) (r : List Tree) → Stays v → v.nodes.now ≡ t ∷ r → is_childless t.kids ≡ true → w.root.now ≡ v.root.now → w.number ≡ v.number + 1 → w.parent ≡ v.parent → w.nodes.now ≡ r → joined w.progress ≡ past (joined v.progress) t (passed (joined v.progress) t (forest r)) → waiting w.progress ≡ waiting v.progress → w.parents.items ≡ v.parents.items → Stays w
-stays_behind v w t r s e childless root number up row around rows above =
+pub stays_behind : (v w : StretchNodes) (t : Tree) (r : List Tree) → Stays v → v.nodes.now ≡ t ∷ r → is_childless t.kids ≡ true → w.root.now ≡ v.root.now → w.number ≡ v.number + 1 → w.parent ≡ v.parent → w.nodes.now ≡ r → joined w.progress ≡ past (joined v.progress) t (passed (joined v.progress) t (forest r)) → waiting w.progress ≡ waiting v.progress → Stays w
+stays_behind v w t r s e childless root number up row around rows =
     let f = first_of v t r s e in
     let next : w.number ≡ v.number + (1 + count t.kids) = omega (arith, number, no_kids t.kids childless) in
     let total : v.number + count (more t.head t.kids (forest r)) ≡ v.number + (1 + count t.kids) + count (forest r) = omega arith in
-    stays_at w v.root.now (v.number + (1 + count t.kids)) (forest r) (f.front ++ places t) f.back f.up (past (joined v.progress) t (passed (joined v.progress) t (forest r))) (waiting v.progress) (reverse v.parents.items) s.counted
+    stays_at w v.root.now (v.number + (1 + count t.kids)) (forest r) (f.front ++ places t) f.back f.up (past (joined v.progress) t (passed (joined v.progress) t (forest r))) (waiting v.progress) s.counted
     (behind v.root.now v.number t.head t.kids (forest r) f.front f.back f.up f.stands)
     (goes_behind v.root.now v.number t.head t.kids (forest r) f.front f.back f.up (joined v.progress) f.context f.stands f.fits f.near)
-    (subst (λ m. AreReady v.root.now m (waiting v.progress) (reverse v.parents.items)) total f.ready)
-    (f.above ∙ sym up) root next (ap forest row) around rows (ap reverse above)
+    (subst (λ m. AreReady v.root.now m (waiting v.progress)) total f.ready)
+    (f.above ∙ sym up) root next (ap forest row) around rows
 
 -- at the first child of a node
 no_leaf : (t : Tree) → is_childless t.kids ≡ false → is_leaf t ≡ false
 no_leaf t e = ap (λ b. b && (not (is_trivia t.head.kind) && not (is_error t.head.kind))) e
 
-row_behind : (v : StretchNodes) (t : Tree) (r : List Tree) (x : Waiting) → Stays v → v.nodes.now ≡ t ∷ r → x.nodes.now ≡ r → x.start ≡ end (joined v.progress) t → x.level ≡ v.progress.level → AreReady v.root.now (v.number + (1 + count t.kids)) (x ∷ waiting v.progress) (v.parent ∷ reverse v.parents.items)
-row_behind v t r x s e row start level =
+row_behind : (v : StretchNodes) (t : Tree) (r : List Tree) (x : Waiting) → Stays v → v.nodes.now ≡ t ∷ r → x.nodes.now ≡ r → x.start ≡ end (joined v.progress) t → x.level ≡ v.progress.level → x.parent ≡ v.parent → AreReady v.root.now (v.number + (1 + count t.kids)) (x ∷ waiting v.progress)
+row_behind v t r x s e row start level up =
     let f = first_of v t r s e in
     let n : ℕ = v.number + (1 + count t.kids) in
-    let fits : RowFits v.root.now n x v.parent = record {
+    let fits : RowFits v.root.now n x = record {
       front = f.front ++ places t;
       back = f.back;
       up = f.up;
@@ -180,74 +177,69 @@ row_behind v t r x s e row start level =
       start = start ∙ offset_behind v.root.now v.number (joined v.progress).offset t.head t.kids (forest r) f.front f.back f.up f.stands (f.near.offset ∙ f.fits.offset);
       parent = ap (λ l. l.parent) level ∙ (f.near.parent ∙ f.fits.parent);
       outer = ap (λ l. l.outer) level ∙ (f.near.outer ∙ f.fits.outer);
-      above_is = f.above;
+      above = f.above ∙ sym up;
     } in
     let total : v.number + count (more t.head t.kids (forest r)) ≡ n + count (forest x.nodes.now) = omega (arith, ap (λ g. count (forest g)) row) in
-    (fits, subst (λ m. AreReady v.root.now m (waiting v.progress) (reverse v.parents.items)) total f.ready)
+    (fits, subst (λ m. AreReady v.root.now m (waiting v.progress)) total f.ready)
 
-pub stays_below : (v w : StretchNodes) (t : Tree) (r : List Tree) (x : Waiting) → Stays v → v.nodes.now ≡ t ∷ r → is_childless t.kids ≡ false → w.root.now ≡ v.root.now → w.number ≡ v.number + 1 → w.parent ≡ cut v.number → forest w.nodes.now ≡ t.kids → joined w.progress ≡ within (joined v.progress) t (forest r) → waiting w.progress ≡ x ∷ waiting v.progress → w.parents.items ≡ v.parents.items ++ v.parent ∷ [] → x.nodes.now ≡ r → x.start ≡ end (joined v.progress) t → x.level ≡ v.progress.level → Stays w
-stays_below v w t r x s e inner root number up kids around rows above row start level =
+pub stays_below : (v w : StretchNodes) (t : Tree) (r : List Tree) (x : Waiting) → Stays v → v.nodes.now ≡ t ∷ r → is_childless t.kids ≡ false → w.root.now ≡ v.root.now → w.number ≡ v.number + 1 → w.parent ≡ cut v.number → forest w.nodes.now ≡ t.kids → joined w.progress ≡ within (joined v.progress) t (forest r) → waiting w.progress ≡ x ∷ waiting v.progress → x.nodes.now ≡ r → x.start ≡ end (joined v.progress) t → x.level ≡ v.progress.level → x.parent ≡ v.parent → Stays w
+stays_below v w t r x s e inner root number up kids around rows row start level above =
     let f = first_of v t r s e in
     let next : v.number + (1 + count t.kids) ≡ v.number + 1 + count t.kids = omega arith in
-    let turned : reverse w.parents.items ≡ v.parent ∷ reverse v.parents.items = ap reverse above ∙ reverse-append v.parents.items (v.parent ∷ []) in
-    stays_at w v.root.now (v.number + 1) t.kids (f.front ++ t ∷ []) (preorder (forest r) ++ f.back) (Some v.number) (within (joined v.progress) t (forest r)) (x ∷ waiting v.progress) (v.parent ∷ reverse v.parents.items) s.counted
+    stays_at w v.root.now (v.number + 1) t.kids (f.front ++ t ∷ []) (preorder (forest r) ++ f.back) (Some v.number) (within (joined v.progress) t (forest r)) (x ∷ waiting v.progress) s.counted
     (below v.root.now v.number t.head t.kids (forest r) f.front f.back f.up f.stands)
     (goes_below v.root.now v.number t.head t.kids (forest r) f.front f.back f.up (joined v.progress) f.context f.stands f.fits f.near (no_leaf t inner))
-    (subst (λ m. AreReady v.root.now m (x ∷ waiting v.progress) (v.parent ∷ reverse v.parents.items)) next (row_behind v t r x s e row start level))
-    (sym up) root number kids around rows turned
+    (subst (λ m. AreReady v.root.now m (x ∷ waiting v.progress)) next (row_behind v t r x s e row start level above))
+    (sym up) root number kids around rows
+
+-- at the first child of the last node of a row, after which there is nothing to come back to
+pub stays_below_last : (v w : StretchNodes) (t : Tree) → Stays v → v.nodes.now ≡ t ∷ [] → is_childless t.kids ≡ false → w.root.now ≡ v.root.now → w.number ≡ v.number + 1 → w.parent ≡ cut v.number → forest w.nodes.now ≡ t.kids → joined w.progress ≡ within (joined v.progress) t none → waiting w.progress ≡ waiting v.progress → Stays w
+stays_below_last v w t s e inner root number up kids around rows =
+    let f = first_of v t [] s e in
+    let next : v.number + count (more t.head t.kids none) ≡ v.number + 1 + count t.kids = omega arith in
+    stays_at w v.root.now (v.number + 1) t.kids (f.front ++ t ∷ []) f.back (Some v.number) (within (joined v.progress) t none) (waiting v.progress) s.counted
+    (below v.root.now v.number t.head t.kids none f.front f.back f.up f.stands)
+    (goes_below v.root.now v.number t.head t.kids none f.front f.back f.up (joined v.progress) f.context f.stands f.fits f.near (no_leaf t inner))
+    (subst (λ m. AreReady v.root.now m (waiting v.progress)) next f.ready)
+    (sym up) root number kids around rows
 
 -- back behind a node
-ended_row : (v : StretchNodes) → Stays v → v.nodes.now ≡ [] → AreReady v.root.now v.number (waiting v.progress) (reverse v.parents.items)
+ended_row : (v : StretchNodes) → Stays v → v.nodes.now ≡ [] → AreReady v.root.now v.number (waiting v.progress)
 ended_row v s e =
     let number : v.number + count (forest v.nodes.now) ≡ v.number = omega (arith, ap (λ xs. count (forest xs)) e) in
-    subst (λ m. AreReady v.root.now m (waiting v.progress) (reverse v.parents.items)) number s.ready
+    subst (λ m. AreReady v.root.now m (waiting v.progress)) number s.ready
 
-pub stays_back : (v w : StretchNodes) (x : Waiting) → Stays v → v.nodes.now ≡ [] → waiting v.progress ≡ x ∷ waiting w.progress → joined w.progress ≡ resumed x (waiting w.progress) v.progress.trail → v.parents.items ≡ w.parents.items ++ w.parent ∷ [] → w.root.now ≡ v.root.now → w.number ≡ v.number → w.nodes.now ≡ x.nodes.now → Stays w
+pub stays_back : (v w : StretchNodes) (x : Waiting) → Stays v → v.nodes.now ≡ [] → waiting v.progress ≡ x ∷ waiting w.progress → joined w.progress ≡ resumed x (waiting w.progress) v.progress.trail → w.parent ≡ x.parent → w.root.now ≡ v.root.now → w.number ≡ v.number → w.nodes.now ≡ x.nodes.now → Stays w
 stays_back v w x s e rows around above root number row =
-    let turned : reverse v.parents.items ≡ w.parent ∷ reverse w.parents.items = ap reverse above ∙ reverse-append w.parents.items (w.parent ∷ []) in
-    let ready : AreReady v.root.now v.number (x ∷ waiting w.progress) (w.parent ∷ reverse w.parents.items) =
-    ready_moved v.root.now v.root.now v.number v.number (waiting v.progress) (x ∷ waiting w.progress) (reverse v.parents.items) (w.parent ∷ reverse w.parents.items) refl refl (sym rows) (sym turned) (ended_row v s e) in
-    let r : RowFits v.root.now v.number x w.parent = ready.0 in
+    let ready : AreReady v.root.now v.number (x ∷ waiting w.progress) = subst (λ ws. AreReady v.root.now v.number ws) rows (ended_row v s e) in
+    let r : RowFits v.root.now v.number x = ready.0 in
     let m : ℕ = v.number + count (forest x.nodes.now) in
     let d : Context = record { parent = x.level.parent; outer = x.level.outer; offset = x.start; trail = s.context.trail; ahead = ahead_at v.root.now m } in
     let goes : Goes v.root.now v.number (forest x.nodes.now) r.up (resumed x (waiting w.progress) v.progress.trail) = record {
       context = d;
       fits = record { parent = r.parent; outer = r.outer; offset = r.start; trail = s.fits.trail; ahead = refl };
-      near = record { parent = refl; outer = refl; offset = refl; trail = s.near.trail; ahead = ahead_ready v.root.now m (waiting w.progress) (reverse w.parents.items) ready.1 };
+      near = record { parent = refl; outer = refl; offset = refl; trail = s.near.trail; ahead = ahead_ready v.root.now m (waiting w.progress) ready.1 };
     } in
-    stays_at w v.root.now v.number (forest x.nodes.now) r.front r.back r.up (resumed x (waiting w.progress) v.progress.trail) (waiting w.progress) (reverse w.parents.items) s.counted r.stands goes ready.1 r.above_is root number (ap forest row) around refl refl
+    stays_at w v.root.now v.number (forest x.nodes.now) r.front r.back r.up (resumed x (waiting w.progress) v.progress.trail) (waiting w.progress) s.counted r.stands goes ready.1 (r.above ∙ sym above) root number (ap forest row) around refl
 
 pub none_there : (xs : List Tree) → length xs ≡ 0 → xs ≡ []
 none_there [] e = refl
 none_there (x ∷ xs) e = absurd (omega (arith, e))
 
 -- at the end all nodes were come to
-no_rows : (root : Tree) (n : ℕ) (ps : List ℕ) → AreReady root n [] ps → n ≡ nodes root
-no_rows root n [] e = e
-no_rows root n (p ∷ ps) e = absurd e
-
-no_parents : (root : Tree) (n : ℕ) (ws : List Waiting) → AreReady root n ws [] → n ≡ nodes root
-no_parents root n [] e = e
-no_parents root n (w ∷ ws) e = absurd e
-
 pub all_come : (v : StretchNodes) → Stays v → v.nodes.now ≡ [] → waiting v.progress ≡ [] → v.number ≡ nodes v.root.now
-all_come v s e rows =
-    no_rows v.root.now v.number (reverse v.parents.items) (subst (λ ws. AreReady v.root.now v.number ws (reverse v.parents.items)) rows (ended_row v s e))
-
-pub none_above : (v : StretchNodes) → Stays v → v.nodes.now ≡ [] → v.parents.items ≡ [] → v.number ≡ nodes v.root.now
-none_above v s e above =
-    no_parents v.root.now v.number (waiting v.progress) (subst (λ ps. AreReady v.root.now v.number (waiting v.progress) ps) (ap reverse above) (ended_row v s e))
+all_come v s e rows = subst (λ ws. AreReady v.root.now v.number ws) rows (ended_row v s e)
 
 -- the root is first
-pub at_root : (w : StretchNodes) (root : Tree) → nodes root < 2 ^ 64 - 1 → w.root.now ≡ root → w.number ≡ 0 → w.parent ≡ 0 → w.nodes.now ≡ root ∷ [] → joined w.progress ≡ root_context → waiting w.progress ≡ [] → w.parents.items ≡ [] → Stays w
-at_root w root few same number up row around rows above =
+pub at_root : (w : StretchNodes) (root : Tree) → nodes root < 2 ^ 64 - 1 → w.root.now ≡ root → w.number ≡ 0 → w.parent ≡ 0 → w.nodes.now ≡ root ∷ [] → joined w.progress ≡ root_context → waiting w.progress ≡ [] → Stays w
+at_root w root few same number up row around rows =
     let all : 0 + count (more root.head root.kids none) ≡ nodes root = omega arith in
     let goes : Goes root 0 (more root.head root.kids none) None root_context = record {
       context = root_context;
       fits = fits_root root root_context refl refl refl refl refl;
       near = same_context root_context;
     } in
-    stays_at w root 0 (more root.head root.kids none) [] [] None root_context [] [] few (alone root) goes all (omega (arith, up)) same number (ap forest row) around rows (ap reverse above)
+    stays_at w root 0 (more root.head root.kids none) [] [] None root_context [] few (alone root) goes all (omega (arith, up)) same number (ap forest row) around rows
 
 -- ---- what meets the stretch
 
@@ -354,8 +346,8 @@ pub sought_behind : (w : StretchNodes) (t : Tree) (r : List Tree) (e n : ℕ) �
 sought_behind w t r e n p = subst (IsSought w r e) (sym p.number) (sought_next w t r p.start e p.first p.sought p.ends p.early)
 
 -- the walk goes on there
-pub stays_sought : (v w : StretchNodes) (t : Tree) (r : List Tree) (e n : ℕ) (k : SyntaxKind) → IsBehind v t r e n → EndsIn t k → w.root.now ≡ v.root.now → w.number ≡ n → w.parent ≡ v.parent → w.nodes.now ≡ r → joined w.progress ≡ record (joined v.progress) { offset = e; trail = one_leaf k } → waiting w.progress ≡ waiting v.progress → w.parents.items ≡ v.parents.items → Stays w
-stays_sought v w t r e n k p last root number up row around rows above =
+pub stays_sought : (v w : StretchNodes) (t : Tree) (r : List Tree) (e n : ℕ) (k : SyntaxKind) → IsBehind v t r e n → EndsIn t k → w.root.now ≡ v.root.now → w.number ≡ n → w.parent ≡ v.parent → w.nodes.now ≡ r → joined w.progress ≡ record (joined v.progress) { offset = e; trail = one_leaf k } → waiting w.progress ≡ waiting v.progress → Stays w
+stays_sought v w t r e n k p last root number up row around rows =
     let s : Stays v = p.sought.stays in
     let stands : Stand v.root.now p.first (more t.head t.kids (forest r)) p.sought.front s.back s.up = p.sought.stands in
     let m : ℕ = p.first + nodes t in
@@ -368,11 +360,11 @@ stays_sought v w t r e n k p last root number up row around rows above =
       fits = record { parent = s.fits.parent; outer = s.fits.outer; offset = there; trail = refl; ahead = s.fits.ahead ∙ ap (ahead_at v.root.now) total };
       near = record { parent = s.near.parent; outer = s.near.outer; offset = refl; trail = trail_behind v.root.now p.first t (forest r) p.sought.front s.back s.up k stands last; ahead = s.near.ahead };
     } in
-    stays_at w v.root.now m (forest r) (p.sought.front ++ places t) s.back s.up c (waiting v.progress) (reverse v.parents.items) s.counted
+    stays_at w v.root.now m (forest r) (p.sought.front ++ places t) s.back s.up c (waiting v.progress) s.counted
     (behind v.root.now p.first t.head t.kids (forest r) p.sought.front s.back s.up stands)
     goes
-    (subst (λ q. AreReady v.root.now q (waiting v.progress) (reverse v.parents.items)) total s.ready)
-    (s.above ∙ sym up) root (number ∙ p.number) (ap forest row) around rows (ap reverse above)
+    (subst (λ q. AreReady v.root.now q (waiting v.progress)) total s.ready)
+    (s.above ∙ sym up) root (number ∙ p.number) (ap forest row) around rows
 
 pub passes_none : (v : StretchNodes) → Passes v v
 passes_none v = record { onward = omega arith; left = refl }

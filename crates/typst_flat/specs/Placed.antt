@@ -1,5 +1,5 @@
 -- The walk through the nodes of a tree with their places and tags, begun near a stretch (of private clauses).
-use Rattle.std.specs.Prelude.{◌≡◌, ℕ, ◌+◌, ◌-◌, ◌^◌, ◌<◌, ◌≤◌, Bool, false, true, ◌&&◌, ◌||◌, not, List, [], ◌∷◌, ◌++◌, reverse, length, Option, None, Some}
+use Rattle.std.specs.Prelude.{◌≡◌, ℕ, ◌+◌, ◌-◌, ◌^◌, ◌<◌, ◌≤◌, Bool, false, true, ◌&&◌, ◌||◌, not, List, [], ◌∷◌, ◌++◌, length, Option, None, Some}
 use Rattle.typst_kinds.specs.Kinds.{is_error, is_trivia}
 use Rattle.typst_kinds.specs.declared.kind.SyntaxKind.{SyntaxKind}
 use Rattle.typst_tree.specs.Tree.{Tree, count, nodes, forest, places, saturated, text_of}
@@ -30,8 +30,8 @@ pub record IsPlaced (a : At) (g : PlacedNode) : Type 0 where
   pub tag : g.tag ≡ tag_code (tag_of a)
   pub within : a.number + nodes (node_of a) ≤ nodes a.root
 
--- nodes that a walk comes back to, the first of which has the number n, below the node of the number `above`
-pub record RowFits (root : Tree) (n : ℕ) (w : Waiting) (above : ℕ) : Type 0 where
+-- nodes that a walk comes back to, the first of which has the number n
+pub record RowFits (root : Tree) (n : ℕ) (w : Waiting) : Type 0 where
   pub front : List Tree
   pub back : List Tree
   pub up : Option ℕ
@@ -39,14 +39,12 @@ pub record RowFits (root : Tree) (n : ℕ) (w : Waiting) (above : ℕ) : Type 0 
   pub start : w.start ≡ offset_of (at root n)
   pub parent : w.level.parent ≡ kind_up root up
   pub outer : w.level.outer ≡ outer_at root up
-  pub above_is : cut (up_number up) ≡ above
+  pub above : cut (up_number up) ≡ w.parent
 
 -- the rows to come back to hold all nodes from the number n on, the innermost first
-abbrev pub AreReady : Tree → ℕ → List Waiting → List ℕ → Type 0
-AreReady root n [] [] = n ≡ nodes root
-AreReady root n [] (p ∷ ps) = ⊥
-AreReady root n (w ∷ ws) [] = ⊥
-AreReady root n (w ∷ ws) (p ∷ ps) = RowFits root n w p × AreReady root (n + count (forest w.nodes.now)) ws ps
+abbrev pub AreReady : Tree → ℕ → List Waiting → Type 0
+AreReady root n [] = n ≡ nodes root
+AreReady root n (w ∷ ws) = RowFits root n w × AreReady root (n + count (forest w.nodes.now)) ws
 
 -- the rows hold all nodes from the walk's number on, and the walk knows what is around the next one as far as tags depend on it
 pub record Stays (w : StretchNodes) : Type 0 where
@@ -59,7 +57,7 @@ pub record Stays (w : StretchNodes) : Type 0 where
   pub context : Context
   pub fits : Fits w.root.now w.number (forest w.nodes.now) up context
   pub near : Near (joined w.progress) context
-  pub ready : AreReady w.root.now (w.number + count (forest w.nodes.now)) (waiting w.progress) (reverse w.parents.items)
+  pub ready : AreReady w.root.now (w.number + count (forest w.nodes.now)) (waiting w.progress)
 
 -- a walk goes past some nodes, none of which meets its stretch
 pub record Passes (v w : StretchNodes) : Type 0 where

@@ -1,6 +1,6 @@
 //! The nodes of a tree with their places, one after the other.
 
-ghost use Rattle.std.specs.Prelude.{◌≡◌, ◌+◌, ◌∷◌, ◌-◌, ◌^◌, ◌<◌, IfOk, IfSome, None, OnOk, true, false, if◌then◌else◌};
+ghost use Rattle.std.specs.Prelude.{◌≡◌, ◌+◌, ◌∷◌, ◌-◌, ◌^◌, ◌<◌, [], IfOk, IfSome, None, OnOk, true, false, if◌then◌else◌};
 ghost use Rattle.typst_tree.specs.Tree.{forest, nodes};
 ghost use Rattle.typst_tree.specs.Steps.{at};
 ghost use Rattle.typst_tree.specs.Walks.{is_childless};
@@ -36,8 +36,6 @@ pub struct StretchNodes<'t> {
     parent: u32,
     /// The next node and those after it in its row.
     nodes: &'t [SyntaxNode],
-    /// The parents of the rows to come back to, the innermost last.
-    parents: Vec<u32>,
     /// The rows to come back to, and what the next node's tag depends on.
     progress: Progress<'t>,
 }
@@ -57,7 +55,6 @@ impl<'t> StretchNodes<'t> {
             number: 0,
             parent: 0,
             nodes: slice::from_ref(root),
-            parents: Vec::new(alloc),
             progress: Progress::start(alloc),
         }
     }
@@ -78,11 +75,8 @@ impl<'t> StretchNodes<'t> {
             let Some(row) = self.progress.leave() else {
                 return Ok(None);
             };
-            let Some(parent) = self.parents.pop() else {
-                return Ok(None);
-            };
             self.nodes = row.nodes;
-            self.parent = parent;
+            self.parent = row.parent;
         }
     }
 
@@ -114,7 +108,7 @@ impl<'t> StretchNodes<'t> {
         if is_childless(node) {
             self.pass(node, later, end, next.name);
         } else {
-            self.enter(node, later)?;
+            self.enter(node, later, end)?;
         }
         Ok(placed)
     }
@@ -136,17 +130,23 @@ impl<'t> StretchNodes<'t> {
         self.number += 1;
     }
 
-    /// Goes to the first child of the next node that has to be visited.
+    /// Goes to the first child of the next node, which ends there, that has to be visited.
     #[inline(always)]
-    fn enter(&mut self, node: &'t SyntaxNode, later: &'t [SyntaxNode]) -> Result<(), AllocError>
+    fn enter(
+        &mut self,
+        node: &'t SyntaxNode,
+        later: &'t [SyntaxNode],
+        end: usize,
+    ) -> Result<(), AllocError>
         requires ready { spec.Stays self.old }
         requires row { self.old.nodes.now ≡ node.now ∷ later.now }
         requires inner { is_childless node.now.kids ≡ false }
+        requires ends { end ≡ walk.end (walk.joined self.old.progress) node.now }
         ensures root { OnOk result (self.new.root.now ≡ self.old.root.now) }
         ensures stretch { OnOk result (self.new.stretch ≡ self.old.stretch) }
         ensures moves { OnOk result (spec.Moves self.old self.new) }
     {
-        self.go_below(node, later)?;
+        self.go_below(node, later, end)?;
         if self.progress.offset() >= self.stretch.start {
             return Ok(());
         }
@@ -154,19 +154,68 @@ impl<'t> StretchNodes<'t> {
         Ok(())
     }
 
-    /// Goes to the first child of the next node.
+    /// Goes to the first child of the next node, which ends there. It comes back to those after the node if there
+    /// are some: as no row is empty to which it comes back, it goes back up a chain of last nodes in one step.
     #[inline(always)]
-    fn go_below(&mut self, node: &'t SyntaxNode, later: &'t [SyntaxNode]) -> Result<(), AllocError>
+    fn go_below(
+        &mut self,
+        node: &'t SyntaxNode,
+        later: &'t [SyntaxNode],
+        end: usize,
+    ) -> Result<(), AllocError>
         requires ready { spec.Stays self.old }
         requires row { self.old.nodes.now ≡ node.now ∷ later.now }
         requires inner { is_childless node.now.kids ≡ false }
+        requires ends { end ≡ walk.end (walk.joined self.old.progress) node.now }
         ensures root { OnOk result (self.new.root.now ≡ self.old.root.now) }
         ensures stretch { OnOk result (self.new.stretch ≡ self.old.stretch) }
         ensures number { OnOk result (self.new.number ≡ self.old.number + 1) }
         ensures ready { OnOk result (spec.Stays self.new) }
     {
-        self.progress.enter(node, later, own_len(node), None)?;
-        self.parents.push(self.parent)?;
+        if later.is_empty() {
+            self.go_below_last(node);
+            return Ok(());
+        }
+        self.go_below_first(node, later, end)?;
+        Ok(())
+    }
+
+    /// Goes to the first child of the last node of a row.
+    #[inline(always)]
+    fn go_below_last(&mut self, node: &'t SyntaxNode)
+        requires ready { spec.Stays self.old }
+        requires row { self.old.nodes.now ≡ node.now ∷ [] }
+        requires inner { is_childless node.now.kids ≡ false }
+        ensures root { self.new.root.now ≡ self.old.root.now }
+        ensures stretch { self.new.stretch ≡ self.old.stretch }
+        ensures number { self.new.number ≡ self.old.number + 1 }
+        ensures ready { spec.Stays self.new }
+    {
+        self.progress.enter_last(node, own_len(node));
+        self.parent = narrow(self.number);
+        self.number += 1;
+        self.nodes = node.children();
+    }
+
+    /// Goes to the first child of the next node, which ends there, and comes back to those after the node.
+    #[inline(always)]
+    fn go_below_first(
+        &mut self,
+        node: &'t SyntaxNode,
+        later: &'t [SyntaxNode],
+        end: usize,
+    ) -> Result<(), AllocError>
+        requires ready { spec.Stays self.old }
+        requires row { self.old.nodes.now ≡ node.now ∷ later.now }
+        requires inner { is_childless node.now.kids ≡ false }
+        requires ends { end ≡ walk.end (walk.joined self.old.progress) node.now }
+        ensures root { OnOk result (self.new.root.now ≡ self.old.root.now) }
+        ensures stretch { OnOk result (self.new.stretch ≡ self.old.stretch) }
+        ensures number { OnOk result (self.new.number ≡ self.old.number + 1) }
+        ensures ready { OnOk result (spec.Stays self.new) }
+    {
+        self.progress
+            .enter_from(node, later, end, own_len(node), self.parent)?;
         self.parent = narrow(self.number);
         self.number += 1;
         self.nodes = node.children();

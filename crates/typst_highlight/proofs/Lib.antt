@@ -2,6 +2,7 @@
 --   highlight                    Bounds: steps stay in the tree; Chains, Cases: up and along chains
 --   highlight_html: html         Trees: the walk makes the tags; Contexts, Leaves, Rows: what it carries along
 --   rule_of                      RuleTable
+--   leaf_among                   FirstLeaves
 --   tag_here                     Places: the leaf whose tag a hash has
 --   give_tree                    Returning: what is left of the walk; Levels: a name's next leaf, and where nothing is looked for; Outlets: what it gives the nodes to
 --   node_spans                   SpanLists: the walk lists the tags of the tree's nodes
@@ -17,6 +18,7 @@ pub mod Cases
 pub mod Chains
 pub mod Contexts
 pub mod Escapes
+pub mod FirstLeaves
 pub mod Leaves
 pub mod Levels
 pub mod MovedRows

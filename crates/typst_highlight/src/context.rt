@@ -149,20 +149,47 @@ fn leaf_below(node: &SyntaxNode, offset: usize) -> Option<Ahead>
     )
 }
 
-/// What `first_leaf` answers, at once where the first node is a leaf.
+/// What `first_leaf` answers, at once where only nodes without children come before the leaf, or those and a node
+/// whose first child it is. So it mostly is with what follows a name.
 #[inline(always)]
 pub fn leaf_among(nodes: &[SyntaxNode], parent: Option<SyntaxKind>, offset: usize) -> Option<Ahead>
     ensures { result ≡ walk.first_leaf parent offset (forest nodes.now) }
 {
-    match nodes.split_first() {
-        None => None,
-        Some((node, _)) if is_leaf(node) => Some(Ahead {
-            kind: node.kind(),
-            parent,
-            offset,
-        }),
-        _ => first_leaf(nodes, parent, offset, usize::MAX),
+    let mut rest = nodes;
+    let mut start = offset;
+    while let Some((node, later)) = rest.split_first() {
+        if is_leaf(node) {
+            return Some(Ahead {
+                kind: node.kind(),
+                parent,
+                offset: start,
+            });
+        }
+        if !is_childless(node) {
+            return leaf_inside(rest, parent, start);
+        }
+        start = start.saturating_add(node.len());
+        rest = later;
     }
+    None
+}
+
+/// What `first_leaf` answers, at once where the first node's first child is a leaf.
+#[inline(always)]
+fn leaf_inside(nodes: &[SyntaxNode], parent: Option<SyntaxKind>, offset: usize) -> Option<Ahead>
+    ensures { result ≡ walk.first_leaf parent offset (forest nodes.now) }
+{
+    let (node, _) = nodes.split_first()?;
+    if let Some((kid, _)) = node.children().split_first() {
+        if is_leaf(kid) {
+            return Some(Ahead {
+                kind: kid.kind(),
+                parent: Some(node.kind()),
+                offset: offset.saturating_add(node.leaf_text().len()),
+            });
+        }
+    }
+    first_leaf(nodes, parent, offset, usize::MAX)
 }
 
 /// Whether there is a leaf among nodes that stand side by side.

@@ -1,7 +1,7 @@
 //! How far a walk through a tree has come.
 
 ghost use Rattle.std.specs.Prelude.{◌≡◌, [], ◌∷◌, IfOk, MatchOption, None, OnOk, Some, true, if◌then◌else◌, length, reverse};
-ghost use Rattle.typst_tree.specs.Tree.{forest};
+ghost use Rattle.typst_tree.specs.Tree.{forest, none};
 ghost use Rattle.typst_tree.specs.Walks.{is_childless};
 ghost use Rattle.typst_highlight.specs.Rules.{is_name};
 ghost use Rattle.typst_highlight.specs.Walk as walk;
@@ -32,6 +32,8 @@ pub struct Waiting<'t> {
     level: Level,
     /// What is passed to the end of the span of the node before them.
     pub kept: Option<Tag>,
+    /// The number of their parent, where the walk numbers nodes, and 0 elsewhere.
+    pub parent: u32,
 }
 
 /// How far a walk has come, and what is around the node that it comes to next. What is after that
@@ -118,7 +120,8 @@ impl<'t> Progress<'t> {
         self.level.parent
     }
 
-    /// The tag of the next node, which others follow.
+    /// The tag of the next node, which others follow. It stands apart, since only that of a hash is asked for so.
+    #[inline(never)]
     pub fn tag(&self, node: &SyntaxNode, later: &[SyntaxNode]) -> Result<Option<Tag>, AllocError>
         ensures { IfOk result (λ tag. tag ≡ walk.tag (walk.joined self.now) node.now (forest later.now)) }
     {
@@ -142,6 +145,7 @@ impl<'t> Progress<'t> {
     }
 
     /// The tag of the next node if it is a name.
+    #[inline(always)]
     pub fn name(&self, node: &SyntaxNode, later: &[SyntaxNode]) -> Option<Tag>
         ensures { result ≡ walk.name (walk.joined self.now) node.now (forest later.now) }
     {
@@ -160,25 +164,72 @@ impl<'t> Progress<'t> {
     ) -> Result<(), AllocError>
         requires { len ≡ length node.now.head.text }
         ensures inside { OnOk result (walk.joined self.new ≡ walk.within (walk.joined self.old) node.now (forest later.now)) }
-        ensures waiting { OnOk result (walk.waiting self.new ≡ record { nodes = later.entry; start = walk.end (walk.joined self.old) node.now; level = self.old.level; kept = kept } ∷ walk.waiting self.old) }
+        ensures waiting { OnOk result (walk.waiting self.new ≡ record { nodes = later.entry; start = walk.end (walk.joined self.old) node.now; level = self.old.level; kept = kept; parent = 0 } ∷ walk.waiting self.old) }
     {
-        let kind = node.kind();
         self.waiting.push(Waiting {
             nodes: later,
             start: self.offset.saturating_add(node.len()),
             level: self.level,
             kept,
+            parent: 0,
         })?;
-        self.level = Level {
+        self.level = self.level_below(node.kind());
+        self.offset = self.offset.saturating_add(len);
+        Ok(())
+    }
+
+    /// Goes into the next node, which ends there, and whose own text is so long. The nodes to which the walk comes
+    /// back from it have a parent of that number.
+    #[inline(always)]
+    pub fn enter_from(
+        &mut self,
+        node: &'t SyntaxNode,
+        later: &'t [SyntaxNode],
+        end: usize,
+        len: usize,
+        parent: u32,
+    ) -> Result<(), AllocError>
+        requires ends { end ≡ walk.end (walk.joined self.old) node.now }
+        requires long { len ≡ length node.now.head.text }
+        ensures inside { OnOk result (walk.joined self.new ≡ walk.within (walk.joined self.old) node.now (forest later.now)) }
+        ensures waiting { OnOk result (walk.waiting self.new ≡ record { nodes = later.entry; start = end; level = self.old.level; kept = None; parent = parent } ∷ walk.waiting self.old) }
+    {
+        self.waiting.push(Waiting {
+            nodes: later,
+            start: end,
+            level: self.level,
+            kept: None,
+            parent,
+        })?;
+        self.level = self.level_below(node.kind());
+        self.offset = self.offset.saturating_add(len);
+        Ok(())
+    }
+
+    /// Goes into the last node of a row, whose own text is so long. There is nothing to come back to after it.
+    #[inline(always)]
+    pub fn enter_last(&mut self, node: &SyntaxNode, len: usize)
+        requires { len ≡ length node.now.head.text }
+        ensures inside { walk.joined self.new ≡ walk.within (walk.joined self.old) node.now none }
+        ensures waiting { walk.waiting self.new ≡ walk.waiting self.old }
+    {
+        self.level = self.level_below(node.kind());
+        self.offset = self.offset.saturating_add(len);
+    }
+
+    /// What is around the children of the next node, by its kind.
+    #[inline(always)]
+    fn level_below(&self, kind: SyntaxKind) -> Level
+        ensures { result ≡ record { parent = Some kind; outer = walk.outer_within (walk.joined self.now) kind } }
+    {
+        Level {
             parent: Some(kind),
             outer: if is_field_access(kind) {
                 self.outer_below(kind)
             } else {
                 None
             },
-        };
-        self.offset = self.offset.saturating_add(len);
-        Ok(())
+        }
     }
 
     /// What is around the outermost of the field accesses above the children of a node of the kind.

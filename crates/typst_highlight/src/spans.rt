@@ -87,8 +87,8 @@ pub fn tag_next(
     }
 }
 
-/// The tag of a node that is no name, apart from the common way.
-#[inline(never)]
+/// The tag of a node that is no name. The tag of a hash is found by a call, all others in place.
+#[inline(always)]
 fn tag_asked(
     node: &SyntaxNode,
     later: &[SyntaxNode],

@@ -3,7 +3,7 @@
 ghost use Rattle.std.specs.Prelude.{◌≡◌, ◌+◌, ◌<◌, ◌≤◌, IfOk, IfSome, None, option_and_then};
 ghost use Rattle.std.specs.Option.{option_map};
 ghost use Rattle.typst_tree.specs.Tree.{count, forest, nodes};
-ghost use Rattle.typst_highlight.specs.Rules.{rule_of};
+ghost use Rattle.typst_highlight.specs.Rules.{rule_of, term_tag};
 ghost use Rattle.typst_highlight.specs.Walk as walk;
 
 use crate::context::{Context, Trail, holds_leaf, is_childless, is_leaf};
@@ -100,6 +100,17 @@ fn next_kind(nodes: &[SyntaxNode]) -> Option<SyntaxKind>
     None
 }
 
+/// The tag of markup that others follow. Only in an item of a term list does the next one count.
+#[inline(always)]
+fn term_under(parent: Option<SyntaxKind>, later: &[SyntaxNode]) -> Option<Tag>
+    ensures { result ≡ term_tag parent (walk.next_kind (forest later.now)) }
+{
+    match parent {
+        Some(SyntaxKind::TermItem) => term_tag(parent, next_kind(later)),
+        _ => None,
+    }
+}
+
 /// The tag of a node that others follow, where its kind, its parent's and the next one's tell it.
 #[inline(always)]
 pub fn tag_under(
@@ -116,7 +127,7 @@ pub fn tag_under(
         Rule::Underscore => Some(underscore_tag(parent)),
         Rule::Slash => Some(slash_tag(parent)),
         Rule::Equals => Some(equals_tag(parent)),
-        Rule::Term => Some(term_tag(parent, next_kind(later))),
+        Rule::Term => Some(term_under(parent, later)),
         Rule::Name | Rule::Expression => None,
     }
 }

@@ -1,15 +1,9 @@
-use Rattle.std.proofs.Common.{None, refl, arith}
-use Rattle.typst_highlight.specs.declared.progress.Waiting.{Waiting}
-use Rattle.typst_highlight.specs.Walk.{end, joined}
-use Rattle.typst_flat.proofs.Placing.{is_within, stays_below}
+use Rattle.std.proofs.Common.{◌≡◌, ◌∷◌, length, ap, ◌∙◌, arith}
+use Rattle.std.proofs.lemmas.Bool.Decides.{nat_tests}
+use Rattle.typst_flat.proofs.Placing.{none_there}
 use Rattle.typst_flat.proofs.nodes.StretchNodes.go_below.Goals as goal
 
-pub overflow_add-self : goal.overflow_add-self
-overflow_add-self c =
-    omega (arith, is_within c.args.self.now c.args.node.now c.args.later.now c.requires.ready c.requires.row, c.requires.ready.counted)
-
-pub returns-clause-ready : goal.returns-clause-ready
-returns-clause-ready c =
-    let v = c.args.self.now in
-    let x : Waiting = record { nodes = c.args.later; start = end (joined v.progress) c.args.node.now; level = v.progress.level; kept = None } in
-    stays_below v _ c.args.node.now c.args.later.now x c.requires.ready c.requires.row c.requires.inner refl refl c.narrow-self.ensures c.children-self.ensures c.in_ok-enter.ensures.inside c.in_ok-enter.ensures.waiting c.in_ok-push.ensures.items refl refl refl
+pub go_below_last-requires-clause-row : goal.go_below_last-requires-clause-row
+go_below_last-requires-clause-row c =
+    let nothing : length c.args.later.now ≡ 0 = grind (arith, nat_tests, c.is_empty.ensures, c.if-is_empty.true) in
+    c.requires.row ∙ ap (λ ts. c.args.node.now ∷ ts) (none_there c.args.later.now nothing)

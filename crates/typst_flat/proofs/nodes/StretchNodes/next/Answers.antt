@@ -1,4 +1,4 @@
-use Rattle.std.proofs.Common.{refl}
+use Rattle.std.proofs.Common.{refl, ap, arith, length}
 use Rattle.typst_flat.proofs.Placing.{comes_from, none_there, stays_back}
 use Rattle.typst_flat.proofs.nodes.StretchNodes.next.Goals as goal
 
@@ -12,8 +12,11 @@ rows-preserved c =
       root = c.rows.invariant.root;
       stretch = c.rows.invariant.stretch;
       number = c.rows.invariant.number;
-      ready = stays_back c.rows.self _ c.in-Some-leave.row c.rows.invariant.ready (none_there c.rows.self.nodes.now c.in_default.ensures.cases) w.0 w.1 c.in-Some-pop.ensures.items refl refl refl;
+      ready = stays_back c.rows.self _ c.in-Some-leave.row c.rows.invariant.ready (none_there c.rows.self.nodes.now c.in_default.ensures.cases) w.0 w.1 refl refl refl refl;
     }
+
+pub rows-smaller : goal.rows-smaller
+rows-smaller c = omega (arith, ap length c.in-Some-leave.ensures.0)
 
 pub returns-in-Some-clause-comes : goal.returns-in-Some-clause-comes
 returns-in-Some-clause-comes c =

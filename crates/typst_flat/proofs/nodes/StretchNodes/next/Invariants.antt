@@ -1,5 +1,5 @@
-use Rattle.std.proofs.Common.{◌≡◌}
-use Rattle.std.specs.Prelude.{vec_len}
+use Rattle.std.proofs.Common.{◌≡◌, length}
+use Rattle.typst_highlight.specs.Walk.{waiting}
 use Rattle.typst_flat.specs.Placed.{Stays}
 use Rattle.typst_flat.proofs.nodes.StretchNodes.next.Given as goal
 
@@ -12,4 +12,4 @@ invariant-rows l = record {
 }
 
 abbrev pub decreases-rows : goal.decreases-rows
-decreases-rows l = vec_len l.self.parents
+decreases-rows l = length (waiting l.self.progress)

@@ -12,7 +12,7 @@ returns-in_default-clause-passes c = passes_none c.args.self.now
 pub returns-clause-sought : goal.returns-clause-sought
 returns-clause-sought c =
     sought_here _ c.args.later.now c.args.end c.args.number
-    (stays_sought c.args.self.now _ c.args.node.now c.args.later.now c.args.end c.args.number c.in-Some.before c.requires c.in-Some.ensures refl refl refl refl c.resume.ensures.joined c.resume.ensures.waiting refl)
+    (stays_sought c.args.self.now _ c.args.node.now c.args.later.now c.args.end c.args.number c.in-Some.before c.requires c.in-Some.ensures refl refl refl refl c.resume.ensures.joined c.resume.ensures.waiting)
     refl (sym (ap (λ x. x.offset) c.resume.ensures.joined)) refl
 
 pub returns-clause-passes : goal.returns-clause-passes

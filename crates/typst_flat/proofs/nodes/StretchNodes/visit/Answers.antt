@@ -15,6 +15,9 @@ pass-requires-clause-ends c = omega (arith, c.saturating_add-end.ensures, c.len.
 pub enter-requires-clause-inner : goal.enter-requires-clause-inner
 enter-requires-clause-inner c = sym c.is_childless.ensures ∙ c.if-is_childless.false
 
+pub enter-requires-clause-ends : goal.enter-requires-clause-ends
+enter-requires-clause-ends c = omega (arith, c.saturating_add-end.ensures, c.len.ensures, c.offset-start.ensures)
+
 pub returns-clause-placed : goal.returns-clause-placed
 returns-clause-placed c =
     let v = c.args.self.now in
