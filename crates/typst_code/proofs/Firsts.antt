@@ -8,7 +8,7 @@ use Rattle.typst_language.specs.Sound.{Sound}
 use Rattle.typst_language.specs.Steps.{node, within}
 use Rattle.typst_language.specs.View.{View, Fits}
 use Rattle.typst_language.proofs.Begins.{Begins, begins-gives, begins-peek, begins-scoped, begins-then, begins-wraps}
-use Rattle.typst_code.proofs.PatternFirsts.{begins-some}
+use Rattle.typst_bindings.proofs.PatternFirsts.{begins-some}
 use Rattle.typst_code.specs.Groups.{group}
 use Rattle.typst_code.specs.Parens.{as_group}
 

@@ -16,7 +16,7 @@ use Rattle.typst_markup.specs.Markup.{at_newline, opens_directly}
 use Rattle.typst_markup.specs.declared.keys.Key.{Key}
 use Rattle.typst_markup.specs.declared.keys.Key.TheVariants as key
 use Rattle.typst_markup.specs.Named.{when_named, with_argument}
-use Rattle.typst_code.specs.Parts.{separator}
+use Rattle.typst_bindings.specs.Parts.{separator}
 use Rattle.typst_code.specs.Groups.{begins_item, spread, pair}
 
 -- arguments begin with a paren or a bracket

@@ -18,8 +18,8 @@ use Rattle.typst_language.specs.Syntax.Parser.{gives, does, pick}
 use Rattle.typst_language.specs.Steps.{peek, eat, unexpected, expected, node, grow, read_block}
 use Rattle.typst_language.specs.Depth.{deeper}
 use Rattle.typst_markup.specs.Equations.{equation}
-use Rattle.typst_code.specs.Bindings.{let_binding}
-use Rattle.typst_code.specs.Closures.{named, placeholder}
+use Rattle.typst_bindings.specs.Bindings.{let_binding}
+use Rattle.typst_bindings.specs.Closures.{named, placeholder}
 use Rattle.typst_code.specs.declared.heads.CodeHead.{CodeHead}
 use Rattle.typst_code.specs.declared.heads.CodeHead.TheVariants as head
 use Rattle.typst_code.specs.declared.heads.CodeTail.{CodeTail}

@@ -18,7 +18,7 @@ use Rattle.typst_markup.specs.declared.keys.Key.{Key}
 use Rattle.typst_markup.specs.declared.keys.Key.TheVariants as key
 use Rattle.typst_markup.specs.Keys.{key_of}
 use Rattle.typst_kinds.specs.SeenNames.{has_name, with_name}
-use Rattle.typst_code.specs.Parts.{code_expression, separator}
+use Rattle.typst_bindings.specs.Parts.{code_expression, separator}
 
 -- ---- what lists have in common
 

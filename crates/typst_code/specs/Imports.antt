@@ -11,7 +11,7 @@ use Rattle.typst_language.specs.Syntax.Parser.{gives, pick, repeat}
 use Rattle.typst_language.specs.Steps.{peek, eat, eat_if, unexpected, within, node}
 use Rattle.typst_language.specs.Expected.{expect_identifier}
 use Rattle.typst_markup.specs.Markup.{at_newline}
-use Rattle.typst_code.specs.Parts.{code_expression, separator}
+use Rattle.typst_bindings.specs.Parts.{code_expression, separator}
 
 -- a dot and a name, if they come
 unfoldable pub path_turn : Unit {0} → Parser (Bool × Unit {0})

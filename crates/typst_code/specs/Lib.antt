@@ -1,8 +1,3 @@
-pub mod Parts
-pub mod Patterns
-pub mod Params
-pub mod Closures
-pub mod Bindings
 pub mod Sequences
 pub mod Groups
 pub mod Parens
@@ -13,6 +8,12 @@ pub mod Expressions
 pub mod Outside
 pub mod Stops
 -- What the crates above name of those below.
+pub use Rattle.typst_bindings.specs.Bindings
+pub use Rattle.typst_bindings.specs.Closures
+pub use Rattle.typst_bindings.specs.Params
+pub use Rattle.typst_bindings.specs.Parts
+pub use Rattle.typst_bindings.specs.Patterns
+pub use Rattle.typst_bindings.specs.declared.bindings
 pub use Rattle.typst_markup.specs.Attachments
 pub use Rattle.typst_markup.specs.Delimited
 pub use Rattle.typst_markup.specs.Embedded

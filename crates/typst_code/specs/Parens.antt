@@ -15,10 +15,10 @@ use Rattle.typst_lines.specs.Place.{Place}
 use Rattle.typst_language.specs.Expected.{expects}
 use Rattle.typst_language.specs.declared.calls.AfterName.{AfterName}
 use Rattle.typst_language.specs.declared.calls.AfterName.TheVariants as after
-use Rattle.typst_code.specs.Closures.{closure_shape}
-use Rattle.typst_code.specs.Params.{params}
-use Rattle.typst_code.specs.Parts.{expression_if}
-use Rattle.typst_code.specs.Patterns.{destructuring}
+use Rattle.typst_bindings.specs.Closures.{closure_shape}
+use Rattle.typst_bindings.specs.Params.{params}
+use Rattle.typst_bindings.specs.Parts.{expression_if}
+use Rattle.typst_bindings.specs.Patterns.{destructuring}
 use Rattle.typst_code.specs.Groups.{group, group_rest}
 
 -- what comes after a group: an arrow makes parameters of it; an equals sign makes it what is

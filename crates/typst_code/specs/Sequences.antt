@@ -14,7 +14,7 @@ use Rattle.typst_language.specs.Steps.{peek, eat, close_if, unexpected, expected
 use Rattle.typst_language.specs.Depth.{is_end, too_deep}
 use Rattle.typst_markup.specs.Markup.{at_newline}
 use Rattle.typst_markup.specs.Starts.{begins_code}
-use Rattle.typst_code.specs.Parts.{code_expression}
+use Rattle.typst_bindings.specs.Parts.{code_expression}
 
 -- a code block ends at any closing delimiter, or at the end
 abbrev pub ends_code : SyntaxKind → Bool

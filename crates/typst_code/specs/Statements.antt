@@ -17,8 +17,8 @@ use Rattle.typst_language.specs.Depth.{deeper}
 use Rattle.typst_language.specs.Expected.{expect_identifier}
 use Rattle.typst_markup.specs.Starts.{begins_code}
 use Rattle.typst_code.specs.Arguments.{arguments}
-use Rattle.typst_code.specs.Parts.{code_expression, expression_if}
-use Rattle.typst_code.specs.Patterns.{deeper_pattern}
+use Rattle.typst_bindings.specs.Parts.{code_expression, expression_if}
+use Rattle.typst_bindings.specs.Patterns.{deeper_pattern}
 
 -- `{ .. }` or `[ .. ]`
 unfoldable pub any_block : Parser (Unit {0})

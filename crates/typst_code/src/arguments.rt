@@ -10,9 +10,9 @@ ghost use Rattle.typst_code.specs.Outside.{MeansAround, MeansAroundBy};
 
 use crate::groups::{begins_item, pair, spread};
 use crate::heads::{calls_directly, opens_arguments};
-use crate::separator;
 use crate::sequences::read_content;
 use std::alloc::AllocError;
+use typst_bindings::separator;
 use typst_kinds::{Names, SyntaxKind};
 use typst_language::{AtNewline, Levels, NodeChange, Parser};
 use typst_markup::{Key, opens_directly, with_argument, wrap_named};

@@ -16,8 +16,8 @@ use crate::statements::{
     conditional, contextual, field, for_loop, func_return, jump, module_include, set_rule,
     show_rule, while_loop,
 };
-use crate::{let_binding, named, placeholder};
 use std::alloc::AllocError;
+use typst_bindings::{let_binding, named, placeholder};
 use typst_kinds::{Assoc, BinOp, SyntaxKind, UnOp};
 use typst_language::{Levels, Parser, deeper_code_expr};
 use typst_markup::equation;

@@ -9,8 +9,8 @@ ghost use Rattle.typst_language.specs.View.{Means, Rewrapped};
 ghost use Rattle.typst_code.specs.Groups as spec;
 
 use crate::listing::ParenItems;
-use crate::{code_expression, separator};
 use std::alloc::AllocError;
+use typst_bindings::{code_expression, separator};
 use typst_kinds::{Names, SyntaxKind};
 use typst_language::{AtNewline, Levels, NodeChange, Parser};
 use typst_markup::{Key, begins_code, key_of};

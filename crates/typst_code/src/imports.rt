@@ -5,8 +5,8 @@ ghost use Rattle.typst_language.specs.Syntax.Parser.{repeat};
 ghost use Rattle.typst_language.specs.View.{Means, MeansBy, Rewrapped};
 ghost use Rattle.typst_code.specs.Imports as spec;
 
-use crate::{code_expression, separator};
 use std::alloc::AllocError;
+use typst_bindings::{code_expression, separator};
 use typst_kinds::SyntaxKind;
 use typst_language::{AtNewline, Levels, NodeChange, Parser};
 

@@ -7,8 +7,8 @@ ghost use Rattle.typst_code.specs.Outside.{MeansAround};
 ghost use Rattle.typst_code.specs.Parens as spec;
 
 use crate::groups::group;
-use crate::{destructuring, expression_if, params, wrap_closure};
 use std::alloc::AllocError;
+use typst_bindings::{destructuring, expression_if, params, wrap_closure};
 use typst_kinds::{Names, SyntaxKind};
 use typst_language::{AfterName, Levels, Parser, Role};
 

@@ -8,9 +8,9 @@ ghost use Rattle.typst_code.specs.Sequences as spec;
 ghost use Rattle.typst_code.specs.Outside.{MeansAround};
 ghost use Rattle.typst_code.specs.Stops.{stops_at};
 
-use crate::code_expression;
 use crate::stops::CodeStop;
 use std::alloc::AllocError;
+use typst_bindings::code_expression;
 use typst_kinds::{SyntaxKind, SyntaxMode};
 use typst_language::{AtNewline, Block, Levels, Parser, Reading, Stops, too_deep};
 use typst_markup::{begins_code, content_block};

@@ -9,8 +9,8 @@ ghost use Rattle.typst_code.specs.Outside.{MeansAround, MeansAroundBy};
 
 use crate::arguments::arguments;
 use crate::sequences::{read_code, read_content};
-use crate::{code_expression, expression_if};
 use std::alloc::AllocError;
+use typst_bindings::{code_expression, expression_if};
 use typst_kinds::{Names, SyntaxKind, set};
 use typst_language::{Levels, Parser, Role, deeper_code_expr, deeper_pattern};
 use typst_markup::begins_code;

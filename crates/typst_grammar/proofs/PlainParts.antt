@@ -4,8 +4,8 @@ use Rattle.typst_kinds.specs.Kinds.{same}
 use Rattle.typst_kinds.specs.declared.kind.SyntaxKind.{SyntaxKind}
 use Rattle.typst_kinds.specs.declared.kind.SyntaxKind.TheVariants as kind
 use Rattle.typst_kinds.specs.SeenNames.{has_name}
-use Rattle.typst_code.specs.declared.bindings.Bound.{Bound}
-use Rattle.typst_code.specs.declared.bindings.Bound.TheVariants as bound
+use Rattle.typst_code.specs.bindings.Bound.{Bound}
+use Rattle.typst_code.specs.bindings.Bound.TheVariants as bound
 use Rattle.typst_language.specs.declared.calls.Role.{Role}
 use Rattle.typst_language.specs.declared.calls.AfterName.{AfterName}
 use Rattle.typst_language.specs.declared.calls.AfterName.TheVariants as after

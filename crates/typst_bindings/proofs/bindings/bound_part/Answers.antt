@@ -1,0 +1,14 @@
+use Rattle.typst_kinds.specs.Kinds.{same}
+use Rattle.typst_kinds.specs.declared.kind.SyntaxKind.TheVariants as kind
+use Rattle.typst_language.proofs.Steps.{does-next, does-gives}
+use Rattle.typst_language.proofs.Asks.{asks-yes, asks-no}
+use Rattle.typst_bindings.specs.Bindings.{bound_part}
+use Rattle.typst_bindings.proofs.bindings.bound_part.Goals as goal
+
+pub returns-then-eq : goal.returns-then-eq
+unfolding bound_part
+returns-then-eq g c l h = asks-yes (same kind.Ident) c.current.ensures c.eq.ensures c.if-eq.true (c.in_ok-bound_name.ensures l h)
+
+pub returns : goal.returns
+unfolding bound_part
+returns g c l h = asks-no (same kind.Ident) c.current.ensures c.eq.ensures c.if-eq.false (does-next (rw c.new.ensures at c.in_ok-deeper_pattern.ensures l h) does-gives)

@@ -1,0 +1,5 @@
+pub mod Parts
+pub mod Patterns
+pub mod Params
+pub mod Closures
+pub mod Bindings
