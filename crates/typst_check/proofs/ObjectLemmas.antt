@@ -2,7 +2,7 @@
 use Rattle.std.proofs.Common.{◌≡◌, ℕ, List, [], ◌∷◌, ◌++◌, Result, ◌∙◌}
 use Rattle.std.specs.Prelude.{OnOk}
 use Rattle.json.specs.Token.{Token, begin_object, end_object, begin_array, end_array, key}
-use Rattle.typst_cli.proofs.TokenLemmas.{written, written_last}
+use Rattle.typst_report.proofs.TokenLemmas.{written, written_last}
 use Rattle.typst_check.specs.Sarif.{list_member, object_item, object_member}
 
 module _ {E : Type 0} (r : Result (Unit {0}) E) (old one two three new : List Token) where

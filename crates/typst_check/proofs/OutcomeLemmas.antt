@@ -1,9 +1,9 @@
 -- What follows where an outcome is known.
 use Rattle.std.proofs.Common.{◌≡◌, ℕ, List, Bool, Option, None, Some, Result, Ok, Err}
 use Rattle.std.specs.Prelude.{IfSome, OnOk}
-use Rattle.typst_cli.specs.declared.form.Options.{Options}
-use Rattle.typst_cli.specs.Checked.{IsChecked}
-use Rattle.typst_cli.specs.Reported.{fails}
+use Rattle.typst_report.specs.declared.form.Options.{Options}
+use Rattle.typst_report.specs.Checked.{IsChecked}
+use Rattle.typst_report.specs.Reported.{fails}
 
 -- a text that was checked fails as its status says
 pub fails_so : (o : Options) (name : List ℕ) (failing : Bool) (old new input : Option (List ℕ)) → IfSome input (λ text. IsChecked o name text failing old new) → IfSome input (λ text. failing ≡ fails o.denies_warnings text)

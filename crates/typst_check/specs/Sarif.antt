@@ -5,7 +5,7 @@ use Rattle.json.specs.Json.{Json, array}
 use Rattle.json.specs.Print.{print}
 use Rattle.json.specs.Token.{Token, begin_object, end_object, begin_array, end_array, key}
 use Rattle.json.specs.Value.{items_of}
-use Rattle.typst_cli.specs.Ndjson.{count_member, text_member}
+use Rattle.typst_report.specs.Ndjson.{count_member, text_member}
 use Rattle.typst_check.specs.declared.sarif.finding.Region.{Region}
 use Rattle.typst_check.specs.declared.sarif.finding.NdjsonFinding.{NdjsonFinding}
 use Rattle.typst_check.specs.NdjsonFinding.{IsWrittenAs}

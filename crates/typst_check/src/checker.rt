@@ -7,10 +7,10 @@ use std::alloc::{AllocError, Global};
 use std::cmp::Ordering;
 use std::fs::{self, DirEntry, File};
 use std::io::{self, Read};
-use typst_cli::check::{Fault, check, tell};
-use typst_cli::form::{Form, Format, Options};
-use typst_cli::names::names_in;
-use typst_cli::tally::Tally;
+use typst_report::check::{Fault, check, tell};
+use typst_report::form::{Form, Format, Options};
+use typst_report::names::names_in;
+use typst_report::tally::Tally;
 
 /// The name that stands for standard input.
 const STANDARD_INPUT: &str = "-";

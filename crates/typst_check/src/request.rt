@@ -3,7 +3,7 @@
 use clap::error::ErrorKind;
 use clap::{Arg, ArgAction, Command, Error, value_parser};
 use std::alloc::{AllocError, Global};
-use typst_cli::form::{Form, Format, Options};
+use typst_report::form::{Form, Format, Options};
 
 /// What the words ask for.
 #[derive(Drop)]

@@ -4,7 +4,7 @@ ghost use Rattle.std.specs.Prelude.{◌≡◌, ◌≢◌, ◌≤◌, IfOk, IfSom
 ghost use Rattle.std.specs.Io.KnownBytes.{Appends};
 ghost use Rattle.json.specs.Value.{value_view};
 ghost use Rattle.typst_check.specs.Sarif.{AppendsResult};
-ghost use Rattle.typst_cli.specs.Reported.{fails};
+ghost use Rattle.typst_report.specs.Reported.{fails};
 
 mod finding;
 mod objects;
@@ -16,10 +16,10 @@ use objects::{write_head, write_result};
 use std::alloc::{AllocError, Global};
 use std::io::{self, ErrorKind, Read, Write};
 use std::str;
-use typst_cli::check::{Fault, check, tell};
-use typst_cli::form::{Form, Format, Options};
-use typst_cli::streams::deliver;
-use typst_cli::tally::Tally;
+use typst_report::check::{Fault, check, tell};
+use typst_report::form::{Form, Format, Options};
+use typst_report::streams::deliver;
+use typst_report::tally::Tally;
 use uri::uri_of;
 
 /// The name under which faults are reported of what belongs to no file.

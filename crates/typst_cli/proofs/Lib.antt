@@ -1,27 +1,7 @@
 -- From what a contract promises to the lemma behind it:
---   deliver, tell, run           StreamLemmas: known bytes, written piece by piece
---   lines printed                PrintedLemmas: rows one after another
---   trees printed                Printing: messages, character by character
 --   words                        WordLemmas: how many ask for something, the numbers among them
 --   what a run says and gives     FaultLemmas: from an answer's faults to a run's
---   print_node                   RowLemmas: what is left of rows of trees, and its indentation
---   findings, lines_of of trees  VisitLemmas: what a walk comes to, one node after the other
 --   edits printed                SpansAside: spans aside, trees are printed the same
---   push_escaped                 EscapeLemmas: one character more
---   base, line_start             PlaceLemmas: columns counted from another place of the line
---   locate                       PlacedLemmas: one more finding with its places
---   lines_of, commands_of        LineLemmas: the lines of one more finding
---   write_numbers, write_reported  TokenLemmas: tokens one after another
-mod PrintedLemmas
-mod Printing
-mod StreamLemmas
 mod SpansAside
 pub mod WordLemmas
 pub mod FaultLemmas
-pub mod EscapeLemmas
-pub mod LineLemmas
-pub mod PlacedLemmas
-pub mod PlaceLemmas
-pub mod TokenLemmas
-pub mod RowLemmas
-pub mod VisitLemmas

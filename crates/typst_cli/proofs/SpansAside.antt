@@ -8,8 +8,8 @@ use Rattle.std.specs.Str.{chars}
 use Rattle.std.specs.declared.ops.Range.{Range}
 use Rattle.typst_parser.specs.UnicodeTables.{unicode_classes}
 use Rattle.typst_parser.specs.Grammar.{tree}
+use Rattle.typst_report.specs.PrintedTree.{lines, node_lines, deeper, tree_printed}
 use Rattle.typst_cli.specs.PrintedEdit.{range_line, edit_printed}
-use Rattle.typst_cli.specs.PrintedTree.{lines, node_lines, deeper, tree_printed}
 
 lines-bare : (indent : List ℕ) (start : ℕ) (f : Forest) → lines indent start (bare_forest f) ≡ lines indent start f
 lines-bare indent start none = refl

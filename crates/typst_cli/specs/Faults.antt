@@ -1,9 +1,6 @@
 -- What the program says if it fails, and what it leaves.
-use Rattle.std.specs.Prelude.{◌≡◌, ◌≢◌, ◌⊎◌, ⊤, ℕ, List, take, codes, Option, None, Some, IsSome, IfSome}
+use Rattle.std.specs.Prelude.{◌≡◌, ◌≢◌, ◌⊎◌, ⊤, ℕ, List, codes, Option, None, Some, IsSome, IfSome}
 use Rattle.std.specs.Io.KnownBytes.{Appends, Keeps}
-use Rattle.std.specs.IoError.{error_kind}
-use Rattle.std.specs.declared.io.Error.{Error}
-use Rattle.std.specs.declared.io.ErrorKind.TheVariants as kind
 use Rattle.std.specs.Str.{IsUtf8}
 use Rattle.std.specs.declared.ops.Range.{Range}
 use Rattle.typst_parser.specs.SourceError.{SourceError}
@@ -12,12 +9,13 @@ use Rattle.typst_parser.specs.UnicodeTables.{unicode_classes}
 use Rattle.std.specs.Str.{chars}
 use Rattle.typst_parser.specs.Grammar.{tree}
 use Rattle.typst_parser.specs.Headline.{edited, numbered_in}
+use Rattle.typst_report.specs.Streams.{Begins}
+use Rattle.typst_report.specs.declared.streams.Unread.{Unread}
+use Rattle.typst_report.specs.declared.streams.Unread.TheVariants as unread
 use Rattle.typst_cli.specs.Asked.{Asked, about, edits}
 use Rattle.typst_cli.specs.PrintedEdit.{IsRange, Prints}
 use Rattle.typst_cli.specs.declared.failure.Failure.{Failure}
 use Rattle.typst_cli.specs.declared.failure.Failure.TheVariants.{Usage, NotRead, NotUtf8, BadRange, OutOfSpanNumbers, OutOfMemory, NotWritten}
-use Rattle.typst_cli.specs.declared.streams.Unread.{Unread}
-use Rattle.typst_cli.specs.declared.streams.Unread.TheVariants as unread
 
 -- the exit status for a failure
 abbrev pub status_of : Failure → ℕ
@@ -33,10 +31,6 @@ line_of BadRange = codes "bad range\n"
 line_of OutOfSpanNumbers = codes "out of span numbers\n"
 line_of OutOfMemory = codes "out of memory\n"
 line_of NotWritten = codes "write failed\n"
-
--- known bytes grow by a beginning of bs
-abbrev pub Begins : Option (List ℕ) → Option (List ℕ) → List ℕ → Type 0
-Begins old new bs = (n : ℕ) × Appends old new (take n bs)
 
 -- the text or the edited text has more nodes than there are span numbers
 abbrev pub LacksNumbers : Range ℕ → List ℕ → List ℕ → Type 0
@@ -71,15 +65,6 @@ IsReadFault NotRead input = ⊤
 IsReadFault NotUtf8 input = IfSome input (λ bytes. ¬ (IsUtf8 bytes))
 IsReadFault OutOfMemory input = ⊤
 IsReadFault _ input = ⊥
-
--- an error that ends the work: an interrupted call is made again
-abbrev pub IsFinal : Error → Type 0
-IsFinal e = error_kind e ≢ kind.Interrupted
-
--- an error of a read ends the reading
-abbrev pub IsFinalRead : Unread → Type 0
-IsFinalRead (unread.Failed e) = IsFinal e
-IsFinalRead unread.OutOfMemory = ⊤
 
 -- the failure if not all of the input was read
 abbrev pub failure_of : Unread → Failure

@@ -1,22 +1,8 @@
 pub mod Asked
-pub mod Checked
-pub mod Escapes
 pub mod Faults
-pub mod Found
-pub mod Github
-pub mod Names
-pub mod Ndjson
-pub mod Placed
-pub mod Places
 pub mod Printed
 pub mod PrintedEdit
-pub mod PrintedHtml
-pub mod PrintedTree
-pub mod Short
-pub mod Tally
-pub mod Reported
-pub mod TreeLines
-pub mod Variants
 -- What the crates above name of those below.
 pub use Rattle.typst_parser.specs.Grammar
 pub use Rattle.typst_parser.specs.Tree
+pub use Rattle.typst_report.specs.PrintedTree

@@ -9,9 +9,9 @@ use Rattle.typst_parser.specs.Answers.{Answers}
 use Rattle.typst_parser.specs.Grammar.{tree}
 use Rattle.typst_parser.specs.Headline.{edited, numbered_in}
 use Rattle.typst_parser.specs.Held.{Held}
+use Rattle.typst_report.specs.PrintedTree.{tree_printed}
 use Rattle.typst_cli.specs.Asked.{Asked, about, edits}
 use Rattle.typst_cli.specs.Printed.{printed}
-use Rattle.typst_cli.specs.PrintedTree.{tree_printed}
 
 -- a range of the text's bytes, with both ends on boundaries of its characters
 pub record IsRange (range : Range ℕ) (text : List ℕ) : Type 0 where

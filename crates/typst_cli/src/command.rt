@@ -3,9 +3,9 @@ ghost use Rattle.std.specs.Prelude.{◌≡◌, IfOk};
 ghost use Rattle.std.specs.String.{string_bytes};
 ghost use Rattle.typst_cli.specs.Printed.{command_named, printed};
 
-use crate::{html, lines, tree};
 use std::alloc::{AllocError, Global};
 use typst_parser::UnicodeClasses;
+use typst_report::{html, lines, tree};
 
 /// What the program is asked about a text.
 #[derive(Debug, Clone, Copy, PartialEq, Eq)]

@@ -7,10 +7,10 @@ ghost use Rattle.typst_cli.specs.Faults.{IsAnswerFault};
 ghost use Rattle.typst_cli.specs.PrintedEdit.{IsRange, Prints, range_line};
 
 use crate::failure::Failure;
-use crate::tree::print_node;
 use std::alloc::{AllocError, Global};
 use std::ops::Range;
 use typst_parser::{Source, UnicodeClasses};
+use typst_report::tree::print_node;
 
 /// A text to be put in the place of a range of bytes.
 #[derive(Debug, Clone, Copy)]

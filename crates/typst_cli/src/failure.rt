@@ -1,13 +1,14 @@
 //! Why the program failed.
 ghost use Rattle.std.specs.Prelude.{◌≡◌, OnOk};
 ghost use Rattle.std.specs.Io.KnownBytes.{Appends};
-ghost use Rattle.typst_cli.specs.Faults.{Begins, failure_from, failure_of, line_of, status_of};
+ghost use Rattle.typst_report.specs.Streams.{Begins};
+ghost use Rattle.typst_cli.specs.Faults.{failure_from, failure_of, line_of, status_of};
 ghost use Rattle.typst_cli.specs.declared.failure.Failure.TheVariants as failure;
 
-use crate::streams::{Delivered, Unread, deliver};
 use std::alloc::{AllocError, AllocFailed};
 use std::io::{self, Write};
 use typst_parser::SourceError;
+use typst_report::streams::{Delivered, Unread, deliver};
 
 /// What went wrong, in the order in which it is looked for; lack of memory is met anywhere.
 #[derive(Debug, Clone, Copy, PartialEq, Eq)]

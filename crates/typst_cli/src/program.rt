@@ -1,15 +1,17 @@
 //! The program over any reader and writers.
 ghost use Rattle.std.specs.Prelude.{◌≡◌, ◌≢◌, ◌↔◌, IfErr, None, OnOk, map};
 ghost use Rattle.std.specs.Io.KnownBytes.{Keeps};
-ghost use Rattle.typst_cli.specs.Faults.{Begins, IsAnswered, IsFault, Leaves, line_of, status_of};
+ghost use Rattle.typst_report.specs.Streams.{Begins};
+ghost use Rattle.typst_cli.specs.Faults.{IsAnswered, IsFault, Leaves, line_of, status_of};
 ghost use Rattle.typst_cli.specs.Asked.{asked_by};
 ghost use Rattle.typst_cli.specs.declared.failure.Failure.{Failure};
 
 use crate::failure::Failure;
+use crate::input::read_text;
 use crate::request::Request;
-use crate::streams::{Delivered, deliver, read_text};
 use std::alloc::Global;
 use std::io::{Read, Write};
+use typst_report::streams::{Delivered, deliver};
 
 /// Reads a text from `input` and prints what `words` ask of it to `output`, which stays empty unless
 /// the whole answer was made. Gives the exit status: 0, or 1 or 2 with one line on `errors`.

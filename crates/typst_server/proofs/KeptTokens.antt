@@ -2,7 +2,6 @@
 use Rattle.std.proofs.Common.{◌≡◌, ℕ, ◌+◌, ◌-◌, ◌*◌, ◌^◌, ◌≤◌, Bool, true, false, cond, min, List, length, Option, None, Some, is_some, option_and_then, option_map, unwrap_or, Result, Ok, Err, IfOk, refl, ap, sym, subst, ◌∙◌, arith}
 use Rattle.std.specs.Str.{bytes_eq}
 use Rattle.std.specs.String.{string_bytes}
-use Rattle.std.specs.Global.{Vec}
 use Rattle.std.specs.Result.{result_ok}
 use Rattle.std.specs.declared.ops.Range.{Range}
 use Rattle.typst_document.specs.Document.{IsReadAgain, Opened, all_bytes}
@@ -72,8 +71,8 @@ since_now now was count is w =
 present_read : (was document : Opened) (read : Option (Range ℕ)) → read ≡ None → WasBefore was document read → was ≡ document
 present_read was document read none is = subst (WasBefore was document) none is
 
-pub at_hand : (document : Opened) (kept : Kept) (last : Option Last) → kept.read ≡ None → StandSo document kept last → AreTokens document (Some kept.tokens.items)
-at_hand document kept last none w = subst (λ (d : Opened). AreTokens d (Some kept.tokens.items)) (present_read w.was document kept.read none w.of.since) w.of.tokens
+pub at_hand : (document : Opened) (kept : Kept) (last : Option Last) → kept.read ≡ None → StandSo document kept last → AreTokens document (Some kept.tokens)
+at_hand document kept last none w = subst (λ (d : Opened). AreTokens d (Some kept.tokens)) (present_read w.was document kept.read none w.of.since) w.of.tokens
 
 -- tokens of the present document stand as it does to those that were sent last
 pub present_stand : (document : Opened) (kept : Option Kept) (last : Option Last) → IsPresent document kept → IsLast document last → IsTracked document kept last
@@ -164,7 +163,7 @@ through_first kept new_kept read before after few few_now none tokens len is = �
     let one : WasBefore old new (Some read) = edited old new read before after line_was line_now again long long_now few few_now in
     record {
       encoding = encoding ∙ w.encoding;
-      tokens = ap (λ (ts : Vec Token). ts.items) tokens ∙ w.tokens;
+      tokens = tokens ∙ w.tokens;
       len = len ∙ w.len;
       since = subst (WasBefore was new) (sym is) (subst (λ (d : Opened). WasBefore d new (Some read)) (sym same) one);
     }
@@ -176,7 +175,7 @@ through_later kept new_kept first read both before after few few_now joins some 
     let one : WasBefore old new (Some read) = edited old new read before after line_was line_now again long long_now few few_now in
     record {
       encoding = encoding ∙ w.encoding;
-      tokens = ap (λ (ts : Vec Token). ts.items) tokens ∙ w.tokens;
+      tokens = tokens ∙ w.tokens;
       len = len ∙ w.len;
       since = subst (WasBefore was new) (sym is) (joins was.source.text old.source.text new.source.text was.source.root old.source.root new.source.root long long_now since one);
     }
@@ -184,7 +183,7 @@ through_later kept new_kept first read both before after few few_now joins some 
 -- ---- tokens that are made again
 
 -- those that are made are of the present document
-pub made_present : (document : Opened) (text : List ℕ) (root : Tree) (whole : Range ℕ) (kept : Kept) → text ≡ document.source.text → root ≡ document.source.root → whole ≡ all_bytes document → kept.tokens.items ≡ tokens_in whole text root → kept.was_len ≡ length text → kept.read ≡ None
+pub made_present : (document : Opened) (text : List ℕ) (root : Tree) (whole : Range ℕ) (kept : Kept) → text ≡ document.source.text → root ≡ document.source.root → whole ≡ all_bytes document → kept.tokens ≡ tokens_in whole text root → kept.was_len ≡ length text → kept.read ≡ None
     → ArePresent document kept
 made_present document text root whole kept text_is root_is whole_is tokens len none = record {
   tokens = tokens ∙ (ap (λ (r : Range ℕ). tokens_in r text root) whole_is ∙ (ap (λ (t : List ℕ). tokens_in (all_bytes document) t root) text_is ∙ ap (tokens_in (all_bytes document) document.source.text) root_is));
@@ -193,16 +192,16 @@ made_present document text root whole kept text_is root_is whole_is tokens len n
 }
 
 -- what holds of tokens that are made holds of those that were
-pub made_if : {E : Type 0} (made : Result (Vec Token) E) (tokens : Vec Token) (Q : List Token → Type 0) → result_ok made ≡ Some tokens → IfOk made (λ (ts : Vec Token). Q ts.items) → Q tokens.items
-made_if (Ok ts) tokens Q is h = subst (λ (us : Vec Token). Q us.items) (ap (λ (o : Option (Vec Token)). unwrap_or o ts) is) h
+pub made_if : {E : Type 0} (made : Result (List Token) E) (tokens : List Token) (Q : List Token → Type 0) → result_ok made ≡ Some tokens → IfOk made Q → Q tokens
+made_if (Ok ts) tokens Q is h = subst Q (ap (λ (o : Option (List Token)). unwrap_or o ts) is) h
 made_if (Err why) tokens Q is h = absurd (cc)
 
 -- those that are renewed are of the present document too
-pub renewed_present : (document : Opened) (text : List ℕ) (root : Tree) (window : Range ℕ) (was : List Token) (was_len : ℕ) (kept : Kept) → text ≡ document.source.text → root ≡ document.source.root → AreRenewed text root window was was_len kept.tokens.items → kept.was_len ≡ length text → kept.read ≡ None
+pub renewed_present : (document : Opened) (text : List ℕ) (root : Tree) (window : Range ℕ) (was : List Token) (was_len : ℕ) (kept : Kept) → text ≡ document.source.text → root ≡ document.source.root → AreRenewed text root window was was_len kept.tokens → kept.was_len ≡ length text → kept.read ≡ None
     → IsKeptBy document window was was_len (Some kept)
 renewed_present document text root window was was_len kept text_is root_is renewed len none = λ was_text was_root read edit is long all.
-    let there : AreRenewed document.source.text document.source.root window was was_len kept.tokens.items =
-    subst (λ (t : List ℕ). AreRenewed t document.source.root window was was_len kept.tokens.items) text_is (subst (λ (r : Tree). AreRenewed text r window was was_len kept.tokens.items) root_is renewed) in
+    let there : AreRenewed document.source.text document.source.root window was was_len kept.tokens =
+    subst (λ (t : List ℕ). AreRenewed t document.source.root window was was_len kept.tokens) text_is (subst (λ (r : Tree). AreRenewed text r window was was_len kept.tokens) root_is renewed) in
     record { tokens = there was_text was_root read edit is long all; len = len ∙ ap length text_is; unread = none }
 
 -- the numbers outside of the window stay, except those of the first token after it
@@ -233,10 +232,10 @@ none_carried document carried kept front back =
     record { kept = kept; same = ends_less numbers numbers 0 0 (5 * carried.front) (5 * carried.back) (omega (arith, front)) (omega (arith, back)) (no_ends numbers numbers) }
 
 -- where no edit came all stay
-pub all_carried : (document : Opened) (kept : Kept) (carried : Carried) → kept.read ≡ None → carried.kept ≡ Some kept → carried.front ≡ length kept.tokens.items → carried.back ≡ length kept.tokens.items → IsCarriedOver document (Some kept) carried
+pub all_carried : (document : Opened) (kept : Kept) (carried : Carried) → kept.read ≡ None → carried.kept ≡ Some kept → carried.front ≡ length kept.tokens → carried.back ≡ length kept.tokens → IsCarriedOver document (Some kept) carried
 all_carried document kept carried none kept_is front back = λ was w.
     let same : was ≡ document = present_read was document kept.read none w.since in
-    let ts : List Token = kept.tokens.items in
+    let ts : List Token = kept.tokens in
     let all : AreTokens document (Some ts) = subst (λ (d : Opened). AreTokens d (Some ts)) same w.tokens in
     let numbers : List ℕ = numbers_of document in
     let count : length numbers ≡ 5 * length ts = numbers_count document ts all in
@@ -249,7 +248,7 @@ all_carried document kept carried none kept_is front back = λ was w.
     }
 
 -- after edits that read these bytes again
-pub edits_carried_over : (document : Opened) (kept : Kept) (read : Range ℕ) (carried : Carried) → kept.read ≡ Some read → IsCarriedBy document read kept.tokens.items kept.was_len carried → IsCarriedOver document (Some kept) carried
+pub edits_carried_over : (document : Opened) (kept : Kept) (read : Range ℕ) (carried : Carried) → kept.read ≡ Some read → IsCarriedBy document read kept.tokens kept.was_len carried → IsCarriedOver document (Some kept) carried
 edits_carried_over document kept read carried some by = λ was w. by was w.encoding w.tokens w.len (subst (WasBefore was document) some w.since)
 
 -- what is at hand then stands so to what was sent last

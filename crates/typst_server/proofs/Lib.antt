@@ -23,7 +23,7 @@
 --     the tokens outside, as they are shown     SplicedTokens: front-shown, back-shown; SplicedNumbers: encoded-down
 --     two lists of numbers with the same ends   SplicedSent: numbers_stay; SameEnds: ends_of, ends_less, ends_both, ends_made
 --   renewed, all_tokens (tracked)               KeptTokens: renewed_present; made_present
---   Encoder: add, all; numbers_of: read back    Encoding: token-added; Decoding: tokens-back
+--   Encoder: add, with; numbers_of: read back   Encoding: token-added; Decoding: tokens-back
 --   encode_part                                 Sending: first_numbers, later_numbers
 --   to_send, update_since, changes_since, tell  Sending: told_tokens; all_update, changed_update; made_since; tells_all, tells_changes
 --   occurrences, occurrences_at                 Occurring: at_position; labels_stand, names_stand

@@ -1,6 +1,8 @@
 -- The numbers that are sent of tokens: all, or those that make them of the ones that were sent last.
 use Rattle.std.proofs.Common.{◌≡◌, ℕ, zero, suc, ◌+◌, ◌-◌, ◌*◌, ◌^◌, ◌<◌, ◌≤◌, min, List, [], ◌∷◌, ◌++◌, length, take, drop, get_or, Option, None, Some, refl, ap, sym, subst, ◌∙◌, append_assoc, arith, length-drop, length-take-le, take-append-drop}
+use Rattle.std.specs.Prelude.{slice_get}
 use Rattle.std.specs.Str.{IsUtf8}
+use Rattle.std.proofs.lemmas.Option.{get_or_from_slice_get}
 use Rattle.typst_positions.specs.Positions.{position_of}
 use Rattle.typst_positions.specs.declared.columns.Encoding.{Encoding}
 use Rattle.typst_positions.specs.declared.positions.Position.{Position}
@@ -79,17 +81,19 @@ first_numbers e text ts start end none low within =
     let rest : List Shown = shown_each e text (take (end - start) (drop start ts)) in
     sym (ap (λ n. encoded (last_line 0 (shown_each e text (take n ts))) (last_column 0 (shown_each e text (take n ts))) rest) none) ∙ part_numbers e text ts start end low within
 
-pub later_numbers : (e : Encoding) (text : List ℕ) (ts : List Token) (start end line column : ℕ) (d : Token) → 0 < start → start ≤ end → end ≤ length ts
-    → (let p : Position = record { line = line; column = column } in p) ≡ position_of e text (get_or ts (start - 1) d).start
+pub later_numbers : (e : Encoding) (text : List ℕ) (ts : List Token) (start end line column : ℕ) (last : Token) → 0 < start → start ≤ end → end ≤ length ts → slice_get ts (start - 1) ≡ Some last
+    → (let p : Position = record { line = line; column = column } in p) ≡ position_of e text last.start
     → encoded line column (shown_each e text (take (end - start) (drop start ts))) ≡ take (5 * (end - start)) (drop (5 * start) (encoded 0 0 (shown_each e text ts)))
-later_numbers e text ts start end line column d some low within place =
+later_numbers e text ts start end line column last some low within is at =
+    let token : get_or ts (start - 1) last ≡ last = get_or_from_slice_get ts (start - 1) last last is in
+    let place : (let p : Position = record { line = line; column = column } in p) ≡ position_of e text (get_or ts (start - 1) last).start = at ∙ ap (λ (t : Token). position_of e text t.start) (sym token) in
     let here : suc (start - 1) ≡ start = omega (arith, some) in
     let inside : start - 1 < length ts = omega (arith, some, low, within) in
     let rest : List Shown = shown_each e text (take (end - start) (drop start ts)) in
     let first : last_line 0 (shown_each e text (take start ts)) ≡ line =
-    ap (λ n. last_line 0 (shown_each e text (take n ts))) (sym here) ∙ (last_line_at e text ts (start - 1) d 0 inside ∙ sym (ap (λ (p : Position). p.line) place)) in
+    ap (λ n. last_line 0 (shown_each e text (take n ts))) (sym here) ∙ (last_line_at e text ts (start - 1) last 0 inside ∙ sym (ap (λ (p : Position). p.line) place)) in
     let second : last_column 0 (shown_each e text (take start ts)) ≡ column =
-    ap (λ n. last_column 0 (shown_each e text (take n ts))) (sym here) ∙ (last_column_at e text ts (start - 1) d 0 inside ∙ sym (ap (λ (p : Position). p.column) place)) in
+    ap (λ n. last_column 0 (shown_each e text (take n ts))) (sym here) ∙ (last_column_at e text ts (start - 1) last 0 inside ∙ sym (ap (λ (p : Position). p.column) place)) in
     sym (λ i. encoded (first i) (second i) rest) ∙ part_numbers e text ts start end low within
 
 -- ---- by what they are made of those that were sent last

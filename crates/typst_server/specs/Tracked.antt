@@ -111,7 +111,7 @@ WasBefore was document (Some read) = IsEdit document.source.text was.source.text
 -- kept tokens are all of a document as it was before what edits have read again since
 pub record AreOf (was document : Opened) (kept : Kept) : Type 0 where
   pub encoding : document.encoding ≡ was.encoding
-  pub tokens : AreTokens was (Some kept.tokens.items)
+  pub tokens : AreTokens was (Some kept.tokens)
   pub len : kept.was_len ≡ length was.source.text
   pub since : WasBefore was document kept.read
 
@@ -161,7 +161,7 @@ IsLastAfter (Some old) front back (Some new) = IsShortened old new front back
 
 -- they are kept as all of the present document
 pub record ArePresent (document : Opened) (kept : Kept) : Type 0 where
-  pub tokens : AreTokens document (Some kept.tokens.items)
+  pub tokens : AreTokens document (Some kept.tokens)
   pub len : kept.was_len ≡ length document.source.text
   pub unread : kept.read ≡ None
 

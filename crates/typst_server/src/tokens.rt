@@ -13,7 +13,7 @@ use std::ops::Range;
 use typst_document::{Document, Walk};
 use typst_protocol::values::{Place, TokenChanges, TokenEdit, Tokens};
 use typst_protocol::{Params, Refusal, json_of};
-use typst_styles::{Token, semantic_tokens};
+use typst_styles::{Token, TokenList, semantic_tokens};
 
 /// The tokens of a document in the numbers of the protocol, five for each: lines and columns from the
 /// token before it on, its length, its type and its modifiers. Only those in some bytes count.
@@ -27,21 +27,22 @@ fn numbers_of(
 {
     let near = document.boundary();
     let tokens = semantic_tokens(alloc, document.root(), document.text(), within, near)?;
-    encode(alloc, document, tokens.as_slice())
+    let tokens = TokenList::new(tokens);
+    encode(alloc, document, &tokens)
 }
 
 /// Some tokens of a document in these numbers.
-fn encode(alloc: Global, document: &Document, tokens: &[Token]) -> Result<Vec<u32>, AllocError>
+fn encode(alloc: Global, document: &Document, tokens: &TokenList) -> Result<Vec<u32>, AllocError>
     ensures { IfOk result (λ numbers. numbers.items ≡ encoded 0 0 (shown_each document.now.encoding document.now.source.text tokens.now)) }
 {
-    Encoder::new(alloc, document).all(tokens)
+    Encoder::new(alloc, document).with(tokens, 0, tokens.len())
 }
 
 /// The numbers that some of the tokens of a document have among those of all.
 fn encode_part(
     alloc: Global,
     document: &Document,
-    tokens: &[Token],
+    tokens: &TokenList,
     start: usize,
     end: usize,
 ) -> Result<Vec<u32>, AllocError>
@@ -49,11 +50,11 @@ fn encode_part(
     requires within { end ≤ length tokens.now }
     ensures { IfOk result (λ numbers. numbers.items ≡ take (5 * (end - start)) (drop (5 * start) (encoded 0 0 (shown_each document.now.encoding document.now.source.text tokens.now)))) }
 {
-    let part = &tokens[start..end];
     if start == 0 {
-        return encode(alloc, document, part);
+        return Encoder::new(alloc, document).with(tokens, 0, end);
     }
-    Encoder::after(alloc, document, &tokens[start - 1]).all(part)
+    let last = tokens.at(start - 1);
+    Encoder::after(alloc, document, &last).with(tokens, start, end)
 }
 
 /// Tokens on their way into numbers.
@@ -100,12 +101,13 @@ impl<'a> Encoder<'a> {
     }
 
     /// The numbers with those of some more tokens.
-    fn all(self, tokens: &[Token]) -> Result<Vec<u32>, AllocError>
-        ensures { IfOk result (λ numbers. numbers.items ≡ self.entry.numbers.items ++ encoded self.entry.line self.entry.column (shown_each self.entry.walk.encoding self.entry.walk.source.text tokens.now)) }
+    fn with(self, tokens: &TokenList, start: usize, end: usize) -> Result<Vec<u32>, AllocError>
+        requires { end ≤ length tokens.now }
+        ensures { IfOk result (λ numbers. numbers.items ≡ self.entry.numbers.items ++ encoded self.entry.line self.entry.column (shown_each self.entry.walk.encoding self.entry.walk.source.text (take (end - start) (drop start tokens.now)))) }
     {
         let mut encoder = self;
-        for token in tokens {
-            encoder.add(token)?;
+        for index in start..end {
+            encoder.add(&tokens.at(index))?;
         }
         Ok(encoder.numbers)
     }
@@ -157,7 +159,6 @@ pub fn to_send(
     let Some(tokens) = tracked.tokens() else {
         return Err(Refusal::OutOfMemory);
     };
-    let tokens = tokens.as_slice();
     let count = counted(tokens)?;
     let value = value_of(alloc, tracked, tokens, previous, name.as_str())?;
     Ok((value, Fresh { name, count }))
@@ -167,7 +168,7 @@ pub fn to_send(
 const MOST: usize = usize::MAX / 5;
 
 /// How many tokens these are. It refuses where their numbers can't be counted.
-fn counted(tokens: &[Token]) -> Result<usize, AllocError>
+fn counted(tokens: &TokenList) -> Result<usize, AllocError>
     ensures count { IfOk result (λ count. count ≡ length tokens.now) }
     ensures few { IfOk result (λ count. 5 * count ≤ 2 ^ 64 - 1) }
 {
@@ -182,7 +183,7 @@ fn counted(tokens: &[Token]) -> Result<usize, AllocError>
 fn value_of(
     alloc: Global,
     tracked: &Tracked,
-    tokens: &[Token],
+    tokens: &TokenList,
     previous: Option<&str>,
     name: &str,
 ) -> Result<String, Refusal>
@@ -212,7 +213,7 @@ struct Gap {
 fn update_of(
     alloc: Global,
     tracked: &Tracked,
-    tokens: &[Token],
+    tokens: &TokenList,
     previous: Option<&str>,
 ) -> Result<Update, AllocError>
     requires { AreTokens tracked.now.document (Some tokens.now) }
@@ -236,7 +237,7 @@ fn ends_since(tracked: &Tracked, previous: Option<&str>) -> Option<Ends>
 fn update_since(
     alloc: Global,
     document: &Document,
-    tokens: &[Token],
+    tokens: &TokenList,
     since: Option<Ends>,
 ) -> Result<Update, AllocError>
     requires { AreTokens document.now (Some tokens.now) }
@@ -255,7 +256,7 @@ fn update_since(
 fn changes_since(
     alloc: Global,
     document: &Document,
-    tokens: &[Token],
+    tokens: &TokenList,
     ends: Ends,
 ) -> Result<Update, AllocError>
     requires { AreTokens document.now (Some tokens.now) }

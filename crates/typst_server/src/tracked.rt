@@ -16,7 +16,7 @@ use std::snapshot::Snapshot;
 use typst_document::Document;
 use typst_protocol::{Change, Refusal};
 use typst_styles::{
-    Token, read_by_both, renewed_tokens, semantic_tokens, token_window, tokens_outside,
+    TokenList, read_by_both, renewed_tokens, semantic_tokens, token_window, tokens_outside,
 };
 
 /// An open document, and how its tokens stand to those that were sent last. All are kept from the time on that they
@@ -32,7 +32,7 @@ pub struct Tracked {
 /// All tokens of a document as it was, and what edits have read again since.
 #[derive(Drop)]
 struct Kept {
-    tokens: Vec<Token>,
+    tokens: TokenList,
     /// How many bytes its text had.
     was_len: usize,
     /// The bytes of the present text that were read again; none where it wasn't edited.
@@ -100,8 +100,8 @@ impl Tracked {
     }
 
     /// All its tokens, if they are kept and no edit came since.
-    pub fn tokens(&self) -> Option<&Vec<Token>>
-        ensures { spec.AreTokens self.now.document (option_map (λ tokens. tokens.now.items) result) }
+    pub fn tokens(&self) -> Option<&TokenList>
+        ensures { spec.AreTokens self.now.document (option_map (λ tokens. tokens.now) result) }
     {
         let kept = self.kept.as_ref()?;
         if kept.read.is_some() {
@@ -320,10 +320,10 @@ fn carried_over(alloc: Global, document: &Document, kept: Option<Kept>) -> Carri
 }
 
 /// Where no edit came since they were kept, all have.
-fn unchanged(tokens: Vec<Token>, was_len: usize) -> Carried
+fn unchanged(tokens: TokenList, was_len: usize) -> Carried
     ensures kept { result.kept ≡ Some (record { tokens = tokens; was_len = was_len; read = None }) }
-    ensures front { result.front ≡ length tokens.items }
-    ensures back { result.back ≡ length tokens.items }
+    ensures front { result.front ≡ length tokens }
+    ensures back { result.back ≡ length tokens }
 {
     let count = tokens.len();
     Carried {
@@ -342,15 +342,15 @@ fn after_edits(
     alloc: Global,
     document: &Document,
     read: &Range<usize>,
-    was: Vec<Token>,
+    was: TokenList,
     was_len: usize,
 ) -> Carried
-    ensures { spec.IsCarriedBy document.now read.now was.items was_len result }
+    ensures { spec.IsCarriedBy document.now read.now was was_len result }
 {
     let root = document.root();
     let text = document.text();
     let window = token_window(root, text, read, document.boundary());
-    let outside = tokens_outside(text, &window, was.as_slice(), was_len);
+    let outside = tokens_outside(text, &window, &was, was_len);
     // The first token after the window is told from the one before it, which may be another one now.
     let back = outside.back.saturating_sub(1);
     Carried {
@@ -368,10 +368,10 @@ fn renewed(
     alloc: Global,
     document: &Document,
     window: &Range<usize>,
-    was: Vec<Token>,
+    was: TokenList,
     was_len: usize,
 ) -> Option<Kept>
-    ensures { spec.IsKeptBy document.now window.now was.items was_len result }
+    ensures { spec.IsKeptBy document.now window.now was was_len result }
 {
     let root = document.root();
     let text = document.text();
@@ -395,7 +395,7 @@ fn all_tokens(alloc: Global, document: &Document) -> Option<Kept>
     let near = document.boundary();
     let tokens = semantic_tokens(alloc, document.root(), text, &document.whole(), near).ok()?;
     Some(Kept {
-        tokens,
+        tokens: TokenList::new(tokens),
         was_len: text.len(),
         read: None,
     })

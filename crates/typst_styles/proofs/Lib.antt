@@ -16,7 +16,9 @@
 --     those on each side of an edge             TokensApart: shown_before, shown_after
 --     those on each side of a line's start      TokenSeams: all_off, split; merged_moved
 --   renewed_tokens                              RenewedTokens: renewed
---   replace, count_before                       RenewedTokens: put_between; parting, parted
+--   TokenList::replaced, count_before           TokenLists: list_replaced, behind_within; parts_early, parts_late
+--   count_before, count_moved                   RenewedTokens: parting, parted; TokenLists: parting_moved, parted_moved
+--   token_at, settle                            TokenLists: token_settled, token_moved; settled_all, settled_some
 --   read_by_both                                JoinedEdits: of_both
 --   tokens_outside                              RenewedTokens: outside
 -- For `typst_server`: tokens_ordered, window_shift of RenewedTokens; sides of WindowSides.
@@ -35,4 +37,5 @@ pub mod JoinedEdits
 pub mod WindowEdges
 pub mod WindowTokens
 pub mod RenewedTokens
+pub mod TokenLists
 pub mod WindowSides

@@ -98,7 +98,7 @@ is_le a b l = grind (arith, nat_tests, l)
 not_le : (a b : ℕ) → b < a → nat_le a b ≡ false
 not_le a b l = grind (arith, nat_tests, l)
 
-none_begun : (a : ℕ) (ts : List Token) → AllFrom a ts → begun_before a ts ≡ []
+pub none_begun : (a : ℕ) (ts : List Token) → AllFrom a ts → begun_before a ts ≡ []
 none_begun a [] w = refl
 none_begun a (t ∷ ts) w = ap (λ p. cond p (t ∷ begun_before a ts) (begun_before a ts)) (not_less t.start a w.0) ∙ none_begun a ts w.1
 
@@ -106,7 +106,7 @@ all_begun : (a : ℕ) (xs ys : List Token) → AllUnder a xs → AllFrom a ys �
 all_begun a [] ys v w = none_begun a ys w
 all_begun a (t ∷ xs) ys v w = ap (λ p. cond p (t ∷ begun_before a (xs ++ ys)) (begun_before a (xs ++ ys))) (is_less t.start a v.0) ∙ ap (λ ts. t ∷ ts) (all_begun a xs ys v.1 w)
 
-rest_begun : (a : ℕ) (ts : List Token) → AllFrom a ts → begun_from a ts ≡ ts
+pub rest_begun : (a : ℕ) (ts : List Token) → AllFrom a ts → begun_from a ts ≡ ts
 rest_begun a [] w = refl
 rest_begun a (t ∷ ts) w = ap (λ p. cond p (t ∷ begun_from a ts) (begun_from a ts)) (is_le a t.start w.0) ∙ ap (λ us. t ∷ us) (rest_begun a ts w.1)
 
@@ -233,7 +233,7 @@ ordered_behind a (t ∷ ts) (suc j) d w within =
     let later : t.start ≤ (get_or ts j d).start = ordered_behind t.start ts j d w.1 (omega (arith, within)) in
     omega (arith, here, later)
 
-rising : (a : ℕ) (ts : List Token) → AreOrdered a ts → IsNonDecreasingBy (λ (t : Token). t.start) ts
+pub rising : (a : ℕ) (ts : List Token) → AreOrdered a ts → IsNonDecreasingBy (λ (t : Token). t.start) ts
 rising a [] w i j d le within = absurd (omega (arith, within))
 rising a (t ∷ ts) w zero zero d le within = omega arith
 rising a (t ∷ ts) w zero (suc j) d le within = ordered_behind t.start ts j d w.1 (omega (arith, within))
@@ -250,7 +250,7 @@ less_no_le a b e = lt-leb b a (ltb-true a b e)
 not_less_le : (a b : ℕ) → nat_lt a b ≡ false → nat_le b a ≡ true
 not_less_le a b e = le-leb b a (ltb-false a b e)
 
-abbrev Halves : ℕ → List Token → ℕ → Type 0
+abbrev pub Halves : ℕ → List Token → ℕ → Type 0
 Halves byte ts i = IsPartitionPoint (λ (t : Token). nat_lt t.start byte ≡ true) (λ (t : Token). nat_lt t.start byte ≡ false) ts i
 
 halves_zero : (byte : ℕ) (t : Token) (ts : List Token) → Halves byte (t ∷ ts) zero → Halves byte ts zero
@@ -311,7 +311,7 @@ later_is a b ts first last le within within_last one two =
     omega (arith, low, high, begun_more a b ts le)
 
 -- what is put into a list, with all behind it moved
-put_moved : (f : Token → Token) (xs ys zs : List Token) (i j k : ℕ) → i ≤ length xs → k ≡ i + length ys → zs ≡ take i xs ++ (ys ++ drop j xs) → take k zs ++ map f (drop k zs) ≡ take i xs ++ (ys ++ map f (drop j xs))
+pub put_moved : (f : Token → Token) (xs ys zs : List Token) (i j k : ℕ) → i ≤ length xs → k ≡ i + length ys → zs ≡ take i xs ++ (ys ++ drop j xs) → take k zs ++ map f (drop k zs) ≡ take i xs ++ (ys ++ map f (drop j xs))
 put_moved f xs ys zs i j k h behind put =
     let front = take i xs in
     let size : length (front ++ ys) ≡ k = omega (arith, length-append front ys, length-take-le i xs h, behind) in
@@ -321,14 +321,10 @@ put_moved f xs ys zs i j k h behind put =
     ∙ ap (λ s. front ++ ys ++ map f s) (drop_at (front ++ ys) (drop j xs) k size)
     ∙ append_assoc front ys (map f (drop j xs))
 
-pub put_between : (start end to : ℕ) (was made put whole : List Token) (first last at behind : ℕ) → first ≤ length was → last ≤ length was → (AreOrdered 0 was → IsParted start was first) → (AreOrdered 0 was → IsParted end was last)
-    → at ≡ max last first → behind ≡ first + length made → put ≡ take first was ++ (made ++ drop at was) → whole ≡ take behind put ++ map (carried end to) (drop behind put)
-    → AreOrdered 0 was → start ≤ end → whole ≡ replaced start end to made was
-put_between start end to was made put whole first last at behind within within_last one two at_is behind_is put_is whole_is ordered le =
+pub put_between : (start end to : ℕ) (was made whole : List Token) (first last at : ℕ) → first ≤ length was → last ≤ length was → (AreOrdered 0 was → IsParted start was first) → (AreOrdered 0 was → IsParted end was last)
+    → at ≡ max last first → whole ≡ take first was ++ (made ++ map (carried end to) (drop at was)) → AreOrdered 0 was → start ≤ end → whole ≡ replaced start end to made was
+put_between start end to was made whole first last at within within_last one two at_is whole_is ordered le =
     let here = one ordered in
     let there = two ordered in
     let last_is : at ≡ last = at_is ∙ later_is start end was first last le within within_last here there in
-    whole_is
-    ∙ put_moved (carried end to) was made put first at behind within behind_is put_is
-    ∙ ap (λ n. take first was ++ (made ++ map (carried end to) (drop n was))) last_is
-    ∙ (λ i. here.before i ++ (made ++ map (carried end to) (there.behind i)))
+    whole_is ∙ (ap (λ n. take first was ++ (made ++ map (carried end to) (drop n was))) last_is ∙ (λ i. here.before i ++ (made ++ map (carried end to) (there.behind i))))

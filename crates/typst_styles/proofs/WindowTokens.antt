@@ -17,11 +17,11 @@ use Rattle.typst_highlight.specs.Walk.{around, lead, root_context, tag_here, wit
 use Rattle.typst_highlight.proofs.BareRows.{bare_joined, bare_text}
 use Rattle.typst_highlight.proofs.BeforeEdges.{edge}
 use Rattle.typst_highlight.proofs.Outlets.{joined_root}
-use Rattle.typst_names.specs.Contexts.{after, below, role_of}
+use Rattle.typst_names.specs.Contexts.{below, role_of}
 use Rattle.typst_names.specs.Roles.{roles}
 use Rattle.typst_names.specs.declared.contexts.Context.TheVariants as context
 use Rattle.typst_styles.specs.Styles.{style_of}
-use Rattle.typst_styles.specs.Tokens.{AreOrdered, all_tokens, end_of, ends_line, lines, merged, tokens_in, touches, touching}
+use Rattle.typst_styles.specs.Tokens.{AreOrdered, all_tokens, end_of, ends_line, merged, tokens_in, touches, touching}
 use Rattle.typst_styles.specs.Windows.{StartsBefore, StartsBehind, IsWindow, IsEdit, AreKept, InThree, Stays, moved, range_of}
 use Rattle.typst_styles.specs.declared.styles.Style.{Style}
 use Rattle.typst_styles.specs.declared.tokens.Token.{Token}

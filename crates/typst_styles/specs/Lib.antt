@@ -5,3 +5,4 @@ pub mod Seeking
 pub mod DataEdits
 pub mod Windows
 pub mod Renewed
+pub mod TokenList

@@ -2,8 +2,8 @@
 //! their numbers to the next.
 //!
 //! [`semantic_tokens`] gives those of a tree that touch a range, [`renewed_tokens`] all after an edit, by those
-//! before it, of which [`tokens_outside`] says how many stay, and [`edit_between`] the edit that makes one list of
-//! numbers of another. Positions are in bytes of the tree's text.
+//! before it ([`TokenList`]), of which [`tokens_outside`] says how many stay, and [`edit_between`] the edit that
+//! makes one list of numbers of another. Positions are in bytes of the tree's text.
 #![tactic(auto)]
 
 mod boundaries;
@@ -12,6 +12,7 @@ mod joined;
 mod renewed;
 mod seeking;
 mod styles;
+mod token_list;
 mod tokens;
 mod windows;
 
@@ -19,5 +20,6 @@ pub use delta::{DataEdit, edit_between};
 pub use joined::read_by_both;
 pub use renewed::{Outside, renewed_tokens, tokens_outside};
 pub use styles::{Style, TokenKind};
+pub use token_list::TokenList;
 pub use tokens::{Token, semantic_tokens};
 pub use windows::{token_window, window_law};

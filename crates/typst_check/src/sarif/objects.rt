@@ -2,7 +2,7 @@
 
 ghost use Rattle.std.specs.Prelude.{◌≡◌, ℕ, List, ◌++◌, OnOk, codes, map};
 ghost use Rattle.json.specs.Value.{value_view};
-ghost use Rattle.typst_cli.specs.Ndjson.{count_member, text_member};
+ghost use Rattle.typst_report.specs.Ndjson.{count_member, text_member};
 ghost use Rattle.typst_check.specs.Sarif as spec;
 
 use super::finding::{NdjsonFinding, Region, hints_of};

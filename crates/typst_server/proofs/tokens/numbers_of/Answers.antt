@@ -14,7 +14,7 @@ returns-clause-decoded c =
     let ts = c.in_ok-tokens.tokens.items in
     let whole : ts ≡ tokens_in c.args.within.now text document.source.root =
     c.in_ok-tokens.ensures.tokens ∙ ap (λ t. tokens_in c.args.within.now t c.root.result.now) c.text.ensures ∙ ap (tokens_in c.args.within.now text) c.root.ensures.value in
-    let taken : c.as_slice.result.now ≡ ts = c.as_slice.ensures.value in
+    let taken : c.new-tokens.result ≡ ts = c.new-tokens.ensures in
     λ small.
     if-ok c.encode.result _ _ (λ numbers is.
     ap (decoded 0 0) (is ∙ ap (λ (xs : List Token). encoded 0 0 (shown_each document.encoding text xs)) taken)

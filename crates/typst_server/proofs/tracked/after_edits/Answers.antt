@@ -1,6 +1,4 @@
-use Rattle.std.proofs.Common.{List, refl, subst}
-use Rattle.typst_styles.specs.Renewed.{AreOutside}
-use Rattle.typst_styles.specs.declared.tokens.Token.{Token}
+use Rattle.std.proofs.Common.{refl}
 use Rattle.typst_server.specs.declared.tracked.Carried.{Carried}
 use Rattle.typst_server.proofs.KeptTokens.{edits_carried}
 use Rattle.typst_server.proofs.tracked.after_edits.Goals as goal
@@ -11,5 +9,5 @@ returns c =
     let window = c.token_window-window.result in
     let outside = c.tokens_outside-outside.result in
     let carried : Carried = record { kept = c.renewed.result; front = outside.front; back = c.saturating_sub-back.result } in
-    edits_carried c.args.document.now text c.root-root.result.now c.args.read.now window c.args.was.items c.args.was_len outside carried c.text-text.ensures c.root-root.ensures.value c.token_window-window.ensures
-    (subst (λ (ts : List Token). AreOutside text window ts c.args.was_len outside) c.as_slice.ensures.value c.tokens_outside-outside.ensures) c.renewed.ensures refl c.saturating_sub-back.ensures
+    edits_carried c.args.document.now text c.root-root.result.now c.args.read.now window c.args.was c.args.was_len outside carried c.text-text.ensures c.root-root.ensures.value c.token_window-window.ensures
+    c.tokens_outside-outside.ensures c.renewed.ensures refl c.saturating_sub-back.ensures

@@ -9,8 +9,8 @@ returns c =
     let text = c.text-text.result.now in
     let root = c.root-root.result.now in
     let window = c.args.window.now in
-    let was = c.args.was.items in
+    let was = c.args.was in
     let kept : Kept = record { tokens = c.in_ok-tokens.tokens; was_len = length text; read = None } in
-    let renewed : AreRenewed text root window was c.args.was_len kept.tokens.items =
+    let renewed : AreRenewed text root window was c.args.was_len kept.tokens =
     made_if c.renewed_tokens.result c.in_ok-tokens.tokens (AreRenewed text root window was c.args.was_len) (sym c.ok.ensures.value ∙ c.in_ok-tokens.was) c.renewed_tokens.ensures in
     renewed_present c.args.document.now text root window was c.args.was_len kept c.text-text.ensures c.root-root.ensures.value renewed refl refl

@@ -1,5 +1,5 @@
 use Rattle.std.proofs.Common.{codes}
-use Rattle.typst_cli.specs.Ndjson.{text_member}
+use Rattle.typst_report.specs.Ndjson.{text_member}
 use Rattle.typst_check.proofs.ObjectLemmas.{object_written}
 use Rattle.typst_check.proofs.sarif.objects.write_file.Goals as goal
 

@@ -1,6 +1,6 @@
 use Rattle.std.proofs.Common.{◌++◌, codes}
-use Rattle.typst_cli.specs.Ndjson.{text_member}
-use Rattle.typst_cli.proofs.TokenLemmas.{written, written_last}
+use Rattle.typst_report.specs.Ndjson.{text_member}
+use Rattle.typst_report.proofs.TokenLemmas.{written, written_last}
 use Rattle.typst_check.specs.Sarif.{list_member, message_member, object_item, place_member}
 use Rattle.typst_check.proofs.sarif.objects.write_finding.Goals as goal
 

@@ -1,5 +1,5 @@
 use Rattle.std.proofs.Common.{◌++◌}
-use Rattle.typst_cli.proofs.TokenLemmas.{written}
+use Rattle.typst_report.proofs.TokenLemmas.{written}
 use Rattle.typst_check.specs.Sarif.{message_member, place_member}
 use Rattle.typst_check.proofs.ObjectLemmas.{item_written}
 use Rattle.typst_check.proofs.sarif.objects.write_hint.Goals as goal

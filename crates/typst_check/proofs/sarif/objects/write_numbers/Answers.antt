@@ -1,6 +1,6 @@
 use Rattle.std.proofs.Common.{◌++◌, codes}
-use Rattle.typst_cli.specs.Ndjson.{count_member}
-use Rattle.typst_cli.proofs.TokenLemmas.{written, written_last}
+use Rattle.typst_report.specs.Ndjson.{count_member}
+use Rattle.typst_report.proofs.TokenLemmas.{written, written_last}
 use Rattle.typst_check.proofs.sarif.objects.write_numbers.Goals as goal
 
 pub returns-clause-tokens : goal.returns-clause-tokens

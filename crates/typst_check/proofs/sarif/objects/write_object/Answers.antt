@@ -1,7 +1,7 @@
 use Rattle.std.proofs.Common.{◌≡◌, List, [], ◌∷◌, ◌++◌, codes, map}
 use Rattle.json.specs.Token.{Token, begin_object, end_object}
 use Rattle.json.specs.Value.{value_view}
-use Rattle.typst_cli.proofs.TokenLemmas.{written}
+use Rattle.typst_report.proofs.TokenLemmas.{written}
 use Rattle.typst_check.specs.Sarif.{hint_items, list_member, finding_members}
 use Rattle.typst_check.proofs.sarif.objects.write_object.Goals as goal
 

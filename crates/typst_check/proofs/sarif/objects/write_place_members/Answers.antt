@@ -1,6 +1,6 @@
 use Rattle.std.proofs.Common.{codes}
-use Rattle.typst_cli.proofs.TokenLemmas.{written_last}
-use Rattle.typst_cli.specs.Ndjson.{text_member}
+use Rattle.typst_report.proofs.TokenLemmas.{written_last}
+use Rattle.typst_report.specs.Ndjson.{text_member}
 use Rattle.typst_check.specs.Sarif.{object_member, region_members}
 use Rattle.typst_check.proofs.sarif.objects.write_place_members.Goals as goal
 

@@ -1,7 +1,0 @@
-use Rattle.std.proofs.Common.{◌≡◌, ◌++◌, drop, map, string_bytes}
-use Rattle.typst_cli.specs.Placed.{as_placed}
-use Rattle.typst_cli.specs.Github.{commands}
-use Rattle.typst_cli.proofs.github.commands_of.Given as goal
-
-abbrev pub invariant-loop-one : goal.invariant-loop-one
-invariant-loop-one l = string_bytes l.printed ++ commands l.name (map as_placed (drop l.one-index l.located)) ≡ commands l.name (map as_placed l.located)

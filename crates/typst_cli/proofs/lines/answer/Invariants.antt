@@ -1,9 +1,0 @@
-use Rattle.std.proofs.Common.{◌≡◌, ◌++◌, drop}
-use Rattle.std.specs.String.{string_bytes}
-use Rattle.typst_parser.specs.Lines.{line_table}
-use Rattle.typst_cli.specs.Printed.{rows}
-use Rattle.typst_cli.proofs.lines.answer.Given as goal
-
-abbrev pub invariant-loop-number : goal.invariant-loop-number
-invariant-loop-number l =
-    string_bytes l.printed ++ rows l.number (drop l.number (line_table l.text)) ≡ rows 0 (line_table l.text)

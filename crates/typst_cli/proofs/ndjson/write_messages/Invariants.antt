@@ -1,9 +1,0 @@
-use Rattle.std.proofs.Common.{◌≡◌, ◌++◌, drop}
-use Rattle.typst_cli.specs.Ndjson.{messages}
-use Rattle.typst_cli.proofs.ndjson.write_messages.Given as goal
-
-abbrev pub invariant-loop-hint : goal.invariant-loop-hint
-invariant-loop-hint l = record {
-  before : l.writer.before ≡ l.fn.writer.before;
-  tokens : l.writer.tokens ++ messages (drop l.hint-index l.hints) ≡ l.fn.writer.tokens ++ messages l.hints;
-}

@@ -1,5 +1,0 @@
-use Rattle.std.proofs.Common.{◌-◌}
-use Rattle.typst_cli.proofs.page.Page.push_stretch.Given as goal
-
-abbrev pub decreases-pieces : goal.decreases-pieces
-decreases-pieces l = l.end - l.at

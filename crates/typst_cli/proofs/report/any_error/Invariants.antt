@@ -1,7 +1,0 @@
-use Rattle.std.proofs.Common.{◌≡◌, drop, map}
-use Rattle.typst_cli.specs.Found.{as_reported}
-use Rattle.typst_cli.specs.Reported.{any_error}
-use Rattle.typst_cli.proofs.report.any_error.Given as goal
-
-abbrev pub invariant-loop-finding : goal.invariant-loop-finding
-invariant-loop-finding l = any_error (map as_reported (drop l.finding-index l.found)) ≡ any_error (map as_reported l.found)

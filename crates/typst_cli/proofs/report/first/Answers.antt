@@ -1,7 +1,0 @@
-use Rattle.std.proofs.Common.{◌≡◌, map, length, take, min}
-use Rattle.std.proofs.lemmas.List.{take_min, take-map}
-use Rattle.typst_cli.proofs.report.first.Goals as goal
-
--- src/report.rt:75:1
-pub returns-in-Some : goal.returns-in-Some
-returns-in-Some c = rw (c.in-Some.is, c.min.ensures, take_min, take-map)

@@ -1,0 +1,6 @@
+use Rattle.std.proofs.Common.{◌≡◌, ◌++◌, drop, string_bytes}
+use Rattle.typst_report.specs.Github.{hint_parts}
+use Rattle.typst_report.proofs.github.push_hints.Given as goal
+
+abbrev pub invariant-loop-hint : goal.invariant-loop-hint
+invariant-loop-hint l = string_bytes l.printed ++ hint_parts (drop l.hint-index l.hints) ≡ string_bytes l.fn.printed ++ hint_parts l.hints

@@ -1,0 +1,10 @@
+use Rattle.std.proofs.Common.{◌≡◌, ◌+◌, ◌≤◌, drop, map}
+use Rattle.typst_report.specs.Found.{as_reported}
+use Rattle.typst_report.specs.Reported.{error_count}
+use Rattle.typst_report.proofs.report.count_errors.Given as goal
+
+abbrev pub invariant-loop-finding : goal.invariant-loop-finding
+invariant-loop-finding l = record {
+  counted : l.errors + error_count (map as_reported (drop l.finding-index l.found)) ≡ error_count (map as_reported l.found);
+  few : l.errors ≤ l.finding-index;
+}

@@ -1,0 +1,10 @@
+use Rattle.std.proofs.Common.{◌≤◌, length, take}
+use Rattle.std.specs.Io.KnownBytes.{Appends}
+use Rattle.typst_report.proofs.streams.write_bytes.Given as goal
+
+abbrev pub invariant-loop-turn : goal.invariant-loop-turn
+invariant-loop-turn g l =
+    record {
+      within : l.done ≤ length l.bytes;
+      written : Appends (g.W.Write.contents l.fn.output) (g.W.Write.contents l.output) (take l.done l.bytes);
+    }

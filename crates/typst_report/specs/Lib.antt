@@ -1,0 +1,17 @@
+pub mod Checked
+pub mod Escapes
+pub mod Found
+pub mod Github
+pub mod Names
+pub mod Ndjson
+pub mod Placed
+pub mod Places
+pub mod PrintedHtml
+pub mod PrintedLines
+pub mod PrintedTree
+pub mod Short
+pub mod Streams
+pub mod Tally
+pub mod Reported
+pub mod TreeLines
+pub mod Variants

@@ -1,0 +1,11 @@
+use Rattle.std.proofs.Common.{nat_lt, rules}
+use Rattle.std.proofs.lemmas.List.Sorted.{IsPartitionPoint-from_clause}
+use Rattle.typst_styles.specs.declared.tokens.Token.{Token}
+use Rattle.typst_styles.proofs.RenewedTokens.{parted, parting}
+use Rattle.typst_styles.proofs.token_list.count_before.Goals as goal
+
+pub returns-clause-parts : goal.returns-clause-parts
+returns-clause-parts c = λ ordered.
+    let ts = c.args.tokens.now in
+    let point = IsPartitionPoint-from_clause (λ (t : Token). nat_lt t.start c.args.byte) ts c.partition_point.result c.partition_point.ensures.partitioned (parting c.args.byte ts ordered) (λ a r f' k. search rules) in
+    parted c.args.byte ts c.partition_point.result c.partition_point.ensures.bound point

@@ -1,0 +1,12 @@
+use Rattle.std.proofs.Common.{◌≡◌, map, ◌∙◌, sym}
+use Rattle.std.proofs.lemmas.Iterator.{items_from_drains}
+use Rattle.std.proofs.lemmas.Iterator.Adapters.{YieldsList-from_vec}
+use Rattle.std.proofs.lemmas.List.{map-id}
+use Rattle.typst_styles.proofs.token_list.splice.Goals as goal
+
+pub returns-clause-ok : goal.returns-clause-ok
+returns-clause-ok c =
+    let a = c.in_ok-splice.ensures.items in
+    let all = YieldsList-from_vec {s = a.0} c.args.made.items a.2.0 (a.2.1 ∙ c.args.made.ok.0) in
+    let e : map (λ x. x) a.1 ≡ c.args.made.items = items_from_drains a.1 (a.3.1.0, a.3.1.1, λ _. (a.3.0, a.3.1.2)) all in
+    rw (sym (map-id a.1) ∙ e) at a.4
