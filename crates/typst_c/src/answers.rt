@@ -1,6 +1,7 @@
 //! What is reported of trees and texts.
 
 ghost use Rattle.std.specs.Prelude.{◌≡◌, ◌-◌, ◌^◌, ◌<◌, IfErr, IfOk, OnOk, length};
+ghost use Rattle.typst_parser.specs.Boundaries.{IsBoundary};
 ghost use Rattle.typst_parser.specs.Tree.{nodes, saturated, text_of};
 ghost use Rattle.typst_flat.specs.Records.{filled, records, records_in};
 ghost use Rattle.typst_flat.specs.Said.{all_said, messages, remarks};
@@ -9,7 +10,7 @@ ghost use Rattle.typst_c.specs.Refusals.{RefusesRecords};
 use crate::refusal::{Refusal, no_memory};
 use std::alloc::Global;
 use typst_flat::{Node, Remark, Said, Stretch, fill_nodes, fill_nodes_in, fill_remarks};
-use typst_parser::SyntaxNode;
+use typst_parser::{Boundary, SyntaxNode};
 
 /// How much room a tree takes, in bytes of its text, records, and bytes of messages.
 #[repr(C)]
@@ -43,19 +44,22 @@ pub fn put_nodes(alloc: Global, root: &SyntaxNode, room: &mut [Node]) -> Result<
     Ok(count)
 }
 
-/// Puts the records of the nodes that meet a stretch into an array, and answers how many there are.
+/// Puts the records of the nodes that meet a stretch into an array, and answers how many there are. The stretch is
+/// sought from a boundary among the root's children.
 pub fn put_nodes_in(
     alloc: Global,
     root: &SyntaxNode,
     stretch: Stretch,
+    near: Boundary,
     room: &mut [Node],
 ) -> Result<usize, Refusal>
+    requires { IsBoundary root.now near }
     ensures count { IfOk result (λ count. count ≡ length (records_in stretch root.now)) }
     ensures room { OnOk result (room.new ≡ filled (records_in stretch root.now) room.old) }
     ensures refused { IfErr result (λ refusal. RefusesRecords root.now refusal) }
 {
     counted(root)?;
-    let count = fill_nodes_in(alloc, root, stretch, room).map_err(no_memory)?;
+    let count = fill_nodes_in(alloc, root, stretch, near, room).map_err(no_memory)?;
     Ok(count)
 }
 

@@ -273,7 +273,9 @@ pub extern "C" fn typst_source_nodes_in(
     ensures refused { (refusal : Refusal) → result ≡ spec.code_of refusal → RefusesRecords source.home.source.root refusal }
 {
     let kept = source.take();
-    let answer = put_nodes_in(alloc, kept.source.root(), Stretch { start, end }, room);
+    let near = kept.source.boundary();
+    let stretch = Stretch { start, end };
+    let answer = put_nodes_in(alloc, kept.source.root(), stretch, near, room);
     let _ = Handle::give(Opened::open(kept));
     counted(answer, count)
 }

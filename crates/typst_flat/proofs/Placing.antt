@@ -1,14 +1,18 @@
 -- The walk through the nodes of a tree with their tags, step by step.
-use Rattle.std.proofs.Common.{◌≡◌, ℕ, ◌+◌, ◌-◌, ◌^◌, ◌<◌, ◌≤◌, Bool, true, false, ◌&&◌, not, List, [], ◌∷◌, ◌++◌, length, map, Option, None, Some, refl, ap, sym, subst, ◌∙◌, arith, cond, append_assoc, append-nil, length-append}
+use Rattle.std.proofs.Common.{◌≡◌, ℕ, zero, suc, ◌+◌, ◌-◌, ◌^◌, ◌<◌, ◌≤◌, Bool, true, false, ◌&&◌, not, List, [], ◌∷◌, ◌++◌, length, map, take, drop, Option, None, Some, refl, ap, sym, subst, ◌∙◌, arith, cond, append_assoc, append-nil, length-append}
 use Rattle.std.specs.Prelude.{nat_le, option_and_then}
 use Rattle.std.specs.List.{filter}
 use Rattle.std.proofs.lemmas.Bool.Decides.{nat_tests}
 use Rattle.typst_kinds.specs.Head.{Head}
 use Rattle.typst_kinds.specs.Kinds.{is_error, is_trivia}
 use Rattle.typst_kinds.specs.declared.kind.SyntaxKind.{SyntaxKind}
-use Rattle.typst_tree.specs.Tree.{Forest, none, more, Tree, forest, count, nodes, places, preorder, saturated, text_of}
+use Rattle.typst_tree.specs.Boundaries.{IsBoundary}
+use Rattle.typst_tree.specs.Tree.{Forest, none, more, Tree, forest, count, joined as text_in, nodes, places, preorder, saturated, text_of, trees}
 use Rattle.typst_tree.specs.Walks.{is_childless, is_leaf}
 use Rattle.typst_tree.specs.Steps.{At, at, kind_of, node_of, offset_of, end_of, prev_leaf}
+use Rattle.typst_tree.specs.declared.boundary.Boundary.{Boundary}
+use Rattle.typst_tree.proofs.Boundaries.{kids_are}
+use Rattle.typst_tree.proofs.ReplacesChildren.{start_le}
 use Rattle.typst_tree.proofs.WalksInPreorder.{length_places}
 use Rattle.typst_highlight.specs.declared.tags.Tag.{Tag}
 use Rattle.typst_highlight.specs.declared.context.Context.{Context}
@@ -75,11 +79,15 @@ ready_moved : (root r : Tree) (n m : ℕ) (ws vs : List Waiting) → r ≡ root 
 ready_moved root r n m ws vs e h k p =
     subst (λ x. AreReady x m vs) (sym e) (subst (λ x. AreReady root x vs) (sym h) (subst (λ x. AreReady root n x) (sym k) p))
 
-stays_at : (w : StretchNodes) (root : Tree) (n : ℕ) (f : Forest) (front back : List Tree) (up : Option ℕ) (c : Context) (ws : List Waiting) → nodes root < 2 ^ 64 - 1 → Stand root n f front back up → Goes root n f up c → AreReady root (n + count f) ws → cut (up_number up) ≡ w.parent → w.root.now ≡ root → w.number ≡ n → forest w.nodes.now ≡ f → joined w.progress ≡ c → waiting w.progress ≡ ws → Stays w
-stays_at w root n f front back up c ws few stands goes ready above eroot en ef ec ews =
+boundary_moved : (root r : Tree) (b c : Boundary) → r ≡ root → c ≡ b → IsBoundary root b → IsBoundary r c
+boundary_moved root r b c e h k = subst (λ x. IsBoundary x c) (sym e) (subst (IsBoundary root) (sym h) k)
+
+stays_at : (w : StretchNodes) (root : Tree) (n : ℕ) (f : Forest) (front back : List Tree) (up : Option ℕ) (c : Context) (ws : List Waiting) (b : Boundary) → nodes root < 2 ^ 64 - 1 → IsBoundary root b → Stand root n f front back up → Goes root n f up c → AreReady root (n + count f) ws → cut (up_number up) ≡ w.parent → w.root.now ≡ root → w.near ≡ b → w.number ≡ n → forest w.nodes.now ≡ f → joined w.progress ≡ c → waiting w.progress ≡ ws → Stays w
+stays_at w root n f front back up c ws b few known stands goes ready above eroot eb en ef ec ews =
     let total : w.number + count (forest w.nodes.now) ≡ n + count f = (λ i. en i + count (ef i)) in
     record {
       counted = subst (λ x. nodes x < 2 ^ 64 - 1) (sym eroot) few;
+      boundary = boundary_moved root w.root.now b w.near eroot eb known;
       front = front;
       back = back;
       up = up;
@@ -150,16 +158,16 @@ is_placed w t r g s e node start ends number up own =
     }
 
 -- past a node without children
-pub stays_behind : (v w : StretchNodes) (t : Tree) (r : List Tree) → Stays v → v.nodes.now ≡ t ∷ r → is_childless t.kids ≡ true → w.root.now ≡ v.root.now → w.number ≡ v.number + 1 → w.parent ≡ v.parent → w.nodes.now ≡ r → joined w.progress ≡ past (joined v.progress) t (passed (joined v.progress) t (forest r)) → waiting w.progress ≡ waiting v.progress → Stays w
-stays_behind v w t r s e childless root number up row around rows =
+pub stays_behind : (v w : StretchNodes) (t : Tree) (r : List Tree) → Stays v → v.nodes.now ≡ t ∷ r → is_childless t.kids ≡ true → w.root.now ≡ v.root.now → w.near ≡ v.near → w.number ≡ v.number + 1 → w.parent ≡ v.parent → w.nodes.now ≡ r → joined w.progress ≡ past (joined v.progress) t (passed (joined v.progress) t (forest r)) → waiting w.progress ≡ waiting v.progress → Stays w
+stays_behind v w t r s e childless root near number up row around rows =
     let f = first_of v t r s e in
     let next : w.number ≡ v.number + (1 + count t.kids) = omega (arith, number, no_kids t.kids childless) in
     let total : v.number + count (more t.head t.kids (forest r)) ≡ v.number + (1 + count t.kids) + count (forest r) = omega arith in
-    stays_at w v.root.now (v.number + (1 + count t.kids)) (forest r) (f.front ++ places t) f.back f.up (past (joined v.progress) t (passed (joined v.progress) t (forest r))) (waiting v.progress) s.counted
+    stays_at w v.root.now (v.number + (1 + count t.kids)) (forest r) (f.front ++ places t) f.back f.up (past (joined v.progress) t (passed (joined v.progress) t (forest r))) (waiting v.progress) v.near s.counted s.boundary
     (behind v.root.now v.number t.head t.kids (forest r) f.front f.back f.up f.stands)
     (goes_behind v.root.now v.number t.head t.kids (forest r) f.front f.back f.up (joined v.progress) f.context f.stands f.fits f.near)
     (subst (λ m. AreReady v.root.now m (waiting v.progress)) total f.ready)
-    (f.above ∙ sym up) root next (ap forest row) around rows
+    (f.above ∙ sym up) root near next (ap forest row) around rows
 
 -- at the first child of a node
 no_leaf : (t : Tree) → is_childless t.kids ≡ false → is_leaf t ≡ false
@@ -182,26 +190,26 @@ row_behind v t r x s e row start level up =
     let total : v.number + count (more t.head t.kids (forest r)) ≡ n + count (forest x.nodes.now) = omega (arith, ap (λ g. count (forest g)) row) in
     (fits, subst (λ m. AreReady v.root.now m (waiting v.progress)) total f.ready)
 
-pub stays_below : (v w : StretchNodes) (t : Tree) (r : List Tree) (x : Waiting) → Stays v → v.nodes.now ≡ t ∷ r → is_childless t.kids ≡ false → w.root.now ≡ v.root.now → w.number ≡ v.number + 1 → w.parent ≡ cut v.number → forest w.nodes.now ≡ t.kids → joined w.progress ≡ within (joined v.progress) t (forest r) → waiting w.progress ≡ x ∷ waiting v.progress → x.nodes.now ≡ r → x.start ≡ end (joined v.progress) t → x.level ≡ v.progress.level → x.parent ≡ v.parent → Stays w
-stays_below v w t r x s e inner root number up kids around rows row start level above =
+pub stays_below : (v w : StretchNodes) (t : Tree) (r : List Tree) (x : Waiting) → Stays v → v.nodes.now ≡ t ∷ r → is_childless t.kids ≡ false → w.root.now ≡ v.root.now → w.near ≡ v.near → w.number ≡ v.number + 1 → w.parent ≡ cut v.number → forest w.nodes.now ≡ t.kids → joined w.progress ≡ within (joined v.progress) t (forest r) → waiting w.progress ≡ x ∷ waiting v.progress → x.nodes.now ≡ r → x.start ≡ end (joined v.progress) t → x.level ≡ v.progress.level → x.parent ≡ v.parent → Stays w
+stays_below v w t r x s e inner root near number up kids around rows row start level above =
     let f = first_of v t r s e in
     let next : v.number + (1 + count t.kids) ≡ v.number + 1 + count t.kids = omega arith in
-    stays_at w v.root.now (v.number + 1) t.kids (f.front ++ t ∷ []) (preorder (forest r) ++ f.back) (Some v.number) (within (joined v.progress) t (forest r)) (x ∷ waiting v.progress) s.counted
+    stays_at w v.root.now (v.number + 1) t.kids (f.front ++ t ∷ []) (preorder (forest r) ++ f.back) (Some v.number) (within (joined v.progress) t (forest r)) (x ∷ waiting v.progress) v.near s.counted s.boundary
     (below v.root.now v.number t.head t.kids (forest r) f.front f.back f.up f.stands)
     (goes_below v.root.now v.number t.head t.kids (forest r) f.front f.back f.up (joined v.progress) f.context f.stands f.fits f.near (no_leaf t inner))
     (subst (λ m. AreReady v.root.now m (x ∷ waiting v.progress)) next (row_behind v t r x s e row start level above))
-    (sym up) root number kids around rows
+    (sym up) root near number kids around rows
 
 -- at the first child of the last node of a row, after which there is nothing to come back to
-pub stays_below_last : (v w : StretchNodes) (t : Tree) → Stays v → v.nodes.now ≡ t ∷ [] → is_childless t.kids ≡ false → w.root.now ≡ v.root.now → w.number ≡ v.number + 1 → w.parent ≡ cut v.number → forest w.nodes.now ≡ t.kids → joined w.progress ≡ within (joined v.progress) t none → waiting w.progress ≡ waiting v.progress → Stays w
-stays_below_last v w t s e inner root number up kids around rows =
+pub stays_below_last : (v w : StretchNodes) (t : Tree) → Stays v → v.nodes.now ≡ t ∷ [] → is_childless t.kids ≡ false → w.root.now ≡ v.root.now → w.near ≡ v.near → w.number ≡ v.number + 1 → w.parent ≡ cut v.number → forest w.nodes.now ≡ t.kids → joined w.progress ≡ within (joined v.progress) t none → waiting w.progress ≡ waiting v.progress → Stays w
+stays_below_last v w t s e inner root near number up kids around rows =
     let f = first_of v t [] s e in
     let next : v.number + count (more t.head t.kids none) ≡ v.number + 1 + count t.kids = omega arith in
-    stays_at w v.root.now (v.number + 1) t.kids (f.front ++ t ∷ []) f.back (Some v.number) (within (joined v.progress) t none) (waiting v.progress) s.counted
+    stays_at w v.root.now (v.number + 1) t.kids (f.front ++ t ∷ []) f.back (Some v.number) (within (joined v.progress) t none) (waiting v.progress) v.near s.counted s.boundary
     (below v.root.now v.number t.head t.kids none f.front f.back f.up f.stands)
     (goes_below v.root.now v.number t.head t.kids none f.front f.back f.up (joined v.progress) f.context f.stands f.fits f.near (no_leaf t inner))
     (subst (λ m. AreReady v.root.now m (waiting v.progress)) next f.ready)
-    (sym up) root number kids around rows
+    (sym up) root near number kids around rows
 
 -- back behind a node
 ended_row : (v : StretchNodes) → Stays v → v.nodes.now ≡ [] → AreReady v.root.now v.number (waiting v.progress)
@@ -209,8 +217,8 @@ ended_row v s e =
     let number : v.number + count (forest v.nodes.now) ≡ v.number = omega (arith, ap (λ xs. count (forest xs)) e) in
     subst (λ m. AreReady v.root.now m (waiting v.progress)) number s.ready
 
-pub stays_back : (v w : StretchNodes) (x : Waiting) → Stays v → v.nodes.now ≡ [] → waiting v.progress ≡ x ∷ waiting w.progress → joined w.progress ≡ resumed x (waiting w.progress) v.progress.trail → w.parent ≡ x.parent → w.root.now ≡ v.root.now → w.number ≡ v.number → w.nodes.now ≡ x.nodes.now → Stays w
-stays_back v w x s e rows around above root number row =
+pub stays_back : (v w : StretchNodes) (x : Waiting) → Stays v → v.nodes.now ≡ [] → waiting v.progress ≡ x ∷ waiting w.progress → joined w.progress ≡ resumed x (waiting w.progress) v.progress.trail → w.parent ≡ x.parent → w.root.now ≡ v.root.now → w.near ≡ v.near → w.number ≡ v.number → w.nodes.now ≡ x.nodes.now → Stays w
+stays_back v w x s e rows around above root near number row =
     let ready : AreReady v.root.now v.number (x ∷ waiting w.progress) = subst (λ ws. AreReady v.root.now v.number ws) rows (ended_row v s e) in
     let r : RowFits v.root.now v.number x = ready.0 in
     let m : ℕ = v.number + count (forest x.nodes.now) in
@@ -220,7 +228,7 @@ stays_back v w x s e rows around above root number row =
       fits = record { parent = r.parent; outer = r.outer; offset = r.start; trail = s.fits.trail; ahead = refl };
       near = record { parent = refl; outer = refl; offset = refl; trail = s.near.trail; ahead = ahead_ready v.root.now m (waiting w.progress) ready.1 };
     } in
-    stays_at w v.root.now v.number (forest x.nodes.now) r.front r.back r.up (resumed x (waiting w.progress) v.progress.trail) (waiting w.progress) s.counted r.stands goes ready.1 (r.above ∙ sym above) root number (ap forest row) around refl
+    stays_at w v.root.now v.number (forest x.nodes.now) r.front r.back r.up (resumed x (waiting w.progress) v.progress.trail) (waiting w.progress) v.near s.counted s.boundary r.stands goes ready.1 (r.above ∙ sym above) root near number (ap forest row) around refl
 
 pub none_there : (xs : List Tree) → length xs ≡ 0 → xs ≡ []
 none_there [] e = refl
@@ -231,15 +239,15 @@ pub all_come : (v : StretchNodes) → Stays v → v.nodes.now ≡ [] → waiting
 all_come v s e rows = subst (λ ws. AreReady v.root.now v.number ws) rows (ended_row v s e)
 
 -- the root is first
-pub at_root : (w : StretchNodes) (root : Tree) → nodes root < 2 ^ 64 - 1 → w.root.now ≡ root → w.number ≡ 0 → w.parent ≡ 0 → w.nodes.now ≡ root ∷ [] → joined w.progress ≡ root_context → waiting w.progress ≡ [] → Stays w
-at_root w root few same number up row around rows =
+pub at_root : (w : StretchNodes) (root : Tree) (b : Boundary) → nodes root < 2 ^ 64 - 1 → IsBoundary root b → w.root.now ≡ root → w.near ≡ b → w.number ≡ 0 → w.parent ≡ 0 → w.nodes.now ≡ root ∷ [] → joined w.progress ≡ root_context → waiting w.progress ≡ [] → Stays w
+at_root w root b few known same near number up row around rows =
     let all : 0 + count (more root.head root.kids none) ≡ nodes root = omega arith in
     let goes : Goes root 0 (more root.head root.kids none) None root_context = record {
       context = root_context;
       fits = fits_root root root_context refl refl refl refl refl;
       near = same_context root_context;
     } in
-    stays_at w root 0 (more root.head root.kids none) [] [] None root_context [] few (alone root) goes all (omega (arith, up)) same number (ap forest row) around rows
+    stays_at w root 0 (more root.head root.kids none) [] [] None root_context [] b few known (alone root) goes all (omega (arith, up)) same near number (ap forest row) around rows
 
 -- ---- what meets the stretch
 
@@ -311,6 +319,51 @@ sought_next w t r start e n p ends early =
       left = p.left ∙ early_passes w.stretch w.root.now n t (forest r) p.front p.stays.back p.stays.up stands last;
     }
 
+-- past so many nodes, the last of which ends before the stretch
+sought_on : (w : StretchNodes) (i : ℕ) (ts : List Tree) (start n : ℕ) → IsSought w ts start n → start + length (text_in (forest (take i ts))) < 2 ^ 64 → (0 < i → start + length (text_in (forest (take i ts))) < w.stretch.start)
+    → IsSought w (drop i ts) (start + length (text_in (forest (take i ts)))) (n + count (forest (take i ts)))
+sought_on w zero ts start n p few early = subst (λ m. IsSought w ts m (n + 0)) (let same : start ≡ start + 0 = omega arith in same) (subst (IsSought w ts start) (let same : n ≡ n + 0 = omega arith in same) p)
+sought_on w (suc i) [] start n p few early = subst (λ m. IsSought w [] m (n + 0)) (let same : start ≡ start + 0 = omega arith in same) (subst (IsSought w [] start) (let same : n ≡ n + 0 = omega arith in same) p)
+sought_on w (suc i) (t ∷ ts) start n p few early =
+    let own : ℕ = length (text_of t) in
+    let others : ℕ = length (text_in (forest (take i ts))) in
+    let nodes_on : ℕ = count (forest (take i ts)) in
+    let whole : length (text_in (forest (take (suc i) (t ∷ ts)))) ≡ own + others = ap length (sym (append_assoc t.head.text (text_in t.kids) (text_in (forest (take i ts))))) ∙ length-append (text_of t) (text_in (forest (take i ts))) in
+    let before : start + own + others < w.stretch.start = omega (arith, early (omega arith), whole) in
+    let first : IsSought w ts (start + own) (n + nodes t) = sought_next w t ts start (start + own) n p (omega (arith, few, whole)) (omega (arith, before)) in
+    let rest : IsSought w (drop i ts) (start + own + others) (n + nodes t + nodes_on) = sought_on w i ts (start + own) (n + nodes t) first (omega (arith, few, whole)) (λ some. before) in
+    let bytes : start + own + others ≡ start + length (text_in (forest (take (suc i) (t ∷ ts)))) = omega (arith, whole) in
+    let numbers : n + nodes t + nodes_on ≡ n + count (forest (take (suc i) (t ∷ ts))) = omega arith in
+    subst (λ m. IsSought w (drop i ts) m (n + count (forest (take (suc i) (t ∷ ts))))) bytes (subst (IsSought w (drop i ts) (start + own + others)) numbers rest)
+
+-- where the first child of the root begins
+first_begins : (w : StretchNodes) → Stays w → w.number ≡ 1 → length w.root.now.head.text < 2 ^ 64 → length w.root.now.head.text ≡ (joined w.progress).offset
+first_begins w s one few =
+    let there : (joined w.progress).offset ≡ offset_of (at w.root.now 1) = s.near.offset ∙ (s.fits.offset ∙ ap (λ k. offset_of (at w.root.now k)) one) in
+    omega (arith, there, few, ap length (append-nil w.root.now.head.text))
+
+-- at a boundary among the root's children
+pub sought_near : (w : StretchNodes) (b : Boundary) (ts : List Tree) → Stays w → w.number ≡ 1 → forest w.nodes.now ≡ w.root.now.kids → length (text_of w.root.now) < 2 ^ 64 → IsBoundary w.root.now b → (0 < b.index → b.bytes < w.stretch.start) → ts ≡ drop b.index w.nodes.now → IsSought w ts b.bytes (1 + b.nodes)
+sought_near w b ts s one row few is early later =
+    let root : Tree = w.root.now in
+    let i : ℕ = b.index in
+    let own : ℕ = length root.head.text in
+    let kids : List Tree = trees root.kids in
+    let same : w.nodes.now ≡ kids = kids_are root w.nodes.now row in
+    let most : own + length (text_in (forest (take i kids))) ≤ length (text_of root) = start_le [] i root in
+    let begun : IsSought w kids own 1 = sought_here w kids own 1 s (sym same) (first_begins w s one (omega (arith, few, most))) (sym one) in
+    let there : IsSought w (drop i kids) (own + length (text_in (forest (take i kids)))) (1 + count (forest (take i kids))) = sought_on w i kids own 1 begun (omega (arith, few, most)) (λ some. omega (arith, early some, is.bytes)) in
+    let rest : drop i kids ≡ ts = ap (drop i) (sym same) ∙ sym later in
+    subst (λ us. IsSought w us b.bytes (1 + b.nodes)) rest
+    (subst (λ m. IsSought w (drop i kids) m (1 + b.nodes)) (sym is.bytes)
+    (subst (λ m. IsSought w (drop i kids) (own + length (text_in (forest (take i kids)))) (1 + m)) (sym is.nodes) there))
+
+-- the root is the node of number 0
+pub first_is_root : (w : StretchNodes) (t : Tree) (r : List Tree) → Stays w → w.nodes.now ≡ t ∷ r → w.number ≡ 0 → t ≡ w.root.now
+first_is_root w t r s e none_before =
+    let f = first_of w t r s e in
+    sym (here w.root.now w.number t f.front _ f.stands.whole f.stands.number) ∙ ap (λ k. node_of (at w.root.now k)) none_before
+
 no_dotted : (k : SyntaxKind) (x : Option Tag) → is_dot k ≡ false → dotted (Some k) x ≡ None
 no_dotted k x e = ap (λ b. cond b x None) e
 
@@ -346,8 +399,8 @@ pub sought_behind : (w : StretchNodes) (t : Tree) (r : List Tree) (e n : ℕ) �
 sought_behind w t r e n p = subst (IsSought w r e) (sym p.number) (sought_next w t r p.start e p.first p.sought p.ends p.early)
 
 -- the walk goes on there
-pub stays_sought : (v w : StretchNodes) (t : Tree) (r : List Tree) (e n : ℕ) (k : SyntaxKind) → IsBehind v t r e n → EndsIn t k → w.root.now ≡ v.root.now → w.number ≡ n → w.parent ≡ v.parent → w.nodes.now ≡ r → joined w.progress ≡ record (joined v.progress) { offset = e; trail = one_leaf k } → waiting w.progress ≡ waiting v.progress → Stays w
-stays_sought v w t r e n k p last root number up row around rows =
+pub stays_sought : (v w : StretchNodes) (t : Tree) (r : List Tree) (e n : ℕ) (k : SyntaxKind) → IsBehind v t r e n → EndsIn t k → w.root.now ≡ v.root.now → w.near ≡ v.near → w.number ≡ n → w.parent ≡ v.parent → w.nodes.now ≡ r → joined w.progress ≡ record (joined v.progress) { offset = e; trail = one_leaf k } → waiting w.progress ≡ waiting v.progress → Stays w
+stays_sought v w t r e n k p last root near number up row around rows =
     let s : Stays v = p.sought.stays in
     let stands : Stand v.root.now p.first (more t.head t.kids (forest r)) p.sought.front s.back s.up = p.sought.stands in
     let m : ℕ = p.first + nodes t in
@@ -360,23 +413,24 @@ stays_sought v w t r e n k p last root number up row around rows =
       fits = record { parent = s.fits.parent; outer = s.fits.outer; offset = there; trail = refl; ahead = s.fits.ahead ∙ ap (ahead_at v.root.now) total };
       near = record { parent = s.near.parent; outer = s.near.outer; offset = refl; trail = trail_behind v.root.now p.first t (forest r) p.sought.front s.back s.up k stands last; ahead = s.near.ahead };
     } in
-    stays_at w v.root.now m (forest r) (p.sought.front ++ places t) s.back s.up c (waiting v.progress) s.counted
+    stays_at w v.root.now m (forest r) (p.sought.front ++ places t) s.back s.up c (waiting v.progress) v.near s.counted s.boundary
     (behind v.root.now p.first t.head t.kids (forest r) p.sought.front s.back s.up stands)
     goes
     (subst (λ q. AreReady v.root.now q (waiting v.progress)) total s.ready)
-    (s.above ∙ sym up) root (number ∙ p.number) (ap forest row) around rows
+    (s.above ∙ sym up) root near (number ∙ p.number) (ap forest row) around rows
 
 pub passes_none : (v : StretchNodes) → Passes v v
-passes_none v = record { onward = omega arith; left = refl }
+passes_none v = record { onward = omega arith; still = λ e. refl; left = refl }
 
-pub passes_to : (v w : StretchNodes) (r : List Tree) (e n : ℕ) → IsSought v r e n → w.number ≡ n → Passes v w
-passes_to v w r e n q number =
-    record { onward = omega (arith, q.onward, number); left = q.left ∙ ap (ahead_from v.stretch v.root.now) (sym number) }
+pub passes_to : (v w : StretchNodes) (r : List Tree) (e n : ℕ) → IsSought v r e n → v.number < n → w.number ≡ n → Passes v w
+passes_to v w r e n q on number =
+    record { onward = omega (arith, q.onward, number); still = λ same. absurd (omega (arith, on, number, same)); left = q.left ∙ ap (ahead_from v.stretch v.root.now) (sym number) }
 
 pub passes_on : (u v w : StretchNodes) → v.root.now ≡ u.root.now → v.stretch ≡ u.stretch → Passes u v → Passes v w → Passes u w
 passes_on u v w root stretch p q =
     record {
       onward = omega (arith, p.onward, q.onward);
+      still = λ same. q.still (omega (arith, p.onward, q.onward, same)) ∙ p.still (omega (arith, p.onward, q.onward, same));
       left = p.left ∙ ((λ i. ahead_from (sym stretch i) (sym root i) v.number) ∙ (q.left ∙ (λ i. ahead_from (stretch i) (root i) w.number)));
     }
 

@@ -2,6 +2,7 @@
 use Rattle.std.specs.Prelude.{◌≡◌, ℕ, ◌+◌, ◌-◌, ◌^◌, ◌<◌, ◌≤◌, Bool, false, true, ◌&&◌, ◌||◌, not, List, [], ◌∷◌, ◌++◌, length, Option, None, Some}
 use Rattle.typst_kinds.specs.Kinds.{is_error, is_trivia}
 use Rattle.typst_kinds.specs.declared.kind.SyntaxKind.{SyntaxKind}
+use Rattle.typst_tree.specs.Boundaries.{IsBoundary}
 use Rattle.typst_tree.specs.Tree.{Tree, count, nodes, forest, places, saturated, text_of}
 use Rattle.typst_tree.specs.Walks.{is_childless, is_leaf}
 use Rattle.typst_tree.specs.Steps.{At, at, node_of, offset_of, end_of, parent}
@@ -46,9 +47,10 @@ abbrev pub AreReady : Tree → ℕ → List Waiting → Type 0
 AreReady root n [] = n ≡ nodes root
 AreReady root n (w ∷ ws) = RowFits root n w × AreReady root (n + count (forest w.nodes.now)) ws
 
--- the rows hold all nodes from the walk's number on, and the walk knows what is around the next one as far as tags depend on it
+-- the rows hold all nodes from the walk's number on, and the walk knows what is around the next one as far as tags depend on it, and a boundary of the root
 pub record Stays (w : StretchNodes) : Type 0 where
   pub counted : nodes w.root.now < 2 ^ 64 - 1
+  pub boundary : IsBoundary w.root.now w.near
   pub front : List Tree
   pub back : List Tree
   pub up : Option ℕ
@@ -59,9 +61,10 @@ pub record Stays (w : StretchNodes) : Type 0 where
   pub near : Near (joined w.progress) context
   pub ready : AreReady w.root.now (w.number + count (forest w.nodes.now)) (waiting w.progress)
 
--- a walk goes past some nodes, none of which meets its stretch
+-- a walk goes past some nodes, none of which meets its stretch, or stays where it is
 pub record Passes (v w : StretchNodes) : Type 0 where
   pub onward : v.number ≤ w.number
+  pub still : w.number ≡ v.number → w.nodes.now ≡ v.nodes.now
   pub left : ahead_from v.stretch v.root.now v.number ≡ ahead_from v.stretch v.root.now w.number
 
 -- a walk goes past the next node, and past some that don't meet its stretch

@@ -1,6 +1,7 @@
 //! Arrays of records of nodes.
 
 ghost use Rattle.std.specs.Prelude.{◌≡◌, ◌-◌, ◌^◌, ◌<◌, IfOk, IsTrue, OnOk, length, true};
+ghost use Rattle.typst_tree.specs.Boundaries.{IsBoundary};
 ghost use Rattle.typst_tree.specs.Tree.{nodes};
 ghost use Rattle.typst_flat.specs.Placed.{IsSmall};
 ghost use Rattle.typst_flat.specs.Records.{filled, records, records_in};
@@ -9,7 +10,7 @@ use crate::nodes::StretchNodes;
 use crate::placed::record;
 use crate::{Node, Stretch};
 use std::alloc::{AllocError, Global};
-use typst_tree::SyntaxNode;
+use typst_tree::{Boundary, SyntaxNode};
 
 /// Bytes and nodes of a tree that has fewer are counted in 32 bits.
 const LARGE: usize = 0x1_0000_0000;
@@ -24,32 +25,36 @@ pub fn fill_nodes(alloc: Global, root: &SyntaxNode, room: &mut [Node]) -> Result
     if room.is_empty() {
         return Ok(root.descendants());
     }
-    let count = fill_nodes_in(alloc, root, Stretch::ALL, room)?;
+    let front = Boundary::front_of(root);
+    let count = fill_nodes_in(alloc, root, Stretch::ALL, front, room)?;
     Ok(count)
 }
 
 /// Puts the records of the nodes that meet a stretch of bytes into an array: all that have a byte of it, and those
 /// that end where it begins or begin where it ends.
 ///
-/// It visits these, the nodes above them and some before them. Of the other nodes before the stretch it visits only
-/// those side by side with one of these, in a few steps each.
+/// It visits these, the nodes above them and some before them. Of the other nodes before the stretch it passes only
+/// those side by side with one of these, in a few steps each: of the root's children those between the stretch and
+/// the boundary `near`, or an end that is nearer, and all where tags depend on more than is near the stretch.
 // In place, so that no node is compared with the stretch of all bytes.
 #[inline(always)]
 pub fn fill_nodes_in(
     alloc: Global,
     root: &SyntaxNode,
     stretch: Stretch,
+    near: Boundary,
     room: &mut [Node],
 ) -> Result<usize, AllocError>
-    requires { nodes root.now < 2 ^ 64 - 1 }
+    requires counted { nodes root.now < 2 ^ 64 - 1 }
+    requires near { IsBoundary root.now near }
     ensures count { IfOk result (λ count. count ≡ length (records_in stretch root.now)) }
     ensures room { OnOk result (room.new ≡ filled (records_in stretch root.now) room.old) }
 {
     if is_small(root) {
-        let count = fill_met(alloc, root, stretch, room, true)?;
+        let count = fill_met(alloc, root, stretch, near, room, true)?;
         return Ok(count);
     }
-    let count = fill_large(alloc, root, stretch, room)?;
+    let count = fill_large(alloc, root, stretch, near, room)?;
     Ok(count)
 }
 
@@ -66,13 +71,15 @@ fn fill_large(
     alloc: Global,
     root: &SyntaxNode,
     stretch: Stretch,
+    near: Boundary,
     room: &mut [Node],
 ) -> Result<usize, AllocError>
-    requires { nodes root.now < 2 ^ 64 - 1 }
+    requires counted { nodes root.now < 2 ^ 64 - 1 }
+    requires near { IsBoundary root.now near }
     ensures count { IfOk result (λ count. count ≡ length (records_in stretch root.now)) }
     ensures room { OnOk result (room.new ≡ filled (records_in stretch root.now) room.old) }
 {
-    let count = fill_met(alloc, root, stretch, room, false)?;
+    let count = fill_met(alloc, root, stretch, near, room, false)?;
     Ok(count)
 }
 
@@ -82,15 +89,17 @@ fn fill_met(
     alloc: Global,
     root: &SyntaxNode,
     stretch: Stretch,
+    near: Boundary,
     room: &mut [Node],
     is_small: bool,
 ) -> Result<usize, AllocError>
     requires counted { nodes root.now < 2 ^ 64 - 1 }
+    requires near { IsBoundary root.now near }
     requires small { is_small ≡ true → IsSmall root.now }
     ensures count { IfOk result (λ count. count ≡ length (records_in stretch root.now)) }
     ensures room { OnOk result (room.new ≡ filled (records_in stretch root.now) room.old) }
 {
-    let mut walk = StretchNodes::new(alloc, root, stretch);
+    let mut walk = StretchNodes::new(alloc, root, stretch, near);
     let mut count = 0;
     'nodes: while let Some(placed) = walk.next()? {
         if placed.start > stretch.end {

@@ -6,6 +6,7 @@
 //! records: [`kind_of_code`], [`kind_named`] and [`tag_of_code`] tell which, and [`span_of`] gives a record's span back.
 #![tactic(auto)]
 
+mod boundaries;
 mod bytes;
 mod codes;
 mod fill;

@@ -1,6 +1,7 @@
 //! The nodes of a tree with their places, one after the other.
 
-ghost use Rattle.std.specs.Prelude.{◌≡◌, ◌+◌, ◌∷◌, ◌-◌, ◌^◌, ◌<◌, [], IfOk, IfSome, None, OnOk, true, false, if◌then◌else◌};
+ghost use Rattle.std.specs.Prelude.{◌≡◌, ◌+◌, ◌∷◌, ◌-◌, ◌^◌, ◌<◌, ◌≤◌, [], drop, length, IfOk, IfSome, None, OnOk, true, false, if◌then◌else◌};
+ghost use Rattle.typst_tree.specs.Boundaries.{IsBoundary};
 ghost use Rattle.typst_tree.specs.Tree.{forest, nodes};
 ghost use Rattle.typst_tree.specs.Steps.{at};
 ghost use Rattle.typst_tree.specs.Walks.{is_childless};
@@ -9,6 +10,7 @@ ghost use Rattle.typst_highlight.specs.Walk as walk;
 ghost use Rattle.typst_flat.specs.Placed as spec;
 
 use crate::Stretch;
+use crate::boundaries::last_before;
 use crate::codes::narrow;
 use crate::placed::{PlacedNode, node_count, own_len};
 use crate::tags::code_next;
@@ -16,20 +18,33 @@ use std::alloc::{AllocError, Global};
 use std::slice;
 use typst_highlight::{Progress, Tag, is_childless, is_dot, is_name, is_skipped};
 use typst_kinds::SyntaxKind;
-use typst_tree::SyntaxNode;
+use typst_tree::{Boundary, SyntaxNode};
 
 /// For so many bytes before a stretch a walk looks first for a place to begin at.
 const NEAR: usize = 1024;
+
+/// A place in a row of nodes.
+#[derive(Clone, Copy)]
+struct RowPlace<'t> {
+    /// The nodes after it.
+    nodes: &'t [SyntaxNode],
+    /// Its byte.
+    start: usize,
+    /// The number of the next node.
+    number: usize,
+}
 
 /// The nodes of a tree that a walk has still to come to, each before its children.
 ///
 /// It doesn't call itself, whatever the depth of the tree, and goes over rows of nodes as slices. It takes memory
 /// for the rows to come back to. Of each row it passes the first nodes, where they end before the stretch: it adds up
-/// their lengths and counts, up to near the stretch.
+/// their lengths and counts, up to near the stretch, of the root's children from a known boundary on or back.
 #[derive(Drop)]
 pub struct StretchNodes<'t> {
     root: &'t SyntaxNode,
     stretch: Stretch,
+    /// A boundary among the root's children, from which the stretch is sought.
+    near: Boundary,
     /// The number of the next node.
     number: usize,
     /// The number of its parent, as records have it; of the root 0.
@@ -42,8 +57,14 @@ pub struct StretchNodes<'t> {
 
 impl<'t> StretchNodes<'t> {
     /// All nodes of a tree, except some that end before a stretch.
-    pub fn new(alloc: Global, root: &'t SyntaxNode, stretch: Stretch) -> StretchNodes<'t>
-        requires { nodes root.now < 2 ^ 64 - 1 }
+    pub fn new(
+        alloc: Global,
+        root: &'t SyntaxNode,
+        stretch: Stretch,
+        near: Boundary,
+    ) -> StretchNodes<'t>
+        requires counted { nodes root.now < 2 ^ 64 - 1 }
+        requires near { IsBoundary root.now near }
         ensures root { result.root.now ≡ root.now }
         ensures stretch { result.stretch ≡ stretch }
         ensures number { result.number ≡ 0 }
@@ -52,6 +73,7 @@ impl<'t> StretchNodes<'t> {
         StretchNodes {
             root,
             stretch,
+            near,
             number: 0,
             parent: 0,
             nodes: slice::from_ref(root),
@@ -170,6 +192,7 @@ impl<'t> StretchNodes<'t> {
         ensures root { OnOk result (self.new.root.now ≡ self.old.root.now) }
         ensures stretch { OnOk result (self.new.stretch ≡ self.old.stretch) }
         ensures number { OnOk result (self.new.number ≡ self.old.number + 1) }
+        ensures row { OnOk result (forest self.new.nodes.now ≡ node.now.kids) }
         ensures ready { OnOk result (spec.Stays self.new) }
     {
         if later.is_empty() {
@@ -189,6 +212,7 @@ impl<'t> StretchNodes<'t> {
         ensures root { self.new.root.now ≡ self.old.root.now }
         ensures stretch { self.new.stretch ≡ self.old.stretch }
         ensures number { self.new.number ≡ self.old.number + 1 }
+        ensures row { forest self.new.nodes.now ≡ node.now.kids }
         ensures ready { spec.Stays self.new }
     {
         self.progress.enter_last(node, own_len(node));
@@ -212,6 +236,7 @@ impl<'t> StretchNodes<'t> {
         ensures root { OnOk result (self.new.root.now ≡ self.old.root.now) }
         ensures stretch { OnOk result (self.new.stretch ≡ self.old.stretch) }
         ensures number { OnOk result (self.new.number ≡ self.old.number + 1) }
+        ensures row { OnOk result (forest self.new.nodes.now ≡ node.now.kids) }
         ensures ready { OnOk result (spec.Stays self.new) }
     {
         self.progress
@@ -223,43 +248,85 @@ impl<'t> StretchNodes<'t> {
     }
 
     /// Goes past nodes of the row that end before the stretch: up to the last place near it where tags depend on no
-    /// more than the leaf before, or if there is none near it, to the last one before that.
+    /// more than the leaf before, or if there is none near it, as in a long node, to the last one before that. This is
+    /// sought near that node first, and then among all nodes of the row.
     #[inline(never)]
     fn seek(&mut self)
-        requires { spec.Stays self.old }
+        requires ready { spec.Stays self.old }
+        requires row { self.old.number ≡ 1 → forest self.old.nodes.now ≡ self.old.root.now.kids }
         ensures root { self.new.root.now ≡ self.old.root.now }
         ensures stretch { self.new.stretch ≡ self.old.stretch }
         ensures ready { spec.Stays self.new }
         ensures passes { spec.Passes self.old self.new }
     {
-        let near = self.stretch.start.saturating_sub(NEAR);
         let number = self.number;
-        self.seek_from(near);
-        if self.number > number || self.progress.offset() >= near {
+        let front = self.place();
+        let from = self.stretch.start.saturating_sub(NEAR);
+        let begun = self.place_before(from);
+        self.seek_from(begun, from);
+        if self.number > number || front.start >= from {
             return;
         }
-        self.seek_from(0);
+        let before = from.min(begun.start).saturating_sub(NEAR);
+        let begun = self.place_before(before);
+        self.seek_from(begun, before);
+        if self.number > number || front.start >= before {
+            return;
+        }
+        let front = self.place();
+        self.seek_from(front, 0);
     }
 
-    /// Goes past nodes of the row that end before the stretch, up to the last place, from that byte on, where tags
-    /// depend on no more than the leaf before.
-    fn seek_from(&mut self, near: usize)
-        requires { spec.Stays self.old }
+    /// The place of the next node.
+    fn place(&self) -> RowPlace<'t>
+        requires { spec.Stays self.now }
+        ensures { spec.IsSought self.now result.nodes.now result.start result.number }
+    {
+        RowPlace {
+            nodes: self.nodes,
+            start: self.progress.offset(),
+            number: self.number,
+        }
+    }
+
+    /// A place to look from for those at a byte and after it: among the root's children the last one before the byte,
+    /// and in other rows that of the next node.
+    fn place_before(&self, byte: usize) -> RowPlace<'t>
+        requires ready { spec.Stays self.now }
+        requires row { self.now.number ≡ 1 → forest self.now.nodes.now ≡ self.now.root.now.kids }
+        requires early { byte ≤ self.now.stretch.start }
+        ensures { spec.IsSought self.now result.nodes.now result.start result.number }
+    {
+        if self.number != 1 || self.root.len() == usize::MAX {
+            return self.place();
+        }
+        let begun = last_before(self.root, self.near, byte);
+        RowPlace {
+            nodes: from_index(self.nodes, begun.index),
+            start: begun.bytes,
+            number: 1 + begun.nodes,
+        }
+    }
+
+    /// Goes past nodes of the row that end before the stretch, up to the last place where tags depend on no more than
+    /// the leaf before, among those after the place `begun` and from the byte `from` on.
+    fn seek_from(&mut self, begun: RowPlace<'t>, from: usize)
+        requires { spec.IsSought self.old begun.nodes.now begun.start begun.number }
         ensures root { self.new.root.now ≡ self.old.root.now }
         ensures stretch { self.new.stretch ≡ self.old.stretch }
         ensures ready { spec.Stays self.new }
         ensures passes { spec.Passes self.old self.new }
     {
-        let mut rest = self.nodes;
-        let mut start = self.progress.offset();
-        let mut number = self.number;
+        let mut rest = begun.nodes;
+        let mut start = begun.start;
+        let mut number = begun.number;
         'nodes: while let Some((node, later)) = rest.split_first() {
             let end = start.saturating_add(node.len());
             if end >= self.stretch.start {
                 return;
             }
             number += node_count(node);
-            if end >= near {
+            if end >= from {
                 self.settle(node, later, end, number);
             }
             rest = later;
@@ -284,6 +351,14 @@ impl<'t> StretchNodes<'t> {
         self.nodes = later;
         self.number = number;
     }
+}
+
+/// The nodes from an index on.
+fn from_index(nodes: &[SyntaxNode], index: usize) -> &[SyntaxNode]
+    requires { index ≤ length nodes.now }
+    ensures { result.now ≡ drop index nodes.now }
+{
+    &nodes[index..]
 }
 
 /// The kind of the last leaf of a node, if nothing comes after it, and it is neither a name nor a dot.

@@ -11,4 +11,4 @@ pub returns-clause-ready : goal.returns-clause-ready
 returns-clause-ready c =
     let v = c.args.self.now in
     let x : Waiting = record { nodes = c.args.later; start = c.args.end; level = v.progress.level; kept = None; parent = v.parent } in
-    stays_below v _ c.args.node.now c.args.later.now x c.requires.ready c.requires.row c.requires.inner refl refl c.narrow-self.ensures c.children-self.ensures c.in_ok-enter_from.ensures.inside c.in_ok-enter_from.ensures.waiting refl c.requires.ends refl refl
+    stays_below v _ c.args.node.now c.args.later.now x c.requires.ready c.requires.row c.requires.inner refl refl refl c.narrow-self.ensures c.children-self.ensures c.in_ok-enter_from.ensures.inside c.in_ok-enter_from.ensures.waiting refl c.requires.ends refl refl

@@ -7,4 +7,4 @@ overflow_add-self c = omega (arith, is_within c.args.self.now c.args.node.now []
 
 pub returns-clause-ready : goal.returns-clause-ready
 returns-clause-ready c =
-    stays_below_last c.args.self.now _ c.args.node.now c.requires.ready c.requires.row c.requires.inner refl refl c.narrow-self.ensures c.children-self.ensures c.enter_last.ensures.inside c.enter_last.ensures.waiting
+    stays_below_last c.args.self.now _ c.args.node.now c.requires.ready c.requires.row c.requires.inner refl refl refl c.narrow-self.ensures c.children-self.ensures c.enter_last.ensures.inside c.enter_last.ensures.waiting

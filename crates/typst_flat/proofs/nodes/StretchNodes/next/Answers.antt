@@ -12,7 +12,7 @@ rows-preserved c =
       root = c.rows.invariant.root;
       stretch = c.rows.invariant.stretch;
       number = c.rows.invariant.number;
-      ready = stays_back c.rows.self _ c.in-Some-leave.row c.rows.invariant.ready (none_there c.rows.self.nodes.now c.in_default.ensures.cases) w.0 w.1 refl refl refl refl;
+      ready = stays_back c.rows.self _ c.in-Some-leave.row c.rows.invariant.ready (none_there c.rows.self.nodes.now c.in_default.ensures.cases) w.0 w.1 refl refl refl refl refl;
     }
 
 pub rows-smaller : goal.rows-smaller

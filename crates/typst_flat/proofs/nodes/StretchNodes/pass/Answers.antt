@@ -10,4 +10,4 @@ pub returns-clause-moves : goal.returns-clause-moves
 returns-clause-moves c =
     let v = c.args.self.now in
     moves_one v _ (omega (arith, is_within v c.args.node.now c.args.later.now c.requires.ready c.requires.row)) refl
-    (stays_behind v _ c.args.node.now c.args.later.now c.requires.ready c.requires.row c.requires.childless refl refl refl refl c.pass_to.ensures.joined c.pass_to.ensures.waiting)
+    (stays_behind v _ c.args.node.now c.args.later.now c.requires.ready c.requires.row c.requires.childless refl refl refl refl refl c.pass_to.ensures.joined c.pass_to.ensures.waiting)

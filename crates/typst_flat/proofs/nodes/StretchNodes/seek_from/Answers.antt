@@ -1,7 +1,7 @@
 use Rattle.std.proofs.Common.{◌≡◌, ◌+◌, ◌∷◌, subst, ◌∙◌, refl, arith}
 use Rattle.typst_tree.specs.Tree.{nodes}
 use Rattle.typst_flat.specs.Placed.{IsSought}
-use Rattle.typst_flat.proofs.Placing.{passes_none, passes_on, sought_here, sought_next, sought_within}
+use Rattle.typst_flat.proofs.Placing.{passes_none, passes_on, sought_next, sought_within}
 use Rattle.typst_flat.proofs.nodes.StretchNodes.seek_from.Goals as goal
 
 pub nodes-init : goal.nodes-init
@@ -10,7 +10,7 @@ nodes-init c =
       root = refl;
       stretch = refl;
       passes = passes_none c.args.self.now;
-      sought = sought_here c.args.self.now c.args.self.now.nodes.now c.offset-start.result c.args.self.now.number c.requires refl c.offset-start.ensures refl;
+      sought = c.requires;
     }
 
 pub overflow_add-number : goal.overflow_add-number
@@ -32,8 +32,8 @@ settle-requires c =
       number = omega (arith, c.node_count-number.ensures, sought_within w c.in-Some.node.now c.in-Some.later.now c.nodes.start c.nodes.number sought, sought.stays.counted);
     }
 
-pub nodes-preserved-then-end-near : goal.nodes-preserved-then-end-near
-nodes-preserved-then-end-near c =
+pub nodes-preserved-then-end-from : goal.nodes-preserved-then-end-from
+nodes-preserved-then-end-from c =
     record {
       root = c.settle.ensures.root ∙ c.nodes.invariant.root;
       stretch = c.settle.ensures.stretch ∙ c.nodes.invariant.stretch;

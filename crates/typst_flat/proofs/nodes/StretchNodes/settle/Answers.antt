@@ -1,4 +1,4 @@
-use Rattle.std.proofs.Common.{ap, sym, refl}
+use Rattle.std.proofs.Common.{ap, sym, refl, arith}
 use Rattle.typst_flat.proofs.Placing.{passes_none, passes_to, sought_behind, sought_here, stays_sought}
 use Rattle.typst_flat.proofs.nodes.StretchNodes.settle.Goals as goal
 
@@ -12,9 +12,9 @@ returns-in_default-clause-passes c = passes_none c.args.self.now
 pub returns-clause-sought : goal.returns-clause-sought
 returns-clause-sought c =
     sought_here _ c.args.later.now c.args.end c.args.number
-    (stays_sought c.args.self.now _ c.args.node.now c.args.later.now c.args.end c.args.number c.in-Some.before c.requires c.in-Some.ensures refl refl refl refl c.resume.ensures.joined c.resume.ensures.waiting)
+    (stays_sought c.args.self.now _ c.args.node.now c.args.later.now c.args.end c.args.number c.in-Some.before c.requires c.in-Some.ensures refl refl refl refl refl c.resume.ensures.joined c.resume.ensures.waiting)
     refl (sym (ap (λ x. x.offset) c.resume.ensures.joined)) refl
 
 pub returns-clause-passes : goal.returns-clause-passes
 returns-clause-passes c =
-    passes_to c.args.self.now _ c.args.later.now c.args.end c.args.number (sought_behind c.args.self.now c.args.node.now c.args.later.now c.args.end c.args.number c.requires) refl
+    passes_to c.args.self.now _ c.args.later.now c.args.end c.args.number (sought_behind c.args.self.now c.args.node.now c.args.later.now c.args.end c.args.number c.requires) (omega (arith, c.requires.number, c.requires.sought.onward)) refl

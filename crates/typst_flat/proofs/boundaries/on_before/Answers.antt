@@ -1,0 +1,6 @@
+use Rattle.std.proofs.Common.{length, ap, arith}
+use Rattle.typst_tree.proofs.Boundaries.{kids_are}
+use Rattle.typst_flat.proofs.boundaries.on_before.Goals as goal
+
+pub after-next-requires-clause-more : goal.after-next-requires-clause-more
+after-next-requires-clause-more c = omega (arith, c.on-test.true, ap length (kids_are c.args.root.now c.children-count.result.now c.children-count.ensures))
