@@ -19,18 +19,82 @@ pub struct Request<'a> {
     pub list: Option<&'a str>,
 }
 
-const FORMATS: [&str; 4] = ["short", "ndjson", "github", "sarif"];
+/// An option of the program.
+struct CommandOption {
+    name: &'static str,
+    short: Option<char>,
+    help: &'static str,
+    takes: Takes,
+}
 
-const COLORS: [&str; 3] = ["auto", "always", "never"];
+/// What an option takes.
+enum Takes {
+    /// One of these words, and which it is if the option isn't given.
+    Word(&'static [&'static str], &'static str),
+    /// A number, which help calls so.
+    Number(&'static str),
+    /// A text, which help calls so.
+    Text(&'static str),
+    /// Nothing. It isn't given with any of these other options.
+    Nothing(&'static [&'static str]),
+}
 
-/// What `--tree` isn't given with.
-const TREE_CONFLICTS: [&str; 3] = ["format", "color", "max-errors"];
-
-/// What `--page` isn't given with.
-const PAGE_CONFLICTS: [&str; 5] = ["tree", "format", "color", "max-errors", "files-from"];
-
-/// What `--quiet` isn't given with.
-const QUIET_CONFLICTS: [&str; 2] = ["tree", "page"];
+static OPTIONS: [CommandOption; 9] = [
+    CommandOption {
+        name: "format",
+        short: None,
+        help: "How errors and warnings are printed",
+        takes: Takes::Word(&["short", "ndjson", "github", "sarif"], "short"),
+    },
+    CommandOption {
+        name: "color",
+        short: None,
+        help: "Whether the short format has colours. A terminal isn't known as one, so auto is never",
+        takes: Takes::Word(&["auto", "always", "never"], "auto"),
+    },
+    CommandOption {
+        name: "tree",
+        short: None,
+        help: "Prints the syntax tree, a JSON object a line for each node",
+        takes: Takes::Nothing(&["format", "color", "max-errors"]),
+    },
+    CommandOption {
+        name: "page",
+        short: None,
+        help: "Prints the text of one file as an HTML page, highlighted, with its errors",
+        takes: Takes::Nothing(&["tree", "format", "color", "max-errors", "files-from"]),
+    },
+    CommandOption {
+        name: "quiet",
+        short: Some('q'),
+        help: "Prints no errors and warnings: the status tells of them",
+        takes: Takes::Nothing(&["tree", "page"]),
+    },
+    CommandOption {
+        name: "max-errors",
+        short: None,
+        help: "Prints at most so many errors and warnings of each file",
+        takes: Takes::Number("N"),
+    },
+    CommandOption {
+        name: "deny-warnings",
+        short: None,
+        help: "Ends with status 1 for warnings, too",
+        takes: Takes::Nothing(&[]),
+    },
+    CommandOption {
+        name: "stdin-filename",
+        short: None,
+        help: "The name that is printed for standard input",
+        takes: Takes::Text("NAME"),
+    },
+    CommandOption {
+        name: "files-from",
+        short: None,
+        help: "A file with names of files, ended by NUL or newlines, or - for standard input",
+        takes: Takes::Text("LIST"),
+    },
+];
 
 /// The version of Typst whose grammar this is.
 pub const VERSION: &str = "0.15.1";
@@ -92,128 +156,38 @@ fn format_named(name: Option<&str>, color: bool) -> Format {
     }
 }
 
-/// The command line of the program. Of an option that is repeated the last counts.
+/// The command line of the program.
 fn command<'a>(alloc: Global) -> Result<Command<'a>, AllocError> {
-    Command::new(alloc, "typst_check")
+    let mut command = Command::new(alloc, "typst_check")
         .version(VERSION)
         .about(ABOUT)
-        .after_help(STATUS)
-        .arg(format(alloc)?)?
-        .arg(color(alloc)?)?
-        .arg(tree_flag(alloc)?)?
-        .arg(page_flag(alloc)?)?
-        .arg(quiet_flag(alloc)?)?
-        .arg(most(alloc)?)?
-        .arg(deny_flag(alloc)?)?
-        .arg(input_name(alloc)?)?
-        .arg(list(alloc)?)?
-        .arg(files(alloc)?)
-}
-
-/// An option `--name` that takes a value.
-fn option<'a>(alloc: Global, name: &'a str, help: &'a str) -> Result<Arg<'a>, AllocError> {
-    Arg::new(alloc, name)
-        .long(name)
-        .help(help)
-        .overrides_with(name)
-}
-
-/// An option `--name` that takes none.
-fn flag<'a>(alloc: Global, name: &'a str, help: &'a str) -> Result<Arg<'a>, AllocError> {
-    let flag = option(alloc, name, help)?;
-    Ok(flag.action(ArgAction::SetTrue))
-}
-
-/// The option that is one of these words.
-fn choice<'a>(option: Arg<'a>, words: &'a [&'a str], default: &'a str) -> Arg<'a> {
-    option.value_parser(words).default_value(default)
-}
-
-/// The argument, which isn't given with any of the others.
-fn in_conflict<'a>(arg: Arg<'a>, others: &'a [&'a str]) -> Result<Arg<'a>, AllocError> {
-    arg.conflicts_with_all(others)
-}
-
-fn format<'a>(alloc: Global) -> Result<Arg<'a>, AllocError> {
-    let format = option(alloc, "format", "How errors and warnings are printed")?;
-    Ok(choice(format, FORMATS.as_slice(), "short"))
-}
-
-fn color<'a>(alloc: Global) -> Result<Arg<'a>, AllocError> {
-    let color = option(
-        alloc,
-        "color",
-        "Whether the short format has colours. A terminal isn't known as one, so auto is never",
-    )?;
-    Ok(choice(color, COLORS.as_slice(), "auto"))
-}
-
-fn tree_flag<'a>(alloc: Global) -> Result<Arg<'a>, AllocError> {
-    let flag = flag(
-        alloc,
-        "tree",
-        "Prints the syntax tree, a JSON object a line for each node",
-    )?;
-    in_conflict(flag, TREE_CONFLICTS.as_slice())
-}
-
-fn page_flag<'a>(alloc: Global) -> Result<Arg<'a>, AllocError> {
-    let flag = flag(
-        alloc,
-        "page",
-        "Prints the text of one file as an HTML page, highlighted, with its errors",
-    )?;
-    in_conflict(flag, PAGE_CONFLICTS.as_slice())
-}
-
-fn quiet_flag<'a>(alloc: Global) -> Result<Arg<'a>, AllocError> {
-    let flag = flag(
-        alloc,
-        "quiet",
-        "Prints no errors and warnings: the status tells of them",
-    )?;
-    in_conflict(flag.short('q'), QUIET_CONFLICTS.as_slice())
-}
-
-fn most<'a>(alloc: Global) -> Result<Arg<'a>, AllocError> {
-    let most = option(
-        alloc,
-        "max-errors",
-        "Prints at most so many errors and warnings of each file",
-    )?;
-    Ok(most.value_name("N").value_parser(value_parser!(usize)))
-}
-
-fn deny_flag<'a>(alloc: Global) -> Result<Arg<'a>, AllocError> {
-    flag(
-        alloc,
-        "deny-warnings",
-        "Ends with status 1 for warnings, too",
-    )
-}
-
-fn input_name<'a>(alloc: Global) -> Result<Arg<'a>, AllocError> {
-    let name = option(
-        alloc,
-        "stdin-filename",
-        "The name that is printed for standard input",
-    )?;
-    Ok(name.value_name("NAME"))
-}
-
-fn list<'a>(alloc: Global) -> Result<Arg<'a>, AllocError> {
-    let list = option(
-        alloc,
-        "files-from",
-        "A file with names of files, ended by NUL or newlines, or - for standard input",
-    )?;
-    Ok(list.value_name("LIST"))
-}
-
-fn files<'a>(alloc: Global) -> Result<Arg<'a>, AllocError> {
-    Arg::new(alloc, "files")
+        .after_help(STATUS);
+    for option in &OPTIONS {
+        command = command.arg(argument(alloc, option)?)?;
+    }
+    let files = Arg::new(alloc, "files")
         .action(ArgAction::Append)
         .value_name("FILE")
         .help("Files to check, folders of which all *.typ below are, or - for standard input")
-        .required_unless_present("files-from")
+        .required_unless_present("files-from")?;
+    command.arg(files)
+}
+
+/// The argument of an option. Of an option that is repeated the last counts.
+fn argument<'a>(alloc: Global, option: &CommandOption) -> Result<Arg<'a>, AllocError> {
+    let mut argument = Arg::new(alloc, option.name)
+        .long(option.name)
+        .help(option.help);
+    if let Some(short) = option.short {
+        argument = argument.short(short);
+    }
+    let argument = match option.takes {
+        Takes::Word(words, default) => argument.value_parser(words).default_value(default),
+        Takes::Number(name) => argument.value_name(name).value_parser(value_parser!(usize)),
+        Takes::Text(name) => argument.value_name(name),
+        Takes::Nothing(others) => argument
+            .action(ArgAction::SetTrue)
+            .conflicts_with_all(others)?,
+    };
+    argument.overrides_with(option.name)
 }

@@ -2,7 +2,7 @@
 
 use std::alloc::{AllocError, Global};
 use std::ops::Range;
-use typst_parser::{Classes, Lines, Source, SourceError};
+use typst_cli::{Classes, Lines, Source, SourceError};
 
 /// A text to be put in the place of a range of bytes.
 #[derive(Clone, Copy)]
@@ -79,11 +79,7 @@ impl<'a> Edit<'a> {
         {
             return Ok(Made::Fault("bad range"));
         }
-        match source.edit(self.start..self.end, self.with) {
-            Ok(read) => Ok(Made::Read(read)),
-            Err(SourceError::OutOfMemory) => Err(AllocError),
-            Err(SourceError::SpanNumbers) => Ok(Made::Fault("out of span numbers")),
-        }
+        Made::of(source.edit(self.start..self.end, self.with))
     }
 
     /// Edits lines. Gives false, and leaves them, where the range isn't one of their text.
@@ -124,6 +120,15 @@ impl<'a> Edit<'a> {
 }
 
 impl Made {
+    /// What came of an edit that a source answers so, unless memory was refused.
+    pub fn of(answer: Result<Range<usize>, SourceError>) -> Result<Made, AllocError> {
+        match answer {
+            Ok(read) => Ok(Made::Read(read)),
+            Err(SourceError::OutOfMemory) => Err(AllocError),
+            Err(SourceError::SpanNumbers) => Ok(Made::Fault("out of span numbers")),
+        }
+    }
+
     /// The line of what came of an edit.
     pub fn print(&self, printed: &mut String) -> Result<(), AllocError> {
         match self {

@@ -2,7 +2,7 @@
 
 use crate::edit::Edit;
 use std::alloc::{AllocError, Global};
-use typst_parser::{Classes, FileId, Lines, Source, SyntaxNode, parse};
+use typst_cli::{Classes, FileId, Lines, Source, SyntaxNode, parse};
 
 /// The tree and the lines of a text, newly made.
 #[derive(Drop)]

@@ -1,11 +1,11 @@
 //! Checks of texts over streams of memory: statuses, what is printed and what is summed up.
 
-use std::alloc::{AllocError, Global};
-use typst_cli::check::check;
-use typst_cli::form::{Form, Format, Options};
-use typst_cli::names::names_in;
-use typst_cli::tally::Tally;
-use typst_tests::streams::{Pace, Reader, Room, Writer};
+use std::alloc::Global;
+use typst_edited::cli::check::check;
+use typst_edited::cli::form::{Form, Format, Options};
+use typst_edited::cli::names::names_in;
+use typst_edited::cli::tally::Tally;
+use typst_fakes::streams::{Pace, Reader, Room, Writer};
 
 /// All errors and warnings as lines.
 const PLAIN: Options = Options {
@@ -41,7 +41,7 @@ fn checked(
     options: Options,
     text: &[u8],
     room: Room,
-) -> Result<(u8, Writer, Writer, Tally), AllocError> {
+) -> (u8, Writer, Writer, Tally) {
     let mut input = Reader::ending(text, Pace::Whole);
     let mut output = Writer::new(alloc, room);
     let mut errors = Writer::new(alloc, Room::ample(Pace::Whole));
@@ -55,14 +55,12 @@ fn checked(
         &mut errors,
         &mut tally,
     );
-    Ok((status, output, errors, tally))
+    (status, output, errors, tally)
 }
 
 /// Whether a text has that status, and is summed up so.
 fn is_summed_up(alloc: Global, options: Options, text: &[u8], status: u8, line: &str) -> bool {
-    let Ok((got, _, errors, tally)) = checked(alloc, options, text, Room::ample(Pace::Whole)) else {
-        return false;
-    };
+    let (got, _, errors, tally) = checked(alloc, options, text, Room::ample(Pace::Whole));
     let Ok(summary) = tally.summary(alloc) else {
         return false;
     };
@@ -114,37 +112,26 @@ fn fails_for_warnings_where_they_are_denied(rt: HostRuntime) {
     );
 }
 
-/// Whether that is printed of `TEXT`.
-fn prints(alloc: Global, options: Options, printed: &str) -> bool {
-    match checked(alloc, options, TEXT, Room::ample(Pace::Whole)) {
-        Ok((_, output, _, _)) => output.passed() == printed.as_bytes(),
-        Err(_) => false,
-    }
-}
-
 const WARNING: &str =
     "a b:1:1: warning: no text within stars\n  hint: using multiple consecutive stars (e.g. **) has no additional effect\n";
 
 #[test]
 fn prints_so_many_at_most(rt: HostRuntime) {
-    assert!(rt; prints(rt.alloc(), FIRST, WARNING));
-    assert!(rt; prints(rt.alloc(), STRICT, ""));
-}
-
-/// Whether a check of `TEXT` ends quietly where nobody reads what it prints after so many bytes.
-fn is_quiet_after(alloc: Global, bytes: usize) -> bool {
-    match checked(alloc, PLAIN, TEXT, Room::of(bytes, Pace::Bytes)) {
-        Ok((status, _, errors, tally)) => {
-            status == 2 && errors.taken().is_empty() && tally.is_unheard && tally.files == 0
-        }
-        Err(_) => false,
+    for (options, printed) in [(FIRST, WARNING), (STRICT, "")] {
+        let (_, output, _, _) = checked(rt.alloc(), options, TEXT, Room::ample(Pace::Whole));
+        assert!(rt; output.passed() == printed.as_bytes());
     }
 }
 
+/// Nobody reads what comes after so many bytes.
 #[test]
 fn is_quiet_where_nobody_reads(rt: HostRuntime) {
-    assert!(rt; is_quiet_after(rt.alloc(), 0));
-    assert!(rt; is_quiet_after(rt.alloc(), 20));
+    for bytes in [0, 20] {
+        let room = Room::of(bytes, Pace::Bytes);
+        let (status, _, errors, tally) = checked(rt.alloc(), PLAIN, TEXT, room);
+        assert!(rt; status == 2 && errors.taken().is_empty());
+        assert!(rt; tally.is_unheard && tally.files == 0);
+    }
 }
 
 /// Whether the list has these names.

@@ -1,11 +1,11 @@
 //! What an editor does with a text that it holds: edits it, finds a node by its span, walks the leaves,
 //! and prints where each error stands, by line and UTF-16 column.
 //!
-//! A program names `typst_parser` where this names `typst_cli`, which passes the same names on.
+//! A program names `typst_parser` where this names `typst_edited::cli`, which passes the same names on.
 
 use std::alloc::{AllocError, Global};
 use std::ops::Range;
-use typst_cli::{Severity, Source, SyntaxNode, UnicodeClasses};
+use typst_edited::cli::{Severity, Source, SyntaxNode, UnicodeClasses};
 
 /// What is printed of the text below.
 const PRINTED: &str = r#"parsed anew: 0..12

@@ -1,12 +1,12 @@
 //! Sources of trees that were handed in: without numbers, of another file, of another text.
 
-use crate::sources::{Unicode, edit, edited, with_root};
-use crate::whole::{are_same_trees, has_lines, has_tree};
+use crate::sources::{Unicode, with_root};
+use crate::whole::has_lines;
 use std::alloc::Global;
-use typst_cli::{
+use typst_edited::cli::{
     FileId, Source, SpanNumber, SubRange, SyntaxKind, SyntaxNode, UnicodeClasses, is_ordered, parse,
 };
-use typst_edited::nodes;
+use typst_edited::{Edit, Made, are_alike, nodes};
 
 /// An edit: the bytes that it replaces, what it puts there, and the bytes of the new text that it reads.
 type Step = ((usize, usize), &'static str, (usize, usize));
@@ -25,8 +25,11 @@ fn are_of_file(alloc: Global, root: &SyntaxNode, file: Option<FileId>) -> Option
 /// Numbers that no node of a tree without numbers has.
 const UNKNOWN: [u64; 5] = [2, 3, 1000, 1 << 46, (1 << 47) - 1];
 
-/// Whether a source finds no bytes by any of these numbers.
-fn finds_none(source: &Unicode) -> Option<bool> {
+/// Whether a source knows its root by its number, or where that has none finds no bytes by a number.
+fn knows_root(source: &Unicode) -> Option<bool> {
+    if let Some(number) = source.root().span().number() {
+        return Some(source.range(number, None) == Some(0..source.text().len()));
+    }
     for number in UNKNOWN {
         if source.range(SpanNumber::new(number)?, None).is_some() {
             return Some(false);
@@ -35,20 +38,13 @@ fn finds_none(source: &Unicode) -> Option<bool> {
     Some(true)
 }
 
-/// Whether a source knows its root by its number, or where that has none finds no bytes by a number.
-fn knows_root(source: &Unicode) -> Option<bool> {
-    match source.root().span().number() {
-        Some(number) => Some(source.range(number, None) == Some(0..source.text().len())),
-        None => finds_none(source),
-    }
-}
-
 /// Whether a source of file 1 has the lines and the tree of a text, numbered in another file or in none:
 /// its root is known by its number, if it has one, and not by its span.
 fn is_foreign(alloc: Global, source: &Unicode, text: &str, file: Option<FileId>) -> Option<bool> {
     let root = source.root();
     let is_text = source.text() == text && has_lines(alloc, source.lines(), text)?;
-    let is_tree = has_tree(alloc, root, text)? && are_of_file(alloc, root, file)?;
+    let fresh = parse(alloc, text, &UnicodeClasses).ok()?;
+    let is_tree = root.spanless_eq(&fresh) && are_of_file(alloc, root, file)?;
     let is_numbered = file.is_none() || is_ordered(root);
     let is_known = knows_root(source)? && source.find(root.span()).is_none();
     Some(is_text && is_tree && is_numbered && is_known)
@@ -77,7 +73,8 @@ fn holds(
 
 /// Whether a source has the text and the tree that it was handed.
 fn is_kept(alloc: Global, source: &Unicode, text: &str, tree: &SyntaxNode) -> Option<bool> {
-    let is_tree = are_same_trees(alloc, source.root(), tree)?;
+    let is_alike = are_alike(alloc, source.root(), tree).ok()?;
+    let is_tree = is_alike && source.root().spanless_eq(tree);
     Some(is_tree && source.text() == text && has_lines(alloc, source.lines(), text)?)
 }
 
@@ -85,17 +82,16 @@ fn is_kept(alloc: Global, source: &Unicode, text: &str, tree: &SyntaxNode) -> Op
 fn is_read(
     alloc: Global,
     source: &mut Unicode,
-    (range, with, (start, end)): Step,
+    (range, with, read): Step,
     file: Option<FileId>,
 ) -> Option<bool> {
-    let new = edited(alloc, source.text(), range, with)?;
-    let read = edit(source, range, with).ok()??;
-    let is_read = read.start == start && read.end == end;
+    let edit = Edit::new(range.0, range.1, with);
+    let new = edit.applied(alloc, source.text()).ok()??;
+    let is_read = edit.make(source).ok()? == Made::Read(read.0..read.1);
     Some(is_read && is_foreign(alloc, source, new.as_str(), file)?)
 }
 
 /// A tree that is handed in.
-#[derive(Clone, Copy)]
 enum Tree {
     /// That of a text, without numbers.
     Bare,
@@ -114,7 +110,7 @@ const TEXT: &str = "abc~def~gh~";
 
 /// Without numbers no candidate can be numbered, so all is read; numbers of another file stay. A tree of another
 /// text is parsed again, and so is one with a tag that is cut.
-const CASES: [Case; 4] = [
+static CASES: [Case; 4] = [
     (
         TEXT,
         Tree::Bare,
@@ -134,11 +130,11 @@ const CASES: [Case; 4] = [
 ];
 
 /// A tree that is handed in beside a text.
-fn made(alloc: Global, text: &str, tree: Tree) -> Option<SyntaxNode> {
+fn made(alloc: Global, text: &str, tree: &Tree) -> Option<SyntaxNode> {
     match tree {
         Tree::Bare => parse(alloc, text, &UnicodeClasses).ok(),
         Tree::OfFile(file) => {
-            let (file, text) = (FileId::new(file)?, String::from_str(alloc, text).ok()?);
+            let (file, text) = (FileId::new(*file)?, String::from_str(alloc, text).ok()?);
             let source = Source::new(alloc, file, text, UnicodeClasses).ok()?;
             source.root().try_clone().ok()
         }
@@ -147,19 +143,18 @@ fn made(alloc: Global, text: &str, tree: Tree) -> Option<SyntaxNode> {
     }
 }
 
-/// Whether a source of file 1 holds a tree that is handed in.
-fn is_held(alloc: Global, (text, tree, steps): Case) -> Option<bool> {
-    let file = match tree {
-        Tree::OfFile(file) => Some(FileId::new(file)?),
-        _ => None,
-    };
-    holds(alloc, text, &made(alloc, text, tree)?, file, steps)
-}
-
 #[test]
 fn trees_that_are_handed_in_are_held(rt: HostRuntime) {
-    for case in CASES {
-        assert!(rt; is_held(rt.alloc(), case) == Some(true), "of {:?}", case.0);
+    for (text, tree, steps) in &CASES {
+        let file = match tree {
+            Tree::OfFile(file) => FileId::new(*file),
+            _ => None,
+        };
+        let tree = made(rt.alloc(), text, tree).expect(&rt, "memory");
+        assert!(rt;
+            holds(rt.alloc(), text, &tree, file, steps) == Some(true),
+            "of {text:?}"
+        );
     }
 }
 

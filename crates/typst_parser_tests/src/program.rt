@@ -1,8 +1,8 @@
 //! Runs over streams of memory.
 
-use std::alloc::{AllocError, Global};
-use typst_cli::{Failure, run};
-use typst_tests::streams::{Flush, Full, PACES, Pace, Reader, Room, Writer};
+use std::alloc::Global;
+use typst_edited::cli::{Failure, run};
+use typst_fakes::streams::{Flush, Full, PACES, Pace, Reader, Room, Writer};
 
 const USAGE: &str = "usage: typst_syn lines | tree | html | edit START END TEXT\n";
 
@@ -117,26 +117,21 @@ fn tells_of_a_write_that_fails(rt: HostRuntime) {
     assert!(rt; tells_unwritten(rt.alloc(), 1000, Flush::Fails));
 }
 
-/// Whether a text of so many letters, in a reader that fills whole buffers, is answered so.
-fn answers_long(alloc: Global, count: usize, printed: &str) -> Result<bool, AllocError> {
-    let text = "a".repeat(alloc, count)?;
-    let (input, room) = (
-        Reader::ending(text.as_bytes(), Pace::Whole),
-        Room::ample(Pace::Whole),
-    );
-    Ok(answers(alloc, &["lines"], input, room, (0, printed.as_bytes(), "")))
-}
-
+/// How many letters a text has, and what is printed.
 const LONG: [(usize, &str); 3] = [
     (8192, "0 0 0\nbytes 8192 utf16 8192 lines 1\n"),
     (100_000, "0 0 0\nbytes 100000 utf16 100000 lines 1\n"),
     (1 << 20, "0 0 0\nbytes 1048576 utf16 1048576 lines 1\n"),
 ];
 
+/// In a reader that fills whole buffers.
 #[test]
 fn reads_long_inputs(rt: HostRuntime) {
     for (count, printed) in LONG {
-        assert!(rt; answers_long(rt.alloc(), count, printed) == Ok(true));
+        let text = "a".repeat(rt.alloc(), count).expect(&rt, "memory");
+        let input = Reader::ending(text.as_bytes(), Pace::Whole);
+        let (room, answer) = (Room::ample(Pace::Whole), (0, printed.as_bytes(), ""));
+        assert!(rt; answers(rt.alloc(), &["lines"], input, room, answer));
     }
 }
 

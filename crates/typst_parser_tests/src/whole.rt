@@ -2,8 +2,8 @@
 
 use crate::sources::Unicode;
 use std::alloc::Global;
-use typst_cli::{Lines, SyntaxNode, UnicodeClasses, parse};
-use typst_edited::{Wanted, are_alike, are_same_lines, fault};
+use typst_edited::cli::{Lines, UnicodeClasses};
+use typst_edited::{Wanted, are_same_lines, fault};
 
 /// Whether the lines are those of the text, as newly made.
 pub fn has_lines(alloc: Global, lines: &Lines<String>, text: &str) -> Option<bool> {
@@ -12,24 +12,12 @@ pub fn has_lines(alloc: Global, lines: &Lines<String>, text: &str) -> Option<boo
     Some(lines.text() == fresh.text() && are_same_lines(lines, &fresh))
 }
 
-/// Whether the tree is the one of the text, spans aside; nothing where memory was refused.
-pub fn has_tree(alloc: Global, root: &SyntaxNode, text: &str) -> Option<bool> {
-    let fresh = parse(alloc, text, &UnicodeClasses).ok()?;
-    Some(root.spanless_eq(&fresh))
-}
-
 /// Whether text, lines, tree and numbers of a source are those of this text, and each node is found by its
 /// span; nothing where memory was refused.
 pub fn is_whole(alloc: Global, source: &Unicode, text: &str) -> Option<bool> {
     let wanted = Wanted::of(alloc, text, &UnicodeClasses).ok()?;
     let found = fault(alloc, source, &wanted, true).ok()?;
     Some(found.is_none())
-}
-
-/// Whether two trees are the same, spans too; nothing where memory was refused.
-pub fn are_same_trees(alloc: Global, one: &SyntaxNode, other: &SyntaxNode) -> Option<bool> {
-    let is_alike = are_alike(alloc, one, other).ok()?;
-    Some(one.spanless_eq(other) && is_alike)
 }
 
 /// Whether two sources have the same file, text, lines and tree, spans too; nothing where memory was

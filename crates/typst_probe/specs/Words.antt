@@ -2,9 +2,9 @@
 use Rattle.std.specs.Prelude.{ℕ, List, codes, Option, None, Some, option_map, if◌then◌else◌}
 use Rattle.std.specs.Str.{bytes_eq}
 use Rattle.typst_lines.specs.UnicodeTables.{unicode_classes}
-use Rattle.typst_cli.specs.Printed.{printed}
-use Rattle.typst_cli.specs.PrintedTree.{code_tree_printed, math_tree_printed}
-use Rattle.typst_cli.specs.declared.command.Command.TheVariants as command
+use Rattle.typst_edited.specs.Printed.{printed}
+use Rattle.typst_edited.specs.PrintedTree.{code_tree_printed, math_tree_printed}
+use Rattle.typst_edited.specs.Command.TheVariants as command
 use Rattle.typst_probe.specs.declared.word.Word.{Word}
 use Rattle.typst_probe.specs.declared.word.Word.TheVariants as word
 use Rattle.typst_probe.specs.declared.word.printed_word.PrintedWord.{PrintedWord}

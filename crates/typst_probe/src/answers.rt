@@ -1,34 +1,26 @@
 //! The word `edits`.
 
-use crate::spans::refusal;
+use crate::spans::print_refusal;
 use std::alloc::{AllocError, Global};
-use typst_cli::{Source, SourceError, UnicodeClasses};
+use typst_edited::cli::{Source, UnicodeClasses};
 use typst_edited::{Edit, Made, Wanted, are_same, edit_of, fault};
 use typst_rows::with_line_feeds;
 
-/// What edits of a text answer that are made one after the other: they stand on the first lines, and the
+/// Prints what edits of a text answer that are made one after the other: they stand on the first lines, and the
 /// text comes after an empty line. Each has a line with the bytes that it reads, and a line for each
 /// thing that isn't as it has to be.
-pub fn answer(alloc: Global, text: &str) -> Result<String, AllocError> {
+pub fn print(alloc: Global, printed: &mut String, text: &str) -> Result<(), AllocError> {
     let Some((edits, text)) = text.split_once("\n\n") else {
-        return String::from_str(alloc, "no text\n");
+        return printed.push_str("no text\n");
     };
-    match Source::detached(alloc, String::from_str(alloc, text)?, UnicodeClasses) {
-        Ok(mut source) => answer_all(alloc, &mut source, edits),
-        Err(error) => refusal(alloc, error),
-    }
-}
-
-fn answer_all(
-    alloc: Global,
-    source: &mut Source<UnicodeClasses>,
-    edits: &str,
-) -> Result<String, AllocError> {
-    let mut printed = String::new(alloc);
+    let mut source = match Source::detached(alloc, String::from_str(alloc, text)?, UnicodeClasses) {
+        Ok(source) => source,
+        Err(error) => return print_refusal(printed, error),
+    };
     for line in edits.split('\n') {
-        print_line(alloc, &mut printed, source, line)?;
+        print_line(alloc, printed, &mut source, line)?;
     }
-    Ok(printed)
+    Ok(())
 }
 
 /// Prints what the edit of a line answers.
@@ -96,7 +88,7 @@ fn print_replaced(
     text: &str,
     made: &Made,
 ) -> Result<(), AllocError> {
-    let by_text = replace(other, text)?;
+    let by_text = Made::of(other.replace(text))?;
     print_other(printed, "replace", made, &by_text)
 }
 
@@ -114,15 +106,6 @@ fn make_again(
         edit.make(source)
     } else {
         Ok(Made::Fault("changed"))
-    }
-}
-
-/// Replaces the text of a source.
-fn replace(source: &mut Source<UnicodeClasses>, text: &str) -> Result<Made, AllocError> {
-    match source.replace(text) {
-        Ok(read) => Ok(Made::Read(read)),
-        Err(SourceError::OutOfMemory) => Err(AllocError),
-        Err(SourceError::SpanNumbers) => Ok(Made::Fault("out of span numbers")),
     }
 }
 
@@ -149,20 +132,10 @@ fn print_faults(
     text: &str,
 ) -> Result<(), AllocError> {
     let wanted = Wanted::of(alloc, text, &UnicodeClasses)?;
-    print_fault(alloc, printed, "source", source, &wanted)?;
-    print_fault(alloc, printed, "replace", other, &wanted)
-}
-
-/// Prints what of a source isn't as it has to be.
-fn print_fault(
-    alloc: Global,
-    printed: &mut String,
-    name: &str,
-    source: &Source<UnicodeClasses>,
-    wanted: &Wanted,
-) -> Result<(), AllocError> {
-    match fault(alloc, source, wanted, true)? {
-        None => Ok(()),
-        Some(fault) => writeln!(printed, "{name}: {fault}"),
+    for (name, source) in [("source", source), ("replace", other)] {
+        if let Some(fault) = fault(alloc, source, &wanted, true)? {
+            writeln!(printed, "{name}: {fault}")?;
+        }
     }
+    Ok(())
 }

@@ -1,53 +1,38 @@
 //! The word `calls`.
 
-use crate::in_a_row::number_before;
-use crate::spans::refusal;
+use crate::spans::print_refusal;
 use std::alloc::{AllocError, Global};
 use std::cell::Cell;
-use typst_cli::SourceError;
+use typst_edited::cli::SourceError;
 use typst_edited::{Edit, Made, edit_of};
-use typst_tests::Counting;
+use typst_fakes::Counting;
 
-/// Which bytes an edit reads, and whether classes are asked at least so often when the source is made,
+/// Prints which bytes an edit reads, and whether classes are asked at least so often when the source is made,
 /// and at most so often for the edit. The first line has the two numbers and the edit's words, and the
 /// text comes after that line.
-pub fn answer(alloc: Global, text: &str) -> Result<String, AllocError> {
+pub fn print(alloc: Global, printed: &mut String, text: &str) -> Result<(), AllocError> {
     let Some((line, text)) = text.split_once('\n') else {
-        return String::from_str(alloc, "no text\n");
+        return printed.push_str("no text\n");
     };
-    match limits_of(line) {
-        Some((least, most, edit)) => counted(alloc, text, edit, least, most),
-        None => String::from_str(alloc, "no edit\n"),
+    let Some((least, most, edit)) = limits_of(line) else {
+        return printed.push_str("no edit\n");
+    };
+    let (whole, part, made) = match calls(alloc, text, edit) {
+        Ok(calls) => calls,
+        Err(error) => return print_refusal(printed, error),
+    };
+    made.print(printed)?;
+    if whole < least || most < part {
+        writeln!(printed, "{whole} calls for the source, {part} for the edit")?;
     }
+    Ok(())
 }
 
 /// The two numbers and the edit that a line names.
 fn limits_of(line: &str) -> Option<(usize, usize, Edit<'_>)> {
-    let (least, rest) = number_before(line)?;
-    let (most, rest) = number_before(rest)?;
-    Some((least, most, edit_of(rest)?))
-}
-
-fn counted(
-    alloc: Global,
-    text: &str,
-    edit: Edit<'_>,
-    least: usize,
-    most: usize,
-) -> Result<String, AllocError> {
-    let (whole, part, made) = match calls(alloc, text, edit) {
-        Ok(calls) => calls,
-        Err(error) => return refusal(alloc, error),
-    };
-    let mut printed = String::new(alloc);
-    made.print(&mut printed)?;
-    if whole < least || most < part {
-        writeln!(
-            &mut printed,
-            "{whole} calls for the source, {part} for the edit"
-        )?;
-    }
-    Ok(printed)
+    let (least, rest) = line.split_once(' ')?;
+    let (most, edit) = rest.split_once(' ')?;
+    Some((least.parse().ok()?, most.parse().ok()?, edit_of(edit)?))
 }
 
 /// How often classes are asked for a source, and for an edit of it, with what came of that.

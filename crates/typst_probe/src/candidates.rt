@@ -2,22 +2,28 @@
 
 use std::alloc::{AllocError, Global};
 use typst_candidates::{Candidate, Candidates, Records, find_candidates, fit};
-use typst_cli::{UnicodeClasses, parse_noted};
+use typst_edited::cli::{UnicodeClasses, parse_noted};
 
-/// What may be read again where a range of bytes of the text is replaced, in order. Each candidate has
+/// Prints what may be read again where a range of bytes of the text is replaced, in order. Each candidate has
 /// a line: `block`, the path to it and its bytes; or `run`, the path to the node whose children it is,
 /// their numbers, and their bytes.
-pub fn answer(alloc: Global, text: &str, start: usize, end: usize) -> Result<String, AllocError> {
+pub fn print_between(
+    alloc: Global,
+    printed: &mut String,
+    text: &str,
+    start: usize,
+    end: usize,
+) -> Result<(), AllocError> {
     if end < start || !text.is_char_boundary(start) || !text.is_char_boundary(end) {
-        return String::from_str(alloc, "bad range\n");
+        return printed.push_str("bad range\n");
     }
     let noted = parse_noted(alloc, text, &UnicodeClasses)?;
     if !fit(&noted.notes) {
-        return String::from_str(alloc, "too long\n");
+        return printed.push_str("too long\n");
     }
     let records = Records::of_notes(alloc, &noted.notes, noted.hull.least)?;
     if records.last().is_none() {
-        return String::from_str(alloc, "too long\n");
+        return printed.push_str("too long\n");
     }
     let found = find_candidates(
         alloc,
@@ -28,27 +34,26 @@ pub fn answer(alloc: Global, text: &str, start: usize, end: usize) -> Result<Str
         usize::MAX,
         usize::MAX,
     )?;
-    printed(alloc, &found)
+    print_candidates(printed, &found)
 }
 
-/// A line for each candidate.
-fn printed(alloc: Global, found: &Candidates) -> Result<String, AllocError> {
-    let mut printed = String::new(alloc);
+/// Prints a line for each candidate.
+fn print_candidates(printed: &mut String, found: &Candidates) -> Result<(), AllocError> {
     for candidate in &found.items {
-        print_candidate(&mut printed, candidate, found.path.as_slice())?;
+        print_candidate(printed, candidate, found.path.as_slice())?;
     }
-    Ok(printed)
+    Ok(())
 }
 
-/// What a row of the word is answered. Its first line has where the replaced bytes start and end, and
+/// Prints what a row of the word is answered. Its first line has where the replaced bytes start and end, and
 /// the text comes after that line.
-pub fn row_answer(alloc: Global, text: &str) -> Result<String, AllocError> {
+pub fn print(alloc: Global, printed: &mut String, text: &str) -> Result<(), AllocError> {
     let Some((words, text)) = text.split_once('\n') else {
-        return String::from_str(alloc, "no text\n");
+        return printed.push_str("no text\n");
     };
     match range_of(words) {
-        Some((start, end)) => answer(alloc, text, start, end),
-        None => String::from_str(alloc, "no range\n"),
+        Some((start, end)) => print_between(alloc, printed, text, start, end),
+        None => printed.push_str("no range\n"),
     }
 }
 

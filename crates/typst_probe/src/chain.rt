@@ -1,9 +1,9 @@
 //! The word `chain`.
 
-use crate::everywhere::fault_of_edit;
-use crate::spans::refusal;
+use crate::everywhere::fault_of_turn;
+use crate::spans::print_refusal;
 use std::alloc::{AllocError, Global};
-use typst_cli::{Command, Source, UnicodeClasses};
+use typst_edited::cli::{Command, Source, UnicodeClasses};
 use typst_edited::{Edit, Wanted};
 
 /// The name of a chain, what stands before its links, a link, and what stands after them.
@@ -36,18 +36,24 @@ struct Chain {
     links: usize,
 }
 
-/// A chain of links, whose kind and number are the text: where its lines start, how many bytes its HTML has and
-/// its tree how many nodes; and whether a source is as it has to be after a keystroke and after what takes it
+/// Prints of a chain of links, whose kind and number are the text, where its lines start, how many bytes its HTML
+/// has and its tree how many nodes; and whether a source is as it has to be after a keystroke and after what takes it
 /// back, before the first link, between two in the middle and after the last.
-pub fn answer(alloc: Global, text: &str) -> Result<String, AllocError> {
+pub fn print(alloc: Global, printed: &mut String, text: &str) -> Result<(), AllocError> {
     let Some(chain) = chain_of(text) else {
-        return String::from_str(alloc, "no chain\n");
+        return printed.push_str("no chain\n");
     };
     let text = chain.text(alloc)?;
-    let mut printed = Command::Lines.answer(alloc, text.as_str())?;
-    print_html(alloc, &mut printed, text.as_str())?;
-    print_edits(alloc, &mut printed, text.as_str(), chain)?;
-    Ok(printed)
+    print_answers(alloc, printed, text.as_str())?;
+    print_edits(alloc, printed, text.as_str(), chain)
+}
+
+/// Prints where the lines of a text start, and how many bytes its HTML has.
+fn print_answers(alloc: Global, printed: &mut String, text: &str) -> Result<(), AllocError> {
+    let lines = Command::Lines.answer(alloc, text)?;
+    printed.push_str(lines.as_str())?;
+    let bytes = Command::Html.answer(alloc, text)?.len();
+    writeln!(printed, "html {bytes}")
 }
 
 /// The chain that a text names, with so many links.
@@ -71,25 +77,10 @@ fn chain_of(text: &str) -> Option<Chain> {
 impl Chain {
     /// The text.
     fn text(self, alloc: Global) -> Result<String, AllocError> {
-        let mut text = String::from_str(alloc, self.front)?;
-        for _ in 0..self.links {
-            text.push_str(self.link)?;
-        }
-        text.push_str(self.rear)?;
-        Ok(text)
+        let (front, links) = (self.front, self.link.repeat(alloc, self.links)?);
+        let rear = self.rear;
+        format!(in alloc; "{front}{links}{rear}")
     }
-
-    /// The byte after so many links.
-    fn place(self, links: usize) -> usize {
-        let before = links.saturating_mul(self.link.len());
-        self.front.len().saturating_add(before)
-    }
-}
-
-/// Prints how many bytes the HTML of a text has.
-fn print_html(alloc: Global, printed: &mut String, text: &str) -> Result<(), AllocError> {
-    let bytes = Command::Html.answer(alloc, text)?.len();
-    writeln!(printed, "html {bytes}")
 }
 
 /// Prints how many nodes the tree of a text has, and a line for each keystroke.
@@ -101,11 +92,11 @@ fn print_edits(
 ) -> Result<(), AllocError> {
     let mut source = match Source::detached(alloc, String::from_str(alloc, text)?, UnicodeClasses) {
         Ok(source) => source,
-        Err(error) => return printed.push_str(refusal(alloc, error)?.as_str()),
+        Err(error) => return print_refusal(printed, error),
     };
     let nodes = source.root().descendants();
     writeln!(printed, "nodes {nodes}")?;
-    print_keystrokes(alloc, printed, &mut source, chain)
+    print_keystrokes(alloc, printed, &mut source, text, chain)
 }
 
 /// Prints a line for each keystroke.
@@ -113,47 +104,35 @@ fn print_keystrokes(
     alloc: Global,
     printed: &mut String,
     source: &mut Source<UnicodeClasses>,
+    text: &str,
     chain: Chain,
 ) -> Result<(), AllocError> {
-    let wanted = Wanted::of(alloc, source.text(), &UnicodeClasses)?;
+    let wanted = Wanted::of(alloc, text, &UnicodeClasses)?;
     for (name, links) in [
         ("front", 0),
         ("middle", chain.links / 2),
         ("rear", chain.links),
     ] {
-        print_keystroke(alloc, printed, source, &wanted, (name, chain.place(links)))?;
+        let before = links.saturating_mul(chain.link.len());
+        let at = chain.front.len().saturating_add(before);
+        let fault = fault_of_keystroke(alloc, source, text, at, &wanted)?;
+        let told = fault.unwrap_or("agrees");
+        writeln!(printed, "{name} {told}")?;
     }
     Ok(())
 }
 
-/// Prints what isn't as it has to be after a keystroke at a byte, and after what takes it back.
-fn print_keystroke(
+/// What isn't as it has to be after a keystroke at a byte of a text, or after what takes it back.
+fn fault_of_keystroke(
     alloc: Global,
-    printed: &mut String,
     source: &mut Source<UnicodeClasses>,
+    text: &str,
+    at: usize,
     wanted: &Wanted,
-    (name, at): (&str, usize),
-) -> Result<(), AllocError> {
-    let (typed, taken_back) = (
-        Edit::new(at, at, "x"),
-        Edit::new(at, at.saturating_add(1), ""),
-    );
-    let fault = match fault_of_typed(alloc, source, typed)? {
-        None => fault_of_edit(alloc, source, taken_back, wanted)?,
-        fault => fault,
-    };
-    let told = fault.unwrap_or("agrees");
-    writeln!(printed, "{name} {told}")
-}
-
-/// What isn't as it has to be after a keystroke.
-fn fault_of_typed(
-    alloc: Global,
-    source: &mut Source<UnicodeClasses>,
-    typed: Edit<'_>,
 ) -> Result<Option<&'static str>, AllocError> {
-    match Wanted::after(alloc, source.text(), typed, &UnicodeClasses)? {
-        Some(wanted) => fault_of_edit(alloc, source, typed, &wanted),
+    let typed = Edit::new(at, at, "x");
+    match Wanted::after(alloc, text, typed, &UnicodeClasses)? {
+        Some(then) => fault_of_turn(alloc, source, text, typed, &then, wanted),
         None => Ok(Some("bad range")),
     }
 }

@@ -2,24 +2,27 @@
 
 use std::alloc::{AllocError, Global};
 use std::str;
-use typst_cli::form::{Form, Format};
-use typst_cli::report::Report;
+use typst_edited::cli::form::{Form, Format};
+use typst_edited::cli::report::Report;
 
-/// What the checker prints about a text in a form, of a page what stands from its body on; before it a line
+/// Prints what the checker does about a text in a form, of a page what stands from its body on; before it a line
 /// where the text has no errors. The first line has the words for the form and the name of the file.
-pub fn answer(alloc: Global, text: &str) -> Result<String, AllocError> {
+pub fn print(alloc: Global, printed: &mut String, text: &str) -> Result<(), AllocError> {
     let (words, text) = text.split_once('\n').unwrap_or((text, ""));
     let (form, name) = words.split_once(' ').unwrap_or((words, ""));
     let Some(form) = form_of(form) else {
-        return String::from_str(alloc, "no form\n");
+        return printed.push_str("no form\n");
     };
     let report = Report::of_text(alloc, form, name, text)?;
-    let mut printed = String::new(alloc);
     if !report.has_errors {
         printed.push_str("no errors\n")?;
     }
-    printed.push_str(shown(form, report.printed.as_slice()))?;
-    Ok(printed)
+    let text = str::from_utf8(report.printed.as_slice()).unwrap_or("not UTF-8\n");
+    let start = match form {
+        Form::Page => text.find("<body>").unwrap_or(0),
+        _ => 0,
+    };
+    printed.push_str(text.get(start..).unwrap_or(text))
 }
 
 /// The form that a word names.
@@ -32,17 +35,5 @@ fn form_of(word: &str) -> Option<Form> {
         "tree" => Some(Form::Tree),
         "page" => Some(Form::Page),
         _ => None,
-    }
-}
-
-/// What is shown of what is printed: of a page its end, from the body on.
-fn shown(form: Form, printed: &[u8]) -> &str {
-    let text = str::from_utf8(printed).unwrap_or("not UTF-8\n");
-    if form != Form::Page {
-        return text;
-    }
-    match text.find("<body>") {
-        Some(body) => text.get(body..).unwrap_or(text),
-        None => text,
     }
 }

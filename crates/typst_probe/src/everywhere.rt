@@ -2,9 +2,9 @@
 
 use crate::spans;
 use std::alloc::{AllocError, Global};
-use typst_cli::{Classes, Source, SourceError, UnicodeClasses};
+use typst_edited::cli::{Classes, Source, SourceError, UnicodeClasses};
 use typst_edited::{Edit, Made, Wanted, fault};
-use typst_tests::{Narrow, Wide};
+use typst_fakes::{Narrow, Wide};
 
 /// What is put in at each place.
 const INSERTIONS: [&str; 21] = [
@@ -17,64 +17,65 @@ const INSERTIONS: [&str; 21] = [
 /// in: of ASCII all class values answer alike.
 const SHORT: usize = 63;
 
-/// How many edits of the text agree, each with each class value: those that put something in at a
-/// place, and those that take a character out. Or the first that doesn't agree.
-pub fn answer(alloc: Global, text: &str) -> Result<String, AllocError> {
-    let all = edits(alloc, text)?;
-    if text.len() <= SHORT {
-        return tallied(alloc, text, all.as_slice(), all.as_slice(), true);
-    }
-    let others = past_ascii(alloc, all.as_slice())?;
-    tallied(alloc, text, all.as_slice(), others.as_slice(), false)
+/// Prints how many edits of the text agree, each with each class value: those that put something in at a
+/// place, and those that take a character out. Before that the first that doesn't agree.
+pub fn print(alloc: Global, printed: &mut String, text: &str) -> Result<(), AllocError> {
+    let edits = edits(alloc, text, false)?;
+    let is_short = text.len() <= SHORT;
+    print_tally(alloc, printed, text, edits.as_slice(), is_short, is_short)
 }
 
-/// What `answer` says where two of three places have three insertions, the next ones, and not all of them: for
-/// texts in which an edit takes long.
-pub fn answer_in_turn(alloc: Global, text: &str) -> Result<String, AllocError> {
-    let all = edits_in_turn(alloc, text)?;
-    let others = past_ascii(alloc, all.as_slice())?;
-    tallied(alloc, text, all.as_slice(), others.as_slice(), false)
+/// Prints what `print` does where two of three places have three insertions, the next ones, and not all of them:
+/// for texts in which an edit takes long.
+pub fn print_in_turn(alloc: Global, printed: &mut String, text: &str) -> Result<(), AllocError> {
+    let edits = edits(alloc, text, true)?;
+    print_tally(alloc, printed, text, edits.as_slice(), false, false)
 }
 
-/// What `answer` says of all insertions at some places alone, also by edits in a row. The first line has the
-/// places, in bytes, and the text comes after that line.
-pub fn answer_at(alloc: Global, text: &str) -> Result<String, AllocError> {
+/// Prints what `print` does of all insertions at some places alone, also by edits in a row. The first line has
+/// the places, in bytes, and the text comes after that line.
+pub fn print_at(alloc: Global, printed: &mut String, text: &str) -> Result<(), AllocError> {
     let Some((places, text)) = text.split_once('\n') else {
-        return String::from_str(alloc, "no text\n");
+        return printed.push_str("no text\n");
     };
-    let all = edits_at(alloc, text, places)?;
-    let others = past_ascii(alloc, all.as_slice())?;
-    tallied(alloc, text, all.as_slice(), others.as_slice(), true)
+    let edits = edits_at(alloc, text, places)?;
+    print_tally(alloc, printed, text, edits.as_slice(), false, true)
 }
 
-/// How many edits agree of those with the classes of Unicode and of those with the two others.
-fn tallied(
+/// Prints how many edits agree: each with the classes of Unicode, and with the two others those that put in
+/// something past ASCII, or all.
+fn print_tally(
     alloc: Global,
+    printed: &mut String,
     text: &str,
-    all: &[Edit<'static>],
-    others: &[Edit<'static>],
+    edits: &[Edit<'static>],
+    all_with_others: bool,
     is_in_a_row: bool,
-) -> Result<String, AllocError> {
+) -> Result<(), AllocError> {
     let mut tally = Tally {
         agree: 0,
-        first: String::new(alloc),
+        is_wrong: false,
         is_in_a_row,
     };
-    tally.add(alloc, text, all, UnicodeClasses)?;
-    tally.add(alloc, text, others, Wide)?;
-    tally.add(alloc, text, others, Narrow)?;
-    tally.printed(alloc)
+    tally.add(alloc, printed, text, edits, true, UnicodeClasses)?;
+    tally.add(alloc, printed, text, edits, all_with_others, Wide)?;
+    tally.add(alloc, printed, text, edits, all_with_others, Narrow)?;
+    let agree = tally.agree;
+    writeln!(printed, "{agree} edits agree")
 }
 
-/// The edits of a text: at each place each insertion, and the character after it taken out.
-fn edits(alloc: Global, text: &str) -> Result<Vec<Edit<'static>>, AllocError> {
+/// The edits of a text: at each place each insertion, or, in turn, at every third place each of them and at the
+/// others the next three; and the character after it taken out.
+fn edits(alloc: Global, text: &str, is_in_turn: bool) -> Result<Vec<Edit<'static>>, AllocError> {
     let mut edits = Vec::new(alloc);
+    let mut place = 0usize;
     for (start, character) in text.char_indices() {
-        insert(&mut edits, start)?;
+        insert(&mut edits, start, place)?;
         let end = start.saturating_add(character.len_utf8());
         edits.push(Edit::new(start, end, ""))?;
+        place = place.saturating_add(usize::from(is_in_turn));
     }
-    insert(&mut edits, text.len())?;
+    insert(&mut edits, text.len(), place)?;
     Ok(edits)
 }
 
@@ -83,7 +84,7 @@ fn edits_at(alloc: Global, text: &str, places: &str) -> Result<Vec<Edit<'static>
     let mut edits = Vec::new(alloc);
     for place in places.split(' ') {
         let at: usize = place.parse().unwrap_or(0);
-        insert(&mut edits, at)?;
+        insert(&mut edits, at, 0)?;
         if let Some(character) = text.get(at..).unwrap_or("").chars().next() {
             let end = at.saturating_add(character.len_utf8());
             edits.push(Edit::new(at, end, ""))?;
@@ -92,74 +93,46 @@ fn edits_at(alloc: Global, text: &str, places: &str) -> Result<Vec<Edit<'static>
     Ok(edits)
 }
 
-/// Adds the edits that put something in at a byte.
-fn insert(edits: &mut Vec<Edit<'static>>, at: usize) -> Result<(), AllocError> {
-    for with in &INSERTIONS {
-        edits.push(Edit::new(at, at, *with))?;
-    }
-    Ok(())
-}
-
-/// The edits of a text: at every third place each of the insertions, at the others the next three, and the
-/// character after it taken out.
-fn edits_in_turn(alloc: Global, text: &str) -> Result<Vec<Edit<'static>>, AllocError> {
-    let mut edits = Vec::new(alloc);
-    let mut place = 0usize;
-    for (start, character) in text.char_indices() {
-        insert_next(&mut edits, start, place)?;
-        let end = start.saturating_add(character.len_utf8());
-        edits.push(Edit::new(start, end, ""))?;
-        place = place.saturating_add(1);
-    }
-    insert_next(&mut edits, text.len(), place)?;
-    Ok(edits)
-}
-
-/// Adds the edits that put something in at a byte, which is the place of this number.
-fn insert_next(edits: &mut Vec<Edit<'static>>, at: usize, place: usize) -> Result<(), AllocError> {
-    if place % 3 == 0 {
-        return insert(edits, at);
-    }
-    for with in INSERTIONS.iter().skip(place % 7 * 3).take(3) {
-        edits.push(Edit::new(at, at, *with))?;
-    }
-    Ok(())
-}
-
-/// Those of the edits that put something past ASCII in.
-fn past_ascii(alloc: Global, edits: &[Edit<'static>]) -> Result<Vec<Edit<'static>>, AllocError> {
-    let mut past = Vec::new(alloc);
-    for edit in edits {
-        if !edit.is_ascii() {
-            past.push(*edit)?;
+/// Adds the edits that put something in at a byte, which is the place of this number: at every third place each
+/// insertion, at the others the next three.
+fn insert(edits: &mut Vec<Edit<'static>>, at: usize, place: usize) -> Result<(), AllocError> {
+    for (number, with) in INSERTIONS.iter().enumerate() {
+        if place % 3 == 0 || number / 3 == place % 7 {
+            edits.push(Edit::new(at, at, *with))?;
         }
     }
-    Ok(past)
+    Ok(())
 }
 
-/// How many edits agree, and the line of the first that doesn't, or nothing.
+/// How many edits agree, and whether one doesn't.
 #[derive(Drop)]
 struct Tally {
     agree: u64,
-    first: String,
+    is_wrong: bool,
     /// Whether edits are made in a row, too.
     is_in_a_row: bool,
 }
 
 impl Tally {
-    /// Makes edits of a text, until one doesn't agree.
+    /// Makes edits of a text, until one doesn't agree, which is printed: those that put in something past ASCII,
+    /// or all.
     fn add<C: Classes + Copy + Drop>(
         &mut self,
         alloc: Global,
+        printed: &mut String,
         text: &str,
         edits: &[Edit<'static>],
+        makes_all: bool,
         classes: C,
     ) -> Result<(), AllocError> {
+        if self.is_wrong {
+            return Ok(());
+        }
         match Trial::new(alloc, text, classes, self.is_in_a_row) {
-            Ok(mut trial) => self.go(alloc, &mut trial, edits),
+            Ok(mut trial) => self.go(alloc, printed, &mut trial, edits, makes_all),
             Err(error) => {
-                self.first = spans::refusal(alloc, error)?;
-                Ok(())
+                self.is_wrong = true;
+                spans::print_refusal(printed, error)
             }
         }
     }
@@ -167,27 +140,25 @@ impl Tally {
     fn go<C: Classes + Copy + Drop>(
         &mut self,
         alloc: Global,
+        printed: &mut String,
         trial: &mut Trial<'_, C>,
         edits: &[Edit<'static>],
+        makes_all: bool,
     ) -> Result<(), AllocError> {
         for edit in edits {
-            if !self.first.as_str().is_empty() {
-                return Ok(());
+            if edit.is_ascii() && !makes_all {
+                continue;
             }
             match trial.fault(alloc, *edit)? {
                 None => self.agree = self.agree.saturating_add(1),
                 Some(fault) => {
-                    edit.print(&mut self.first)?;
-                    writeln!(&mut self.first, ": {fault}")?;
+                    self.is_wrong = true;
+                    edit.print(printed)?;
+                    return writeln!(printed, ": {fault}");
                 }
             }
         }
         Ok(())
-    }
-
-    fn printed(self, alloc: Global) -> Result<String, AllocError> {
-        let Tally { agree, first, .. } = self;
-        format!(in alloc; "{first}{agree} edits agree\n")
     }
 }
 
@@ -241,7 +212,16 @@ impl<'a, C: Classes + Copy + Drop> Trial<'a, C> {
             return Ok(Some("bad range"));
         };
         match self.fault_of_fresh(alloc, edit, &wanted)? {
-            None if self.is_in_a_row => self.fault_of_used(alloc, edit, &wanted),
+            None if self.is_in_a_row => {
+                fault_of_turn(
+                    alloc,
+                    &mut self.used,
+                    self.text,
+                    edit,
+                    &wanted,
+                    &self.wanted,
+                )
+            }
             fault => Ok(fault),
         }
     }
@@ -256,23 +236,26 @@ impl<'a, C: Classes + Copy + Drop> Trial<'a, C> {
         let mut fresh = self.fresh.try_clone()?;
         fault_of_edit(alloc, &mut fresh, edit, wanted)
     }
+}
 
-    /// What isn't as it has to be after an edit of the source that is edited in a row, or once it is taken back.
-    fn fault_of_used(
-        &mut self,
-        alloc: Global,
-        edit: Edit<'static>,
-        wanted: &Wanted,
-    ) -> Result<Option<&'static str>, AllocError> {
-        match fault_of_edit(alloc, &mut self.used, edit, wanted)? {
-            None => fault_of_edit(alloc, &mut self.used, edit.undone(self.text), &self.wanted),
-            fault => Ok(fault),
-        }
+/// What isn't as it has to be after an edit of a source of a text, or once it is taken back: what sources are to
+/// hold then, and what they are to hold now.
+pub fn fault_of_turn<'a, C: Classes>(
+    alloc: Global,
+    source: &mut Source<C>,
+    text: &'a str,
+    edit: Edit<'a>,
+    then: &Wanted,
+    now: &Wanted,
+) -> Result<Option<&'static str>, AllocError> {
+    match fault_of_edit(alloc, source, edit, then)? {
+        None => fault_of_edit(alloc, source, edit.undone(text), now),
+        fault => Ok(fault),
     }
 }
 
 /// What isn't as it has to be after an edit.
-pub fn fault_of_edit<C: Classes>(
+fn fault_of_edit<C: Classes>(
     alloc: Global,
     source: &mut Source<C>,
     edit: Edit<'_>,

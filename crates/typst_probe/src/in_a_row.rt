@@ -1,25 +1,25 @@
 //! The word `in-a-row`.
 
-use crate::spans::refusal;
+use crate::spans::print_refusal;
 use std::alloc::{AllocError, Global};
-use typst_cli::{Source, SourceError, UnicodeClasses};
+use typst_edited::cli::{Source, SourceError, UnicodeClasses};
 use typst_edited::{Draws, Edit, Made, Wanted, fault};
 use typst_rows::with_line_feeds;
 
-/// How many edits agree that are drawn and made of one source, one after the other. The first line has
+/// Prints how many edits agree that are drawn and made of one source, one after the other. The first line has
 /// their numbers (`Numbers`), the second one what they put in, with `|` between, and the text comes
 /// after it. The first edit that doesn't agree has a line before that of the number.
-pub fn answer(alloc: Global, text: &str) -> Result<String, AllocError> {
+pub fn print(alloc: Global, printed: &mut String, text: &str) -> Result<(), AllocError> {
     let Some((numbers, rest)) = text.split_once('\n') else {
-        return String::from_str(alloc, "no numbers\n");
+        return printed.push_str("no numbers\n");
     };
     let (Some(numbers), Some((pieces, text))) = (Numbers::of(numbers), rest.split_once('\n')) else {
-        return String::from_str(alloc, "no pieces\n");
+        return printed.push_str("no pieces\n");
     };
     let pieces = with_line_feeds(alloc, pieces)?;
     match Source::detached(alloc, String::from_str(alloc, text)?, UnicodeClasses) {
-        Ok(mut source) => numbers.go(alloc, &mut source, pieces.as_str()),
-        Err(error) => refusal(alloc, error),
+        Ok(mut source) => numbers.go(alloc, printed, &mut source, pieces.as_str()),
+        Err(error) => print_refusal(printed, error),
     }
 }
 
@@ -59,20 +59,19 @@ impl Numbers {
     fn go(
         self,
         alloc: Global,
+        printed: &mut String,
         source: &mut Source<UnicodeClasses>,
         pieces: &str,
-    ) -> Result<String, AllocError> {
+    ) -> Result<(), AllocError> {
         let mut draws = Draws::new(self.first);
-        let mut printed = String::new(alloc);
+        let mut agree = self.count;
         for done in 0..self.count {
-            if !self.agrees(alloc, &mut printed, source, &mut draws, pieces)? {
-                writeln!(&mut printed, "{done} edits agree")?;
-                return Ok(printed);
+            if !self.agrees(alloc, printed, source, &mut draws, pieces)? {
+                agree = done;
+                break;
             }
         }
-        let count = self.count;
-        writeln!(&mut printed, "{count} edits agree")?;
-        Ok(printed)
+        writeln!(printed, "{agree} edits agree")
     }
 
     /// Makes the next edit of a source, and prints it where it doesn't agree.
@@ -85,7 +84,10 @@ impl Numbers {
         pieces: &str,
     ) -> Result<bool, AllocError> {
         let text = String::from_str(alloc, source.text())?;
-        let edit = self.edit(draws, text.as_str(), pieces);
+        let rear = text.len().saturating_sub(self.rear);
+        let (start, end) = draws.range(text.as_str(), self.front, rear, self.width);
+        let piece = draws.below(pieces.split('|').count());
+        let edit = Edit::new(start, end, pieces.split('|').nth(piece).unwrap_or(""));
         let Some(fault) = fault_of_edit(alloc, source, text.as_str(), edit)? else {
             return Ok(true);
         };
@@ -93,20 +95,6 @@ impl Numbers {
         writeln!(printed, ": {fault}")?;
         Ok(false)
     }
-
-    /// The next edit of a text.
-    fn edit<'p>(self, draws: &mut Draws, text: &str, pieces: &'p str) -> Edit<'p> {
-        let rear = text.len().saturating_sub(self.rear);
-        let (start, end) = draws.range(text, self.front, rear, self.width);
-        let piece = draws.below(pieces.split('|').count());
-        Edit::new(start, end, pieces.split('|').nth(piece).unwrap_or(""))
-    }
-}
-
-/// The number that a line begins with, and what stands after the space that follows it.
-pub fn number_before(line: &str) -> Option<(usize, &str)> {
-    let (number, rest) = line.split_once(' ')?;
-    Some((number.parse().ok()?, rest))
 }
 
 /// What isn't as it has to be after an edit of a source with this text: what it answers is what a source

@@ -69,8 +69,9 @@ fn run(rt: &HostRuntime, alloc: Global) -> anyhow::Result<u8> {
 /// Prints the tree of the text on standard input after an edit.
 fn show_edit(rt: &HostRuntime, alloc: Global, edit: Edit<'_>) -> anyhow::Result<u8> {
     let text = io::read_to_string(alloc, rt.reader())?;
-    let answer = edits::spans_after(alloc, text.as_str(), edit)?;
-    print!(rt; "{answer}")?;
+    let mut printed = String::new(alloc);
+    edits::print_spans_after(alloc, &mut printed, text.as_str(), edit)?;
+    print!(rt; "{printed}")?;
     Ok(0)
 }
 
@@ -82,7 +83,8 @@ fn show_candidates(
     end: usize,
 ) -> anyhow::Result<u8> {
     let text = io::read_to_string(alloc, rt.reader())?;
-    let answer = candidates::answer(alloc, text.as_str(), start, end)?;
-    print!(rt; "{answer}")?;
+    let mut printed = String::new(alloc);
+    candidates::print_between(alloc, &mut printed, text.as_str(), start, end)?;
+    print!(rt; "{printed}")?;
     Ok(0)
 }

@@ -3,11 +3,11 @@
 
 use std::alloc::{AllocError, Global};
 use std::cell::Cell;
-use typst_cli::tree::{print_errors, variant_name};
-use typst_cli::{
+use typst_edited::cli::tree::{print_errors, variant_name};
+use typst_edited::cli::{
     Classes, SyntaxMode, SyntaxNode, UnicodeClasses, parse, parse_code, parse_math, parse_noted,
 };
-use typst_tests::Counting;
+use typst_fakes::Counting;
 
 /// A text that is read in a mode.
 #[derive(Clone, Copy)]
@@ -46,49 +46,26 @@ impl<'a> Moded<'a> {
     }
 }
 
-/// The leaves that show how deep the tree goes: the last, those that are children of the root, and those with
-/// an error of too great a depth. Each has a line: how many steps it is below the root, its text, and the
+/// Prints the leaves that show how deep the tree goes: the last, those that are children of the root, and those
+/// with an error of too great a depth. Each has a line: how many steps it is below the root, its text, and the
 /// messages of its errors.
-pub fn depths(alloc: Global, text: &str) -> Result<String, AllocError> {
+pub fn print_depths(alloc: Global, printed: &mut String, text: &str) -> Result<(), AllocError> {
     let root = Moded::of(text).tree(alloc, &UnicodeClasses)?;
-    let mut printed = String::new(alloc);
-    let mut left = Vec::new(alloc);
-    left.push((&root, 0usize))?;
-    for _ in 0..root.descendants() {
-        print_next(&mut printed, &mut left)?;
-    }
-    Ok(printed)
-}
-
-/// Takes the next of the nodes that are left, each with its steps below the root, leaves its children, and
-/// prints it if it shows how deep the tree goes.
-fn print_next<'a>(
-    printed: &mut String,
-    left: &mut Vec<(&'a SyntaxNode, usize)>,
-) -> Result<(), AllocError> {
-    let Some((node, steps)) = left.pop() else {
-        return Ok(());
-    };
-    if node.children().is_empty() {
-        let is_shown = steps == 1 || left.is_empty() || is_too_deep(node);
-        return if is_shown {
-            print_leaf(printed, node, steps)
-        } else {
-            Ok(())
-        };
-    }
-    for child in node.children().iter().rev() {
-        left.push((child, steps.saturating_add(1)))?;
+    let mut walk = root.preorder(alloc);
+    for after in (0..root.descendants()).rev() {
+        if let Some(visit) = walk.next()? {
+            let (node, steps) = (visit.node, visit.depth);
+            let is_too_deep = match node.diagnostics() {
+                [error] => error.message() == "maximum parsing depth exceeded",
+                _ => false,
+            };
+            let is_shown = steps == 1 || after == 0 || is_too_deep;
+            if is_shown && node.children().is_empty() {
+                print_leaf(printed, node, steps)?;
+            }
+        }
     }
     Ok(())
-}
-
-/// Whether a node has the error of too great a depth.
-fn is_too_deep(node: &SyntaxNode) -> bool {
-    match node.diagnostics() {
-        [error] => error.message() == "maximum parsing depth exceeded",
-        _ => false,
-    }
 }
 
 /// Prints the line of a leaf that is a given number of steps below the root.
@@ -99,44 +76,47 @@ fn print_leaf(printed: &mut String, leaf: &SyntaxNode, steps: usize) -> Result<(
     printed.push_str("\n")
 }
 
-/// The leaves of the tree, a line for each, and one for several in a row that are alike: how many they are,
+/// Prints the leaves of the tree, a line for each, and one for several in a row that are alike: how many they are,
 /// their kind, their text, and the messages of their errors.
-pub fn leaves(alloc: Global, text: &str) -> Result<String, AllocError> {
+pub fn print_leaves(alloc: Global, printed: &mut String, text: &str) -> Result<(), AllocError> {
     let root = Moded::of(text).tree(alloc, &UnicodeClasses)?;
     let mut alike = Alike {
-        printed: String::new(alloc),
         line: String::new(alloc),
         count: 0,
     };
     let mut walk = root.preorder(alloc);
     for _ in 0..root.descendants() {
         if let Some(visit) = walk.next()? {
-            alike.take(alloc, visit.node)?;
+            alike.take(alloc, printed, visit.node)?;
         }
     }
-    alike.end()?;
-    Ok(alike.printed)
+    alike.end(printed)
 }
 
 /// Leaves in a row that are alike.
 #[derive(Drop)]
 struct Alike {
-    /// The lines of the leaves before them.
-    printed: String,
-    /// Their line, except for the count.
+    /// Their line, except for the count: their kind, their text, and the messages of their errors.
     line: String,
     count: usize,
 }
 
 impl Alike {
-    /// Takes the next node, which counts where it is a leaf.
-    fn take(&mut self, alloc: Global, node: &SyntaxNode) -> Result<(), AllocError> {
+    /// Takes the next node, which counts where it is a leaf. Prints the line of those before it that it isn't like.
+    fn take(
+        &mut self,
+        alloc: Global,
+        printed: &mut String,
+        node: &SyntaxNode,
+    ) -> Result<(), AllocError> {
         if node.is_inner() {
             return Ok(());
         }
-        let line = line_of_leaf(alloc, node)?;
+        let (name, text) = (variant_name(node.kind()), node.leaf_text());
+        let mut line = format!(in alloc; "{name} {text:?}")?;
+        print_errors(&mut line, node.diagnostics())?;
         if line.as_str() != self.line.as_str() {
-            self.end()?;
+            self.end(printed)?;
             self.line = line;
             self.count = 0;
         }
@@ -145,54 +125,45 @@ impl Alike {
     }
 
     /// Prints their line, where there are any.
-    fn end(&mut self) -> Result<(), AllocError> {
-        let count = self.count;
+    fn end(&self, printed: &mut String) -> Result<(), AllocError> {
+        let (count, line) = (self.count, self.line.as_str());
         if count == 0 {
             return Ok(());
         }
-        let line = self.line.as_str();
-        writeln!(&mut self.printed, "{count} {line}")
+        writeln!(printed, "{count} {line}")
     }
 }
 
-/// The line of a leaf: its kind, its text, and the messages of its errors.
-fn line_of_leaf(alloc: Global, leaf: &SyntaxNode) -> Result<String, AllocError> {
-    let (name, text) = (variant_name(leaf.kind()), leaf.leaf_text());
-    let mut line = format!(in alloc; "{name} {text:?}")?;
-    print_errors(&mut line, leaf.diagnostics())?;
-    Ok(line)
-}
-
-/// How many nodes the tree of the whole text has.
-pub fn size(alloc: Global, text: &str) -> Result<String, AllocError> {
+/// Prints how many nodes the tree of the whole text has.
+pub fn print_size(alloc: Global, printed: &mut String, text: &str) -> Result<(), AllocError> {
     let moded = Moded::of(text);
     let root = moded.tree(alloc, &UnicodeClasses)?;
     if root.len() != moded.text.len() {
-        return String::from_str(alloc, "another length\n");
+        return printed.push_str("another length\n");
     }
     let nodes = root.descendants();
-    format!(in alloc; "{nodes} nodes\n")
+    writeln!(printed, "{nodes} nodes")
 }
 
-/// How many nodes the tree has, read with classes that count how often they are asked. The second line of the
-/// text has how often that is at least and at most, and the text comes after it.
-pub fn asked(alloc: Global, text: &str) -> Result<String, AllocError> {
+/// Prints how many nodes the tree has, read with classes that count how often they are asked. The second line of
+/// the text has how often that is at least and at most, and the text comes after it.
+pub fn print_asked(alloc: Global, printed: &mut String, text: &str) -> Result<(), AllocError> {
     let Moded { mode, text } = Moded::of(text);
     let Some((line, text)) = text.split_once('\n') else {
-        return String::from_str(alloc, "no text\n");
+        return printed.push_str("no text\n");
     };
     let moded = Moded { mode, text };
     let calls = Cell::new(0);
     let counted = moded.tree(alloc, &Counting { calls: &calls })?;
     if !lies_within(calls.get(), line) {
         let calls = calls.get();
-        return format!(in alloc; "{calls} calls\n");
+        return writeln!(printed, "{calls} calls");
     }
     if !counted.spanless_eq(&moded.tree(alloc, &UnicodeClasses)?) {
-        return String::from_str(alloc, "another tree\n");
+        return printed.push_str("another tree\n");
     }
     let nodes = counted.descendants();
-    format!(in alloc; "{nodes} nodes\n")
+    writeln!(printed, "{nodes} nodes")
 }
 
 /// Whether a number is none of those below the first one of a line, or above the second one.
@@ -206,21 +177,18 @@ fn lies_within(number: usize, line: &str) -> bool {
     }
 }
 
-/// Whether the text is read as the same tree twice, and beside its notes where it is markup. What is refused
-/// memory is done again.
-pub fn again(alloc: Global, text: &str) -> Result<String, AllocError> {
+/// Prints whether the text is read as the same tree twice, and beside its notes where it is markup. What is
+/// refused memory is done again.
+pub fn print_again(alloc: Global, printed: &mut String, text: &str) -> Result<(), AllocError> {
     let moded = Moded::of(text);
     let (tree, other) = (moded.tree_again(alloc)?, moded.tree_again(alloc)?);
     let is_same = tree.len() == moded.text.len() && tree.spanless_eq(&other);
     let is_noted = moded.mode != SyntaxMode::Markup || is_noted(alloc, moded.text, &tree)?;
-    String::from_str(
-        alloc,
-        if is_same && is_noted {
-            "the same tree\n"
-        } else {
-            "another tree\n"
-        },
-    )
+    printed.push_str(if is_same && is_noted {
+        "the same tree\n"
+    } else {
+        "another tree\n"
+    })
 }
 
 /// Whether this tree stands beside the notes of a text.

@@ -1,23 +1,21 @@
 //! The word `notes`.
 
 use std::alloc::{AllocError, Global};
-use typst_cli::{Block, Mark, Note, UnicodeClasses, parse_noted};
+use typst_edited::cli::{Block, Mark, Note, UnicodeClasses, parse_noted};
 
-/// What is noted in reading the text as markup. Each note has a line: what begins or ends, the bytes
+/// Prints what is noted in reading the text as markup. Each note has a line: what begins or ends, the bytes
 /// at which the trivia before it begin and end, how many levels are left, where all looks before it
 /// end, which is the greatest that the notes up to it say, and where those since the note before it
 /// begin. A last line has the same two of the whole text.
-pub fn answer(alloc: Global, text: &str) -> Result<String, AllocError> {
+pub fn print(alloc: Global, printed: &mut String, text: &str) -> Result<(), AllocError> {
     let noted = parse_noted(alloc, text, &UnicodeClasses)?;
-    let mut printed = String::new(alloc);
     let mut reach = 0;
     for note in &noted.notes {
         reach = note.reach.max(reach);
-        print_note(&mut printed, note, reach)?;
+        print_note(printed, note, reach)?;
     }
     printed.push_str("End")?;
-    print_looks(&mut printed, noted.hull.reach.max(reach), noted.hull.least)?;
-    Ok(printed)
+    print_looks(printed, noted.hull.reach.max(reach), noted.hull.least)
 }
 
 /// Prints the line of a note, with where all looks before it end.

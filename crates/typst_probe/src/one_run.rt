@@ -2,36 +2,35 @@
 
 use std::alloc::{AllocError, Global};
 use std::str;
-use typst_cli::run;
+use typst_edited::cli::run;
 use typst_rows::with_line_feeds;
 
-/// What a run of the program `typst_syn` comes to: its status, and what it writes to its output and to its
+/// Prints what a run of the program `typst_syn` comes to: its status, and what it writes to its output and to its
 /// errors, where that is anything. The first line has the program's words with a space between two, and the
 /// text, which is its input, comes after that line.
-pub fn answer(alloc: Global, text: &str) -> Result<String, AllocError> {
+pub fn print(alloc: Global, printed: &mut String, text: &str) -> Result<(), AllocError> {
     let (line, text) = text.split_once('\n').unwrap_or((text, ""));
     let line = with_line_feeds(alloc, line)?;
     let mut words = Vec::new(alloc);
     for word in line.as_str().split(' ') {
         words.push(word)?;
     }
-    ran(alloc, words.as_slice(), text)
+    print_run(alloc, printed, words.as_slice(), text)
 }
 
-/// What the run with these words comes to.
-fn ran(alloc: Global, words: &[&str], text: &str) -> Result<String, AllocError> {
+/// Prints what the run with these words comes to.
+fn print_run(
+    alloc: Global,
+    printed: &mut String,
+    words: &[&str],
+    text: &str,
+) -> Result<(), AllocError> {
     let mut input = text.as_bytes();
     let (mut output, mut errors) = (Vec::new(alloc), Vec::new(alloc));
     let status = run(alloc, words, &mut input, &mut output, &mut errors);
-    printed(alloc, status, output.as_slice(), errors.as_slice())
-}
-
-/// The lines of a run.
-fn printed(alloc: Global, status: u8, output: &[u8], errors: &[u8]) -> Result<String, AllocError> {
-    let mut printed = format!(in alloc; "status {status}\n")?;
-    print_part(&mut printed, "output", output)?;
-    print_part(&mut printed, "errors", errors)?;
-    Ok(printed)
+    writeln!(printed, "status {status}")?;
+    print_part(printed, "output", output.as_slice())?;
+    print_part(printed, "errors", errors.as_slice())
 }
 
 /// Prints what was written, below its name, where that is anything.

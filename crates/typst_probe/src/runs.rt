@@ -1,21 +1,22 @@
 //! The word `runs`.
 
 use std::alloc::{AllocError, Global};
-use typst_cli::{Command, SourceError, UnicodeClasses, run, tree};
+use typst_edited::cli::{Command, SourceError, UnicodeClasses, run, tree};
 use typst_edited::{Edit, boundary};
 
-const WORDS: [(&str, Command); 3] = [
+static WORDS: [(&str, Command); 3] = [
     ("lines", Command::Lines),
     ("tree", Command::Tree),
     ("html", Command::Html),
 ];
 
-/// How many runs of the program `typst_syn` agree: one for each word about the text, and three that put
+/// Prints how many runs of the program `typst_syn` agree: one for each word about the text, and three that put
 /// an `a` in at its start, in its middle and at its end.
-pub fn answer(alloc: Global, text: &str) -> Result<String, AllocError> {
+pub fn print(alloc: Global, printed: &mut String, text: &str) -> Result<(), AllocError> {
     let mut agree = 0u64;
     for (word, command) in &WORDS {
-        if agrees_on_word(alloc, text, word, *command)? {
+        let wanted = command.answer(alloc, text)?;
+        if agrees(alloc, text, &[*word], wanted.as_str())? {
             agree = agree.saturating_add(1);
         }
     }
@@ -24,18 +25,7 @@ pub fn answer(alloc: Global, text: &str) -> Result<String, AllocError> {
             agree = agree.saturating_add(1);
         }
     }
-    format!(in alloc; "{agree} runs agree\n")
-}
-
-/// Whether the run of a word agrees.
-fn agrees_on_word(
-    alloc: Global,
-    text: &str,
-    word: &str,
-    command: Command,
-) -> Result<bool, AllocError> {
-    let wanted = command.answer(alloc, text)?;
-    agrees(alloc, text, &[word], wanted.as_str())
+    writeln!(printed, "{agree} runs agree")
 }
 
 /// Whether the run agrees that puts an `a` in at a byte.

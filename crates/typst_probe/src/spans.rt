@@ -1,66 +1,59 @@
 //! The word `spans`.
 
 use std::alloc::{AllocError, Global};
-use typst_cli::tree::{print_errors, print_remarks, variant_name};
-use typst_cli::{LinkedNode, Source, SourceError, SyntaxNode, UnicodeClasses};
+use typst_edited::cli::tree::{print_errors, print_remarks, variant_name};
+use typst_edited::cli::{Source, SourceError, SyntaxNode, UnicodeClasses};
 
-/// The syntax tree of the text as markup, as a source holds it: printed as a tree, with `@` and the
-/// number of each node after its range. Where no source can be made, nothing but the reason.
-pub fn answer(alloc: Global, text: &str) -> Result<String, AllocError> {
+/// Prints the syntax tree of the text as markup, as a source holds it: as a tree, with `@` and the number of
+/// each node after its range. Where no source can be made, nothing but the reason.
+pub fn print(alloc: Global, printed: &mut String, text: &str) -> Result<(), AllocError> {
     match Source::detached(alloc, String::from_str(alloc, text)?, UnicodeClasses) {
-        Ok(source) => tree(alloc, source.root()),
-        Err(error) => refusal(alloc, error),
+        Ok(source) => print_tree(alloc, printed, source.root()),
+        Err(error) => print_refusal(printed, error),
     }
 }
 
-/// The line that says why a source can't be made or edited.
-pub fn refusal(alloc: Global, error: SourceError) -> Result<String, AllocError> {
+/// Prints why a source can't be made or edited, unless memory was refused.
+pub fn print_refusal(printed: &mut String, error: SourceError) -> Result<(), AllocError> {
     match error {
         SourceError::OutOfMemory => Err(AllocError),
-        SourceError::SpanNumbers => String::from_str(alloc, "out of span numbers\n"),
+        SourceError::SpanNumbers => printed.push_str("out of span numbers\n"),
     }
 }
 
-/// A tree with the number of each node. A tree with more nodes than can be counted is refused.
-pub fn tree(alloc: Global, root: &SyntaxNode) -> Result<String, AllocError> {
-    if root.descendants() == usize::MAX {
-        return Err(AllocError);
-    }
-    let mut printed = String::new(alloc);
-    print_node(alloc, &mut printed, LinkedNode::new(root), "")?;
-    Ok(printed)
-}
-
-/// Prints a node and all below it.
-fn print_node(
+/// Prints a tree with the number of each node.
+pub fn print_tree(
     alloc: Global,
     printed: &mut String,
-    node: LinkedNode<'_>,
-    indent: &str,
+    root: &SyntaxNode,
 ) -> Result<(), AllocError> {
-    let deeper = format!(in alloc; "{indent}  ")?;
-    print_own(printed, node, indent, deeper.as_str())?;
-    for child in node.children() {
-        print_node(alloc, printed, child, deeper.as_str())?;
+    let mut walk = root.preorder(alloc);
+    for _ in 0..root.descendants() {
+        if let Some(visit) = walk.next()? {
+            print_node(alloc, printed, visit.node, visit.offset, visit.depth)?;
+        }
     }
     Ok(())
 }
 
-/// Prints the line of a node, and below it, deeper, its warnings and hints.
-fn print_own(
+/// Prints the line of a node that begins at a byte, a number of levels below the root, and below it, deeper, its
+/// warnings and hints.
+fn print_node(
+    alloc: Global,
     printed: &mut String,
-    node: LinkedNode<'_>,
-    indent: &str,
-    deeper: &str,
+    node: &SyntaxNode,
+    start: usize,
+    depth: usize,
 ) -> Result<(), AllocError> {
-    let (name, range) = (variant_name(node.kind()), node.range());
-    let (start, end) = (range.start, range.end);
+    let deeper = "  ".repeat(alloc, depth.saturating_add(1))?;
+    let indent = deeper.as_str().strip_prefix("  ").unwrap_or("");
+    let (name, end) = (variant_name(node.kind()), start.saturating_add(node.len()));
     write!(printed, "{indent}{name} {start}..{end}")?;
-    if let Some(number) = node.get().span().number() {
+    if let Some(number) = node.span().number() {
         let number = number.get();
         write!(printed, " @{number}")?;
     }
-    print_errors(printed, node.get().diagnostics())?;
+    print_errors(printed, node.diagnostics())?;
     printed.push_str("\n")?;
-    print_remarks(printed, node.get().diagnostics(), deeper)
+    print_remarks(printed, node.diagnostics(), deeper.as_str())
 }

@@ -1,21 +1,20 @@
 //! The word `stretches`.
 
 use std::alloc::{AllocError, Global};
-use typst_cli::SubRange;
+use typst_edited::cli::SubRange;
 use typst_lexer::raw_node;
 
-/// A line for each warning of the raw text, and for each of its hints after it: the bytes that it is
+/// Prints a line for each warning of the raw text, and for each of its hints after it: the bytes that it is
 /// about, or `all` where it is about the whole text.
-pub fn answer(alloc: Global, text: &str) -> Result<String, AllocError> {
+pub fn print(alloc: Global, printed: &mut String, text: &str) -> Result<(), AllocError> {
     let node = raw_node(alloc, text)?;
-    let mut printed = String::new(alloc);
     for warning in node.diagnostics() {
-        print_stretch(&mut printed, "warning", warning.sub_range())?;
+        print_stretch(printed, "warning", warning.sub_range())?;
         for hint in warning.hints() {
-            print_stretch(&mut printed, "hint", hint.sub_range())?;
+            print_stretch(printed, "hint", hint.sub_range())?;
         }
     }
-    Ok(printed)
+    Ok(())
 }
 
 fn print_stretch(

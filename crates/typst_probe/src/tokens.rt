@@ -1,30 +1,30 @@
 //! The words `tokens`, `tokens-code` and `tokens-math`.
 
 use std::alloc::{AllocError, Global};
-use typst_cli::tree::{print_head, variant_name};
-use typst_cli::{Classes, SyntaxMode, UnicodeClasses};
+use typst_edited::cli::tree::{print_head, variant_name};
+use typst_edited::cli::{Classes, SyntaxMode, UnicodeClasses};
 use typst_lexer::{Lexer, make_node};
 use typst_tokens::Token;
 
-/// The tokens of the text in a mode. Each has a line with its kind, its range in bytes and, for an
+/// Prints the tokens of the text in a mode. Each has a line with its kind, its range in bytes and, for an
 /// error, its message; below an error stand its hints, two spaces deeper.
-pub fn answer<C: Classes>(
+pub fn print<C: Classes>(
     alloc: Global,
+    printed: &mut String,
     text: &str,
     mode: SyntaxMode,
     classes: &C,
-) -> Result<String, AllocError> {
+) -> Result<(), AllocError> {
     let mut lexer = Lexer::new(text, mode, classes);
-    let mut printed = String::new(alloc);
     for _ in text.as_bytes() {
         let start = lexer.cursor();
         let (token, taken) = lexer.scan(alloc)?;
         if taken.is_empty() {
-            return Ok(printed);
+            return Ok(());
         }
-        print_token(alloc, &mut printed, token, taken, (start, lexer.cursor()))?;
+        print_token(alloc, printed, token, taken, (start, lexer.cursor()))?;
     }
-    Ok(printed)
+    Ok(())
 }
 
 /// Prints a token that took the text between two bytes.

@@ -57,12 +57,25 @@ impl RowWord for Word {
     fn answer(self, alloc: Global, text: &str) -> Result<String, AllocError>
         ensures { IfOk result (λ answer. IfSome (printed_by self text.now) (λ printed. string_bytes answer ≡ printed)) }
     {
+        let mut printed = String::new(alloc);
         match self {
             Word::Printed(word) => word.answer(alloc, text),
-            Word::Read(word) => word.answer(alloc, text),
-            Word::Tree(word) => word.answer(alloc, text),
-            Word::Edit(word) => word.answer(alloc, text),
-            Word::Program(word) => word.answer(alloc, text),
+            Word::Read(word) => {
+                word.print(alloc, &mut printed, text)?;
+                Ok(printed)
+            }
+            Word::Tree(word) => {
+                word.print(alloc, &mut printed, text)?;
+                Ok(printed)
+            }
+            Word::Edit(word) => {
+                word.print(alloc, &mut printed, text)?;
+                Ok(printed)
+            }
+            Word::Program(word) => {
+                word.print(alloc, &mut printed, text)?;
+                Ok(printed)
+            }
         }
     }
 }

@@ -3,8 +3,8 @@
 
 use std::alloc::{AllocError, Global};
 use std::str;
+use typst_fakes::streams::{PACES, Pace, Reader, Room, Writer};
 use typst_server::{ShownErrors, serve};
-use typst_tests::streams::{PACES, Pace, Reader, Room, Writer};
 
 /// What stands before the length in a frame's head.
 pub const HEAD: &str = "Content-Length: ";

@@ -4,8 +4,8 @@ ghost use Rattle.std.specs.List.{list_all};
 ghost use Rattle.std.specs.Str.{chars};
 ghost use Rattle.typst_lines.specs.Classes.{in_line};
 
-use crate::{Counting, Narrow, Wide};
 use std::cell::Cell;
+use typst_fakes::{Counting, Narrow, Wide};
 use typst_lines::MathClass::{self, Alphabetic, Closing, Opening};
 use typst_lines::{Classes, UnicodeClasses, is_id_continue, is_id_start, is_ident, is_newline};
 
@@ -46,26 +46,13 @@ fn answers<C: Classes>(classes: &C, c: char) -> Answers {
 /// Characters, their classes, and their class in formulas.
 type Row = (&'static str, Answers, Option<MathClass>);
 
-/// Whether a character is in these classes.
-fn is_in<C: Classes>(classes: &C, c: char, want: Answers, math: Option<MathClass>) -> bool {
-    answers(classes, c) == want && classes.math_class(c) == math
-}
-
-/// Whether each of the characters is in these classes.
-fn all_are<C: Classes>(classes: &C, (chars, want, math): Row) -> bool {
-    for c in chars.chars() {
-        if !is_in(classes, c, want, math) {
-            return false;
-        }
-    }
-    true
-}
-
 /// Whether all characters of the rows are in their classes.
 fn has_rows<C: Classes>(classes: &C, rows: &[Row]) -> bool {
-    for row in rows {
-        if !all_are(classes, *row) {
-            return false;
+    for (chars, want, math) in rows {
+        for c in chars.chars() {
+            if answers(classes, c) != *want || classes.math_class(c) != *math {
+                return false;
+            }
         }
     }
     true
@@ -110,14 +97,14 @@ const UNICODE: [Row; 10] = [
 /// Characters past ASCII, of which each class value that isn't by Unicode says the same.
 const OTHERS: &str = "é中٣½€⌈";
 
-const IN_WIDE: Row = (OTHERS, LETTER, None);
+const IN_WIDE: [Row; 1] = [(OTHERS, LETTER, None)];
 
-const IN_NARROW: Row = (OTHERS, NONE, None);
+const IN_NARROW: [Row; 1] = [(OTHERS, NONE, None)];
 
 #[test]
 fn characters_past_ascii(rt: HostRuntime) {
     assert!(rt; has_rows(&UnicodeClasses, &UNICODE));
-    assert!(rt; all_are(&Wide, IN_WIDE) && all_are(&Narrow, IN_NARROW));
+    assert!(rt; has_rows(&Wide, &IN_WIDE) && has_rows(&Narrow, &IN_NARROW));
 }
 
 fn is_line(line: &str) -> bool
@@ -176,20 +163,11 @@ fn other_clusters(rt: HostRuntime) {
     assert!(rt; has_clusters(&Narrow, &NARROW_CLUSTERS));
 }
 
-/// Whether the text is an identifier by Unicode, where nearly all are letters, and where only
+/// A text, and whether it is an identifier by Unicode, where nearly all are letters, and where only
 /// ASCII is.
-fn by_all(text: &str) -> [bool; 3] {
-    [
-        is_ident(text, &UnicodeClasses),
-        is_ident(text, &Wide),
-        is_ident(text, &Narrow),
-    ]
-}
-
-/// A text, and whether it is an identifier by each of them.
 type Identifier = (&'static str, [bool; 3]);
 
-const IDENTIFIERS: [Identifier; 6] = [
+static IDENTIFIERS: [Identifier; 6] = [
     ("_a-1", [true, true, true]),
     ("", [false, false, false]),
     ("-a", [false, false, false]),
@@ -198,50 +176,27 @@ const IDENTIFIERS: [Identifier; 6] = [
     ("\u{301}", [false, true, false]),
 ];
 
-/// Whether the texts are identifiers as is said of them.
-fn are_identifiers(rows: &[Identifier]) -> bool {
-    for (text, want) in rows {
-        if by_all(text) != *want {
-            return false;
-        }
-    }
-    true
-}
-
-/// Whether an underscore and a hyphen start an identifier, and a hyphen and a dot go on with one.
-fn are_of_identifiers() -> [bool; 4] {
-    [
-        is_id_start('_', &Narrow),
-        is_id_start('-', &Narrow),
-        is_id_continue('-', &Narrow),
-        is_id_continue('.', &Narrow),
-    ]
-}
-
 #[test]
 fn identifiers(rt: HostRuntime) {
-    assert!(rt; are_identifiers(&IDENTIFIERS));
-    assert!(rt; are_of_identifiers() == [true, false, true, false]);
+    for (text, wanted) in &IDENTIFIERS {
+        let found = [
+            is_ident(text, &UnicodeClasses),
+            is_ident(text, &Wide),
+            is_ident(text, &Narrow),
+        ];
+        assert!(rt; found == *wanted);
+    }
+    assert!(rt; is_id_start('_', &Narrow) && !is_id_start('-', &Narrow));
+    assert!(rt; is_id_continue('-', &Narrow) && !is_id_continue('.', &Narrow));
 }
 
-/// Whether eight calls are counted, and answered as by Unicode.
-fn counts(calls: &Cell<usize>) -> bool {
-    let counting = Counting { calls };
-    answers(&counting, 'é') == LETTER
-        && counting.math_class('⟨') == Some(Opening)
-        && first_cluster(&counting, "é") == Some(2)
-        && calls.get() == 8
-}
-
-/// Whether a call is answered where no more can be counted.
-fn stays_full(calls: &Cell<usize>) -> bool {
-    calls.set(usize::MAX);
-    Counting { calls }.is_word('a') && calls.get() == usize::MAX
-}
-
+/// Eight calls are counted, and answered as by Unicode; a call is answered where no more can be counted.
 #[test]
 fn calls_are_counted(rt: HostRuntime) {
     let calls = Cell::new(0);
-    assert!(rt; counts(&calls));
-    assert!(rt; stays_full(&calls));
+    let counting = Counting { calls: &calls };
+    assert!(rt; answers(&counting, 'é') == LETTER && counting.math_class('⟨') == Some(Opening));
+    assert!(rt; first_cluster(&counting, "é") == Some(2) && calls.get() == 8);
+    calls.set(usize::MAX);
+    assert!(rt; counting.is_word('a') && calls.get() == usize::MAX);
 }

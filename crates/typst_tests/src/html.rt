@@ -99,23 +99,16 @@ static SHOWN: [Shown; 4] = [
 ];
 
 /// Whether this is the HTML of the tree of these rows.
-pub(crate) fn shows(alloc: Global, rows: &[Row], html: &str) -> Option<bool> {
+fn shows(alloc: Global, rows: &[Row], html: &str) -> Option<bool> {
     let root = tree(alloc, rows)?;
     Some(highlight_html(alloc, &root).ok()?.as_str() == html)
 }
 
-/// Whether the documents have their HTML, also the next time where memory was refused.
-fn are_shown(alloc: Global, documents: &[Shown]) -> bool {
-    for (rows, html) in documents {
-        if !is_confirmed(shows(alloc, rows, html), shows(alloc, rows, html)) {
-            return false;
-        }
-    }
-    true
-}
-
-// This test passes whichever request for memory is refused: `rt try --test --fail-alloc N`.
+/// Also the next time where memory was refused: `rt try --test --fail-alloc N` refuses the Nth request.
 #[test]
 fn documents_have_their_html(rt: HostRuntime) {
-    assert!(rt; are_shown(rt.alloc(), &SHOWN));
+    let alloc = rt.alloc();
+    for (rows, html) in &SHOWN {
+        assert!(rt; is_confirmed(shows(alloc, rows, html), shows(alloc, rows, html)));
+    }
 }

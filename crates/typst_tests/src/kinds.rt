@@ -24,22 +24,16 @@ static NAMES: [Name; 12] = [
     ),
 ];
 
-fn have_names(names: &[Name]) -> bool {
-    for (kind, name) in names {
-        if kind.name() != *name {
-            return false;
-        }
-    }
-    true
-}
-
 #[test]
 fn names(rt: HostRuntime) {
-    assert!(rt; have_names(&NAMES));
+    for (kind, name) in &NAMES {
+        assert!(rt; kind.name() == *name);
+    }
 }
 
-/// The kinds of some tests, and one that is none of them.
-const CLASSES: [(SyntaxKind, [bool; 7]); 8] = [
+/// The kinds of some tests, and one that is none of them: whether each is trivia, an error, a keyword, a
+/// bracket, what ends a sequence, a block, or an expression after a hash.
+static CLASSES: [(SyntaxKind, [bool; 7]); 8] = [
     (
         SyntaxKind::Parbreak,
         [true, false, false, false, false, false, false],
@@ -74,30 +68,20 @@ const CLASSES: [(SyntaxKind, [bool; 7]); 8] = [
     ),
 ];
 
-fn classes(kind: SyntaxKind) -> [bool; 7] {
-    [
-        kind.is_trivia(),
-        kind.is_error(),
-        kind.is_keyword(),
-        kind.is_grouping(),
-        kind.is_terminator(),
-        kind.is_block(),
-        kind.is_hash_expr(),
-    ]
-}
-
-fn have_classes(rows: &[(SyntaxKind, [bool; 7])]) -> bool {
-    for (kind, want) in rows {
-        if classes(*kind) != *want {
-            return false;
-        }
-    }
-    true
-}
-
 #[test]
 fn kinds_have_classes(rt: HostRuntime) {
-    assert!(rt; have_classes(&CLASSES));
+    for (kind, wanted) in &CLASSES {
+        let classes = [
+            kind.is_trivia(),
+            kind.is_error(),
+            kind.is_keyword(),
+            kind.is_grouping(),
+            kind.is_terminator(),
+            kind.is_block(),
+            kind.is_hash_expr(),
+        ];
+        assert!(rt; classes == *wanted);
+    }
 }
 
 /// Whether the first and the last kind are put into a set and taken out of it.
@@ -126,30 +110,14 @@ static BINARY: [Binary; 6] = [
     (SyntaxKind::Slash, BinOp::Div, 6, Assoc::Left),
 ];
 
-/// Whether the kind is that of the operator, and the operator binds so.
-fn is_binary(kind: SyntaxKind, operator: BinOp, precedence: u8, assoc: Assoc) -> bool {
-    BinOp::from_kind(kind) == Some(operator)
-        && operator.precedence() == precedence
-        && operator.assoc() == assoc
-}
-
-fn are_binary(operators: &[Binary]) -> bool {
-    for (kind, operator, precedence, assoc) in operators {
-        if !is_binary(*kind, *operator, *precedence, *assoc) {
-            return false;
-        }
-    }
-    true
-}
-
-/// Whether the operator of two words, which has no kind, binds as the one of one word does.
-fn binds_as_in(operator: BinOp) -> bool {
-    operator.precedence() == 4 && operator.assoc() == Assoc::Left
-}
-
+/// The operator of two words, which has no kind, binds as the one of one word does.
 #[test]
 fn binary_operators(rt: HostRuntime) {
-    assert!(rt; are_binary(&BINARY) && binds_as_in(BinOp::NotIn));
+    for (kind, operator, precedence, assoc) in &BINARY {
+        assert!(rt; BinOp::from_kind(*kind) == Some(*operator));
+        assert!(rt; operator.precedence() == *precedence && operator.assoc() == *assoc);
+    }
+    assert!(rt; BinOp::NotIn.precedence() == 4 && BinOp::NotIn.assoc() == Assoc::Left);
 }
 
 /// A kind, its unary operator, and how tightly this binds.
@@ -161,53 +129,29 @@ static UNARY: [Unary; 3] = [
     (SyntaxKind::Not, UnOp::Not, 4),
 ];
 
-/// Whether the kind is that of the operator, and the operator binds so.
-fn is_unary(kind: SyntaxKind, operator: UnOp, precedence: u8) -> bool {
-    UnOp::from_kind(kind) == Some(operator) && operator.precedence() == precedence
-}
-
-fn are_unary(operators: &[Unary]) -> bool {
-    for (kind, operator, precedence) in operators {
-        if !is_unary(*kind, *operator, *precedence) {
-            return false;
-        }
-    }
-    true
-}
-
 #[test]
 fn unary_operators(rt: HostRuntime) {
-    assert!(rt; are_unary(&UNARY));
-}
-
-/// Whether a span of this file and this number has them.
-fn keeps(file: u16, number: u64) -> Option<bool> {
-    let file = FileId::new(file)?;
-    let number = SpanNumber::new(number)?;
-    let span = Span::new(file, number);
-    let has_both = span.get() == Some((file, number)) && span.id() == Some(file);
-    Some(has_both && span.number_or_zero() == number.get())
+    for (kind, operator, precedence) in &UNARY {
+        assert!(rt; UnOp::from_kind(*kind) == Some(*operator));
+        assert!(rt; operator.precedence() == *precedence);
+    }
 }
 
 #[test]
 fn spans_keep_the_greatest(rt: HostRuntime) {
-    assert!(rt; keeps(65535, (1 << 47) - 1) == Some(true));
+    let file = FileId::new(65535).expect(&rt, "a file");
+    let number = SpanNumber::new((1 << 47) - 1).expect(&rt, "a number");
+    let span = Span::new(file, number);
+    assert!(rt; span.get() == Some((file, number)) && span.id() == Some(file));
+    assert!(rt; span.number_or_zero() == number.get());
     assert!(rt; Span::detached().get().is_none() && size_of::<Span>() == 8);
 }
 
 /// Whether there is a number of a file, of a span, or of a range.
-fn exist() -> [bool; 6] {
-    [
-        FileId::new(0).is_some(),
-        SpanNumber::new(1).is_some(),
-        SpanNumber::new(2).is_some(),
-        SpanNumber::new(1 << 47).is_some(),
-        SubRange::new(3, 1).is_some(),
-        SubRange::new(3, 3).is_some(),
-    ]
-}
-
 #[test]
 fn limits(rt: HostRuntime) {
-    assert!(rt; exist() == [false, false, true, false, false, true]);
+    assert!(rt; FileId::new(0).is_none());
+    assert!(rt; SpanNumber::new(1).is_none() && SpanNumber::new(2).is_some());
+    assert!(rt; SpanNumber::new(1 << 47).is_none());
+    assert!(rt; SubRange::new(3, 1).is_none() && SubRange::new(3, 3).is_some());
 }

@@ -1,18 +1,6 @@
 //! Tests of `typst_kinds`, `typst_tree` and `typst_highlight`, of tokens, labels, links and raw texts, of
 //! frames and positions, through their public calls: of what no clause says and no row can.
-//!
-//! And what tests share. Class values: two that keep the law and answer unlike Unicode, and one that
-//! counts. [`streams`] over memory, which trickle, stop and fail.
 #![tactic(auto)]
-
-pub mod counting;
-pub mod narrow;
-pub mod streams;
-pub mod wide;
-
-pub use counting::Counting;
-pub use narrow::Narrow;
-pub use wide::Wide;
 
 #[cfg(test)]
 mod chains;

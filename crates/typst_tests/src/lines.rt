@@ -1,12 +1,12 @@
 //! Positions in a text, its edits, its line ends, and the cursor.
 use crate::refusals::is_confirmed;
-use std::alloc::Global;
+use std::alloc::{AllocError, Global};
 use typst_lines::{Lines, Scanner, ScannerExt, is_newline, split_newlines};
 
 const TEXT: &str = "ä\tcde\nf💛g\r\nhi\rjkl";
 
 /// Bytes of `TEXT` with their lines and columns.
-const PLACES: [(usize, usize, usize); 7] = [
+static PLACES: [(usize, usize, usize); 7] = [
     (0, 0, 0),
     (2, 0, 1),
     (6, 0, 5),
@@ -17,31 +17,7 @@ const PLACES: [(usize, usize, usize); 7] = [
 ];
 
 /// Bytes of `TEXT` with the UTF-16 units before them.
-const UNITS: [(usize, usize); 6] = [(0, 0), (2, 1), (3, 2), (8, 7), (12, 9), (21, 18)];
-
-/// Whether the bytes stand at their lines and columns, and these lead back to them.
-fn has_places(lines: &Lines<&str>, places: &[(usize, usize, usize)]) -> bool {
-    for (byte, line, column) in places {
-        if lines.byte_to_line_column(*byte) != Some((*line, *column))
-            || lines.line_column_to_byte(*line, *column) != Some(*byte)
-        {
-            return false;
-        }
-    }
-    true
-}
-
-/// Whether so many UTF-16 units stand before the bytes, and these lead back to them.
-fn has_units(lines: &Lines<&str>, units: &[(usize, usize)]) -> bool {
-    for (byte, utf16) in units {
-        if lines.byte_to_utf16(*byte) != Some(*utf16)
-            || lines.utf16_to_byte(*utf16) != Some(*byte)
-        {
-            return false;
-        }
-    }
-    true
-}
+static UNITS: [(usize, usize); 6] = [(0, 0), (2, 1), (3, 2), (8, 7), (12, 9), (21, 18)];
 
 /// Whether a line ends where it does, and nothing lies past the text or within a character.
 fn has_ends(lines: &Lines<&str>) -> bool {
@@ -57,19 +33,24 @@ fn has_ends(lines: &Lines<&str>) -> bool {
         && lines.line_column_to_byte(1, 5) == Some(15)
 }
 
-fn finds_places(alloc: Global) -> Option<bool> {
-    let lines = Lines::new(alloc, TEXT).ok()?;
-    Some(has_places(&lines, &PLACES) && has_units(&lines, &UNITS) && has_ends(&lines))
-}
-
 /// Whether one UTF-16 unit stands before this byte of a text.
 fn has_after_one(alloc: Global, text: &str, byte: Option<usize>) -> Option<bool> {
     Some(Lines::new(alloc, text).ok()?.utf16_to_byte(1) == byte)
 }
 
+/// Bytes stand at their lines and columns, so many UTF-16 units stand before them, and these lead back to them.
 #[test]
 fn places(rt: HostRuntime) {
-    assert!(rt; finds_places(rt.alloc()) == Some(true));
+    let lines = Lines::new(rt.alloc(), TEXT).expect(&rt, "memory");
+    for (byte, line, column) in &PLACES {
+        assert!(rt; lines.byte_to_line_column(*byte) == Some((*line, *column)));
+        assert!(rt; lines.line_column_to_byte(*line, *column) == Some(*byte));
+    }
+    for (byte, utf16) in &UNITS {
+        assert!(rt; lines.byte_to_utf16(*byte) == Some(*utf16));
+        assert!(rt; lines.utf16_to_byte(*utf16) == Some(*byte));
+    }
+    assert!(rt; has_ends(&lines));
     assert!(rt; has_after_one(rt.alloc(), "💛a", Some(4)) == Some(true));
     assert!(rt; has_after_one(rt.alloc(), "💛", None) == Some(true));
 }
@@ -105,97 +86,59 @@ static EDITS: [Edit; 9] = [
 ];
 
 /// Edits lines, where the range is one of their text.
-fn edit_within(lines: &mut Lines<String>, (start, end): (usize, usize), with: &str) -> Option<()> {
+pub(crate) fn edit_within(
+    lines: &mut Lines<String>,
+    (start, end): (usize, usize),
+    with: &str,
+) -> Result<(), AllocError> {
     if start <= end && lines.text().is_char_boundary(start) && lines.text().is_char_boundary(end) {
-        lines.edit(start..end, with).ok()?;
+        lines.edit(start..end, with)?;
     }
-    Some(())
+    Ok(())
 }
 
-/// Whether the edit gives the table of the new text.
-fn gives_by_edit(alloc: Global, (old, range, with, new): Edit) -> Option<bool> {
-    let mut lines = lines_of(alloc, old)?;
-    edit_within(&mut lines, range, with)?;
-    is_fresh(alloc, &lines, new)
-}
-
-/// Whether the replacement by what the edit makes gives the table of the new text.
-fn gives_by_text(alloc: Global, (old, _, _, new): Edit) -> Option<bool> {
-    let mut lines = lines_of(alloc, old)?;
-    let is_replaced = lines.replace(new).ok()?;
-    Some(is_replaced && is_fresh(alloc, &lines, new)?)
-}
-
-/// Whether all edits give the tables of the new texts.
-fn give(alloc: Global, edits: &[Edit]) -> Option<bool> {
-    for edit in edits {
-        if !gives_by_edit(alloc, *edit)? || !gives_by_text(alloc, *edit)? {
-            return Some(false);
-        }
-    }
-    Some(true)
-}
-
+/// An edit gives the table of the new text, and so does the replacement by what it makes.
 #[test]
 fn edits(rt: HostRuntime) {
-    assert!(rt; give(rt.alloc(), &EDITS) == Some(true));
+    for (old, range, with, new) in &EDITS {
+        let mut lines = lines_of(rt.alloc(), old).expect(&rt, "memory");
+        assert!(rt; edit_within(&mut lines, *range, with).is_ok());
+        assert!(rt; is_fresh(rt.alloc(), &lines, new) == Some(true));
+        let mut others = lines_of(rt.alloc(), old).expect(&rt, "memory");
+        assert!(rt; others.replace(new) == Ok(true));
+        assert!(rt; is_fresh(rt.alloc(), &others, new) == Some(true));
+    }
 }
 
-fn has_ranges(lines: &Lines<String>) -> bool {
-    lines.replacement_range("ĩ") == Some((0, 0)) && lines.replacement_range("xé") == Some((0, 2))
-}
-
-/// Whether the text is replaced by another one, and by itself not.
-fn changes_once(lines: &mut Lines<String>) -> bool {
-    let answers = (lines.replace("ĩ"), lines.replace("ĩ"));
-    matches!(answers, (Ok(true), Ok(false)))
-}
-
-fn is_copied(lines: &Lines<String>) -> Option<bool> {
-    Some(lines.try_clone().ok()? == *lines)
-}
-
-fn replaces(alloc: Global) -> Option<bool> {
-    let mut lines = lines_of(alloc, "é")?;
-    let is_replaced = has_ranges(&lines) && changes_once(&mut lines);
-    Some(is_replaced && is_copied(&lines)?)
-}
-
+/// A text is replaced by another one, and by itself not.
 #[test]
 fn replacements(rt: HostRuntime) {
-    assert!(rt; replaces(rt.alloc()) == Some(true));
+    let mut lines = lines_of(rt.alloc(), "é").expect(&rt, "memory");
+    assert!(rt; lines.replacement_range("ĩ") == Some((0, 0)));
+    assert!(rt; lines.replacement_range("xé") == Some((0, 2)));
+    assert!(rt; lines.replace("ĩ") == Ok(true) && lines.replace("ĩ") == Ok(false));
+    let copy = lines.try_clone().expect(&rt, "memory");
+    assert!(rt; copy == lines);
 }
 
 const STRETCHES: [&str; 3] = ["a", "b", ""];
 
-/// Whether the text is split into these stretches at its line ends.
-fn splits(alloc: Global, text: &str, stretches: &[&str]) -> Option<bool> {
-    Some(split_newlines(alloc, text).ok()?.as_slice() == stretches)
-}
-
 /// Whether a line with two ends of different kinds is split at them.
-fn splits_at_both(alloc: Global) -> Option<bool> {
-    splits(alloc, "a\r\nb\r", &STRETCHES)
+fn splits(alloc: Global) -> Option<bool> {
+    Some(split_newlines(alloc, "a\r\nb\r").ok()?.as_slice() == STRETCHES.as_slice())
 }
 
 #[test]
 fn line_ends(rt: HostRuntime) {
     assert!(rt; is_newline('\u{2029}') && !is_newline('\t'));
-    assert!(rt; is_confirmed(splits_at_both(rt.alloc()), splits_at_both(rt.alloc())));
+    assert!(rt; is_confirmed(splits(rt.alloc()), splits(rt.alloc())));
 }
 
-/// Whether a cursor at the front of `"ab\r\nc\u{85}"` says what it passes.
-fn passes(cursor: &mut Scanner) -> bool {
-    let first = (cursor.eat(), cursor.scout(1));
-    let second = (cursor.eat_until(&'\r'), cursor.scout(-2));
-    let is_past = cursor.eat_newline();
-    first == (Some('a'), Some('\r'))
-        && second == ("b", Some('a'))
-        && is_past
-        && cursor.after() == "c\u{85}"
-}
-
+/// A cursor says what it passes.
 #[test]
 fn a_cursor(rt: HostRuntime) {
-    assert!(rt; passes(&mut Scanner::new("ab\r\nc\u{85}")));
+    let mut cursor = Scanner::new("ab\r\nc\u{85}");
+    assert!(rt; cursor.eat() == Some('a') && cursor.scout(1) == Some('\r'));
+    assert!(rt; cursor.eat_until(&'\r') == "b" && cursor.scout(-2) == Some('a'));
+    assert!(rt; cursor.eat_newline() && cursor.after() == "c\u{85}");
 }

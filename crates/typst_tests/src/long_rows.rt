@@ -167,50 +167,21 @@ fn stands(places: &[Place], node: LinkedNode, place: usize) -> bool {
     }
 }
 
-/// Whether both are nothing, or the node stands at the place.
-fn leads(places: &[Place], node: Option<LinkedNode>, place: Option<usize>) -> bool {
-    match (node, place) {
-        (Some(node), Some(place)) => stands(places, node, place),
-        (None, None) => true,
-        _ => false,
+/// Whether both are nothing, or the node stands at the place and its steps lead where they ought to: so many
+/// steps one after the other.
+fn leads(places: &[Place], node: Option<LinkedNode>, place: Option<usize>, count: usize) -> bool {
+    let (Some(node), Some(place)) = (node, place) else {
+        return node.is_none() && place.is_none();
+    };
+    if count == 0 {
+        return stands(places, node, place);
     }
-}
-
-/// Whether the steps from a node lead where they ought to.
-fn lead(places: &[Place], steps: [Option<LinkedNode>; 6], wanted: [Option<usize>; 6]) -> bool {
-    for i in 0..6 {
-        if !leads(places, steps[i], wanted[i]) {
-            return false;
-        }
-    }
-    true
-}
-
-/// Whether the steps from the node at a place lead where they ought to.
-fn has_steps(places: &[Place], node: LinkedNode, place: usize) -> bool {
-    match wanted(places, place) {
-        Some(wanted) => stands(places, node, place) && lead(places, steps(node), wanted),
-        None => false,
-    }
-}
-
-/// Whether both are nothing, or that holds of the node at the place.
-fn leads_on(places: &[Place], node: Option<LinkedNode>, place: Option<usize>) -> bool {
-    match (node, place) {
-        (Some(node), Some(place)) => has_steps(places, node, place),
-        (None, None) => true,
-        _ => false,
-    }
-}
-
-/// Whether that holds of the node at a place and of each that a step from it leads to.
-fn has_steps_twice(places: &[Place], node: LinkedNode, place: usize) -> bool {
     let Some(wanted) = wanted(places, place) else {
         return false;
     };
     let steps = steps(node);
     for i in 0..6 {
-        if !leads_on(places, steps[i], wanted[i]) {
+        if !leads(places, steps[i], wanted[i], count - 1) {
             return false;
         }
     }
@@ -228,19 +199,12 @@ fn place_of(places: &[Place], node: LinkedNode) -> Option<usize> {
     None
 }
 
-/// The node that is found by a node's number from the root.
-fn found<'a>(top: LinkedNode<'a>, node: LinkedNode) -> Option<LinkedNode<'a>> {
-    top.find_number(node.get().span().number()?)
-}
-
-/// Whether that holds of a node, as `children` gives it and as it is found.
-fn walks_at(places: &[Place], top: LinkedNode, node: LinkedNode) -> bool {
-    match (place_of(places, node), found(top, node)) {
-        (Some(place), Some(other)) => {
-            has_steps_twice(places, node, place) && has_steps(places, other, place)
-        }
-        _ => false,
-    }
+/// Whether all steps lead where they ought to from a node as `children` gives it, and from each that they lead
+/// to; and from the node as it is found by its number.
+fn walks_at(places: &[Place], top: LinkedNode, node: LinkedNode) -> Option<bool> {
+    let place = Some(place_of(places, node)?);
+    let found = Some(top.find_number(node.get().span().number()?)?);
+    Some(leads(places, Some(node), place, 2) && leads(places, found, place, 1))
 }
 
 /// Puts the children of a node on a list of nodes that are left.
@@ -257,7 +221,7 @@ fn walks(alloc: Global, places: &[Place], top: LinkedNode) -> Option<bool> {
     left.push(top).ok()?;
     for _ in 0..places.len() {
         let node = left.pop()?;
-        if !walks_at(places, top, node) {
+        if !walks_at(places, top, node)? {
             return Some(false);
         }
         leave_children(&mut left, node)?;
@@ -273,16 +237,6 @@ fn walks_both(alloc: Global, root: &SyntaxNode) -> Option<bool> {
     let places = places(alloc, root)?;
     let any = walks(alloc, places.as_slice(), LinkedNode::new(root))?;
     Some(any && walks(alloc, places.as_slice(), LinkedNode::ordered(root))?)
-}
-
-/// Whether that holds of the trees of these parts, once they have numbers.
-fn walks_all(alloc: Global, trees: &[&[Part]]) -> Option<bool> {
-    for parts in trees {
-        if !walks_both(alloc, &numbered(long_tree(alloc, parts)?, END)?)? {
-            return Some(false);
-        }
-    }
-    Some(true)
 }
 
 const X: &[Row] = &[(SyntaxKind::Ident, "x", None)];
@@ -389,5 +343,9 @@ static TREES: [&[Part]; 4] = [&LONG_ROW, &ROW_IN_ROW, &CHAINS, &LARGE_CHILD];
 
 #[test]
 fn steps_in_long_rows(rt: HostRuntime) {
-    assert!(rt; walks_all(rt.alloc(), &TREES) == Some(true));
+    for parts in &TREES {
+        let tree = long_tree(rt.alloc(), parts).expect(&rt, "memory");
+        let root = numbered(tree, END).expect(&rt, "numbers");
+        assert!(rt; walks_both(rt.alloc(), &root) == Some(true));
+    }
 }

@@ -1,5 +1,5 @@
 use crate::rows::{Part, Row, list, long_tree, tree};
-use crate::trees::{END, has_numbers, number, numbered, numbers, replace};
+use crate::trees::{END, number, numbered, numbers, replace};
 use std::alloc::Global;
 use typst_kinds::{SourceError, SyntaxKind};
 use typst_tree::SyntaxNode;
@@ -88,7 +88,7 @@ fn done(alloc: Global, node: &mut SyntaxNode, act: &Act) -> Option<Result<(), So
 /// Whether the tree is then what it ought to be.
 fn is_then(alloc: Global, node: &SyntaxNode, case: &Case) -> Option<bool> {
     let is_tree = node.spanless_eq(&tree(alloc, case.then)?);
-    Some(is_tree && has_numbers(alloc, node, case.numbers)?)
+    Some(is_tree && numbers(alloc, node)?.as_slice() == case.numbers)
 }
 
 /// Whether that comes which ought to.
@@ -244,23 +244,16 @@ fn differ_at(place: usize, old: &[u64], new: &[u64]) -> bool {
         && old.get(after..) == new.get(after..)
 }
 
-/// Whether only the number of the fourth leaf differs from the old ones once the three in the middle are
-/// replaced.
-fn differ_then(alloc: Global, node: &mut SyntaxNode, old: &[u64]) -> Option<bool> {
-    replace(node, &[], 1, 4, list(alloc, &NEW)?).ok()?;
-    Some(differ_at(3, old, numbers(alloc, node)?.as_slice()))
-}
-
-/// Whether only the number of the leaf that is new differs.
-fn keeps_the_others(alloc: Global) -> Option<bool> {
-    let mut node = numbered(tree(alloc, &OLD)?, END)?;
-    let old = numbers(alloc, &node)?;
-    differ_then(alloc, &mut node, old.as_slice())
-}
-
+/// Of the three leaves in the middle only one is new.
 #[test]
 fn what_stays_keeps_its_number(rt: HostRuntime) {
-    assert!(rt; keeps_the_others(rt.alloc()) == Some(true));
+    let tree = tree(rt.alloc(), &OLD).expect(&rt, "memory");
+    let mut node = numbered(tree, END).expect(&rt, "numbers");
+    let old = numbers(rt.alloc(), &node).expect(&rt, "memory");
+    let fresh = list(rt.alloc(), &NEW).expect(&rt, "memory");
+    assert!(rt; replace(&mut node, &[], 1, 4, fresh).is_ok());
+    let new = numbers(rt.alloc(), &node).expect(&rt, "memory");
+    assert!(rt; differ_at(3, old.as_slice(), new.as_slice()));
 }
 
 /// Whether each number is below the next one, and the last one below the end.
@@ -280,32 +273,22 @@ const TWO: [Row; 2] = [
     (SyntaxKind::Text, "x", None),
 ];
 
-/// Puts two leaves in place of one in the middle, and says whether all numbers are in order and
-/// below the end.
-fn grows(alloc: Global, node: &mut SyntaxNode, end: u64) -> Option<bool> {
-    let middle = node.children().len() / 2;
-    replace(node, &[], middle, middle + 1, list(alloc, &TWO)?).ok()?;
-    Some(are_in_order(numbers(alloc, node)?.as_slice(), end))
-}
-
 const SPACES: [Part; 2] = [
     (&[(SyntaxKind::Space, "x", None)], 400),
     (&[(SyntaxKind::Markup, "", Some(400))], 1),
 ];
 
-/// The length of 400 leaves after so many replacements, or nothing where one went wrong.
-fn grown(alloc: Global, turns: usize) -> Option<usize> {
-    let mut node = numbered(long_tree(alloc, &SPACES)?, 1000)?;
-    for _ in 0..turns {
-        if !grows(alloc, &mut node, 1000)? {
-            return None;
-        }
-    }
-    Some(node.len())
-}
-
-// Few numbers are free, so that neighbours have to be numbered again and again.
+/// Of one leaf in the middle by two. Few numbers are free, so that neighbours have to be numbered again and again.
 #[test]
 fn two_hundred_replacements(rt: HostRuntime) {
-    assert!(rt; grown(rt.alloc(), 200) == Some(600));
+    let tree = long_tree(rt.alloc(), &SPACES).expect(&rt, "memory");
+    let mut node = numbered(tree, 1000).expect(&rt, "numbers");
+    for _ in 0..200 {
+        let middle = node.children().len() / 2;
+        let two = list(rt.alloc(), &TWO).expect(&rt, "memory");
+        assert!(rt; replace(&mut node, &[], middle, middle + 1, two).is_ok());
+        let numbers = numbers(rt.alloc(), &node).expect(&rt, "memory");
+        assert!(rt; are_in_order(numbers.as_slice(), 1000));
+    }
+    assert!(rt; node.len() == 600);
 }

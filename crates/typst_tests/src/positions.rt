@@ -1,6 +1,5 @@
 //! Positions of some texts.
 
-use std::alloc::Global;
 use typst_positions::{Encoding, Position, Positions};
 
 /// A text, what columns are counted in, a line and a column, and the byte there.
@@ -43,26 +42,14 @@ static ROWS: [Row<'static>; 22] = [
     ("\u{e4}\u{1f49b}b", Encoding::Utf8, 0, 6, 6),
 ];
 
-/// Whether the line and the column of a row are at its byte.
-fn leads(alloc: Global, (text, encoding, line, column, byte): Row) -> Option<bool> {
-    let positions = Positions::new(alloc, text).ok()?;
-    Some(positions.to_byte(text, encoding, Position { line, column }) == byte)
-}
-
-/// Whether those of all rows are.
-fn all_lead(alloc: Global, rows: &[Row]) -> Option<bool> {
-    for row in rows {
-        if !leads(alloc, *row)? {
-            return Some(false);
-        }
-    }
-    Some(true)
-}
-
 /// To the byte that each position is at.
 #[test]
 fn rows_to_bytes(rt: HostRuntime) {
-    assert!(rt; all_lead(rt.alloc(), &ROWS) == Some(true));
+    for row in &ROWS {
+        let (text, encoding, line, column, byte) = *row;
+        let positions = Positions::new(rt.alloc(), text).expect(&rt, "memory");
+        assert!(rt; positions.to_byte(text, encoding, Position { line, column }) == byte);
+    }
 }
 
 /// A text, what columns are counted in, a byte, and the line and the column there.
@@ -86,24 +73,12 @@ static BACKS: [Back<'static>; 15] = [
     ("\u{e4}\u{1f49b}b", Encoding::Utf8, 5, 0, 2),
 ];
 
-/// Whether the byte of a row is at its line and its column.
-fn leads_back(alloc: Global, (text, encoding, byte, line, column): Back) -> Option<bool> {
-    let positions = Positions::new(alloc, text).ok()?;
-    Some(positions.to_position(text, encoding, byte) == Position { line, column })
-}
-
-/// Whether those of all rows are.
-fn all_lead_back(alloc: Global, rows: &[Back]) -> Option<bool> {
-    for row in rows {
-        if !leads_back(alloc, *row)? {
-            return Some(false);
-        }
-    }
-    Some(true)
-}
-
 /// To the position of each byte.
 #[test]
 fn rows_to_positions(rt: HostRuntime) {
-    assert!(rt; all_lead_back(rt.alloc(), &BACKS) == Some(true));
+    for row in &BACKS {
+        let (text, encoding, byte, line, column) = *row;
+        let positions = Positions::new(rt.alloc(), text).expect(&rt, "memory");
+        assert!(rt; positions.to_position(text, encoding, byte) == Position { line, column });
+    }
 }

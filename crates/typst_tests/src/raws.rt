@@ -84,18 +84,10 @@ fn is_made(alloc: Global, (text, kind, leaves, message): Raw) -> Option<bool> {
     Some(is_whole && has_leaves(&node, leaves) && says(&node, message))
 }
 
-/// Whether the nodes of raw texts are as the rules say, also the next time where memory was refused.
-fn are_made(alloc: Global, raws: &[Raw]) -> bool {
-    for raw in raws {
-        if !is_confirmed(is_made(alloc, *raw), is_made(alloc, *raw)) {
-            return false;
-        }
-    }
-    true
-}
-
 /// `rt try --test --fail-alloc N` refuses the Nth request.
 #[test]
 fn makes_it_again_where_memory_is_refused(rt: HostRuntime) {
-    assert!(rt; are_made(rt.alloc(), &RAWS));
+    for raw in &RAWS {
+        assert!(rt; is_confirmed(is_made(rt.alloc(), *raw), is_made(rt.alloc(), *raw)));
+    }
 }

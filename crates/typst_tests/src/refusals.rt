@@ -1,6 +1,6 @@
 //! What is held whichever one request for memory is refused: `rt try --test --fail-alloc N`.
 
-use crate::lines::{is_fresh, lines_of};
+use crate::lines::{edit_within, is_fresh, lines_of};
 use crate::rows::{Row, leaf, list, tree};
 use crate::trees::{END, number, numbered, replace, same, sample};
 use std::alloc::{AllocError, Global};
@@ -32,62 +32,6 @@ enum Change {
     WarnAt,
     Hint,
     HintAt,
-}
-
-/// How lines are changed.
-enum Way {
-    Edit,
-    Replace,
-}
-
-/// A call, or some.
-enum Case {
-    /// A node changes.
-    Changes(Change),
-    /// A keyword becomes an error.
-    Expects,
-    /// Of two leaves three levels down, with numbers below an end, this one is replaced.
-    Replaces(u64, usize, Result<(), SourceError>),
-    /// A long leaf is made.
-    MakesLeaf,
-    /// An error of a long text is made.
-    MakesError,
-    /// A tree is copied.
-    Copies,
-    /// A copy of lines changes.
-    ChangesLines(Way),
-    /// Lines describe themselves and answer for positions, without memory.
-    Tells,
-    /// Lines are compared and hashed, without memory.
-    Compares,
-    /// A node changes its kinds and spans, without memory.
-    Converts,
-}
-
-/// Whether a case is as it ought to be.
-fn confirms(alloc: Global, case: &Case) -> Option<bool> {
-    match case {
-        Case::Changes(change) => changes_or_stays(alloc, change),
-        Case::Expects => keyword_becomes_an_error(alloc),
-        Case::Replaces(end, at, answer) => replaces_or_stays(alloc, *end, *at, *answer),
-        Case::MakesLeaf => makes_leaf(alloc),
-        Case::MakesError => makes_error(alloc),
-        Case::Copies => copies(alloc),
-        Case::ChangesLines(way) => lines_change_or_stay(alloc, way),
-        Case::Tells => lines_answer(alloc),
-        Case::Compares => lines_are_compared(alloc),
-        Case::Converts => converts(alloc),
-    }
-}
-
-/// Whether all cases are as they ought to be.
-fn are_confirmed(alloc: Global, cases: &[Case]) -> bool {
-    for case in cases {
-        if !is_confirmed(confirms(alloc, case), confirms(alloc, case)) {
-            return false;
-        }
-    }
-    true
 }
 
 /// `sample` with numbers and a warning.
@@ -137,20 +81,33 @@ fn keyword_becomes_an_error(alloc: Global) -> Option<bool> {
     }
 }
 
-const CHANGES: [Case; 8] = [
-    Case::Changes(Change::ConvertToError),
-    Case::Changes(Change::Expected),
-    Case::Changes(Change::Unexpected),
-    Case::Changes(Change::Warn),
-    Case::Changes(Change::WarnAt),
-    Case::Changes(Change::Hint),
-    Case::Changes(Change::HintAt),
-    Case::Expects,
+static CHANGES: [Change; 7] = [
+    Change::ConvertToError,
+    Change::Expected,
+    Change::Unexpected,
+    Change::Warn,
+    Change::WarnAt,
+    Change::Hint,
+    Change::HintAt,
 ];
 
 #[test]
 fn a_refused_change_changes_nothing(rt: HostRuntime) {
-    assert!(rt; are_confirmed(rt.alloc(), &CHANGES));
+    let alloc = rt.alloc();
+    for change in &CHANGES {
+        assert!(rt;
+            is_confirmed(
+                changes_or_stays(alloc, change),
+                changes_or_stays(alloc, change)
+            )
+        );
+    }
+    assert!(rt;
+        is_confirmed(
+            keyword_becomes_an_error(alloc),
+            keyword_becomes_an_error(alloc)
+        )
+    );
 }
 
 /// The leaves a and b three levels down.
@@ -175,26 +132,18 @@ fn deep(alloc: Global, end: u64) -> Option<SyntaxNode> {
     numbered(tree(alloc, &DEEP)?, end)
 }
 
-/// Whether a node is as it was made so.
-fn is_deep(alloc: Global, node: &SyntaxNode, end: u64) -> Option<bool> {
-    same(alloc, node, &deep(alloc, end)?)
-}
+/// An end of numbers, which of two leaves three levels down is replaced, and what is answered.
+type Replacement = (u64, usize, Result<(), SourceError>);
 
-/// Whether replacing a leaf three levels down, with numbers below `end`, is answered so; with any error
-/// the tree stays as it is.
-fn replaces_or_stays(
-    alloc: Global,
-    end: u64,
-    at: usize,
-    wanted: Result<(), SourceError>,
-) -> Option<bool> {
+/// Whether a replacement is answered so; with any error the tree stays as it is.
+fn replaces_or_stays(alloc: Global, (end, at, wanted): Replacement) -> Option<bool> {
     let fresh = list(alloc, &FRESH)?;
     let mut node = deep(alloc, end)?;
     let answer = replace(&mut node, &[0, 0, 0], at, at.saturating_add(1), fresh);
     if answer.is_ok() {
         return Some(wanted.is_ok() && node.descendants() == 8);
     }
-    let stays = is_deep(alloc, &node, end)?;
+    let stays = same(alloc, &node, &deep(alloc, end)?)?;
     if answer == wanted {
         Some(stays)
     } else {
@@ -202,19 +151,27 @@ fn replaces_or_stays(
     }
 }
 
-// Among all numbers, where the neighbour has to be numbered again, and where numbers are too few.
-const REPLACEMENTS: [Case; 6] = [
-    Case::Replaces(END, 0, Ok(())),
-    Case::Replaces(END, 1, Ok(())),
-    Case::Replaces(130, 0, Ok(())),
-    Case::Replaces(130, 1, Ok(())),
-    Case::Replaces(8, 0, Err(SourceError::SpanNumbers)),
-    Case::Replaces(8, 1, Err(SourceError::SpanNumbers)),
+/// Among all numbers, where the neighbour has to be numbered again, and where numbers are too few.
+static REPLACEMENTS: [Replacement; 6] = [
+    (END, 0, Ok(())),
+    (END, 1, Ok(())),
+    (130, 0, Ok(())),
+    (130, 1, Ok(())),
+    (8, 0, Err(SourceError::SpanNumbers)),
+    (8, 1, Err(SourceError::SpanNumbers)),
 ];
 
 #[test]
 fn a_refusal_at_depth_three_changes_nothing(rt: HostRuntime) {
-    assert!(rt; are_confirmed(rt.alloc(), &REPLACEMENTS));
+    let alloc = rt.alloc();
+    for one in &REPLACEMENTS {
+        assert!(rt;
+            is_confirmed(
+                replaces_or_stays(alloc, *one),
+                replaces_or_stays(alloc, *one)
+            )
+        );
+    }
 }
 
 /// A text that takes memory of its own.
@@ -237,41 +194,51 @@ fn copies(alloc: Global) -> Option<bool> {
     Some(is_warned(alloc, &node)? && is_warned(alloc, &copy?)?)
 }
 
-const MADE: [Case; 3] = [Case::MakesLeaf, Case::MakesError, Case::Copies];
-
 #[test]
 fn what_was_refused_is_made_again(rt: HostRuntime) {
-    assert!(rt; are_confirmed(rt.alloc(), &MADE));
+    let alloc = rt.alloc();
+    assert!(rt; is_confirmed(makes_leaf(alloc), makes_leaf(alloc)));
+    assert!(rt; is_confirmed(makes_error(alloc), makes_error(alloc)));
+    assert!(rt; is_confirmed(copies(alloc), copies(alloc)));
 }
 
 const LINES: &str = "ä\tcde\nf💛g\r\nhi\rjkl";
 
-/// Takes the text out; an edit leaves a line end.
-fn empty(lines: &mut Lines<String>, way: &Way) -> Result<bool, AllocError> {
+/// How lines are changed.
+enum Way {
+    Edit,
+    Replace,
+}
+
+static WAYS: [Way; 2] = [Way::Edit, Way::Replace];
+
+/// Takes the text out, and gives the text then: an edit leaves a line end.
+fn empty(lines: &mut Lines<String>, way: &Way) -> Result<&'static str, AllocError> {
     match way {
-        Way::Replace => lines.replace(""),
         Way::Edit => {
             let end = lines.len_bytes();
-            if lines.text().is_char_boundary(0) && lines.text().is_char_boundary(end) {
-                lines.edit(0..end, "\r\n")?;
-            }
-            Ok(true)
+            edit_within(lines, (0, end), "\r\n")?;
+            Ok("\r\n")
+        }
+        Way::Replace => {
+            lines.replace("")?;
+            Ok("")
         }
     }
 }
 
 /// Whether the text is taken out, the next time where that is refused and the lines stay.
 fn empties(alloc: Global, lines: &mut Lines<String>, way: &Way) -> Option<bool> {
-    if empty(lines, way).is_err() {
-        if !is_fresh(alloc, lines, LINES)? {
-            return Some(false);
+    let text = match empty(lines, way) {
+        Ok(text) => text,
+        Err(AllocError) => {
+            if !is_fresh(alloc, lines, LINES)? {
+                return Some(false);
+            }
+            empty(lines, way).ok()?
         }
-        empty(lines, way).ok()?;
-    }
-    match way {
-        Way::Edit => is_fresh(alloc, lines, "\r\n"),
-        Way::Replace => is_fresh(alloc, lines, ""),
-    }
+    };
+    is_fresh(alloc, lines, text)
 }
 
 /// Whether nothing changes where the text is replaced by itself.
@@ -287,18 +254,21 @@ fn lines_change_or_stay(alloc: Global, way: &Way) -> Option<bool> {
     Some(changes && is_kept(&mut lines) && is_fresh(alloc, &lines, LINES)?)
 }
 
-const WAYS: [Case; 2] = [
-    Case::ChangesLines(Way::Edit),
-    Case::ChangesLines(Way::Replace),
-];
-
 #[test]
 fn refused_lines_stay(rt: HostRuntime) {
-    assert!(rt; are_confirmed(rt.alloc(), &WAYS));
+    let alloc = rt.alloc();
+    for way in &WAYS {
+        assert!(rt;
+            is_confirmed(
+                lines_change_or_stay(alloc, way),
+                lines_change_or_stay(alloc, way)
+            )
+        );
+    }
 }
 
-/// Whether positions in lines of `LINES` are right.
-fn positions_hold(lines: &Lines<String>) -> bool {
+/// Whether lines of `LINES` describe themselves, and positions in them are right.
+fn describe_themselves(lines: &Lines<String>) -> bool {
     let answers = [
         lines.byte_to_line(12),
         lines.byte_to_column(12),
@@ -310,11 +280,7 @@ fn positions_hold(lines: &Lines<String>) -> bool {
     answers == [Some(1), Some(2), Some(9), Some(12), Some(7), Some(12)]
         && lines.byte_to_line_column(12) == Some((1, 2))
         && lines.line_to_range(1) == Some(7..15)
-}
-
-/// Whether lines of `LINES` describe themselves.
-fn describe_themselves(lines: &Lines<String>) -> bool {
-    [lines.len_bytes(), lines.len_utf16(), lines.len_lines()] == [21, 18, 4]
+        && [lines.len_bytes(), lines.len_utf16(), lines.len_lines()] == [21, 18, 4]
         && lines.text() == LINES
         && lines.replacement_range(LINES).is_none()
 }
@@ -322,7 +288,7 @@ fn describe_themselves(lines: &Lines<String>) -> bool {
 /// Whether lines answer for positions and aren't changed by an equal text.
 fn lines_answer(alloc: Global) -> Option<bool> {
     let mut lines = lines_of(alloc, LINES)?;
-    Some(is_kept(&mut lines) && positions_hold(&lines) && describe_themselves(&lines))
+    Some(is_kept(&mut lines) && describe_themselves(&lines))
 }
 
 /// What lines hash to.
@@ -359,16 +325,6 @@ fn lines_are_compared(alloc: Global) -> Option<bool> {
     Some(are_compared && is_second(lines.line(1)) && is_second(second()))
 }
 
-/// Whether `sample` with a warning describes itself.
-fn describes_itself(node: &SyntaxNode) -> bool {
-    let children = node.children().len();
-    let remarks = node.diagnostics().len();
-    [node.len(), node.descendants(), children, remarks] == [7, 8, 4, 1]
-        && [node.is_inner(), node.is_empty()] == [true, false]
-        && node.kind() == SyntaxKind::ContentBlock
-        && node.leaf_text() == ""
-}
-
 /// Whether the kinds and spans change, and the node is numbered.
 fn converts_and_numbers(node: &mut SyntaxNode) -> bool {
     node.convert_child_to_kind(1, SyntaxKind::Space);
@@ -381,18 +337,25 @@ fn converts_and_numbers(node: &mut SyntaxNode) -> bool {
 /// Whether a node describes itself, is compared, and its kinds and spans change.
 fn converts(alloc: Global) -> Option<bool> {
     let mut node = warned(alloc)?;
-    let is_confirmed = node.spanless_eq(&warned(alloc)?) && describes_itself(&node);
-    Some(is_confirmed && converts_and_numbers(&mut node))
+    let is_same = node.spanless_eq(&warned(alloc)?);
+    let (children, remarks) = (node.children().len(), node.diagnostics().len());
+    let is_described = [node.len(), node.descendants(), children, remarks] == [7, 8, 4, 1]
+        && [node.is_inner(), node.is_empty()] == [true, false]
+        && node.kind() == SyntaxKind::ContentBlock
+        && node.leaf_text() == "";
+    Some(is_same && is_described && converts_and_numbers(&mut node))
 }
 
 /// Once they are made, lines take no memory for what these cases ask.
 #[test]
 fn lines_tell_positions_without_memory(rt: HostRuntime) {
-    assert!(rt; are_confirmed(rt.alloc(), &[Case::Tells, Case::Compares]));
+    let alloc = rt.alloc();
+    assert!(rt; is_confirmed(lines_answer(alloc), lines_answer(alloc)));
+    assert!(rt; is_confirmed(lines_are_compared(alloc), lines_are_compared(alloc)));
 }
 
 /// Nor does a node.
 #[test]
 fn a_node_changes_without_memory(rt: HostRuntime) {
-    assert!(rt; are_confirmed(rt.alloc(), &[Case::Converts]));
+    assert!(rt; is_confirmed(converts(rt.alloc()), converts(rt.alloc())));
 }

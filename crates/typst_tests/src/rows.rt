@@ -19,26 +19,14 @@ pub(crate) fn leaf(alloc: Global, kind: SyntaxKind, text: &str) -> Option<Syntax
     SyntaxNode::leaf(alloc, kind, text).ok()
 }
 
-/// A node over the last `count` of a list, which are taken out of it, or over all.
-fn gather(
-    alloc: Global,
-    kind: SyntaxKind,
-    nodes: &mut Vec<SyntaxNode>,
-    count: usize,
-) -> Option<SyntaxNode> {
-    if kind.is_error() {
-        return leaf(alloc, kind, "");
-    }
-    let kids = nodes.split_off(nodes.len().saturating_sub(count)).ok()?;
-    Some(SyntaxNode::inner(kind, kids))
-}
-
-/// Adds the node of a row to a list, and takes its children out of it.
-fn add(alloc: Global, nodes: &mut Vec<SyntaxNode>, row: Row) -> Option<()> {
-    let (kind, text, kids) = row;
+/// Adds the node of a row to a list, and takes its children out of it. An error is a leaf.
+fn add(alloc: Global, nodes: &mut Vec<SyntaxNode>, (kind, text, kids): Row) -> Option<()> {
     let node = match kids {
-        None => leaf(alloc, kind, text)?,
-        Some(count) => gather(alloc, kind, nodes, count)?,
+        Some(count) if !kind.is_error() => {
+            let kids = nodes.split_off(nodes.len().saturating_sub(count)).ok()?;
+            SyntaxNode::inner(kind, kids)
+        }
+        _ => leaf(alloc, kind, text)?,
     };
     nodes.push(node).ok()
 }
@@ -58,30 +46,19 @@ pub(crate) fn list(alloc: Global, rows: &[Row]) -> Option<Vec<SyntaxNode>> {
     Some(nodes)
 }
 
-/// The last node of a list.
-pub(crate) fn last(mut nodes: Vec<SyntaxNode>) -> Option<SyntaxNode> {
-    nodes.pop()
-}
-
 /// A tree from its nodes, each after its children.
 pub(crate) fn tree(alloc: Global, rows: &[Row]) -> Option<SyntaxNode> {
-    last(list(alloc, rows)?)
-}
-
-/// Adds the nodes of a part to a list.
-fn add_part(alloc: Global, nodes: &mut Vec<SyntaxNode>, part: Part) -> Option<()> {
-    let (rows, times) = part;
-    for _ in 0..times {
-        add_rows(alloc, nodes, rows)?;
-    }
-    Some(())
+    let mut nodes = list(alloc, rows)?;
+    nodes.pop()
 }
 
 /// A tree whose nodes come in parts, each after its children.
 pub(crate) fn long_tree(alloc: Global, parts: &[Part]) -> Option<SyntaxNode> {
     let mut nodes = Vec::new(alloc);
-    for part in parts {
-        add_part(alloc, &mut nodes, *part)?;
+    for (rows, times) in parts {
+        for _ in 0..*times {
+            add_rows(alloc, &mut nodes, rows)?;
+        }
     }
-    last(nodes)
+    nodes.pop()
 }

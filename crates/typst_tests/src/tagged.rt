@@ -68,26 +68,19 @@ fn has_stretches(alloc: Global, rows: &[Row]) -> Option<bool> {
     Some(agree(LinkedNode::new(&root), stretches.as_slice()))
 }
 
-/// Whether those of all trees are, also the next time where memory was refused.
-fn have_stretches(alloc: Global, trees: &[&[Row]]) -> bool {
-    for rows in trees {
-        if !is_confirmed(has_stretches(alloc, rows), has_stretches(alloc, rows)) {
-            return false;
-        }
-    }
-    true
-}
-
 static TREES: [&[Row]; 4] = [&RIGHT_TO_LEFT, &TERM, &ERRORS, &NESTED];
 
 // This test and the next pass whichever request for memory is refused: `rt try --test --fail-alloc N`.
 #[test]
 fn stretches_have_the_tags_of_their_leaves(rt: HostRuntime) {
-    assert!(rt; have_stretches(rt.alloc(), &TREES));
+    let alloc = rt.alloc();
+    for rows in &TREES {
+        assert!(rt; is_confirmed(has_stretches(alloc, rows), has_stretches(alloc, rows)));
+    }
 }
 
 /// The stretches of `NESTED`: where each ends, and its tag.
-const WANTED: [(usize, Option<Tag>); 8] = [
+static WANTED: [(usize, Option<Tag>); 8] = [
     (2, Some(Tag::Heading)),
     (3, Some(Tag::Heading)),
     (5, Some(Tag::Ref)),
@@ -98,20 +91,15 @@ const WANTED: [(usize, Option<Tag>); 8] = [
     (10, None),
 ];
 
-/// Whether stretches end there and have these tags.
-fn are(stretches: &[Tagged], wanted: &[(usize, Option<Tag>)]) -> bool {
-    for (stretch, (end, tag)) in stretches.iter().zip(wanted) {
-        if stretch.range.end != *end || stretch.tag != *tag {
-            return false;
-        }
-    }
-    stretches.len() == wanted.len()
-}
-
 /// Whether the stretches of `NESTED` are these.
 fn are_wanted(alloc: Global) -> Option<bool> {
     let stretches = tag_stretches(alloc, &tree(alloc, &NESTED)?).ok()?;
-    Some(are(stretches.as_slice(), &WANTED))
+    for (stretch, (end, tag)) in stretches.iter().zip(WANTED.iter()) {
+        if stretch.range.end != *end || stretch.tag != *tag {
+            return Some(false);
+        }
+    }
+    Some(stretches.len() == WANTED.len())
 }
 
 #[test]

@@ -27,54 +27,29 @@ static ONES: [One; 7] = [
     (SyntaxMode::Math, "\u{a0}\u{2028}", SyntaxKind::Space, true),
 ];
 
-/// Whether the text is one token so.
-fn is_one(alloc: Global, (mode, text, kind, newline): One) -> Option<bool> {
-    let mut lexer = Lexer::new(text, mode, &UnicodeClasses);
-    let (token, taken) = lexer.scan(alloc).ok()?;
-    let is_whole = token.kind.same(kind) && taken.len() == text.len();
-    Some(is_whole && lexer.newline() == newline)
-}
-
-fn are_one(alloc: Global, ones: &[One]) -> Option<bool> {
-    for one in ones {
-        if !is_one(alloc, *one)? {
-            return Some(false);
-        }
-    }
-    Some(true)
-}
-
 #[test]
 fn knows_newlines_of_modes(rt: HostRuntime) {
-    assert!(rt; are_one(rt.alloc(), &ONES) == Some(true));
+    for (mode, text, kind, newline) in &ONES {
+        let mut lexer = Lexer::new(text, *mode, &UnicodeClasses);
+        let (token, taken) = lexer.scan(rt.alloc()).expect(&rt, "memory");
+        assert!(rt; token.kind.same(*kind) && taken.len() == text.len());
+        assert!(rt; lexer.newline() == *newline);
+    }
 }
 
 /// Where a token begins, in bytes and in characters of its line.
 type Start = (usize, usize);
 
-const STARTS: [Start; 6] = [(0, 0), (2, 1), (3, 2), (4, 3), (7, 0), (12, 2)];
+static STARTS: [Start; 6] = [(0, 0), (2, 1), (3, 2), (4, 3), (7, 0), (12, 2)];
 
-/// Whether the next token begins there; reads it.
-fn starts_at(alloc: Global, lexer: &mut Lexer<'_, UnicodeClasses>, (index, column): Start) -> bool {
-    let starts = lexer.cursor() == index && lexer.column(index) == column;
-    lexer.scan(alloc).is_ok() && starts
-}
-
-/// Whether tokens of a text begin there.
-fn start_at(alloc: Global, text: &str, starts: &[Start]) -> bool {
-    let mut lexer = lexer(text);
-    for start in starts {
-        if !starts_at(alloc, &mut lexer, *start) {
-            return false;
-        }
-    }
-    true
-}
-
+/// Tokens of the text begin there.
 #[test]
 fn counts_columns(rt: HostRuntime) {
-    let text = "ä\tb\u{2028}\u{1f49b}c";
-    assert!(rt; start_at(rt.alloc(), text, &STARTS));
+    let mut lexer = lexer("ä\tb\u{2028}\u{1f49b}c");
+    for (index, column) in &STARTS {
+        assert!(rt; lexer.cursor() == *index && lexer.column(*index) == *column);
+        assert!(rt; lexer.scan(rt.alloc()).is_ok());
+    }
 }
 
 /// Whether the end is reached; nothing where the lexer doesn't stand after the token that it read, or
@@ -124,46 +99,34 @@ fn count(alloc: Global, text: &str, most: usize) -> Option<usize> {
     Some(most)
 }
 
-/// How many tokens a text of 100,000 times one character has.
-fn count_run(alloc: Global, one: char) -> Option<usize> {
-    let mut text = String::new(alloc);
-    for _ in 0..100_000 {
-        text.push(one).ok()?;
-    }
-    count(alloc, text.as_str(), 100_002)
-}
-
-/// A character, and how many tokens a run of it is.
-type Run = (char, usize);
+/// A character, and how many tokens 100,000 of it are.
+type Run = (&'static str, usize);
 
 static RUNS: [Run; 15] = [
-    ('a', 1),
-    (' ', 1),
-    ('/', 1),
-    ('\n', 1),
-    ('é', 1),
-    ('=', 1),
-    ('0', 1),
-    ('h', 1),
-    ('`', 1),
-    ('@', 1),
-    ('-', 33_334),
-    ('*', 100_000),
-    ('[', 100_000),
-    ('\\', 50_000),
-    ('.', 33_334),
+    ("a", 1),
+    (" ", 1),
+    ("/", 1),
+    ("\n", 1),
+    ("é", 1),
+    ("=", 1),
+    ("0", 1),
+    ("h", 1),
+    ("`", 1),
+    ("@", 1),
+    ("-", 33_334),
+    ("*", 100_000),
+    ("[", 100_000),
+    ("\\", 50_000),
+    (".", 33_334),
 ];
-
-fn are_runs(alloc: Global, runs: &[Run]) -> bool {
-    for (one, tokens) in runs {
-        if count_run(alloc, *one) != Some(*tokens) {
-            return false;
-        }
-    }
-    true
-}
 
 #[test]
 fn reads_runs(rt: HostRuntime) {
-    assert!(rt; are_runs(rt.alloc(), &RUNS));
+    for (one, tokens) in &RUNS {
+        let text = one.repeat(rt.alloc(), 100_000).expect(&rt, "memory");
+        assert!(rt;
+            count(rt.alloc(), text.as_str(), 100_002) == Some(*tokens),
+            "{one:?}"
+        );
+    }
 }

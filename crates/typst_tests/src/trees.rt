@@ -1,4 +1,4 @@
-use crate::rows::{Row, add_rows, last, leaf, list};
+use crate::rows::{Row, add_rows, list};
 use std::alloc::Global;
 use typst_kinds::{FileId, SourceError, SyntaxKind};
 use typst_tree::SyntaxNode;
@@ -6,19 +6,12 @@ use typst_tree::SyntaxNode;
 /// The first number that isn't one.
 pub(crate) const END: u64 = 1 << 47;
 
-/// The leaf `b`, with a warning and a hint.
-fn remarked(alloc: Global) -> Option<SyntaxNode> {
-    let mut leaf = leaf(alloc, SyntaxKind::Text, "b")?;
-    leaf.warn("odd").ok()?;
-    leaf.hint("look").ok()?;
-    Some(leaf)
-}
-
-/// What stands before the leaf `b` of `sample`.
-const FRONT: [Row; 3] = [
+/// The leaf `b` of `sample`, and what stands before it.
+const FRONT: [Row; 4] = [
     (SyntaxKind::LeftBracket, "[", None),
     (SyntaxKind::Text, "a ", None),
     (SyntaxKind::Star, "*", None),
+    (SyntaxKind::Text, "b", None),
 ];
 
 /// What stands after it.
@@ -32,35 +25,24 @@ const BEHIND: [Row; 4] = [
 /// `[a *b*]`, with a warning and a hint at the leaf `b`.
 pub(crate) fn sample(alloc: Global) -> Option<SyntaxNode> {
     let mut nodes = list(alloc, &FRONT)?;
-    nodes.push(remarked(alloc)?).ok()?;
+    let leaf = nodes.last_mut()?;
+    leaf.warn("odd").ok()?;
+    leaf.hint("look").ok()?;
     add_rows(alloc, &mut nodes, &BEHIND)?;
-    last(nodes)
-}
-
-/// Puts the children of a node on a list of nodes that are left, the first one last.
-fn leave_children<'a>(left: &mut Vec<&'a SyntaxNode>, node: &'a SyntaxNode) -> Option<()> {
-    for kid in node.children().iter().rev() {
-        left.push(kid).ok()?;
-    }
-    Some(())
+    nodes.pop()
 }
 
 /// The numbers of the first thousand nodes, each before its children's, 0 for a detached one.
 pub(crate) fn numbers(alloc: Global, root: &SyntaxNode) -> Option<Vec<u64>> {
     let mut all = Vec::new(alloc);
-    let mut left = Vec::new(alloc);
-    left.push(root).ok()?;
+    let mut walk = root.preorder(alloc);
     for _ in 0..1000 {
-        let Some(node) = left.pop() else { break };
-        all.push(node.span().number_or_zero()).ok()?;
-        leave_children(&mut left, node)?;
+        let Some(visit) = walk.next().ok()? else {
+            break;
+        };
+        all.push(visit.node.span().number_or_zero()).ok()?;
     }
     Some(all)
-}
-
-/// Whether these are the numbers of the tree's nodes.
-pub(crate) fn has_numbers(alloc: Global, node: &SyntaxNode, want: &[u64]) -> Option<bool> {
-    Some(numbers(alloc, node)?.as_slice() == want)
 }
 
 /// Numbers a tree within `start..end`, both within all numbers.
@@ -94,6 +76,6 @@ pub(crate) fn replace(
 
 /// Whether both are the same, spans too.
 pub(crate) fn same(alloc: Global, a: &SyntaxNode, b: &SyntaxNode) -> Option<bool> {
-    let one = numbers(alloc, a)?;
-    Some(has_numbers(alloc, b, one.as_slice())? && a.spanless_eq(b))
+    let (one, other) = (numbers(alloc, a)?, numbers(alloc, b)?);
+    Some(one.as_slice() == other.as_slice() && a.spanless_eq(b))
 }

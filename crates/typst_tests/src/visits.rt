@@ -46,36 +46,25 @@ fn seen(alloc: Global, walk: Preorder<'_>) -> Result<Vec<Seen>, AllocError> {
     Ok(all)
 }
 
-/// Whether a walk comes to the nodes of `TREE`, which begins at a byte.
-fn comes_to_all(alloc: Global) -> Option<bool> {
-    let root = tree(alloc, &TREE)?;
-    let all = seen(alloc, root.preorder(alloc)).ok()?;
-    Some(all.as_slice() == VISITS.as_slice())
-}
-
 #[test]
 fn comes_to_each_node_before_its_children(rt: HostRuntime) {
-    assert!(rt; comes_to_all(rt.alloc()) == Some(true));
+    let root = tree(rt.alloc(), &TREE).expect(&rt, "memory");
+    let all = seen(rt.alloc(), root.preorder(rt.alloc())).expect(&rt, "memory");
+    assert!(rt; all.as_slice() == VISITS.as_slice());
 }
 
-/// Where the nodes of `TREE` begin if it begins three bytes before the last offset.
-const LATE: [usize; 10] = [3, 3, 1, 1, 1, 0, 0, 0, 0, 0];
-
-/// Whether no offset of such a tree is larger than the largest `usize`.
-fn saturates(alloc: Global) -> Option<bool> {
-    let root = tree(alloc, &TREE)?;
-    let all = seen(alloc, Preorder::new(alloc, &root, usize::MAX - 3)).ok()?;
-    for ((_, offset, _), before) in all.iter().zip(LATE.iter()) {
-        if usize::MAX.saturating_sub(*offset) != *before {
-            return Some(false);
-        }
-    }
-    Some(all.len() == LATE.len())
-}
+/// How far before the last offset the nodes of `TREE` begin if it begins three bytes before that.
+static LATE: [usize; 10] = [3, 3, 1, 1, 1, 0, 0, 0, 0, 0];
 
 #[test]
 fn offsets_end_at_the_largest(rt: HostRuntime) {
-    assert!(rt; saturates(rt.alloc()) == Some(true));
+    let root = tree(rt.alloc(), &TREE).expect(&rt, "memory");
+    let walk = Preorder::new(rt.alloc(), &root, usize::MAX - 3);
+    let all = seen(rt.alloc(), walk).expect(&rt, "memory");
+    assert!(rt; all.len() == LATE.len());
+    for ((_, offset, _), before) in all.iter().zip(LATE.iter()) {
+        assert!(rt; usize::MAX.saturating_sub(*offset) == *before);
+    }
 }
 
 /// How many levels a chain has, each of them a node with the next one below it.
@@ -107,22 +96,16 @@ fn down(
     Ok((all.len(), all.get(number).copied(), all.last().copied()))
 }
 
-/// Whether a walk comes to the end of a chain whose nodes are first children, and back.
-fn goes_down_first_children(alloc: Global) -> Result<bool, AllocError> {
-    let lowest = (SyntaxKind::Ident, 0, LEVELS - 1);
-    let last = (SyntaxKind::Text, LEVELS - 1, 1);
-    Ok(down(alloc, false, LEVELS - 1)? == (2 * LEVELS - 1, Some(lowest), Some(last)))
-}
-
-/// Whether a walk comes to the end of a chain whose nodes are last children.
-fn goes_down_last_children(alloc: Global) -> Result<bool, AllocError> {
-    let middle = (SyntaxKind::FieldAccess, LEVELS / 2, LEVELS / 2);
-    let last = (SyntaxKind::Ident, LEVELS - 1, LEVELS - 1);
-    Ok(down(alloc, true, LEVELS)? == (2 * LEVELS - 1, Some(middle), Some(last)))
-}
-
+/// A walk comes to the end of a chain whose nodes are first children, and back, and to that of one whose nodes
+/// are last children.
 #[test]
 fn goes_down_long_chains(rt: HostRuntime) {
-    assert!(rt; goes_down_first_children(rt.alloc()) == Ok(true));
-    assert!(rt; goes_down_last_children(rt.alloc()) == Ok(true));
+    let lowest = (SyntaxKind::Ident, 0, LEVELS - 1);
+    let last = (SyntaxKind::Text, LEVELS - 1, 1);
+    let found = down(rt.alloc(), false, LEVELS - 1).expect(&rt, "memory");
+    assert!(rt; found == (2 * LEVELS - 1, Some(lowest), Some(last)));
+    let middle = (SyntaxKind::FieldAccess, LEVELS / 2, LEVELS / 2);
+    let last = (SyntaxKind::Ident, LEVELS - 1, LEVELS - 1);
+    let found = down(rt.alloc(), true, LEVELS).expect(&rt, "memory");
+    assert!(rt; found == (2 * LEVELS - 1, Some(middle), Some(last)));
 }

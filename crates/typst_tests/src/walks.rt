@@ -73,39 +73,16 @@ fn steps(numbers: &[u64], node: LinkedNode) -> [Option<usize>; 5] {
     ]
 }
 
-/// The node with that number.
-fn node_at<'a>(top: LinkedNode<'a>, number: u64) -> Option<LinkedNode<'a>> {
-    top.find_number(SpanNumber::new(number)?)
-}
-
-/// Whether the leaves hold these bytes.
-fn has_leaves(top: LinkedNode, numbers: &[u64], leaves: &[Option<usize>]) -> bool {
-    for (byte, wanted) in leaves.iter().enumerate() {
-        if place(numbers, top.leaf_at(byte)) != *wanted {
-            return false;
-        }
-    }
-    true
-}
-
-/// Whether the node with a number is found, and has its range and its steps.
-fn is_at(top: LinkedNode, numbers: &[u64], number: u64, (begin, end, wanted): Standing) -> bool {
-    match node_at(top, number) {
-        Some(node) => {
-            node.offset() == begin && node.range().end == end && steps(numbers, node) == wanted
-        }
-        None => false,
-    }
-}
-
-/// Whether that holds of each node.
-fn are_at(top: LinkedNode, numbers: &[u64], places: &[Standing]) -> bool {
-    for (number, place) in numbers.iter().zip(places) {
-        if !is_at(top, numbers, *number, *place) {
-            return false;
-        }
-    }
-    numbers.len() == places.len()
+/// Whether the node with a number, which is found by it, has its range and its steps.
+fn is_at(
+    top: LinkedNode,
+    numbers: &[u64],
+    number: u64,
+    (begin, end, wanted): Standing,
+) -> Option<bool> {
+    let node = top.find_number(SpanNumber::new(number)?)?;
+    let is_there = node.offset() == begin && node.range().end == end;
+    Some(is_there && steps(numbers, node) == wanted)
 }
 
 /// `TREE` with numbers, or nothing where memory was refused.
@@ -115,25 +92,28 @@ fn linked(alloc: Global) -> Option<SyntaxNode> {
 
 /// Whether the leaves and the nodes of `TREE` are those of the lists.
 fn walks_from(top: LinkedNode, numbers: &[u64]) -> bool {
-    has_leaves(top, numbers, &LEAVES) && are_at(top, numbers, &PLACES)
+    let (leaves, places) = (LEAVES, PLACES);
+    for (byte, wanted) in leaves.iter().enumerate() {
+        if place(numbers, top.leaf_at(byte)) != *wanted {
+            return false;
+        }
+    }
+    for (number, place) in numbers.iter().zip(places.iter()) {
+        if is_at(top, numbers, *number, *place) != Some(true) {
+            return false;
+        }
+    }
+    numbers.len() == places.len()
 }
 
-/// Whether the steps are the same where the tree is known to be in order.
-fn walks_both(root: &SyntaxNode, numbers: &[u64]) -> bool {
-    root.descendants() == 10
-        && walks_from(LinkedNode::new(root), numbers)
-        && is_ordered(root)
-        && walks_from(LinkedNode::ordered(root), numbers)
-}
-
-fn walks_tree(alloc: Global) -> Option<bool> {
-    let root = linked(alloc)?;
-    Some(walks_both(&root, numbers(alloc, &root)?.as_slice()))
-}
-
+/// The steps are the same where the tree is known to be in order.
 #[test]
 fn walks(rt: HostRuntime) {
-    assert!(rt; walks_tree(rt.alloc()) == Some(true));
+    let root = linked(rt.alloc()).expect(&rt, "memory");
+    let numbers = numbers(rt.alloc(), &root).expect(&rt, "memory");
+    assert!(rt; root.descendants() == 10 && is_ordered(&root));
+    assert!(rt; walks_from(LinkedNode::new(&root), numbers.as_slice()));
+    assert!(rt; walks_from(LinkedNode::ordered(&root), numbers.as_slice()));
 }
 
 /// Whether what is read of the node is what the error of `TREE` has.
@@ -154,41 +134,18 @@ fn is_the_error(node: LinkedNode) -> bool {
         && !node.hash_expr()
 }
 
-fn count_errors(top: LinkedNode) -> u32 {
+/// `TREE` has its error once.
+#[test]
+fn reads_through_the_children(rt: HostRuntime) {
+    let root = linked(rt.alloc()).expect(&rt, "memory");
+    assert!(rt; root.descendants() == 10);
     let mut errors: u32 = 0;
-    for child in top.children() {
+    for child in LinkedNode::new(&root).children() {
         if is_the_error(child) {
             errors = errors.saturating_add(1);
         }
     }
-    errors
-}
-
-/// Whether `TREE` has its error once.
-fn has_one_error(alloc: Global) -> Option<bool> {
-    let root = linked(alloc)?;
-    Some(root.descendants() == 10 && count_errors(LinkedNode::new(&root)) == 1)
-}
-
-#[test]
-fn reads_through_the_children(rt: HostRuntime) {
-    assert!(rt; has_one_error(rt.alloc()) == Some(true));
-}
-
-/// A leaf with this span.
-fn spanned(alloc: Global, span: Span) -> Option<SyntaxNode> {
-    let mut leaf = leaf(alloc, SyntaxKind::Ident, "ab")?;
-    leaf.synthesize(span);
-    Some(leaf)
-}
-
-/// A detached node over leaves with these spans.
-fn unordered(alloc: Global, spans: &[Span]) -> Option<SyntaxNode> {
-    let mut kids = Vec::new(alloc);
-    for span in spans {
-        kids.push(spanned(alloc, *span)?).ok()?;
-    }
-    Some(SyntaxNode::inner(SyntaxKind::Markup, kids))
+    assert!(rt; errors == 1);
 }
 
 /// Where the first node with a span begins.
@@ -201,28 +158,22 @@ fn span(number: u64) -> Option<Span> {
     Some(Span::new(FileId::new(1)?, SpanNumber::new(number)?))
 }
 
-/// Whether the first node of each span begins there, of three leaves under a detached node.
-fn begins(top: LinkedNode, three: Span, ten: Span) -> bool {
-    let places = [
-        found(top, ten),
-        found(top, three),
-        found(top, Span::detached()),
-    ];
-    places == [Some(0), Some(2), Some(0)]
-}
-
-fn finds_first(alloc: Global) -> Option<bool> {
-    let (three, ten) = (span(3)?, span(10)?);
-    let root = unordered(alloc, &[ten, three, ten])?;
-    if root.descendants() != 4 || is_ordered(&root) {
-        return None;
-    }
-    Some(begins(LinkedNode::new(&root), three, ten))
-}
-
+/// Among three leaves under a detached node.
 #[test]
 fn finds_the_first_without_order(rt: HostRuntime) {
-    assert!(rt; finds_first(rt.alloc()) == Some(true));
+    let three = span(3).expect(&rt, "a span");
+    let ten = span(10).expect(&rt, "a span");
+    let mut kids = Vec::new(rt.alloc());
+    for span in [ten, three, ten] {
+        let mut kid = leaf(rt.alloc(), SyntaxKind::Ident, "ab").expect(&rt, "memory");
+        kid.synthesize(span);
+        assert!(rt; kids.push(kid).is_ok());
+    }
+    let root = SyntaxNode::inner(SyntaxKind::Markup, kids);
+    assert!(rt; root.descendants() == 4 && !is_ordered(&root));
+    let top = LinkedNode::new(&root);
+    assert!(rt; found(top, ten) == Some(0) && found(top, three) == Some(2));
+    assert!(rt; found(top, Span::detached()) == Some(0));
 }
 
 #[test]

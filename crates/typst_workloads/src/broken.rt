@@ -105,17 +105,12 @@ fn open_and_close(
     marks: Marks,
     outcome: &mut Outcome,
 ) -> anyhow::Result<()> {
-    let at = open(desk, start, marks.opening, outcome)?;
+    let opened = desk.type_letters(start, marks.opening, outcome)?;
+    let typed = desk.type_letters(opened, TYPED, outcome)?;
+    let at = desk.take_out(typed, TAKEN, outcome)?;
     desk.hold(alloc, outcome)?;
     desk.type_letters(at, marks.closing, outcome)?;
     desk.hold(alloc, outcome)
-}
-
-/// Types a mark that opens something and a word after it, and gives where this ends.
-fn open(desk: &mut Desk, start: usize, mark: &str, outcome: &mut Outcome) -> anyhow::Result<usize> {
-    let opened = desk.type_letters(start, mark, outcome)?;
-    let typed = desk.type_letters(opened, TYPED, outcome)?;
-    desk.take_out(typed, TAKEN, outcome)
 }
 
 /// A place near a text's front: in a package where a function's body begins, and else where a part of the

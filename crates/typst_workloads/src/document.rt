@@ -81,7 +81,7 @@ const OPERATORS: &[&str] = &[
 const PROSE_BYTES: usize = 12_000;
 
 /// What a text is like.
-#[derive(Clone, Copy, PartialEq, Eq)]
+#[derive(Clone, Copy)]
 pub enum Shape {
     /// Prose with headings, lists, formulas, figures and some code.
     Document,
@@ -121,7 +121,7 @@ pub fn document(
         Shape::LongLine => "#let data = (",
         _ => "",
     })?;
-    if shape == Shape::LongTable {
+    if matches!(shape, Shape::LongTable) {
         push_parts(&mut text, random, Shape::Document, PROSE_BYTES)?;
         text.push_str("#table(\n  columns: 3,\n")?;
     }
@@ -318,40 +318,30 @@ fn push_comment(text: &mut String, random: &mut Random) -> Result<(), AllocError
 fn push_nested(text: &mut String, random: &mut Random) -> Result<(), AllocError> {
     let depth = random.between(3, 30);
     if random.one_in(2) {
-        push_lists(text, random, depth)
-    } else {
-        push_brackets(text, random, depth)
+        return push_lists(text, random, depth);
     }
-}
-
-/// Writes a list in a list, and so on, a given number of lines deep.
-fn push_lists(text: &mut String, random: &mut Random, depth: usize) -> Result<(), AllocError> {
-    for level in 0..depth {
-        push_times(text, "  ", level)?;
-        text.push_str("- ")?;
-        text.push_str(random.pick(PLAIN))?;
-        text.push_str("\n")?;
-    }
-    text.push_str("\n")
-}
-
-/// Writes a text in brackets in brackets, and so on, so many deep.
-fn push_brackets(text: &mut String, random: &mut Random, depth: usize) -> Result<(), AllocError> {
     for _ in 0..depth {
         text.push_str(random.pick(&["#box[", "#strong[", "#[", "#f(x)["]))?;
         text.push_str(random.pick(PLAIN))?;
         text.push_str(" ")?;
     }
-    push_times(text, "]", depth)?;
+    for _ in 0..depth {
+        text.push_str("]")?;
+    }
     text.push_str("\n\n")
 }
 
-/// Writes the same so many times.
-fn push_times(text: &mut String, part: &str, times: usize) -> Result<(), AllocError> {
-    for _ in 0..times {
-        text.push_str(part)?;
+/// Writes a list in a list, and so on, a given number of lines deep.
+fn push_lists(text: &mut String, random: &mut Random, depth: usize) -> Result<(), AllocError> {
+    for level in 0..depth {
+        for _ in 0..level {
+            text.push_str("  ")?;
+        }
+        text.push_str("- ")?;
+        text.push_str(random.pick(PLAIN))?;
+        text.push_str("\n")?;
     }
-    Ok(())
+    text.push_str("\n")
 }
 
 /// Writes a paragraph of words past ASCII and some others.

@@ -10,6 +10,7 @@ use crate::sums::sums;
 use crate::typing::{blocks, typing};
 use crate::walking::walking;
 use std::alloc::Global;
+use std::slice;
 
 /// A job that users wait for.
 #[derive(Clone, Copy)]
@@ -33,7 +34,7 @@ pub enum Job {
 }
 
 /// All jobs.
-const ALL: &[Job] = &[
+static ALL: [Job; 8] = [
     Job::Typing,
     Job::Blocks,
     Job::Broken,
@@ -47,18 +48,15 @@ const ALL: &[Job] = &[
 impl Job {
     /// The jobs that a word names: one, or all by `all`, and none by another word.
     pub fn named(word: &str) -> &'static [Job] {
-        match word {
-            "typing" => &[Job::Typing],
-            "blocks" => &[Job::Blocks],
-            "broken" => &[Job::Broken],
-            "walking" => &[Job::Walking],
-            "opening" => &[Job::Opening],
-            "outside" => &[Job::Outside],
-            "positions" => &[Job::Positions],
-            "sums" => &[Job::Sums],
-            "all" => ALL,
-            _ => &[],
+        if word == "all" {
+            return &ALL;
         }
+        for job in &ALL {
+            if job.word() == word {
+                return slice::from_ref(job);
+            }
+        }
+        &[]
     }
 
     /// Its name.
@@ -79,29 +77,18 @@ impl Job {
     pub fn run(self, alloc: Global, seed: u64, rounds: usize) -> anyhow::Result<Outcome> {
         let mut outcome = Outcome::new();
         for round in 0..rounds {
-            let mut random = Random::new(seed, round as u64);
-            self.round(alloc, &mut random, round, &mut outcome)?;
+            let random = &mut Random::new(seed, round as u64);
+            match self {
+                Job::Typing => typing(alloc, random, round, &mut outcome)?,
+                Job::Blocks => blocks(alloc, random, round, &mut outcome)?,
+                Job::Broken => broken(alloc, random, &mut outcome)?,
+                Job::Walking => walking(alloc, random, &mut outcome)?,
+                Job::Opening => opening(alloc, random, round, &mut outcome)?,
+                Job::Outside => outside(alloc, random, &mut outcome)?,
+                Job::Positions => positions(alloc, random, &mut outcome)?,
+                Job::Sums => sums(alloc, &mut outcome)?,
+            }
         }
         Ok(outcome)
-    }
-
-    /// Does the job on one round of inputs.
-    fn round(
-        self,
-        alloc: Global,
-        random: &mut Random,
-        round: usize,
-        outcome: &mut Outcome,
-    ) -> anyhow::Result<()> {
-        match self {
-            Job::Typing => typing(alloc, random, round, outcome),
-            Job::Blocks => blocks(alloc, random, round, outcome),
-            Job::Broken => broken(alloc, random, outcome),
-            Job::Walking => walking(alloc, random, outcome),
-            Job::Opening => opening(alloc, random, round, outcome),
-            Job::Outside => outside(alloc, random, outcome),
-            Job::Positions => positions(alloc, random, outcome),
-            Job::Sums => sums(alloc, outcome),
-        }
     }
 }

@@ -19,7 +19,6 @@ mod work;
 
 use digest::Outcome;
 use job::Job;
-use std::alloc::Global;
 use std::time::Instant;
 use std::{env, io};
 use work::{Subject, Work};
@@ -29,18 +28,13 @@ const USAGE: &str =
 
 /// Without words it prints which ones it takes.
 fn main(rt: HostRuntime) -> anyhow::Result<()> {
-    let words = words(&rt, rt.alloc())?;
-    obey(&rt, words.as_slice())
-}
-
-/// Does what words ask for.
-fn obey(rt: &HostRuntime, words: &[String]) -> anyhow::Result<()> {
-    match words {
+    let words: Vec<String> = env::args(&rt)?.skip(1).collect(rt.alloc())?;
+    match words.as_slice() {
         [] => Ok(println!(rt; "{USAGE}")?),
-        [work, rounds] => repeat(rt, work.as_str(), rounds.as_str()),
-        [jobs, seed, rounds] => do_jobs(rt, jobs.as_str(), seed.as_str(), rounds.as_str(), false),
+        [work, rounds] => repeat(&rt, work.as_str(), rounds.as_str()),
+        [jobs, seed, rounds] => do_jobs(&rt, jobs.as_str(), seed.as_str(), rounds.as_str(), false),
         [jobs, seed, rounds, check] if check.as_str() == "check" => {
-            do_jobs(rt, jobs.as_str(), seed.as_str(), rounds.as_str(), true)
+            do_jobs(&rt, jobs.as_str(), seed.as_str(), rounds.as_str(), true)
         }
         _ => Err(unknown()),
     }
@@ -69,25 +63,14 @@ fn do_jobs(
     }
     let mut all_agree = true;
     for job in jobs {
-        all_agree = do_job(rt, *job, seed, rounds, is_check)? && all_agree;
+        let outcome = job.run(rt.alloc(), seed, rounds)?;
+        report(rt, *job, &outcome, is_check)?;
+        all_agree = all_agree && outcome.differing.is_none();
     }
     if !all_agree {
         anyhow::bail!("some results differ from those made in another way");
     }
     Ok(())
-}
-
-/// Does a job, prints what came of it, and answers whether all results agree.
-fn do_job(
-    rt: &HostRuntime,
-    job: Job,
-    seed: u64,
-    rounds: usize,
-    is_check: bool,
-) -> anyhow::Result<bool> {
-    let outcome = job.run(rt.alloc(), seed, rounds)?;
-    report(rt, job, &outcome, is_check)?;
-    Ok(outcome.differing.is_none())
 }
 
 /// Does the work of a name so many times on the text on standard input, and prints
@@ -98,25 +81,10 @@ fn repeat(rt: &HostRuntime, word: &str, rounds: &str) -> anyhow::Result<()> {
     };
     let rounds = rounds.parse::<u64>()?;
     let text = io::read_to_string(rt.alloc(), rt.reader())?;
-    repeat_on(rt, work, rounds, text)
-}
-
-/// Does the work so many times on a text, and prints what `repeat` says.
-fn repeat_on(rt: &HostRuntime, work: Work, rounds: u64, text: String) -> anyhow::Result<()> {
     let bytes = text.len();
     let mut subject = work.subject(rt.alloc(), text)?;
     let (checksum, nanoseconds) = timed(rt, &mut subject, rounds)?;
-    tell(rt, work.word(), bytes, checksum, nanoseconds)
-}
-
-/// Prints the checksum of rounds on a given number of bytes, and the nanoseconds of one.
-fn tell(
-    rt: &HostRuntime,
-    word: &str,
-    bytes: usize,
-    checksum: u64,
-    nanoseconds: u128,
-) -> anyhow::Result<()> {
+    let word = work.word();
     println!(rt; "{word} bytes {bytes} checksum {checksum}")?;
     eprintln!(rt; "{nanoseconds}")?;
     Ok(())
@@ -125,18 +93,12 @@ fn tell(
 /// The checksum of so many rounds, and the nanoseconds of one.
 fn timed(rt: &HostRuntime, subject: &mut Subject, rounds: u64) -> anyhow::Result<(u64, u128)> {
     let start = Instant::now(rt)?;
-    let checksum = checksum(rt.alloc(), subject, rounds)?;
-    let nanoseconds = start.elapsed(rt)?.as_nanos() / u128::from(rounds.max(1));
-    Ok((checksum, nanoseconds))
-}
-
-/// Does so many rounds, and sums up what came out.
-fn checksum(alloc: Global, subject: &mut Subject, rounds: u64) -> anyhow::Result<u64> {
     let mut checksum = 0u64;
     for _ in 0..rounds {
-        checksum = checksum.rotate_left(1) ^ subject.round(alloc)?;
+        checksum = checksum.rotate_left(1) ^ subject.round(rt.alloc())?;
     }
-    Ok(checksum)
+    let nanoseconds = start.elapsed(rt)?.as_nanos() / u128::from(rounds.max(1));
+    Ok((checksum, nanoseconds))
 }
 
 /// Prints what came of a job, and on standard error what differed.
@@ -148,24 +110,8 @@ fn report(rt: &HostRuntime, job: Job, outcome: &Outcome, is_check: bool) -> anyh
         print!(rt; " digest {digest}")?;
     }
     println!(rt; "")?;
-    match outcome.differing {
-        None => Ok(()),
-        Some(what) => complain(rt, job, outcome, what),
+    if let Some(what) = outcome.differing {
+        eprintln!(rt; "{word}: {agreed} of {held} agree, and the first that doesn't is {what}")?;
     }
-}
-
-/// Prints what the first result was that differed.
-fn complain(rt: &HostRuntime, job: Job, outcome: &Outcome, what: &str) -> anyhow::Result<()> {
-    let (word, held, agreed) = (job.word(), outcome.held, outcome.agreed);
-    eprintln!(rt; "{word}: {agreed} of {held} agree, and the first that doesn't is {what}")?;
     Ok(())
-}
-
-/// The words after the program's name.
-fn words(rt: &HostRuntime, alloc: Global) -> anyhow::Result<Vec<String>> {
-    let mut words = Vec::new(alloc);
-    for word in env::args(rt)?.skip(1) {
-        words.push(word)?;
-    }
-    Ok(words)
 }

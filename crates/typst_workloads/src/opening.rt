@@ -22,21 +22,10 @@ pub fn opening(
     for file in 0..FILES {
         let (shape, bytes) = file_of_project(random, file);
         let source = source(alloc, random, shape, bytes)?;
-        open(alloc, &source, file % 10 == round % 10, outcome)?;
-    }
-    Ok(())
-}
-
-/// Makes the page of a source; where its tree is to be held, holds it against the one that is newly parsed.
-fn open(
-    alloc: Global,
-    source: &Source<UnicodeClasses>,
-    is_held: bool,
-    outcome: &mut Outcome,
-) -> anyhow::Result<()> {
-    show(alloc, source, outcome)?;
-    if is_held {
-        hold_tree(alloc, source, "a source's tree", outcome)?;
+        show(alloc, &source, outcome)?;
+        if file % 10 == round % 10 {
+            hold_tree(alloc, &source, "a source's tree", outcome)?;
+        }
     }
     Ok(())
 }

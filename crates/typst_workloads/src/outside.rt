@@ -32,17 +32,6 @@ fn change(
     outcome: &mut Outcome,
 ) -> anyhow::Result<()> {
     let kept = source.try_clone()?;
-    change_beside(alloc, random, source, &kept, outcome)
-}
-
-/// Replaces the text of a source some times, beside one that is kept as it was.
-fn change_beside(
-    alloc: Global,
-    random: &mut Random,
-    source: &mut Source<UnicodeClasses>,
-    kept: &Source<UnicodeClasses>,
-    outcome: &mut Outcome,
-) -> anyhow::Result<()> {
     replace_some(alloc, random, source, outcome)?;
     outcome.digest.add_tree(kept.root());
     hold_tree(alloc, source, "a tree after replacements", outcome)?;

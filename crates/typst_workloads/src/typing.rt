@@ -20,7 +20,7 @@ const WORDS: &[&str] = &[
 ];
 
 /// What is typed letter by letter and opens and closes something, each in its turn.
-const MARKED: &[&str] = &[
+static MARKED: [&str; 9] = [
     "$a+b$", "*bold*", "_so_", "`raw`", "#f(x)", "[in]", "\"said\"", "// so", "= ",
 ];
 
@@ -89,7 +89,12 @@ fn type_into(
 ) -> anyhow::Result<()> {
     let source = source(alloc, random, task.shape, task.bytes)?;
     let mut desk = Desk::new(source, task.keystrokes, task.turn);
-    desk.sessions(task.keystrokes, random, outcome)?;
+    for _ in 0..task.keystrokes {
+        if desk.left == 0 {
+            break;
+        }
+        desk.session(random, outcome)?;
+    }
     desk.hold(alloc, outcome)
 }
 
@@ -145,49 +150,17 @@ impl Desk {
         self.source.text()
     }
 
-    /// Does sessions until no keystroke is left, but no more than a given number.
-    fn sessions(
-        &mut self,
-        most: usize,
-        random: &mut Random,
-        outcome: &mut Outcome,
-    ) -> anyhow::Result<()> {
-        for _ in 0..most {
-            if self.left == 0 {
-                break;
-            }
-            self.session(random, outcome)?;
-        }
-        Ok(())
-    }
-
-    /// Types somewhere.
+    /// Types a word somewhere, or what opens and closes something. In plain text a word's last letters are
+    /// taken out again, and elsewhere all of it, so that the text stays well-formed.
     fn session(&mut self, random: &mut Random, outcome: &mut Outcome) -> anyhow::Result<()> {
         let start = self.place(random);
         if self.until_marked == 0 {
             return self.marked_session(start, outcome);
         }
-        let is_plain = self.is_in_text(start);
-        self.word_session(start, is_plain, random, outcome)
-    }
-
-    /// Whether a place is in plain text.
-    fn is_in_text(&self, place: usize) -> bool {
-        match self.leaf_before(place) {
+        let is_plain = match self.leaf_before(start) {
             None => false,
             Some(leaf) => leaf.kind() == SyntaxKind::Text,
-        }
-    }
-
-    /// Types a word. In plain text its last letters are taken out again, and elsewhere all of it, so that
-    /// the text stays well-formed.
-    fn word_session(
-        &mut self,
-        start: usize,
-        is_plain: bool,
-        random: &mut Random,
-        outcome: &mut Outcome,
-    ) -> anyhow::Result<()> {
+        };
         let word = random.pick(WORDS);
         let end = self.type_letters(start, word, outcome)?;
         let letters = if is_plain {
@@ -201,7 +174,7 @@ impl Desk {
 
     /// Types what opens and closes something, and takes it out again as a whole.
     fn marked_session(&mut self, start: usize, outcome: &mut Outcome) -> anyhow::Result<()> {
-        let word = in_turn(MARKED, self.turn);
+        let word = MARKED[self.turn % MARKED.len()];
         self.until_marked = BETWEEN_MARKED;
         self.turn = self.turn.wrapping_add(1);
         let end = self.type_letters(start, word, outcome)?;
@@ -290,17 +263,13 @@ impl Desk {
     }
 
     /// Asks what an editor asks after a keystroke: the cursor's line, column and UTF-16 offset and the
-    /// ways back, the leaf at the cursor, and the bytes of its span.
+    /// ways back, the leaf at the cursor, the bytes of its span, and the node of that.
     fn ask(&self, at: usize, outcome: &mut Outcome) {
         let digest = &mut outcome.digest;
         ask_position(self.source.lines(), at, digest);
-        if let Some(leaf) = self.leaf_before(at) {
-            self.ask_leaf(leaf, digest);
-        }
-    }
-
-    /// Asks for the bytes of a leaf's span, and for its node.
-    fn ask_leaf(&self, leaf: LinkedNode<'_>, digest: &mut Digest) {
+        let Some(leaf) = self.leaf_before(at) else {
+            return;
+        };
         let Some(number) = leaf.get().span().number() else {
             return;
         };
@@ -333,14 +302,6 @@ fn ask_position(lines: &Lines<String>, at: usize, digest: &mut Digest) {
     if let Some(units) = lines.byte_to_utf16(at) {
         digest.add_size(units);
         digest.add_place(lines.utf16_to_byte(units));
-    }
-}
-
-/// The text whose turn it is, or the empty text where there are none.
-fn in_turn(options: &[&'static str], turn: usize) -> &'static str {
-    match options.get(turn % options.len().max(1)) {
-        Some(option) => *option,
-        None => "",
     }
 }
 

@@ -93,7 +93,7 @@ impl Subject {
             Subject::Text(text) => sized(parse(alloc, text.as_str(), &UnicodeClasses)),
             Subject::Code(text) => sized(parse_code(alloc, text.as_str(), &UnicodeClasses)),
             Subject::Math(text) => sized(parse_math(alloc, text.as_str(), &UnicodeClasses)),
-            Subject::Tree(root) => Ok(html(alloc, root)?),
+            Subject::Tree(root) => Ok(highlight_html(alloc, root)?.len() as u64),
             Subject::Source(edited) => edited.round(),
         }
     }
@@ -117,9 +117,4 @@ fn lines(alloc: Global, text: &str) -> Result<u64, AllocError> {
 fn sized(parsed: Result<SyntaxNode, AllocError>) -> anyhow::Result<u64> {
     let root = parsed?;
     Ok((root.len() as u64).wrapping_add(root.descendants() as u64))
-}
-
-/// The length of the tree's text as HTML.
-fn html(alloc: Global, root: &SyntaxNode) -> Result<u64, AllocError> {
-    Ok(highlight_html(alloc, root)?.len() as u64)
 }

@@ -5,8 +5,8 @@ ghost use Rattle.typst_probe.specs.Words.{edit_word_named};
 
 use crate::{answers, calls, chain, edit_lines, edits, everywhere, in_a_row};
 use std::alloc::{AllocError, Global};
-use typst_cli::UnicodeClasses;
-use typst_tests::{Narrow, Wide};
+use typst_edited::cli::UnicodeClasses;
+use typst_fakes::{Narrow, Wide};
 
 /// What edits of a text answer.
 #[derive(Clone, Copy)]
@@ -59,21 +59,21 @@ impl EditWord {
         }
     }
 
-    /// The whole answer about a text.
-    pub fn answer(self, alloc: Global, text: &str) -> Result<String, AllocError> {
+    /// Prints the whole answer about a text.
+    pub fn print(self, alloc: Global, printed: &mut String, text: &str) -> Result<(), AllocError> {
         match self {
-            EditWord::Edit => edits::row_answer(alloc, text, UnicodeClasses),
-            EditWord::EditWide => edits::row_answer(alloc, text, Wide),
-            EditWord::EditNarrow => edits::row_answer(alloc, text, Narrow),
-            EditWord::EditSpans => edits::spans_row_answer(alloc, text),
-            EditWord::Edits => answers::answer(alloc, text),
-            EditWord::InARow => in_a_row::answer(alloc, text),
-            EditWord::Calls => calls::answer(alloc, text),
-            EditWord::Everywhere => everywhere::answer(alloc, text),
-            EditWord::EverywhereInTurn => everywhere::answer_in_turn(alloc, text),
-            EditWord::EverywhereAt => everywhere::answer_at(alloc, text),
-            EditWord::EditLines => edit_lines::answer(alloc, text),
-            EditWord::Chain => chain::answer(alloc, text),
+            EditWord::Edit => edits::print(alloc, printed, text, UnicodeClasses),
+            EditWord::EditWide => edits::print(alloc, printed, text, Wide),
+            EditWord::EditNarrow => edits::print(alloc, printed, text, Narrow),
+            EditWord::EditSpans => edits::print_spans(alloc, printed, text),
+            EditWord::Edits => answers::print(alloc, printed, text),
+            EditWord::InARow => in_a_row::print(alloc, printed, text),
+            EditWord::Calls => calls::print(alloc, printed, text),
+            EditWord::Everywhere => everywhere::print(alloc, printed, text),
+            EditWord::EverywhereInTurn => everywhere::print_in_turn(alloc, printed, text),
+            EditWord::EverywhereAt => everywhere::print_at(alloc, printed, text),
+            EditWord::EditLines => edit_lines::print(alloc, printed, text),
+            EditWord::Chain => chain::print(alloc, printed, text),
         }
     }
 }

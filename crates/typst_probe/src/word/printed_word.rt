@@ -4,7 +4,7 @@ ghost use Rattle.std.specs.Prelude.{◌≡◌, IfOk, string_bytes};
 ghost use Rattle.typst_probe.specs.Words.{printed_as, printed_word_named};
 
 use std::alloc::{AllocError, Global};
-use typst_cli::{Command, UnicodeClasses, tree};
+use typst_edited::cli::{Command, UnicodeClasses, tree};
 
 /// What is printed about a text.
 #[derive(Clone, Copy)]

@@ -30,12 +30,12 @@ impl ProgramWord {
         }
     }
 
-    /// The whole answer about a text.
-    pub fn answer(self, alloc: Global, text: &str) -> Result<String, AllocError> {
+    /// Prints the whole answer about a text.
+    pub fn print(self, alloc: Global, printed: &mut String, text: &str) -> Result<(), AllocError> {
         match self {
-            ProgramWord::Runs => runs::answer(alloc, text),
-            ProgramWord::Run => one_run::answer(alloc, text),
-            ProgramWord::Check => checks::answer(alloc, text),
+            ProgramWord::Runs => runs::print(alloc, printed, text),
+            ProgramWord::Run => one_run::print(alloc, printed, text),
+            ProgramWord::Check => checks::print(alloc, printed, text),
         }
     }
 }

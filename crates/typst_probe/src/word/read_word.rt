@@ -5,8 +5,8 @@ ghost use Rattle.typst_probe.specs.Words.{read_word_named};
 
 use crate::{looks, tokens};
 use std::alloc::{AllocError, Global};
-use typst_cli::{SyntaxMode, UnicodeClasses, tree};
-use typst_tests::{Narrow, Wide};
+use typst_edited::cli::{SyntaxMode, UnicodeClasses, tree};
+use typst_fakes::{Narrow, Wide};
 
 /// How a text is read.
 #[derive(Clone, Copy)]
@@ -53,19 +53,25 @@ impl ReadWord {
         }
     }
 
-    /// The whole answer about a text.
-    pub fn answer(self, alloc: Global, text: &str) -> Result<String, AllocError> {
+    /// Prints the whole answer about a text.
+    pub fn print(self, alloc: Global, printed: &mut String, text: &str) -> Result<(), AllocError> {
+        let (mode, classes) = (SyntaxMode::Markup, UnicodeClasses);
         match self {
-            ReadWord::TreeWide => tree::answer(alloc, text, &Wide),
-            ReadWord::TreeNarrow => tree::answer(alloc, text, &Narrow),
-            ReadWord::TreeMathWide => tree::answer_math(alloc, text, &Wide),
-            ReadWord::TreeMathNarrow => tree::answer_math(alloc, text, &Narrow),
-            ReadWord::Tokens => tokens::answer(alloc, text, SyntaxMode::Markup, &UnicodeClasses),
-            ReadWord::TokensWide => tokens::answer(alloc, text, SyntaxMode::Markup, &Wide),
-            ReadWord::TokensNarrow => tokens::answer(alloc, text, SyntaxMode::Markup, &Narrow),
-            ReadWord::TokensCode => tokens::answer(alloc, text, SyntaxMode::Code, &UnicodeClasses),
-            ReadWord::TokensMath => tokens::answer(alloc, text, SyntaxMode::Math, &UnicodeClasses),
-            ReadWord::Look => looks::answer(alloc, text),
+            ReadWord::TreeWide => push_tree(printed, tree::answer(alloc, text, &Wide)),
+            ReadWord::TreeNarrow => push_tree(printed, tree::answer(alloc, text, &Narrow)),
+            ReadWord::TreeMathWide => push_tree(printed, tree::answer_math(alloc, text, &Wide)),
+            ReadWord::TreeMathNarrow => push_tree(printed, tree::answer_math(alloc, text, &Narrow)),
+            ReadWord::Tokens => tokens::print(alloc, printed, text, mode, &classes),
+            ReadWord::TokensWide => tokens::print(alloc, printed, text, mode, &Wide),
+            ReadWord::TokensNarrow => tokens::print(alloc, printed, text, mode, &Narrow),
+            ReadWord::TokensCode => tokens::print(alloc, printed, text, SyntaxMode::Code, &classes),
+            ReadWord::TokensMath => tokens::print(alloc, printed, text, SyntaxMode::Math, &classes),
+            ReadWord::Look => looks::print(alloc, printed, text),
         }
     }
+}
+
+/// Adds a tree that was printed by itself.
+fn push_tree(printed: &mut String, tree: Result<String, AllocError>) -> Result<(), AllocError> {
+    printed.push_str(tree?.as_str())
 }

@@ -63,23 +63,23 @@ impl TreeWord {
         }
     }
 
-    /// The whole answer about a text.
-    pub fn answer(self, alloc: Global, text: &str) -> Result<String, AllocError> {
+    /// Prints the whole answer about a text.
+    pub fn print(self, alloc: Global, printed: &mut String, text: &str) -> Result<(), AllocError> {
         match self {
-            TreeWord::Link => links::answer(alloc, text),
-            TreeWord::Stretches => stretches::answer(alloc, text),
-            TreeWord::Notes => notes::answer(alloc, text),
-            TreeWord::Tags => tags::answer(alloc, text),
-            TreeWord::Tagged => tagged::answer(alloc, text),
-            TreeWord::Candidates => candidates::row_answer(alloc, text),
-            TreeWord::Spans => spans::answer(alloc, text),
-            TreeWord::Depths => modes::depths(alloc, text),
-            TreeWord::Size => modes::size(alloc, text),
-            TreeWord::Asked => modes::asked(alloc, text),
-            TreeWord::Again => modes::again(alloc, text),
-            TreeWord::Leaves => modes::leaves(alloc, text),
-            TreeWord::Kinds => names::kinds(alloc),
-            TreeWord::TagList => names::tags(alloc),
+            TreeWord::Link => links::print(alloc, printed, text),
+            TreeWord::Stretches => stretches::print(alloc, printed, text),
+            TreeWord::Notes => notes::print(alloc, printed, text),
+            TreeWord::Tags => tags::print(alloc, printed, text),
+            TreeWord::Tagged => tagged::print(alloc, printed, text),
+            TreeWord::Candidates => candidates::print(alloc, printed, text),
+            TreeWord::Spans => spans::print(alloc, printed, text),
+            TreeWord::Depths => modes::print_depths(alloc, printed, text),
+            TreeWord::Size => modes::print_size(alloc, printed, text),
+            TreeWord::Asked => modes::print_asked(alloc, printed, text),
+            TreeWord::Again => modes::print_again(alloc, printed, text),
+            TreeWord::Leaves => modes::print_leaves(alloc, printed, text),
+            TreeWord::Kinds => names::print_kinds(printed),
+            TreeWord::TagList => names::print_tags(printed),
         }
     }
 }

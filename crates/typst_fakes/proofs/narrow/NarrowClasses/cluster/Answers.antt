@@ -3,7 +3,7 @@ use Rattle.std.proofs.lemmas.Iterator.{YieldsList-from_chars}
 use Rattle.std.specs.Str.{chars}
 use Rattle.typst_lines.proofs.CharsLemmas.{after_first, after_last}
 use Rattle.typst_lines.proofs.ClusterLemmas.{first_character, more}
-use Rattle.typst_tests.proofs.narrow.NarrowClasses.cluster.Goals as goal
+use Rattle.typst_fakes.proofs.narrow.NarrowClasses.cluster.Goals as goal
 
 pub returns-in-Some : goal.returns-in-Some
 returns-in-Some c =

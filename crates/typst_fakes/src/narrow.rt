@@ -8,8 +8,8 @@ use typst_lines::classes::{Classes, MathClass, ascii_math_class};
 pub struct Narrow;
 
 impl Classes for Narrow {
-    ghost use Rattle.typst_tests.specs.Odd.{narrow_classes};
-    ghost use Rattle.typst_tests.specs.OddLaws.{IsLawful-narrow_classes};
+    ghost use Rattle.typst_fakes.specs.Odd.{narrow_classes};
+    ghost use Rattle.typst_fakes.specs.OddLaws.{IsLawful-narrow_classes};
 
     ghost classes = { λ _. narrow_classes };
 

@@ -10,8 +10,8 @@ use typst_lines::classes::{Classes, MathClass, ascii_math_class};
 pub struct Wide;
 
 impl Classes for Wide {
-    ghost use Rattle.typst_tests.specs.Odd.{wide_classes};
-    ghost use Rattle.typst_tests.specs.OddLaws.{IsLawful-wide_classes};
+    ghost use Rattle.typst_fakes.specs.Odd.{wide_classes};
+    ghost use Rattle.typst_fakes.specs.OddLaws.{IsLawful-wide_classes};
 
     ghost classes = { λ _. wide_classes };
 

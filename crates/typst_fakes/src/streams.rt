@@ -6,7 +6,7 @@ use std::alloc::Global;
 use std::io::{self, ErrorKind, Read, Write};
 
 /// How a stream goes on from call to call.
-#[derive(Debug, Clone, Copy, PartialEq, Eq, Drop)]
+#[derive(Debug, Clone, Copy)]
 pub enum Pace {
     /// All that fits at once.
     Whole,
@@ -22,7 +22,7 @@ pub const PACES: [Pace; 3] = [Pace::Whole, Pace::Bytes, Pace::Interrupted];
 impl Pace {
     /// Whether the call is to be interrupted, which every other call is.
     pub fn interrupts(self, is_resumed: &mut bool) -> bool {
-        let interrupts = self == Pace::Interrupted && !*is_resumed;
+        let interrupts = matches!(self, Pace::Interrupted) && !*is_resumed;
         *is_resumed = interrupts;
         interrupts
     }
@@ -86,7 +86,7 @@ impl Read for Reader<'_> {
 }
 
 /// What a flush answers.
-#[derive(Clone, Copy, PartialEq, Eq, Drop)]
+#[derive(Clone, Copy)]
 pub enum Flush {
     /// It passes on what was written.
     Passes,
@@ -95,7 +95,7 @@ pub enum Flush {
 }
 
 /// What a writer answers where it has no room.
-#[derive(Clone, Copy, PartialEq, Eq, Drop)]
+#[derive(Clone, Copy)]
 pub enum Full {
     /// It fails.
     Fails,
@@ -166,7 +166,7 @@ impl Write for Writer {
         if self.room.pace.interrupts(&mut self.is_resumed) {
             return Err(io::Error::from(ErrorKind::Interrupted));
         }
-        if self.room.bytes == 0 && !buf.is_empty() && self.room.full == Full::Fails {
+        if self.room.bytes == 0 && !buf.is_empty() && matches!(self.room.full, Full::Fails) {
             return Err(io::Error::from(ErrorKind::BrokenPipe));
         }
         let count = self.room.pace.at_once(buf.len().min(self.room.bytes));
@@ -179,7 +179,7 @@ impl Write for Writer {
         if self.room.pace.interrupts(&mut self.is_resumed) {
             return Err(io::Error::from(ErrorKind::Interrupted));
         }
-        if self.room.flush == Flush::Fails {
+        if matches!(self.room.flush, Flush::Fails) {
             return Err(io::Error::from(ErrorKind::BrokenPipe));
         }
         self.passed = self.taken.len();
