@@ -16,7 +16,7 @@
 --     those on each side of an edge             TokensApart: shown_before, shown_after
 --     those on each side of a line's start      TokenSeams: all_off, split; merged_moved
 --   renewed_tokens                              RenewedTokens: renewed
---   TokenList::replaced, count_before           TokenLists: list_replaced, behind_within; parts_early, parts_late
+--   TokenList::replaced, count_before           TokenLists: list_replaced; parts_early, parts_late
 --   count_before, count_moved                   RenewedTokens: parting, parted; TokenLists: parting_moved, parted_moved
 --   token_at, settle                            TokenLists: token_settled, token_moved; settled_all, settled_some
 --   read_by_both                                JoinedEdits: of_both

@@ -1,5 +1,5 @@
 -- Tokens of which those behind an index are moved when they are read.
-use Rattle.std.proofs.Common.{◌≡◌, ℕ, zero, suc, ◌+◌, ◌-◌, ◌%◌, ◌^◌, ◌<◌, ◌≤◌, max, Bool, true, false, List, [], ◌∷◌, ◌++◌, length, map, take, drop, get_or, Some, refl, ap, sym, subst, ◌∙◌, arith, cond, length-append, length-take, length-take-le, append-nil, length-drop}
+use Rattle.std.proofs.Common.{◌≡◌, ℕ, zero, suc, ◌+◌, ◌-◌, ◌%◌, ◌^◌, ◌<◌, ◌≤◌, max, Bool, true, false, List, [], ◌∷◌, ◌++◌, length, map, take, drop, get_or, Some, refl, ap, sym, subst, ◌∙◌, arith, cond, length-take, length-take-le, append-nil, length-drop}
 use Rattle.std.specs.Prelude.{nat_lt, nat_le, slice_get}
 use Rattle.std.specs.List.Sorted.{IsNonDecreasingBy, IsPartitionPoint, IsPartitionedBy}
 use Rattle.std.proofs.lemmas.Bool.{leb-true}
@@ -239,11 +239,6 @@ settled_length : (s d i : ℕ) (old new : List Token) (left : ℕ) → i ≤ len
 settled_length s d i old new left within w =
     let size : length (take i new) ≡ i = ap length w.front ∙ length-take-le i (in_places s d old) (omega (arith, within, in_length s d old)) in
     omega (arith, size, length-take i new)
-
-pub behind_within : (s d first at : ℕ) (old new made put : List Token) (left behind : ℕ) → first ≤ at → at ≤ length old → IsSettled s d at old new left → put ≡ take first new ++ (made ++ drop at new) → behind ≡ first + length made → behind ≤ length put
-behind_within s d first at old new made put left behind low within w is size =
-    let long : at ≤ length new = settled_length s d at old new left within w in
-    omega (arith, ap length is, length-append (take first new) (made ++ drop at new), length-append made (drop at new), length-take-le first new (omega (arith, low, long)), size)
 
 list_put : (s d first at by : ℕ) (old new made put : List Token) (left behind : ℕ) → first ≤ at → at ≤ length old → by < 2 ^ 64 → IsSettled s d at old new left → put ≡ take first new ++ (made ++ drop at new) → behind ≡ first + length made
     → in_places behind ((left + by) % 2 ^ 64) put ≡ take first (in_places s d old) ++ (made ++ map (wrapped by) (drop at (in_places s d old)))
