@@ -1,6 +1,6 @@
 -- The tree of an edit's answer.
-use Rattle.std.proofs.Common.{◌≡◌, ℕ, ◌^◌, Bool, true, false, IsTrue, List, [], ◌∷◌, ◌++◌, Option, Some, None, refl, ap, sym, ◌∙◌, subst}
-use Rattle.typst_edits.proofs.Words.{nat_le, if◌then◌else◌, CharClasses, Tree, Forest, none, more, bare, bare_forest, put_at, width, Candidate, tree, log, Among, this, that, top, of_block, of_pieces, OpensApartLaw, listed, SpanValue, bare_head, part}
+use Rattle.std.proofs.Common.{◌≡◌, ℕ, ◌^◌, Bool, true, false, IsTrue, List, ◌++◌, Option, Some, None, refl, ap, sym, ◌∙◌, subst}
+use Rattle.typst_edits.proofs.Words.{nat_le, if◌then◌else◌, CharClasses, Tree, Forest, none, more, bare, bare_forest, put_at, width, Candidate, tree, log, top, of_block, of_pieces, OpensApartLaw, listed, SpanValue, bare_head, part}
 use Rattle.std.specs.Prelude.{◌-◌}
 use Rattle.typst_tree.specs.Tree.{with_each, synthesized, nodes}
 use Rattle.typst_edits.specs.Frame.{inner}
@@ -15,6 +15,7 @@ use Rattle.typst_edits.proofs.CandidatePlaces.{candidate-tree-law}
 use Rattle.typst_edits.proofs.RunCandidates.{inner-candidate-law, root-candidate-law}
 use Rattle.typst_edits.proofs.RunPieces.{inner-pieces-law, root-pieces-law}
 use Rattle.typst_edits.proofs.Replaced.{put-law}
+pub use Rattle.typst_edits.proofs.Edit.{chosen-of}
 pub use Rattle.std.proofs.lemmas.Option.{same_Some as some-is}
 
 -- ---- a candidate's tree
@@ -52,13 +53,6 @@ numbered-bare (Some file) t now e = by-room (nat_le (nodes t) (2 ^ 47 - 2)) e
     by-room false e = absurd (cc)
 
 -- ---- an answer
-
-pub chosen-of : {X : Type 0} (xs earlier : List X) (c : X) (later : List X) → xs ≡ earlier ++ c ∷ later → Among c xs
-chosen-of {X = X} xs earlier c later e = subst (λ ys. Among c ys) (sym e) (in-front earlier)
-  where
-    in-front : (ys : List X) → Among c (ys ++ c ∷ later)
-    in-front [] = this later
-    in-front (y ∷ ys) = that y (ys ++ c ∷ later) (in-front ys)
 
 pub answer-tree-law : OpensApartLaw → AnswerTreeLaw
 answer-tree-law apart k front old new rest root now range same (part earlier c later ts split refused gives is start end) =

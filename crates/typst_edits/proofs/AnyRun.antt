@@ -1,6 +1,6 @@
 -- What the entries say of a candidate that is pieces of a run, and a reading that begins with one candidate and serves another one: for any run.
-use Rattle.std.proofs.Common.{◌≡◌, ◌⊎◌, inl, inr, ◌↔◌, ℕ, zero, suc, ◌+◌, ◌-◌, ◌<◌, ◌≤◌, ◌==◌, ne_eqb, if◌then◌else◌, min, Bool, true, false, List, ◌++◌, length, take, length-append, Option, None, Some, refl, ap, sym, ◌∙◌, subst, arith, lt_of_not-le}
-use Rattle.typst_edits.proofs.Words.{eqb-true, eqb-false, take-append-le, Place, moved, CharClasses, Tree, bare, text_of, replaced_at, width, position, Trivia, gap_of, Note, ahead-left, Entry, EntryKind, Candidate, begins, entries_by, units_of, spliced, RunKind, start_of, log, tree, entries_in, front_in, rear_in, IsPieces, text_with, Run, read_as, opened_by, end_by, cut_at, is_over, nodes_now, Agrees, Before, After, PassesPieces, Gives, of_pieces, path_to, bytes_of, TakesNone, ServesMore, listed, StandsAt, AllGo, End, notes_by, IsLast, BeginsAt, FoundRun, reading_on, nodes_by, SaysPiece, PassesRead, Sequence, first_of, first_end, then_of, then_end, then_place, entries_from, run_level, stops_of, end_on, kids_of_run, run_from, StandsBetween, Served}
+use Rattle.std.proofs.Common.{◌≡◌, ◌⊎◌, inl, inr, ◌↔◌, ℕ, zero, suc, ◌+◌, ◌-◌, ◌<◌, ◌≤◌, ◌==◌, if◌then◌else◌, min, Bool, true, false, List, ◌++◌, length, take, length-append, Option, None, Some, refl, ap, sym, ◌∙◌, subst, arith, lt_of_not-le, eq-zero-or-pos, pos_of_ne-zero}
+use Rattle.typst_edits.proofs.Words.{eqb-true, eqb-false, take-append-le, Place, moved, CharClasses, Tree, bare, text_of, replaced_at, width, position, Trivia, gap_of, Note, ahead-left, Entry, EntryKind, Candidate, begins, entries_by, units_of, spliced, RunKind, start_of, log, tree, entries_in, front_in, rear_in, IsPieces, text_with, Run, read_as, opened_by, end_by, cut_at, is_over, nodes_now, Agrees, Before, After, PassesPieces, Gives, of_pieces, path_to, bytes_of, TakesNone, ServesMore, listed, StandsAt, AllGo, End, notes_by, IsLast, BeginsAt, FoundRun, reading_on, nodes_by, SaysPiece, PassesRead, Sequence, first_of, first_end, then_of, then_end, then_place, entries_from, run_level, stops_of, end_on, kids_of_run, run_from, StandsBetween, Served, cases_eq}
 use Rattle.typst_language.proofs.Places.{moved-min}
 use Rattle.typst_edits.specs.RunTest.{Reading, read_by, carried_by, byte_after, Ends, LooksFrom, Meets}
 use Rattle.typst_edits.specs.Served.{MeetsOn, PassesOn, reading_of}
@@ -11,18 +11,17 @@ use Rattle.typst_grammar.specs.declared.part.RunKind.TheVariants as of
 use Rattle.typst_edits.specs.Joint.{Meets as MeetsAfter}
 use Rattle.typst_edits.specs.RunTest.Ends.{some as apart, none as at_once}
 use Rattle.typst_edits.specs.RunTest.LooksFrom.{pieces as from_pieces, closing as from_closing, nothing as from_nothing}
-use Rattle.typst_edits.proofs.BlockPlaces.{take-same}
 use Rattle.typst_edits.proofs.BlockTest.{byte-of, byte-at}
 use Rattle.typst_edits.proofs.Boundary.{KnownAt}
-use Rattle.typst_edits.proofs.CandidateEnds.{child-at, stands, from-there, from-full, from-early, to-late, some-by}
+use Rattle.typst_edits.proofs.CandidateEnds.{child-at, stands, from-there, from-full, from-early, to-late}
 use Rattle.typst_edits.proofs.EntryNumbers.{some-number}
 use Rattle.typst_edits.proofs.OneReading.{put-behind-law, first-split, end-split-at, later-place, go-first, go-second, go-both, one-reading-law}
 use Rattle.typst_edits.proofs.MarkupCandidates.{OfStretch}
-use Rattle.typst_edits.proofs.NumberedNotes.{less-than, neither, take-longer}
-use Rattle.typst_edits.proofs.RunPieces.{take-past}
+use Rattle.typst_edits.proofs.RunPieces.{take-past, cut-some}
 use Rattle.typst_edits.proofs.RunOver.{ends-in}
-use Rattle.typst_edits.proofs.Widths.{width-append}
-use Rattle.typst_edits.proofs.Every.{some_or, not-less}
+use Rattle.typst_edits.proofs.Widths.{width-append, take-same, take-longer}
+use Rattle.typst_edits.proofs.Every.{some_or, not-less, neither}
+use Rattle.std.proofs.Math.Arith.{lt_of_le-ne}
 
 -- ---- among the children
 
@@ -142,12 +141,6 @@ meets-too r y x e o f g t u place value state value_now state_now h =
     record { known = four.known; known_now = four.known_now; value = four.value; over = four.over; errors = four.errors }
 
 -- ---- a run, read by itself
-
--- After some pieces of a run the next begins at its first token.
-cut-some : {k : CharClasses} {text : List ℕ} (r : Run k text) (i : ℕ) (z : Place) → 0 < i → (let e = first_end i (read_as r z) in cut_at r i z ≡ opened_by r z + (e.taken + gap_of e.state.known))
-cut-some {k} {text} r i z l =
-    let e = first_end i (read_as r z) in
-    ap (λ b. opened_by r z + (if b then 0 else e.taken + gap_of e.state.known)) (ne_eqb i 0 (omega (arith, l)))
 
 module _ (k : CharClasses) (front old new rest : List ℕ) (r : Run k (front ++ (old ++ rest))) (which : RunKind) (levels : ℕ) where
   abbrev text : List ℕ
@@ -326,11 +319,7 @@ module _ (k : CharClasses) (front old new rest : List ℕ) (r : Run k (front ++ 
         subst (λ j. IsLast es (e.number j)) (sym count ∙ sym alone.0) e.last
 
     none-more : IsLast es (e.number i) → n ≡ 0
-    none-more last = by n refl
-      where
-        by : (m : ℕ) → n ≡ m → n ≡ 0
-        by zero is = is
-        by (suc m) is = let all = fits in absurd (e.not_last i (omega (arith, all, is)) last)
+    none-more last = elim (eq-zero-or-pos n) [ inl is ↦ is | inr some ↦ (let all = fits in absurd (e.not_last i (omega (arith, all, some)) last)) ]
 
     end-byte : 0 < i + n → c.end ≡ width (take (cut_at r (i + n) z) text)
     end-byte some = p.end ∙ sym (ap width (take-past front old rest past (cut_at r (i + n) z) (omega (arith, ap (λ (u : End (Bool × ℕ)). u.taken) (end-split-at q i n), ap (λ (u : End (Bool × ℕ)). gap_of u.state.known) (end-split-at q i n) ∙ ap gap_of p.known, p.ends, cut-some r (i + n) z some))))
@@ -351,7 +340,7 @@ module _ (k : CharClasses) (front old new rest : List ℕ) (r : Run k (front ++ 
     ends-are : (a b : ℕ) → Ends es entry c a b → (a ≡ e.number i) × (b ≡ e.number (i + n))
     ends-are a b (apart from to at more behind less) =
         let first : a ≡ e.number i = some-number from (e.number i) (sym at ∙ begins-there) in
-        let there = ends-there (some-by n (λ none. more (subst (λ j. IsLast es j) (sym first) (none-last none)))) in
+        let there = ends-there (pos_of_ne-zero (λ none. more (subst (λ j. IsLast es j) (sym first) (none-last none)))) in
         (first, some-number to (e.number (i + n)) (sym behind ∙ subst (λ j. BeginsAt es j c.end (e.number (i + n))) (sym first) there))
     ends-are a b (at_once from at last) =
         let first : a ≡ e.number i = some-number from (e.number i) (sym at ∙ begins-there) in
@@ -386,7 +375,7 @@ module _ (k : CharClasses) (front old new rest : List ℕ) (r : Run k (front ++ 
     last-to is = subst (λ x. IsLast es (e.number x)) (sym (eqb-true (i + n) e.count is)) e.last
 
     on-to : (i + n == e.count) ≡ false → IsLast es (e.number (i + n)) → ⊥
-    on-to is = e.not_last (i + n) (less-than (i + n) e.count fits (eqb-false (i + n) e.count is))
+    on-to is = e.not_last (i + n) (lt_of_le-ne fits (eqb-false (i + n) e.count is))
 
     agrees-by : (m : ℕ) (y : Bool × ℕ) → ((IsLast es (e.number (i + n)) → ⊥) → (0 < m) × (y ≡ (first_end (i + n) q).value)) → (IsLast es (e.number (i + n)) → which ≡ of.Block → y.1 ≡ (first_end (i + n) q).value.1)
         → Agrees r (is_over i n q) m (then_end i n q).value y
@@ -540,21 +529,16 @@ module _ (k : CharClasses) (front old new rest : List ℕ) (r : Run k (front ++ 
       where
         -- A candidate without a piece is the whole run.
         some-pieces : 0 < n
-        some-pieces = by n refl
-          where
-            by : (m : ℕ) → n ≡ m → 0 < n
-            by (suc m) is = omega (arith, is)
-            by zero is =
-                let over = sym (e.over 0 0 (omega arith)) ∙ (a.is.empty is).1 in
-                let none : 0 ≡ e.count = eqb-true 0 e.count over in
-                absurd (omega (arith, none, e.most mid b.is.go))
+        some-pieces = pos_of_ne-zero (λ is.
+            (let over = sym (e.over 0 0 (omega arith)) ∙ (a.is.empty is).1 in
+            let none : 0 ≡ e.count = eqb-true 0 e.count over in
+            omega (arith, none, e.most mid b.is.go)))
 
         by-order : i + n ≤ mid → width (take (cut_at r mid z) text) < width (take (cut_at r (i + n) z) text) → ⊥
-        by-order l less = by (mid == i + n) refl
-          where
-            by : (s : Bool) → (mid == i + n) ≡ s → ⊥
-            by true is = let same_cut = ap (λ x. width (take (cut_at r x z) text)) (eqb-true mid (i + n) is) in omega (arith, less, same_cut)
-            by false is = let apart = eqb-false mid (i + n) is in let more = e.cuts (i + n) mid (less-than (i + n) mid l (λ s. apart (sym s))) b.is.go in omega (arith, less, more)
+        by-order l less = elim (cases_eq (i + n) mid) [
+          | inl same ↦ (let cut = ap (λ x. width (take (cut_at r x z) text)) same in omega (arith, less, cut))
+          | inr other ↦ (let more = e.cuts (i + n) mid (lt_of_le-ne l other) b.is.go in omega (arith, less, more))
+        ]
 
     abbrev left : ℕ
     left = n - d
@@ -670,11 +654,7 @@ module _ (k : CharClasses) (front old new rest : List ℕ) (r : Run k (front ++ 
     }
       where
         none-led : i ≡ 0 → c.from ≡ 0
-        none-led none = by c.from refl
-          where
-            by : (x : ℕ) → c.from ≡ x → c.from ≡ 0
-            by zero is = is
-            by (suc x) is = let some = a.is.led.1 (omega (arith, is)) in absurd (omega (arith, some, none))
+        none-led none = elim (eq-zero-or-pos c.from) [ inl is ↦ is | inr some ↦ (let more = a.is.led.1 some in absurd (omega (arith, more, none))) ]
 
     put : (m : ℕ) (u : Trivia) → AllGo (then_of mid m v) → (then_end mid m v).state.known ≡ Some u
         → replaced_at c.path c.from c.to (nodes_now r i (d + m) u w) root ≡ replaced_at c.path first.from c.to (nodes_now r mid m u w) root
@@ -765,10 +745,7 @@ module _ (k : CharClasses) (front old new rest : List ℕ) (r : Run k (front ++ 
 
   module _ (entry : ℕ) (e : Entered entry) (root : Tree) (same : bare root ≡ bare (tree k (front ++ (old ++ rest)))) (first c : Candidate) (i n past n0 past0 : ℕ) (t t0 : Trivia) (a : Chosen entry e c i n past t)
       (f : FoundRun k front old new rest first which levels entry) (g : FoundRun k front old new rest c which levels entry) (begun : f.from < front_in k front old rest) where
-    abbrev keys : Keys
-    keys = record { reading = reading_of f; mid = f.from; from = g.from; to = g.to; looks = g.looks; carried_end = g.carried_end }
-
-    served-by : (d : ℕ) → Chosen entry e first (i + d) n0 past0 t0 → ServedBy root first c keys
+    served-by : (d : ℕ) → Chosen entry e first (i + d) n0 past0 t0 → ServedBy root first c (record { reading = reading_of f; mid = f.from; from = g.from; to = g.to; looks = g.looks; carried_end = g.carried_end })
     served-by zero b =
         let none : i + zero ≡ i = omega arith in
         let starts = a.is.start ∙ ap (λ m. width (take (cut_at r m z) text)) (sym none) ∙ sym b.is.start in

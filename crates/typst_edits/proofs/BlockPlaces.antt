@@ -1,6 +1,6 @@
 -- Where a block of a text stands, by the bytes of a candidate, also within a reading that was given up.
 use Rattle.std.proofs.Common.{◌≡◌, ℕ, zero, suc, ◌+◌, ◌<◌, ◌≤◌, true, List, [], ◌∷◌, ◌++◌, length, take, refl, ap, sym, ◌∙◌, subst, arith, drop, false, append-nil, length-append, None}
-use Rattle.typst_edits.proofs.Words.{CharClasses, width-positive, Tree, forest, trees, text_of, bare, trees_forest, width, texts, texts-append, texts-one, Candidate, top_cuts, max_depth, start_of, parsed, log, tree, rules, whole, candidates, Among, Deep, fill, Hole, plug, path_in, path_of, under, listed, Spot, unit_at, last_node, after_spot, here_spot, nil_from_length, Place, moved, Block, Reading, utf8_ahead, at_trivia, hand_at, Point, forgot, Stands, Parser, flushes, meaning_of, level_of, Meaning, Level, blockless, less, start_point, done, sane-block, markup_reading, block_at, level_seconds, seconds_of_text}
+use Rattle.typst_edits.proofs.Words.{CharClasses, Tree, forest, trees, text_of, bare, trees_forest, width, texts, texts-append, texts-one, Candidate, top_cuts, max_depth, start_of, parsed, log, tree, rules, whole, candidates, Among, Deep, fill, Hole, plug, path_in, path_of, under, listed, Spot, unit_at, last_node, after_spot, here_spot, nil_from_length, Place, moved, Block, Reading, utf8_ahead, at_trivia, hand_at, Point, forgot, Stands, Parser, flushes, meaning_of, level_of, Meaning, Level, blockless, less, start_point, done, sane-block, markup_reading, block_at, level_seconds, seconds_of_text}
 use Rattle.typst_edits.specs.Hole.Deep.{bare as alone}
 use Rattle.typst_edits.proofs.CandidatePlaces.{bare-candidates-law}
 use Rattle.typst_edits.proofs.MarkupCandidates.{BlockAt, all-find}
@@ -22,7 +22,7 @@ split-same (x ∷ xs) ys (u ∷ us) vs a b l e =
     let i = split-same xs ys us vs a b (omega (arith, l)) (ap (drop 1) e) in
     ((λ j. first_or x (e j) ∷ i.0 j), i.1)
 
-deep-same : (d f : Deep) (x y : Tree) → path_in d ≡ path_in f → fill d x ≡ fill f y → (deep_text d ≡ deep_text f) × (x ≡ y)
+pub deep-same : (d f : Deep) (x y : Tree) → path_in d ≡ path_in f → fill d x ≡ fill f y → (deep_text d ≡ deep_text f) × (x ≡ y)
 deep-same alone alone x y p e = (refl, e)
 deep-same alone (under head left f right) x y p e = absurd (cc)
 deep-same (under head left d right) alone x y p e = absurd (cc)
@@ -38,30 +38,6 @@ hole-same h g x y p e =
     let here = split-same h.left h.right g.left g.right (fill h.deep x) (fill g.deep y) (ap (first_or 0) p) e in
     let i = deep-same h.deep g.deep x y (ap (drop 1) p) here.1 in
     ((λ j. texts (here.0 j) ++ i.0 j), i.1)
-
--- ---- bytes and characters
-
-pub early-by : (n : ℕ) (front more : List ℕ) → width (take n (front ++ more)) < width front → n < length front
-unfolding width
-early-by n [] more h = absurd (omega (arith, h))
-early-by zero (c ∷ front) more h = omega arith
-early-by (suc n) (c ∷ front) more h = let i = early-by n front more (omega (arith, h)) in omega (arith, i)
-
-pub late-by : (n : ℕ) (front more : List ℕ) → width front < width (take n (front ++ more)) → length front < n
-unfolding width
-late-by zero front more h = absurd (omega (arith, h))
-late-by (suc n) [] more h = omega arith
-late-by (suc n) (c ∷ front) more h = let i = late-by n front more (omega (arith, h)) in omega (arith, i)
-
-pub take-same : (m n : ℕ) (xs : List ℕ) → m ≤ length xs → n ≤ length xs → width (take m xs) ≡ width (take n xs) → m ≡ n
-unfolding width
-take-same zero zero xs h k e = refl
-take-same zero (suc n) [] h k e = absurd (omega (arith, k))
-take-same zero (suc n) (x ∷ xs) h k e = absurd (omega (arith, e, width-positive x))
-take-same (suc m) zero [] h k e = absurd (omega (arith, h))
-take-same (suc m) zero (x ∷ xs) h k e = absurd (omega (arith, e, width-positive x))
-take-same (suc m) (suc n) [] h k e = absurd (omega (arith, h))
-take-same (suc m) (suc n) (x ∷ xs) h k e = let i = take-same m n xs (omega (arith, h)) (omega (arith, k)) (omega (arith, e)) in omega (arith, i)
 
 -- ---- a block candidate
 

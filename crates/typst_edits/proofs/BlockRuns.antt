@@ -78,9 +78,7 @@ run-law k front old new rest i n m past h =
       lead_same = f.lead_same;
       was = whole-is k (front ++ (old ++ rest)) ∙ ap (λ o. whole_of (lead k z) o (tail k o.taken o.state z)) (split (text_run k z) (within k) i n h.first_go h.old_go);
       now = whole-is k (front ++ (new ++ rest)) ∙ ap (λ o. whole_of (lead k w) o (tail k o.taken o.state w)) (split (text_run k w) (within k) i m new_first h.new_go)
-          ∙ ap (λ b. whole_of (lead k w) q b) (new_tail ∙ sym old_tail)
-          ∙ ap (λ os. whole_of (lead k w) (chain os (chain (pieces_from k i m w) (rest_from k i m w))) (tail k r.taken r.state z)) f.pieces_same
-          ∙ ap (λ o. whole_of (lead k w) (chain (pieces k i z) (chain (pieces_from k i m w) o)) (tail k r.taken r.state z)) rest_is;
+          ∙ (λ v. whole_of (lead k w) (chain (f.pieces_same v) (chain (pieces_from k i m w) (rest_is v))) ((new_tail ∙ sym old_tail) v));
     }
 
 pub start-law : StartLaw
@@ -263,10 +261,7 @@ inner-law k levels front old new rest c i n m past among h =
     let ended_of = λ (o : Outcome (Unit {0})). ended o in
     let was = reads z0 ∙ ap ended_of (content-split k levels z s i n h.pieces.first_go h.pieces.old_go) in
     let now = reads w0 ∙ ap ended_of (content-split k levels w s i m new_first h.pieces.new_go)
-    ∙ ap (λ os. content_with k levels w s (chain os (chain (then_of i m q) u)) (tail_at k levels i m c w0) (close_at k levels i m c w0)) first_is
-    ∙ ap (λ o. content_with k levels w s (chain (first_of i r) (chain (then_of i m q) o)) (tail_at k levels i m c w0) (close_at k levels i m c w0)) rest_is
-    ∙ ap (λ o. content_with k levels w s (chain (first_of i r) (chain (then_of i m q) t)) o (close_at k levels i m c w0)) tail_is
-    ∙ ap (λ o. content_with k levels w s (chain (first_of i r) (chain (then_of i m q) t)) tail o) close_is in
+    ∙ (λ v. content_with k levels w s (chain (first_is v) (chain (then_of i m q) (rest_is v))) (tail_is v) (close_is v)) in
     let old_taken : (unit_at c z0).taken ≡ b.taken + (((e.taken + g.taken) + t.taken) + (tail.taken + close.taken)) =
     ap (λ (o : Outcome (Unit {0})). o.taken) was ∙ content-taken k levels z s (chain (first_of i r) (chain (then_of i n r) t)) tail close ∙ ap (λ a. b.taken + (a + (tail.taken + close.taken))) (split-taken r i n) in
     let p = chain (first_of i q) (chain (then_of i m q) u) in

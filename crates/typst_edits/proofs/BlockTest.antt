@@ -1,6 +1,6 @@
 -- What the records find of a block candidate.
-use Rattle.std.proofs.Common.{◌≡◌, ◌↔◌, ℕ, zero, suc, ◌+◌, ◌-◌, ◌^◌, ◌<◌, ◌≤◌, Bool, true, false, if◌then◌else◌, max, min, List, [], ◌∷◌, ◌++◌, length, take, drop, length-append, append_assoc, Option, Some, None, refl, ap, sym, ◌∙◌, subst, arith}
-use Rattle.typst_edits.proofs.Words.{take-append_seam, SyntaxMode, Place, moved, CharClasses, Tree, text_of, width, position, far, near, Block, Mark, Note, Reading, State, Ask, looked, marked, Log, no_log, logged, Outcome, start_point, point_of, moved-sum, ahead-left, Entry, EntryKind, Candidate, closing_of, count_of, entry_kind_of, entry_of, entries_by, last_start, back_of, units_of, spliced, front_of, rear_of, Nested, opening_of, IsRising, closing-found, markup_reading, rules, max_depth, start_of, whole, parsed, log, block_log, entries_in, front_in, rear_in, SaysBlock, entries_alone, Among, text_with, AllEndBy, AllBeginIn, Passes, this, that, Every, Gives, of_block, of_pieces, path_of, InOrderLaw, blocks_of_text, block_at, is_opening, opened, Named, listed, notes_in, entries_from, Spot, ended, last_node, unit_at, seconds_of_text, IsOf, Stems, from_unit, from_second, place_of, front-law, rear-law, lawful-block, none-some}
+use Rattle.std.proofs.Common.{◌≡◌, ◌↔◌, ℕ, zero, suc, ◌+◌, ◌-◌, ◌^◌, ◌<◌, ◌≤◌, true, false, if◌then◌else◌, max, min, List, [], ◌∷◌, ◌++◌, length, take, drop, length-append, append_assoc, Option, Some, None, refl, ap, sym, ◌∙◌, subst, arith}
+use Rattle.typst_edits.proofs.Words.{SyntaxMode, Place, moved, CharClasses, Tree, text_of, width, position, far, near, Block, Mark, Note, Reading, State, Ask, looked, marked, Log, no_log, logged, Outcome, start_point, point_of, moved-sum, ahead-left, Entry, EntryKind, Candidate, closing_of, count_of, entry_kind_of, entry_of, entries_by, last_start, units_of, spliced, opening_of, IsRising, closing-found, markup_reading, rules, max_depth, start_of, whole, parsed, log, block_log, entries_in, front_in, rear_in, SaysBlock, entries_alone, Among, text_with, AllEndBy, AllBeginIn, Passes, this, that, Every, Gives, of_block, of_pieces, path_of, InOrderLaw, blocks_of_text, block_at, is_opening, opened, Named, listed, notes_in, entries_from, Spot, ended, last_node, unit_at, seconds_of_text, IsOf, Stems, from_unit, from_second, place_of, lawful-block, none-some}
 use Rattle.typst_candidates.specs.Entries.{block_end}
 use Rattle.typst_edits.specs.BlockTest.{BlockTestLaw, PassesAlone, FoundBlock}
 use Rattle.std.specs.List.{slice_get}
@@ -10,41 +10,68 @@ use Rattle.typst_candidates.specs.declared.entry.EntryKind.TheVariants as entry_
 use Rattle.typst_grammar.specs.Part.{block_alone}
 use Rattle.typst_edits.proofs.BlockModes.{mode-law}
 use Rattle.typst_edits.proofs.BlockPart.{block-part-law}
-use Rattle.typst_edits.proofs.BlockPlaces.{Meets, candidate-at, early-by, hole-same, late-by, meets, some-node, take-same, second-place}
+use Rattle.typst_edits.proofs.BlockPlaces.{Meets, candidate-at, hole-same, meets, some-node, second-place}
 use Rattle.typst_edits.proofs.RunSplice.{block-splice-law}
 use Rattle.typst_edits.proofs.Bytes.{decision-law, none_yet, notes_from, logged-notes, logged-listed}
 use Rattle.typst_edits.proofs.MarkupCandidates.{BlockAt}
 use Rattle.typst_edits.proofs.Content.{Clear, clear-level}
-use Rattle.typst_edits.proofs.Edit.{among, before-same}
-use Rattle.typst_edits.proofs.EntryNumbers.{NoneAt, opening-some, opening-found, some-number, got-entry, past-entry, past-note, all-end, end-all, all-begin, begin-all}
+use Rattle.typst_edits.proofs.Edit.{among, before-same, chosen-of}
+use Rattle.typst_edits.proofs.EntryNumbers.{NoneAt, opening-some, opening-found, some-number, got-entry, past-entry, numbers-of}
 use Rattle.typst_edits.proofs.Every.{some_or}
 use Rattle.typst_edits.proofs.Names.{named-level}
-use Rattle.typst_edits.proofs.BlockLog.{nested-block-law}
+use Rattle.typst_edits.proofs.BlockLog.{block-log}
 use Rattle.typst_edits.proofs.OpensApart.{opens-apart-law, opens-directly}
-use Rattle.typst_edits.proofs.Walk.{SpotPlace, spot-place, within-is, width-over}
+use Rattle.typst_edits.proofs.Walk.{SpotPlace, spot-place, within-is}
 use Rattle.typst_edits.proofs.Standing.{standing-law}
 use Rattle.typst_edits.proofs.Text.{block-law}
 use Rattle.typst_edits.proofs.Unnoted.{unnoted-law}
-use Rattle.typst_edits.proofs.Widths.{width-append, width-moved}
+use Rattle.typst_edits.proofs.Widths.{width-append, width-moved, early-by, late-by, take-same, width-over}
 
 -- ---- a block's numbers
 
--- What stands between its two notes is nested.
-within-block : (k : CharClasses) (text : List ℕ) (c : Spot (Unit {0})) (opens : ℕ) → Among c (blocks_of_text k text) → notes_in c.before ≡ suc opens
-    → Nested (max_depth - c.fewer) (take (notes_in (unit_at c (start_of text)).asks) (drop (suc opens) (listed (log k text).notes)))
-within-block k text c opens there number =
-    let n = nested-block-law k text c there in
-    let tail = n.inner ++ n.closes ∷ n.later in
-    let first : opens ≡ length n.earlier = omega (arith, n.number, number) in
-    let many = notes_in (unit_at c (start_of text)).asks in
-    let is : take many (drop (suc opens) (listed (log k text).notes)) ≡ n.inner =
-    ap (λ xs. take many (drop (suc opens) xs)) (ap listed n.notes) ∙ ap (λ m. take many (drop (suc m) (n.earlier ++ n.opens ∷ tail))) first ∙ ap (take many) (past-note n.earlier n.opens tail)
-    ∙ ap (λ m. take m tail) (sym n.long) ∙ take-append_seam n.inner (n.closes ∷ n.later) in
-    subst (Nested (max_depth - c.fewer)) (sym is) n.nested
+pub units-listed : (h : Log) → (units_of h).entries ≡ entries_by 0 (listed h.notes)
+units-listed h = by-notes h.notes
+  where
+    by-notes : (o : Option (List Note)) → entries_by 0 (elim o as (λ _. List Note) [ None ↦ [] | Some ls ↦ ls ]) ≡ entries_by 0 (listed o)
+    by-notes None = refl
+    by-notes (Some ns) = refl
 
--- The units say everything by the list of notes.
-pub noted-units : (h : Log) (ns : List Note) → h.notes ≡ Some ns → (P : List Entry → ℕ → Type 0) → P (entries_by 0 ns) (back_of (last_start 0 ns) h.least) → P (units_of h).entries (units_of h).back
-noted-units h ns e P p = subst (λ o. (let ms = elim o as (λ _. List Note) [ None ↦ [] | Some ls ↦ ls ] in P (entries_by 0 ms) (back_of (last_start 0 ms) h.least))) (sym e) p
+-- What the entries of a text say of a block: the numbers of its two notes, and the first block that begins at its byte.
+pub record BlockEntries (k : CharClasses) (text : List ℕ) (s : Spot (Unit {0})) : Type 0 where
+  pub from : ℕ
+  pub to : ℕ
+  pub number : notes_in s.before ≡ suc from
+  pub last : to ≡ suc (from + notes_in (unit_at s (start_of text)).asks)
+  pub opens : opening_of (width (take s.at text)) 0 0 (entries_in k text) ≡ Some from
+  pub says : SaysBlock (entries_in k text) from to (max_depth - s.fewer) s.name s.start.held.mode
+
+pub block-entries : InOrderLaw → (k : CharClasses) (text : List ℕ) (s : Spot (Unit {0})) → Among s (blocks_of_text k text) → BlockEntries k text s
+block-entries in_order k text s there =
+    let b = block-log k text s there in
+    let d = b.notes in
+    let tail = d.inner ++ d.closes ∷ d.later in
+    let all = d.earlier ++ d.opens ∷ tail in
+    let ns : listed (log k text).notes ≡ all = ap listed d.notes in
+    let entries : entries_in k text ≡ entries_by 0 all = units-listed (log k text) ∙ ap (entries_by 0) ns in
+    let at = width (take s.at text) in
+    let from = length d.earlier in
+    let to = suc from + length d.inner in
+    let alone : NoneAt at d.earlier = λ xs n ys b e f g. (let less = opens-apart-law k text xs ys tail n d.opens b s.name (ns ∙ ap (λ us. us ++ d.opens ∷ tail) e ∙ append_assoc xs (n ∷ ys) (d.opens ∷ tail)) f d.name in let start = d.start in absurd (omega (arith, less, g, start))) in
+    let zero_is : 0 + from ≡ from = omega arith in
+    record {
+      from = from;
+      to = to;
+      number = d.number;
+      last = omega (arith, d.long);
+      opens = ap (opening_of at 0 0) entries ∙ opening-some at 0 0 d.earlier d.opens tail s.name (subst (IsRising 0) ns (in_order k text)) d.name d.start alone ∙ ap Some zero_is;
+      says = subst (λ es. SaysBlock es from to (max_depth - s.fewer) s.name s.start.held.mode) (sym entries) (record {
+        entry = entry_of (last_start 0 d.earlier) d.opens;
+        is = got-entry 0 d.earlier d.opens tail;
+        kind = (λ i. entry_kind_of (d.name i) (b.state i));
+        count = (λ i. count_of (d.name i) (d.levels_there i));
+        closes = ap (closing_of 0 (suc from)) (past-entry 0 d.earlier d.opens tail) ∙ closing-found (max_depth - s.fewer) (suc from) d.opens.start d.inner d.closes d.later d.nested d.name_end;
+      });
+    }
 
 pub record Numbers (k : CharClasses) (front old rest : List ℕ) (c : Candidate) (s : Spot (Unit {0})) : Type 0 where
   pub past : ℕ
@@ -81,33 +108,15 @@ module _ (in_order : InOrderLaw) (k : CharClasses) (front old rest : List ℕ) w
       let ends : u.taken + s.at ≡ (length front + length old) + past = omega (arith, ends_behind, three) in
       let end_at : s.at + u.taken ≡ length (front ++ old) + past = omega (arith, ends_behind, three) in
       let d = decision-law k front old rest s past there ends in
+      let e = block-entries in_order k text s there in
       let tail = d.inner ++ d.closes ∷ d.later in
-      let all = d.earlier ++ d.opens ∷ tail in
-      let ns : listed (log k text).notes ≡ all = ap listed d.notes in
-      let rising : IsRising 0 all = subst (IsRising 0) ns (in_order k text) in
-      let from = length d.earlier in
-      let to = suc from + length d.inner in
       let opens_at : d.opens.start ≡ c.start = d.start ∙ sym m.start in
-      let alone : NoneAt c.start d.earlier = λ xs n ys b e f g. (let less = opens-apart-law k text xs ys tail n d.opens b s.name (ns ∙ ap (λ us. us ++ d.opens ∷ tail) e ∙ append_assoc xs (n ∷ ys) (d.opens ∷ tail)) f d.name in absurd (omega (arith, less, g, opens_at))) in
-      let zero_is : 0 + from ≡ from = omega arith in
-      let opens : opening_of c.start 0 0 (entries_by 0 all) ≡ Some from = opening-some c.start 0 0 d.earlier d.opens tail s.name rising d.name opens_at alone ∙ ap Some zero_is in
-      let inner_is : take (notes_in u.asks) (drop (suc from) (listed (log k text).notes)) ≡ d.inner =
-      ap (λ xs. take (notes_in u.asks) (drop (suc from) xs)) ns ∙ ap (λ xs. take (notes_in u.asks) xs) (past-note d.earlier d.opens tail) ∙ ap (λ n. take n tail) (sym d.long) ∙ take-append_seam d.inner (d.closes ∷ d.later) in
-      let nested : Nested (max_depth - s.fewer) d.inner = subst (Nested (max_depth - s.fewer)) inner_is (within-block k text s from there d.number) in
-      let closes : closing_of 0 (suc from) (drop (suc from) (entries_by 0 all)) ≡ Some to =
-      ap (closing_of 0 (suc from)) (past-entry 0 d.earlier d.opens tail) ∙ closing-found (max_depth - s.fewer) (suc from) d.opens.start d.inner d.closes d.later nested d.name_end in
-      let says : SaysBlock (entries_by 0 all) from to (max_depth - s.fewer) s.name s.start.held.mode = record {
-        entry = entry_of (last_start 0 d.earlier) d.opens;
-        is = got-entry 0 d.earlier d.opens tail;
-        kind = (λ i. entry_kind_of (d.name i) (d.state i));
-        count = (λ i. count_of (d.name i) (d.levels i));
-        closes = closes;
-      } in
-      let front_is = front-law d.earlier tail d.opens (width front) rising (omega (arith, opens_at, before)) in
       let firsts = d.earlier ++ d.opens ∷ d.inner in
-      let split : all ≡ firsts ++ d.closes ∷ d.later = sym (append_assoc d.earlier (d.opens ∷ d.inner) (d.closes ∷ d.later)) in
-      let rear_is = rear-law firsts d.later d.closes (width (front ++ old)) (log k text).least (subst (IsRising 0) split rising) (omega (arith, d.end, end, behind)) in
-      let long : length firsts ≡ to = omega (arith, length-append d.earlier (d.opens ∷ d.inner)) in
+      let split : d.earlier ++ d.opens ∷ tail ≡ firsts ++ d.closes ∷ d.later = sym (append_assoc d.earlier (d.opens ∷ d.inner) (d.closes ∷ d.later)) in
+      let first = numbers-of in_order k text d.earlier d.opens tail d.notes in
+      let last = numbers-of in_order k text firsts d.closes d.later (d.notes ∙ ap Some split) in
+      let from_is : length d.earlier ≡ e.from = omega (arith, d.number, e.number) in
+      let long : length firsts ≡ e.to = omega (arith, length-append d.earlier (d.opens ∷ d.inner), from_is, e.last, d.long) in
       let wide : width (front ++ old) < 2 ^ 64 - 1 = (let a = width-append front (old ++ rest) in let b = width-append old rest in let e = width-append front old in omega (arith, a, b, e, big)) in
       record {
         past = past;
@@ -116,17 +125,16 @@ module _ (in_order : InOrderLaw) (k : CharClasses) (front old rest : List ℕ) w
         starts = starts;
         room = omega (arith, place.room, starts, length-append front (old ++ rest), length-append old rest, three, end_at);
         end = end ∙ ap (λ j. width (take j text)) end_at ∙ ap (λ xs. width (take (length (front ++ old) + past) xs)) (sym same_text) ∙ width-over (front ++ old) past rest;
-        from = from;
-        to = to;
-        opens = noted-units (log k text) all d.notes (λ es back. opening_of c.start 0 0 es ≡ Some from) opens;
-        number = d.number;
-        last = omega (arith, d.long);
-        says = noted-units (log k text) all d.notes (λ es back. SaysBlock es from to (max_depth - s.fewer) s.name s.start.held.mode) says;
-        early = noted-units (log k text) all d.notes (λ es back. from < front_of (width front) 0 es ↔ AllEndBy (length front) s.before)
-            ((λ l. d.before (end-all (width front) d.earlier d.opens (front_is.0 l))), (λ h. front_is.1 (all-end (width front) d.earlier d.opens (d.before_too h))));
-        late = noted-units (log k text) all d.notes (λ es back. rear_of (width (front ++ old)) 0 0 es back ≤ to ↔ AllBeginIn past rest s.after)
-            (subst (λ xs. rear_of (width (front ++ old)) 0 0 (entries_by 0 xs) (back_of (last_start 0 xs) (log k text).least) ≤ to ↔ AllBeginIn past rest s.after) (sym split)
-            ((λ l. d.after (begin-all (width (front ++ old)) d.later (log k text).least (rear_is.0 (omega (arith, l, long))))), (λ h. (let r = rear_is.1 (all-begin (width (front ++ old)) d.later (log k text).least (d.after_too wide h)) in omega (arith, r, long)))));
+        from = e.from;
+        to = e.to;
+        opens = ap (λ b. opening_of b 0 0 (entries_in k text)) m.start ∙ e.opens;
+        number = e.number;
+        last = e.last;
+        says = e.says;
+        early = subst (λ j. j < front_in k front old rest ↔ AllEndBy (length front) s.before) from_is
+            ((λ l. d.before (first.before (width front) l)), (λ h. first.before_too (width front) (omega (arith, opens_at, before)) (d.before_too h)));
+        late = subst (λ j. rear_in k front old rest ≤ j ↔ AllBeginIn past rest s.after) long
+            ((λ l. d.after (last.after (width (front ++ old)) (omega (arith, d.end, end, behind)) l)), (λ h. last.after_too (width (front ++ old)) (omega (arith, d.end, end, behind)) (d.after_too wide h)));
       }
 
 -- ---- the block by itself
@@ -233,13 +241,13 @@ module _ (k : CharClasses) (front old new rest : List ℕ) where
 -- ---- two spots where a candidate is
 
 -- What the entries say of a block, and where it begins.
-record Key : Type 0 where
-  from : ℕ
-  to : ℕ
-  levels : ℕ
-  name : Block
-  mode : SyntaxMode
-  at : ℕ
+pub record Key : Type 0 where
+  pub from : ℕ
+  pub to : ℕ
+  pub levels : ℕ
+  pub name : Block
+  pub mode : SyntaxMode
+  pub at : ℕ
 
 abbrev name_in : Block → EntryKind → Block
 name_in b (entry_kind.Piece at_start) = b
@@ -251,7 +259,7 @@ mode_in m (entry_kind.Piece at_start) = m
 mode_in m (entry_kind.Opens c n) = n
 mode_in m entry_kind.Closes = m
 
-says-same : (es : List Entry) (at_one at_two : ℕ) (from to levels : ℕ) (b : Block) (m : SyntaxMode) (first last more : ℕ) (d : Block) (n : SyntaxMode) → SaysBlock es from to levels b m → SaysBlock es first last more d n → from ≡ first → at_one ≡ at_two
+pub says-same : (es : List Entry) (at_one at_two : ℕ) (from to levels : ℕ) (b : Block) (m : SyntaxMode) (first last more : ℕ) (d : Block) (n : SyntaxMode) → SaysBlock es from to levels b m → SaysBlock es first last more d n → from ≡ first → at_one ≡ at_two
     → ◌≡◌ {A = Key} (record { from = from; to = to; levels = levels; name = b; mode = m; at = at_one }) (record { from = first; to = last; levels = more; name = d; mode = n; at = at_two })
 says-same es at_one at_two from to levels b m first last more d n h k e f =
     let same : h.entry ≡ k.entry = ap (some_or h.entry) (sym h.is ∙ ap (slice_get es) e ∙ k.is) in
@@ -350,16 +358,8 @@ among-behind : {X : Type 0} (x : X) (xs ys : List X) → Among x ys → Among x 
 among-behind x [] ys a = a
 among-behind x (y ∷ xs) ys a = that y (xs ++ ys) (among-behind x xs ys a)
 
-pub among-here : {X : Type 0} (xs : List X) (x : X) (ys : List X) → Among x (xs ++ x ∷ ys)
-among-here [] x ys = this ys
-among-here (y ∷ xs) x ys = that y (xs ++ x ∷ ys) (among-here xs x ys)
-
 opened-first : (at gap fewer : ℕ) (m : Mark) (t : State) (asks : List Ask) → is_opening m ≡ true → Among (marked at gap fewer m t) (opened (marked at gap fewer m t ∷ asks))
-opened-first at gap fewer m t asks e = by-test (is_opening m) e
-  where
-    by-test : (b : Bool) → b ≡ true → Among (marked at gap fewer m t) ((if b then marked at gap fewer m t ∷ [] else []) ++ opened asks)
-    by-test true e = this (opened asks)
-    by-test false e = absurd (cc)
+opened-first at gap fewer m t asks e = subst (λ b. Among (marked at gap fewer m t) ((if b then marked at gap fewer m t ∷ [] else []) ++ opened asks)) (sym e) (this (opened asks))
 
 asked-notes : (lv : ℕ) (z : Place) (all asks : List Ask) (reach least : ℕ) → ((ask : Ask) → Among ask (opened asks) → Among ask (opened all)) → Every (Asked z all) (notes_from lv z reach least asks)
 asked-notes lv z all [] reach least more = tt
@@ -376,13 +376,6 @@ asked-of k text =
     let asks = (parsed k max_depth text).asks in
     subst (λ ns. Every (Asked z asks) ns) (sym (logged-listed max_depth z asks)) (asked-notes max_depth z asks asks 0 none_yet (λ ask a. a))
 
-pub units-listed : (h : Log) → (units_of h).entries ≡ entries_by 0 (listed h.notes)
-units-listed h = by-notes h.notes
-  where
-    by-notes : (o : Option (List Note)) → entries_by 0 (elim o as (λ _. List Note) [ None ↦ [] | Some ls ↦ ls ]) ≡ entries_by 0 (listed o)
-    by-notes None = refl
-    by-notes (Some ns) = refl
-
 -- ---- the law
 
 -- Where a block within a reading that was given up begins, no note begins one.
@@ -390,7 +383,7 @@ pub never-second : (k : CharClasses) (front more : List ℕ) (s : Spot (Unit {0}
     → note.mark ≡ mark.Opens b → width (take s.at (front ++ more)) ≡ note.start → note.start < width front → ⊥
 never-second k front more s there earlier note later b is m spot starts =
     let text = front ++ more in
-    let asked = among (Asked (start_of text) (parsed k max_depth text).asks) note _ (subst (Among note) (sym is) (among-here earlier note later)) (asked-of k text) in
+    let asked = among (Asked (start_of text) (parsed k max_depth text).asks) note _ (chosen-of _ earlier note later is) (asked-of k text) in
     let a = asked (ap is_opening m) in
     let ask_byte : width (take (place_of a.ask) text) ≡ note.start = omega (arith, byte-at (place_of a.ask) text, a.before, opens-directly k text earlier note later b is m) in
     let one = early-by s.at front more (omega (arith, spot, starts)) in

@@ -1,6 +1,6 @@
 -- Each block of the grammar ends in its node.
 use Rattle.std.proofs.Common.{◌≡◌, ℕ, ◌+◌, Bool, true, false, List, [], ◌∷◌, ◌++◌, take, append-nil, append_assoc, refl, ap, sym, ◌∙◌}
-use Rattle.typst_edits.proofs.Words.{Tree, Place, moved, CharClasses, Block, Point, Shape, hinted, shaped, encloses, peek, node, Parser, ◌>>◌, at_token, blocks_of, meaning_of, Outcome, Level, plain, less, joined, before, inside, wrapped, blockless, run, less-none, less-append, content_block, code_block, rules, kind_of, block_head, last_node}
+use Rattle.typst_edits.proofs.Words.{Tree, Place, moved, CharClasses, Block, Point, Shape, hinted, encloses, peek, node, Parser, ◌>>◌, at_token, blocks_of, meaning_of, Outcome, Level, plain, less, joined, before, wrapped, blockless, run, less-none, less-append, content_block, code_block, rules, kind_of, block_head, last_node}
 use Rattle.typst_language.specs.declared.calls.Block.TheVariants as block
 use Rattle.typst_edits.proofs.Law.{Ends}
 
@@ -17,13 +17,10 @@ last-is [] x = refl
 last-is (t ∷ []) x = refl
 last-is (t ∷ u ∷ ts) x = last-is (u ∷ ts) x
 
-less-one : (x : Tree) → less 1 (x ∷ []) ≡ []
-unfolding less
-less-one x = refl
-
 ends-of : (b : Block) (o : Outcome (Unit {0})) → EndsIn b o → Ends b o
+unfolding less
 ends-of b o e = record {
-  nodes = e.nodes ∙ sym (ap (λ u. less 1 u ++ last_node u ∷ []) e.nodes ∙ ap (λ u. u ++ last_node (e.front ++ e.node ∷ []) ∷ []) (less-append 1 e.front (e.node ∷ []) ∙ ap (λ u. less 0 e.front ++ u) (less-one e.node) ∙ append-nil (less 0 e.front) ∙ less-none e.front) ∙ ap (λ u. e.front ++ u ∷ []) (last-is e.front e.node));
+  nodes = e.nodes ∙ sym (ap (λ u. less 1 u ++ last_node u ∷ []) e.nodes ∙ ap (λ u. u ++ last_node (e.front ++ e.node ∷ []) ∷ []) (less-append 1 e.front (e.node ∷ []) ∙ append-nil (less 0 e.front) ∙ less-none e.front) ∙ ap (λ u. e.front ++ u ∷ []) (last-is e.front e.node));
   head = ap (λ u. (last_node u).head) e.nodes ∙ ap (λ (t : Tree). t.head) (last-is e.front e.node) ∙ e.head;
   empties = e.empties;
 }
@@ -45,21 +42,9 @@ abbrev pub enclosing : Block → Bool → Shape
 enclosing b closed = encloses (kind_of b) closed
 
 -- It becomes one node.
-ends-enclosing : (b : Block) (n : ℕ) (closed : Bool) (o : Outcome Bool) → o.value ≡ closed → EndsIn b (wrapped (enclosing b) n o)
-ends-enclosing b n true o e = record {
-  front = take (n + o.back) o.nodes;
-  node = _;
-  nodes = ap (λ c. take (n + o.back) o.nodes ++ shaped (enclosing b c) (inside n o)) e;
-  head = refl;
-  empties = ap (λ c. (wrapped (λ v. enclosing b c) n o).state.empties) e;
-}
-ends-enclosing b n false o e = record {
-  front = take (n + o.back) o.nodes;
-  node = _;
-  nodes = ap (λ c. take (n + o.back) o.nodes ++ shaped (enclosing b c) (inside n o)) e;
-  head = refl;
-  empties = ap (λ c. (wrapped (λ v. enclosing b c) n o).state.empties) e;
-}
+ends-enclosing : (b : Block) (n : ℕ) (closed : Bool) (o : Outcome Bool) → EndsIn b (wrapped (λ _. enclosing b closed) n o)
+ends-enclosing b n true o = record { front = take (n + o.back) o.nodes; node = _; nodes = refl; head = refl; empties = refl }
+ends-enclosing b n false o = record { front = take (n + o.back) o.nodes; node = _; nodes = refl; head = refl; empties = refl }
 
 ends-node : (b : Block) (l : Level) (p : Parser Bool) (z : Place) (s : Point) → EndsIn b (run l (node (enclosing b) p) z s)
 unfolding run node
@@ -67,7 +52,7 @@ ends-node b l p z s =
     let o = run l peek z s in
     let q = run l p (moved o.taken z) o.state in
     let n = before at_token o.state in
-    ends-joined b o _ (ends-plain b q.value (wrapped (enclosing b) n q) (ends-enclosing b n q.value q refl))
+    ends-joined b o _ (ends-plain b q.value (wrapped (enclosing b) n q) (ends-enclosing b n q.value q))
 
 ends-content : (l : Level) (z : Place) (s : Point) → EndsIn block.Content (run l (peek >> content_block) z s)
 unfolding run content_block

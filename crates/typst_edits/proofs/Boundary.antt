@@ -1,14 +1,14 @@
 -- The notes where pieces of a run end, and what their numbers say.
 use Rattle.std.proofs.Common.{◌≡◌, ◌==◌, ℕ, zero, suc, ◌+◌, ◌-◌, ◌<◌, ◌≤◌, ◌^◌, max, Bool, true, false, ◌&&◌, nat_lt, List, [], ◌∷◌, ◌++◌, length, take, append_assoc, append-nil, Some, refl, ap, sym, ◌∙◌, subst, arith}
-use Rattle.typst_edits.proofs.Words.{and_parts, map-append, SyntaxKind, Place, moved, CharClasses, width, position, MarkupExpr, Mark, Note, State, Ask, shift, shift_one, sunk, looked, marked, deeper, AtHand, as_at_hand, known_by, no_log, logged, Outcome, Meaning, Level, plain, joined, as_last, repeated, hand_of, hand_asks_of, asked, start_point, run, Trivia, Point, gap_of, state_of, note, hand-again, moved-sum, ends, note_piece, markup_turn, markup_reading, rules, max_depth, start_of, whole, parsed, log, highest, lowest, AllEndBy, made, AllGo, end_of, asks_of, chain, Noting, notes_in, Sequence, turn_of, on_both, made-sum}
+use Rattle.typst_edits.proofs.Words.{and_parts, map-append, SyntaxKind, Place, moved, CharClasses, width, position, MarkupExpr, Mark, Note, State, Ask, shift, shift_one, sunk, marked, deeper, AtHand, as_at_hand, known_by, no_log, logged, Outcome, Meaning, Level, plain, joined, as_last, repeated, hand_of, hand_asks_of, asked, start_point, run, Trivia, Point, gap_of, state_of, note, hand-again, moved-sum, ends, note_piece, markup_turn, markup_reading, rules, max_depth, start_of, whole, parsed, log, highest, lowest, AllEndBy, made, AllGo, end_of, asks_of, chain, Noting, notes_in, Sequence, turn_of, on_both, made-sum, both_ways, false_from_ne_true, if-true, if-false}
 use Rattle.typst_edits.specs.Splice.{noting as as_ask}
 use Rattle.typst_grammar.proofs.Pieces.{end-append, go-append}
 use Rattle.typst_language.specs.declared.calls.Mark.TheVariants as mark
 use Rattle.typst_edits.proofs.Bytes.{AllReach, end-by, end-to, AllFrom, none_yet, fresh_notes, next_note, noted-length, logged-notes, logged-least, notes-around, least-around, reach-by, reach-to, least-by, least-to, AllMarks, marks-append, marks-shift, marks-sunk, none-hand}
-use Rattle.typst_edits.proofs.Outcomes.{shift-zero, shift-twice}
-use Rattle.typst_edits.proofs.Spots.{if-true, if-false}
+use Rattle.typst_edits.proofs.Outcomes.{shift-zero, shift-twice, shift-append}
 use Rattle.typst_edits.proofs.Widths.{width-moved}
-use Rattle.typst_edits.proofs.Within.{AllAt, at-first, at-second, in-level}
+use Rattle.typst_edits.proofs.Within.{AllAt, in-level, at-most}
+use Rattle.typst_edits.proofs.Looks.{looks-first, looks-second}
 
 -- the first of two tests that both pass
 pub first-of : (a b : Bool) → (a && b) ≡ true → a ≡ true
@@ -86,23 +86,15 @@ module _ (l : Level) (stops : SyntaxKind → Bool) (x : Bool × ℕ) (z : Place)
       let t = asked (hand_of l there after) after in
       let d = deep.taken in
       let mk = marked 0 (gap_of t.known) 0 (mark.Piece carried.0 carried.1) (state_of t) in
-      let first = hand_asks_of l z s in
-      let second = hand_asks_of l there deep.state in
-      let same : hand_asks_of l there t ≡ looks = ap (hand_asks_of l there) again in
-      let took : 0 + (d + (0 + ((0 + (0 + (0 + 0))) + 0))) ≡ d = omega arith in
       let third = hand_asks_of l there t in
       let from_mark = mk ∷ shift 0 (third ++ []) in
-      let noted = (looks ++ shift 0 from_mark) ++ [] in
-      let own : noted ≡ looks ++ mk ∷ looks =
-      append-nil (looks ++ shift 0 from_mark) ∙ ap (λ ls. looks ++ ls) (shift-zero from_mark ∙ ap (λ ls. mk ∷ ls) (shift-zero (third ++ []) ∙ append-nil third ∙ same)) in
-      let moved_own : shift d (second ++ (looks ++ mk ∷ looks)) ≡ shift d second ++ (shift d looks ++ shift_one d mk ∷ shift d looks) =
-      map-append (shift_one d) second (looks ++ mk ∷ looks) ∙ ap (λ ls. shift d second ++ ls) (map-append (shift_one d) looks (mk ∷ looks)) in
-      let all : gone.asks ≡ (first ++ (deep.asks ++ shift d second)) ++ (shift d looks ++ shift_one d mk ∷ shift d looks) =
-      ap (λ ls. first ++ ls) (shift-zero (deep.asks ++ shift d (second ++ shift 0 noted)) ∙ ap (λ ls. deep.asks ++ shift d (second ++ ls)) (shift-zero noted ∙ own) ∙ ap (λ ls. deep.asks ++ ls) moved_own
-      ∙ sym (append_assoc deep.asks (shift d second) (shift d looks ++ shift_one d mk ∷ shift d looks)))
-      ∙ sym (append_assoc first (deep.asks ++ shift d second) (shift d looks ++ shift_one d mk ∷ shift d looks)) in
+      let own : (looks ++ shift 0 from_mark) ++ [] ≡ looks ++ mk ∷ looks =
+      append-nil (looks ++ shift 0 from_mark) ∙ ap (λ ls. looks ++ ls) (shift-zero from_mark ∙ ap (λ ls. mk ∷ ls) (shift-zero (third ++ []) ∙ append-nil third ∙ ap (hand_asks_of l there) again)) in
+      let all : gone.asks ≡ early_asks ++ (shift d looks ++ shift_one d mk ∷ shift d looks) =
+      ap (λ ls. hand_asks_of l z s ++ shift 0 (deep.asks ++ shift d (hand_asks_of l there deep.state ++ shift 0 ls))) own ∙ simp (shift-zero, shift-append, append_assoc) in
       let at_is : d + 0 ≡ d = omega arith in
-      all ∙ ap (λ n. early_asks ++ (shift d looks ++ piece_mark n carried t ∷ shift d looks)) at_is ∙ ap (λ n. early_asks ++ (shift n looks ++ piece_mark n carried t ∷ shift n looks)) (sym took)
+      let took : d ≡ 0 + (d + (0 + ((0 + (0 + (0 + 0))) + 0))) = omega arith in
+      all ∙ ap (λ n. early_asks ++ (shift d looks ++ piece_mark n carried t ∷ shift d looks)) at_is ∙ ap (λ n. early_asks ++ (shift n looks ++ piece_mark n carried t ∷ shift n looks)) took
       ∙ ap (λ p. early_asks ++ (shift gone.taken looks ++ piece_mark gone.taken carried p ∷ shift gone.taken looks)) (again ∙ sym last-is)
 
   gone-ends : Ends gone.asks gone.taken gone.value.1 gone.state (hand_asks_of l (moved gone.taken z) gone.state)
@@ -141,29 +133,16 @@ module _ (l : Level) (stops : SyntaxKind → Bool) (x : Bool × ℕ) (z : Place)
       (marks-append P deep.asks (shift deep.taken second) (deep-marks P some f)
       (marks-shift P deep.taken second (none-hand (λ at fewer m p. P (deep.taken + at) fewer m p) l.classes deep.state.held deep.state.known there)))
 
-  turn-by : (b : Bool) → ends stops x.1 ahead.kind ≡ b → (run l (markup_turn true stops x) z s).value.0 ≡ true
-      → (let o = run l (markup_turn true stops x) z s in Ends o.asks o.taken o.value.1 o.state (hand_asks_of l (moved o.taken z) o.state))
-  turn-by true e h = let f : true ≡ false = sym h ∙ stopped-is e in cc
-  turn-by false e h = subst (λ (o : Outcome (Bool × (Bool × ℕ))). Ends o.asks o.taken o.value.1 o.state (hand_asks_of l (moved o.taken z) o.state)) (sym (turn-is e)) gone-ends
+  -- A piece that goes on isn't stopped.
+  pub going-on : (run l (markup_turn true stops x) z s).value.0 ≡ true → ends stops x.1 ahead.kind ≡ false
+  going-on h = false_from_ne_true (ends stops x.1 ahead.kind) (λ e. both_ways _ (stopped-is e) h)
 
   pub turn-ends : (run l (markup_turn true stops x) z s).value.0 ≡ true → (let o = run l (markup_turn true stops x) z s in Ends o.asks o.taken o.value.1 o.state (hand_asks_of l (moved o.taken z) o.state))
-  turn-ends h = turn-by (ends stops x.1 ahead.kind) refl h
-
-  known-by : (b : Bool) → ends stops x.1 ahead.kind ≡ b → (run l (markup_turn true stops x) z s).value.0 ≡ true → KnownAt (run l (markup_turn true stops x) z s).state
-  known-by true e h = let f : true ≡ false = sym h ∙ stopped-is e in cc
-  known-by false e h = subst (λ (o : Outcome (Bool × (Bool × ℕ))). KnownAt o.state) (sym (turn-is e)) (record { trivia = _; is = refl })
+  turn-ends h = subst (λ (o : Outcome (Bool × (Bool × ℕ))). Ends o.asks o.taken o.value.1 o.state (hand_asks_of l (moved o.taken z) o.state)) (sym (turn-is (going-on h))) gone-ends
 
   -- the trivia after it are known
   pub turn-known : (run l (markup_turn true stops x) z s).value.0 ≡ true → KnownAt (run l (markup_turn true stops x) z s).state
-  turn-known h = known-by (ends stops x.1 ahead.kind) refl h
-
-  going-by : (b : Bool) → ends stops x.1 ahead.kind ≡ b → (run l (markup_turn true stops x) z s).value.0 ≡ true → ends stops x.1 ahead.kind ≡ false
-  going-by true e h = let f : true ≡ false = sym h ∙ stopped-is e in cc
-  going-by false e h = e
-
-  -- A piece that goes on isn't stopped.
-  pub going-on : (run l (markup_turn true stops x) z s).value.0 ≡ true → ends stops x.1 ahead.kind ≡ false
-  going-on h = going-by (ends stops x.1 ahead.kind) refl h
+  turn-known h = subst (λ (o : Outcome (Bool × (Bool × ℕ))). KnownAt o.state) (sym (turn-is (going-on h))) (record { trivia = _; is = refl })
 
 -- ---- several pieces
 
@@ -175,15 +154,7 @@ known-made l stops (suc n) x z s known g =
     known-made l stops n o.value.1 (moved o.taken z) o.state (turn-known l stops x z s (first-of o.value.0 (nat_lt 0 o.taken) g.0)) g.1
 
 later-ends : (asks ls looks : List Ask) (a b : ℕ) (x : Bool × ℕ) (s : Point) → Ends asks b x s looks → Ends (ls ++ shift a asks) (a + b) x s looks
-later-ends asks ls looks a b x s e =
-    let m = piece_mark b x s in
-    let q = shift b looks ++ m ∷ shift b looks in
-    record {
-      early = ls ++ shift a e.early;
-      is = ap (λ u. ls ++ shift a u) e.is ∙ ap (λ u. ls ++ u) (map-append (shift_one a) e.early q ∙ ap (λ u. shift a e.early ++ u) (map-append (shift_one a) (shift b looks) (m ∷ shift b looks)
-          ∙ ap (λ u. u ++ shift_one a m ∷ shift a (shift b looks)) (shift-twice a b looks) ∙ ap (λ u. shift (a + b) looks ++ shift_one a m ∷ u) (shift-twice a b looks)))
-          ∙ sym (append_assoc ls (shift a e.early) (shift (a + b) looks ++ shift_one a m ∷ shift (a + b) looks));
-    }
+later-ends asks ls looks a b x s e = record { early = ls ++ shift a e.early; is = simp (e.is, map-append, shift-twice, append_assoc) }
 
 module _ (m : Bool × ℕ → Meaning (Bool × (Bool × ℕ))) (looks : Place → Point → List Ask)
     (each : (x : Bool × ℕ) (z : Place) (s : Point) → (m x z s).value.0 ≡ true → (let o = m x z s in Ends o.asks o.taken o.value.1 o.state (looks (moved o.taken z) o.state))) where
@@ -215,11 +186,7 @@ module _ (m : Bool × ℕ → Meaning (Bool × (Bool × ℕ))) (looks : Place �
 
 pub chain-asks : (x : Bool × ℕ) (s : Point) (os : List (Outcome (Bool × (Bool × ℕ)))) (q : Outcome (Bool × ℕ)) → (chain os q).asks ≡ asks_of os ++ shift (end_of x s os).taken q.asks
 chain-asks x s [] q = sym (shift-zero q.asks)
-chain-asks x s (o ∷ os) q =
-    let e = end_of o.value.1 o.state os in
-    ap (λ u. o.asks ++ shift o.taken u) (chain-asks o.value.1 o.state os q)
-    ∙ ap (λ u. o.asks ++ u) (map-append (shift_one o.taken) (asks_of os) (shift e.taken q.asks) ∙ ap (λ u. shift o.taken (asks_of os) ++ u) (shift-twice o.taken e.taken q.asks))
-    ∙ sym (append_assoc o.asks (shift o.taken (asks_of os)) (shift (o.taken + e.taken) q.asks))
+chain-asks x s (o ∷ os) q = ap (λ u. o.asks ++ shift o.taken u) (chain-asks o.value.1 o.state os q) ∙ simp (map-append, shift-twice, append_assoc)
 
 -- ---- what is asked first
 
@@ -251,34 +218,6 @@ module _ (r : Sequence) where
 
   pub each-ends : (x : Bool × ℕ) (z : Place) (s : Point) → (turn_of r x z s).value.0 ≡ true → (let o = turn_of r x z s in Ends o.asks o.taken o.value.1 o.state (looks_in (moved o.taken z) o.state))
   each-ends x z s h = turn-ends r.level r.stops x z s h
-
--- ---- looks in one list and another
-
--- looks of one list and of another, counted from a given number of characters before
-pub end-split : (n d : ℕ) (ls ks : List Ask) → AllEndBy n (shift d (ls ++ ks)) → AllEndBy n (shift d ls) × AllEndBy n (shift d ks)
-end-split n d [] ks h = (tt, h)
-end-split n d (looked at look ∷ ls) ks h = let i = end-split n d ls ks h.1 in ((h.0, i.0), i.1)
-end-split n d (marked at gap fewer m s ∷ ls) ks h = end-split n d ls ks h
-
-pub end-both : (n d : ℕ) (ls ks : List Ask) → AllEndBy n (shift d ls) → AllEndBy n (shift d ks) → AllEndBy n (shift d (ls ++ ks))
-end-both n d [] ks h i = i
-end-both n d (looked at look ∷ ls) ks h i = (h.0, end-both n d ls ks h.1 i)
-end-both n d (marked at gap fewer m s ∷ ls) ks h i = end-both n d ls ks h i
-
-pub from-first : (b d : ℕ) (z : Place) (ls ks : List Ask) → AllFrom b z (shift d (ls ++ ks)) → AllFrom b z (shift d ls)
-from-first b d z [] ks h = tt
-from-first b d z (looked at look ∷ ls) ks h = (h.0, from-first b d z ls ks h.1)
-from-first b d z (marked at gap fewer m s ∷ ls) ks h = from-first b d z ls ks h
-
-pub from-both : (b : ℕ) (z : Place) (ls ks : List Ask) → AllFrom b z ls → AllFrom b z ks → AllFrom b z (ls ++ ks)
-from-both b z [] ks h i = i
-from-both b z (looked at look ∷ ls) ks h i = (h.0, from-both b z ls ks h.1 i)
-from-both b z (marked at gap fewer m s ∷ ls) ks h i = from-both b z ls ks h i
-
-pub split-from : (b : ℕ) (z : Place) (ls ks : List Ask) → AllFrom b z (ls ++ ks) → AllFrom b z ls × AllFrom b z ks
-split-from b z [] ks h = (tt, h)
-split-from b z (looked at look ∷ ls) ks h = let i = split-from b z ls ks h.1 in ((h.0, i.0), i.1)
-split-from b z (marked at gap fewer m s ∷ ls) ks h = split-from b z ls ks h
 
 -- ---- a note of a text, and what its numbers say of what was asked before it and after it
 
@@ -322,9 +261,9 @@ module _ (k : CharClasses) (text : List ℕ) where
         start = ap position (sym (moved-sum at gap z)) ∙ width-moved (at + gap) text;
         levels = refl;
         state = refl;
-        reached = λ front more same h. end-by front more early (subst (λ u. AllAt (length u) early) same (at-first (length text) early _ all)) (subst (λ u. AllReach (width front) (start_of u) early) same (reach-by max_depth (width front) z early 0 none_yet h).1);
+        reached = λ front more same h. end-by front more early (subst (λ u. AllAt (length u) early) same (looks-first (at-most (length text)) early _ all)) (subst (λ u. AllReach (width front) (start_of u) early) same (reach-by max_depth (width front) z early 0 none_yet h).1);
         reached_too = λ front more same h. reach-to max_depth (width front) z early 0 none_yet (omega arith) (subst (λ u. AllReach (width front) (start_of u) early) (sym same) (end-to front more early h));
         begun = λ n l. (least-by max_depth n z behind 0 none_yet (subst (λ m. n < lowest later m) least l)).1;
         begun_too = λ n big f. subst (λ m. n < lowest later m) (sym least) (least-to max_depth n z behind 0 none_yet big big f);
-        placed = at-second (length text) early _ all;
+        placed = looks-second (at-most (length text)) early _ all;
       }

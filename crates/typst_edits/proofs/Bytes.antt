@@ -13,9 +13,10 @@ use Rattle.typst_edits.proofs.Spots.{Lawful}
 use Rattle.typst_edits.proofs.Law.{inside-level}
 use Rattle.typst_edits.proofs.Names.{named-level}
 use Rattle.typst_edits.proofs.Widths.{width-none, width-append, width-onto, width-moved, far-by, far-to, near-by, near-to}
-use Rattle.typst_edits.proofs.Within.{AllAt, at-first, at-second, in-level}
+use Rattle.typst_edits.proofs.Within.{AllAt, in-level, at-most}
 use Rattle.typst_kinds.specs.declared.kind.SyntaxKind.TheVariants as kind
 use Rattle.typst_language.specs.declared.calls.Mark.TheVariants as mark
+use Rattle.typst_edits.proofs.Looks.{ending, looks-both, looks-first, looks-second}
 
 -- ---- the notes that a log keeps of what is asked, and what their numbers say of the looks
 
@@ -99,51 +100,35 @@ least-around lv z asks p more = sym (logged-least lv z (asks ++ noting p ∷ mor
 
 -- ---- what the numbers of notes say
 
-both-by : (b m n : ℕ) → max m n ≤ b → (m ≤ b) × (n ≤ b)
-both-by b m n h = (omega (arith, h), omega (arith, h))
-
-both-to : (b m n : ℕ) → m ≤ b → n ≤ b → max m n ≤ b
-both-to b m n h k = omega (arith, h, k)
-
-below : (b m n : ℕ) → b < min m n → (b < m) × (b < n)
-below b m n h = (omega (arith, h), omega (arith, h))
-
-above : (b m n : ℕ) → b < m → b < n → b < min m n
-above b m n h k = omega (arith, h, k)
-
 -- The looks end by a byte,
 pub reach-by : (lv b : ℕ) (z : Place) (asks : List Ask) (reach least : ℕ) → highest (notes_from lv z reach least asks) (reach_from z reach asks) ≤ b → (reach ≤ b) × AllReach b z asks
 reach-by lv b z [] reach least h = (h, tt)
 reach-by lv b z (looked at look ∷ asks) reach least h =
     let i = reach-by lv b z asks (max reach (far look.front (moved at z))) (min least (near look.back (moved at z))) h in
-    let own = both-by b reach (far look.front (moved at z)) i.0 in
-    (own.0, (own.1, i.1))
+    (omega (arith, i.0), (omega (arith, i.0), i.1))
 reach-by lv b z (marked at gap fewer m s ∷ asks) reach least h =
-    let own = both-by b reach (highest (notes_from lv z 0 none_yet asks) (reach_from z 0 asks)) h in
-    (own.0, (reach-by lv b z asks 0 none_yet own.1).1)
+    (omega (arith, h), (reach-by lv b z asks 0 none_yet (omega (arith, h))).1)
 
 pub reach-to : (lv b : ℕ) (z : Place) (asks : List Ask) (reach least : ℕ) → reach ≤ b → AllReach b z asks → highest (notes_from lv z reach least asks) (reach_from z reach asks) ≤ b
 reach-to lv b z [] reach least h f = h
 reach-to lv b z (looked at look ∷ asks) reach least h f =
-    reach-to lv b z asks (max reach (far look.front (moved at z))) (min least (near look.back (moved at z))) (both-to b reach (far look.front (moved at z)) h f.0) f.1
-reach-to lv b z (marked at gap fewer m s ∷ asks) reach least h f = both-to b reach (highest (notes_from lv z 0 none_yet asks) (reach_from z 0 asks)) h (reach-to lv b z asks 0 none_yet (omega arith) f)
+    reach-to lv b z asks (max reach (far look.front (moved at z))) (min least (near look.back (moved at z))) (omega (arith, h, f.0)) f.1
+reach-to lv b z (marked at gap fewer m s ∷ asks) reach least h f = omega (arith, h, reach-to lv b z asks 0 none_yet (omega arith) f)
 
 -- and begin after it.
 pub least-by : (lv b : ℕ) (z : Place) (asks : List Ask) (reach least : ℕ) → b < lowest (notes_from lv z reach least asks) (least_from lv z least asks) → (b < least) × AllFrom b z asks
 least-by lv b z [] reach least h = (h, tt)
 least-by lv b z (looked at look ∷ asks) reach least h =
     let i = least-by lv b z asks (max reach (far look.front (moved at z))) (min least (near look.back (moved at z))) h in
-    let own = below b least (near look.back (moved at z)) i.0 in
-    (own.0, (own.1, i.1))
+    (omega (arith, i.0), (omega (arith, i.0), i.1))
 least-by lv b z (marked at gap fewer m s ∷ asks) reach least h =
-    let own = below b least (lowest (notes_from lv z 0 none_yet asks) (least_from lv z none_yet asks)) h in
-    (own.0, (least-by lv b z asks 0 none_yet own.1).1)
+    (omega (arith, h), (least-by lv b z asks 0 none_yet (omega (arith, h))).1)
 
 pub least-to : (lv b : ℕ) (z : Place) (asks : List Ask) (reach least : ℕ) → b < none_yet → b < least → AllFrom b z asks → b < lowest (notes_from lv z reach least asks) (least_from lv z least asks)
 least-to lv b z [] reach least big h f = h
 least-to lv b z (looked at look ∷ asks) reach least big h f =
-    least-to lv b z asks (max reach (far look.front (moved at z))) (min least (near look.back (moved at z))) big (above b least (near look.back (moved at z)) h f.0) f.1
-least-to lv b z (marked at gap fewer m s ∷ asks) reach least big h f = above b least (lowest (notes_from lv z 0 none_yet asks) (least_from lv z none_yet asks)) h (least-to lv b z asks 0 none_yet big big f)
+    least-to lv b z asks (max reach (far look.front (moved at z))) (min least (near look.back (moved at z))) big (omega (arith, h, f.0)) f.1
+least-to lv b z (marked at gap fewer m s ∷ asks) reach least big h f = omega (arith, h, least-to lv b z asks 0 none_yet big big f)
 
 -- ---- in a larger whole
 
@@ -272,16 +257,6 @@ end-to front more [] a = tt
 end-to front more (looked at look ∷ asks) a = (far-to at look.front front more a.0, end-to front more asks a.1)
 end-to front more (marked at gap fewer m s ∷ asks) a = end-to front more asks a
 
-pub end-first : (n : ℕ) (ls ks : List Ask) → AllEndBy n (ls ++ ks) → AllEndBy n ls
-end-first n [] ks h = tt
-end-first n (looked at look ∷ ls) ks h = (h.0, end-first n ls ks h.1)
-end-first n (marked at gap fewer m s ∷ ls) ks h = end-first n ls ks h
-
-pub both-end : (n : ℕ) (ls ks : List Ask) → AllEndBy n ls → AllEndBy n ks → AllEndBy n (ls ++ ks)
-both-end n [] ks h i = i
-both-end n (looked at look ∷ ls) ks h i = (h.0, both-end n ls ks h.1 i)
-both-end n (marked at gap fewer m s ∷ ls) ks h i = both-end n ls ks h i
-
 pub end-by : (front more : List ℕ) (asks : List Ask) → AllAt (length (front ++ more)) asks → AllReach (width front) (start_of (front ++ more)) asks → AllEndBy (length front) asks
 end-by front more [] a r = tt
 end-by front more (looked at look ∷ asks) a r = (far-by at look.front front more a.0 r.0, end-by front more asks a.1 r.1)
@@ -345,8 +320,8 @@ decided k front old rest c past o n a e =
     let least = ap (λ ls. (logged max_depth z no_log ls).least) e0 ∙ logged-least max_depth z (n.earlier ++ noting opening ∷ behind)
     ∙ least-around max_depth z n.earlier opening behind ∙ least-around max_depth z own closing late in
     let within = subst (λ ls. AllAt (length text) ls) e0 a in
-    let within_before = at-first (length text) n.earlier _ within in
-    let within_after = at-second (length text) own _ (at-second (length text) n.earlier _ within) in
+    let within_before = looks-first (at-most (length text)) n.earlier _ within in
+    let within_after = looks-second (at-most (length text)) own _ (looks-second (at-most (length text)) n.earlier _ within) in
     let there : end ≡ (length front + length old) + past = omega (arith, e) in
     record {
       earlier = notes_before;
@@ -363,10 +338,10 @@ decided k front old rest c past o n a e =
       end = (let there = width-moved (end + 0) text in let none : end + 0 ≡ end = omega arith in there ∙ ap (λ n. width (take n text)) none);
       number = ap notes_in n.opened ∙ notes-one n.earlier c.at 0 c.fewer start_mark c.start ∙ ap suc (sym (noted-length max_depth z n.earlier 0 none_yet));
       long = noted-length max_depth z own 0 none_yet ∙ notes-own c.at c.fewer u.asks;
-      before = λ h. subst (λ ls. AllEndBy (length front) ls) (sym n.opened) (both-end (length front) n.earlier (noting opening ∷ [])
+      before = λ h. subst (λ ls. AllEndBy (length front) ls) (sym n.opened) (looks-both (ending (length front)) n.earlier (noting opening ∷ [])
           (end-by front (old ++ rest) n.earlier within_before (reach-by max_depth (width front) z n.earlier 0 none_yet h).1) tt);
       before_too = λ h. reach-to max_depth (width front) z n.earlier 0 none_yet (omega arith)
-          (end-to front (old ++ rest) n.earlier (end-first (length front) n.earlier (noting opening ∷ []) (subst (λ ls. AllEndBy (length front) ls) n.opened h)));
+          (end-to front (old ++ rest) n.earlier (looks-first (ending (length front)) n.earlier (noting opening ∷ []) (subst (λ ls. AllEndBy (length front) ls) n.opened h)));
       after_too = λ big h. subst (λ l. width (front ++ old) < lowest notes_late l) (sym least)
           (least-to max_depth (width (front ++ old)) z late 0 none_yet big big (begin-to front old rest end past n.later there (subst (λ ls. AllBeginIn past rest ls) n.closed h)));
       after = λ h. subst (λ ls. AllBeginIn past rest ls) (sym n.closed)

@@ -1,7 +1,7 @@
 -- Where a stretch of a run's children ends, and what of the run's pieces begins and ends there.
-use Rattle.std.proofs.Common.{◌≡◌, ℕ, zero, suc, ◌+◌, ◌-◌, ◌<◌, ◌≤◌, max, min, Bool, true, false, not, ◌||◌, ◌&&◌, if◌then◌else◌, List, [], ◌∷◌, ◌++◌, length, drop, length-append, append_assoc, append-nil, Some, refl, ap, sym, ◌∙◌, subst, arith, encode_utf8_all, Option, None}
-use Rattle.typst_edits.proofs.Words.{nat_le, nat_lt, nat_tests, ltb-true, lt-ltb, and_parts, ltb-false, same, is_trivia, is_error, Tree, text_of, error_of, leaf_of, Outcome, plain, less, Meaning, Trivia, Point, pending, less-none, Child, laid, first_near, end_near, is_among, ChildRange, begins, clings, is_hash, leads, holds_at, back_past, on_past, with_hash, together, Every, is_over, minds_at, first_place, read_by, onwards_by, GoesOnWell, begins_wrong, after_known, StartsWell, bytes_of, LeadsAt, StandsAt, Sequence, turn_of, first_end, then_end, SyntaxKind, SyntaxMode, Place, moved, CharClasses, Token, Reading, token_at, len_at, at_trivia, Ahead, direct, after_trivia, ahead_by, ahead, text_ahead, hand_at, token_node, plain_node, fault_node, is_raw, has_fields, peek, markup_turn, rules, max_depth, level_at, inner, bracket, inner_run, text_run, made, end_of, start, access_node, hints, message, raw_node}
-use Rattle.std.proofs.lemmas.Bool.{false_from_ne_true, or_parts}
+use Rattle.std.proofs.Common.{◌≡◌, ℕ, zero, suc, ◌+◌, ◌-◌, ◌<◌, ◌≤◌, max, min, Bool, true, false, not, ◌||◌, ◌&&◌, if◌then◌else◌, List, [], ◌∷◌, ◌++◌, length, drop, length-append, append_assoc, append-nil, Some, refl, ap, sym, ◌∙◌, subst, arith, encode_utf8_all, Option, None, inl, lt_of_not-le, pos_of_ne-zero, inr}
+use Rattle.typst_edits.proofs.Words.{nat_le, nat_lt, nat_tests, ltb-true, lt-ltb, and_parts, same, is_trivia, is_error, Tree, text_of, error_of, leaf_of, Outcome, plain, less, Meaning, Trivia, Point, pending, less-none, Child, laid, first_near, end_near, is_among, ChildRange, begins, clings, is_hash, leads, holds_at, back_past, on_past, with_hash, together, Every, is_over, minds_at, first_place, read_by, onwards_by, GoesOnWell, begins_wrong, after_known, StartsWell, bytes_of, LeadsAt, StandsAt, Sequence, turn_of, first_end, then_end, SyntaxKind, SyntaxMode, Place, moved, CharClasses, Token, Reading, token_at, len_at, at_trivia, Ahead, direct, after_trivia, ahead_by, ahead, text_ahead, hand_at, token_node, plain_node, fault_node, is_raw, has_fields, peek, markup_turn, rules, max_depth, level_at, inner, bracket, inner_run, text_run, made, end_of, start, access_node, hints, message, raw_node, false_from_ne_true, cases_lt}
+use Rattle.std.proofs.lemmas.Bool.{not-false, or_parts}
 use Rattle.typst_candidates.specs.Candidates.{ended, is_sign, around}
 use Rattle.typst_candidates.proofs.Edges.{begins_least as begins-from}
 use Rattle.typst_grammar.proofs.Missing.{error-kind as error-is}
@@ -9,10 +9,9 @@ use Rattle.typst_edits.proofs.CandidatePlaces.{length-laid, back-le, on-ge, on-l
 use Rattle.typst_edits.proofs.Leading.{bytes-append, bytes-first}
 use Rattle.typst_edits.proofs.Heads.{MindsAlone, advised-error as advised-wrong}
 use Rattle.typst_edits.proofs.Turns.{drop-front}
-use Rattle.typst_edits.proofs.NumberedNotes.{neither}
 use Rattle.typst_edits.proofs.RunPieces.{same-place}
 use Rattle.typst_edits.proofs.RunTrees.{standing-still}
-use Rattle.typst_edits.proofs.Every.{first_or}
+use Rattle.typst_edits.proofs.Every.{first_or, neither}
 use Rattle.typst_edits.proofs.Known.{Saying, Stays, holds-run, holds-meaning}
 use Rattle.typst_kinds.specs.declared.kind.SyntaxKind.TheVariants as kind
 use Rattle.typst_candidates.specs.Candidates as candidate
@@ -122,14 +121,8 @@ pub back-all : (f : ℕ → Bool) (n w : ℕ) → back_past f n < w → w ≤ n 
 back-all f zero w h l = absurd (omega (arith, h, l))
 back-all f (suc n) w h l = by-test (f (suc n)) refl h (back-all f n w)
   where
-    by-last : (b : Bool) → nat_lt w (suc n) ≡ b → f (suc n) ≡ true → (w ≤ n → f w ≡ true) → f w ≡ true
-    by-last true e t ih = let less : w < suc n = ltb-true w (suc n) e in ih (omega (arith, less))
-    by-last false e t ih =
-        let last : suc n ≡ w = neither (suc n) w (λ over. (omega (arith, over, l))) (λ less. (let d : true ≡ false = sym (lt-ltb w (suc n) less) ∙ e in cc)) in
-        subst (λ v. f v ≡ true) last t
-
     by-test : (b : Bool) → f (suc n) ≡ b → (if b then back_past f n else suc n) < w → (back_past f n < w → w ≤ n → f w ≡ true) → f w ≡ true
-    by-test true e g ih = by-last (nat_lt w (suc n)) refl e (ih g)
+    by-test true e g ih = elim (cases_lt w (suc n)) [ inl less ↦ ih g (omega (arith, less)) | inr more ↦ (let last : suc n ≡ w = omega (arith, more, l) in subst (λ v. f v ≡ true) last e) ]
     by-test false e g ih = absurd (omega (arith, g, l))
 
 -- On to one for which it doesn't hold.
@@ -179,7 +172,7 @@ leads-if cuts at (t ∷ ts) h l = ap (λ b. not (nat_lt at (at + length (text_of
 -- What stands at it, or after it and before any that leads, clings.
 quiet-until : (cuts : List ℕ) (from : ℕ) (ts : List Tree) (index w : ℕ) → LoneError cuts from ts index → index ≤ w → w < length ts → ((v : ℕ) → index < v → v ≤ w → holds_at (λ c. not (leads cuts c)) (laid from ts) v ≡ true)
     → (holds_at (λ c. clings c.node) (laid from ts) w ≡ true) × (holds_at (λ c. is_hash c.node) (laid from ts) w ≡ false)
-quiet-until cuts from ts index w e from_here there none_lead = by-test (nat_lt w past) refl
+quiet-until cuts from ts index w e from_here there none_lead = elim (cases_lt w past) [ inl before ↦ within before | inr over ↦ absurd (beyond over) ]
   where
     own : List Tree
     own = e.error ∷ e.more
@@ -190,15 +183,15 @@ quiet-until cuts from ts index w e from_here there none_lead = by-test (nat_lt w
     all : ts ≡ (e.left ++ own) ++ e.behind
     all = e.is ∙ sym (append_assoc e.left own e.behind)
 
-    by-test : (b : Bool) → nat_lt w past ≡ b → (holds_at (λ c. clings c.node) (laid from ts) w ≡ true) × (holds_at (λ c. is_hash c.node) (laid from ts) w ≡ false)
-    by-test true t =
-        let before : w < past = ltb-true w past t in
+    within : w < past → (holds_at (λ c. clings c.node) (laid from ts) w ≡ true) × (holds_at (λ c. is_hash c.node) (laid from ts) w ≡ false)
+    within before =
         let sum : w ≡ length e.left + (w - length e.left) = omega (arith, e.here, from_here) in
         let q = every-at own e.behind (from + bytes_of e.left) (w - length e.left) e.each (omega (arith, before, e.here, from_here)) in
         let moved-to = λ (f : Child → Bool). ap (λ us. holds_at f (laid from us) w) e.is ∙ holds-behind f from e.left (own ++ e.behind) (w - length e.left) w sum in
         (moved-to (λ c. clings c.node) ∙ q.0, moved-to (λ c. is_hash c.node) ∙ q.1)
-    by-test false t =
-        let over : past ≤ w = ltb-false w past t in
+
+    beyond : past ≤ w → ⊥
+    beyond over =
         let front = length-append e.left own in
         let some : 0 < length e.behind = omega (arith, ap length all, length-append (e.left ++ own) e.behind, front, over, there) in
         let f = λ (c : Child). not (leads cuts c) in
@@ -208,18 +201,12 @@ quiet-until cuts from ts index w e from_here there none_lead = by-test (nat_lt w
 
 -- ---- a stretch around replaced bytes
 
-cut-off : (b c : Bool) → not (b && c) ≡ false → b ≡ true
-cut-off true c e = refl
-cut-off false c e = cc
-
-cut-on : (b c : Bool) → not (b && c) ≡ false → c ≡ true
-cut-on true true e = refl
-cut-on true false e = cc
-cut-on false c e = cc
+cut-on : (b c : Bool) → not (b && c) ≡ false → (b ≡ true) × (c ≡ true)
+cut-on b c e = and_parts b c (not-false (b && c) e)
 
 -- one that leads isn't empty
 leads-full : (cuts : List ℕ) (at : ℕ) (t : Tree) → not (leads cuts (child at t)) ≡ false → 0 < length (text_of t)
-leads-full cuts at t e = let more : at < at + length (text_of t) = ltb-true at (at + length (text_of t)) (cut-off (nat_lt at (at + length (text_of t))) (is_among at cuts) e) in omega (arith, more)
+leads-full cuts at t e = let more : at < at + length (text_of t) = ltb-true at (at + length (text_of t)) (cut-on (nat_lt at (at + length (text_of t))) (is_among at cuts) e).0 in omega (arith, more)
 
 module _ (cuts : List ℕ) (from : ℕ) (ts : List Tree) (rs re x : ℕ) (order : rs ≤ re) where
   abbrev cs : List Child
@@ -288,7 +275,7 @@ module _ (cuts : List ℕ) (from : ℕ) (ts : List Tree) (rs re x : ℕ) (order 
   pub from-cut : 0 < stretch.from → is_among (begins from ts stretch.from) cuts ≡ true
   from-cut some =
       let c = child-at from ts stretch.from (from-there some) in
-      ap (λ b. is_among b cuts) c.begin ∙ cut-on (nat_lt c.at (c.at + length (text_of c.node))) (is_among c.at cuts) (sym (c.holds leading) ∙ back-stop (holds_at leading cs) hashed some)
+      ap (λ b. is_among b cuts) c.begin ∙ (cut-on (nat_lt c.at (c.at + length (text_of c.node))) (is_among c.at cuts) (sym (c.holds leading) ∙ back-stop (holds_at leading cs) hashed some)).1
 
   -- which lies before the bytes
   pub from-early : 0 < stretch.from → begins from ts stretch.from < rs
@@ -296,18 +283,12 @@ module _ (cuts : List ℕ) (from : ℕ) (ts : List Tree) (rs re x : ℕ) (order 
 
   -- it ends after the bytes, if all children do
   pub to-late : re ≤ from + bytes_of ts → re ≤ begins from ts stretch.to
-  to-late all = by-test (nat_lt (ended re cs) (length ts)) refl
-    where
-      least : min (end_near re cs + x) (length cs) ≤ stretch.to
-      least = on-ge (holds_at (λ (c : Child). clings c.node || not (leads cuts c)) cs) (length cs - min (end_near re cs + x) (length cs)) (min (end_near re cs + x) (length cs))
-
-      by-test : (b : Bool) → nat_lt (ended re cs) (length ts) ≡ b → re ≤ begins from ts stretch.to
-      by-test true t =
-          let fewer : ended re cs < length ts = ltb-true (ended re cs) (length ts) t in
-          ended-behind from re ts stretch.to (omega (arith, fewer, least, length-laid from ts)) fewer
-      by-test false t =
-          let none_more : length ts ≤ ended re cs = grind (arith, nat_tests) in
-          omega (arith, begins-last from ts stretch.to (omega (arith, none_more, least, length-laid from ts)), all)
+  to-late all =
+      let least : min (end_near re cs + x) (length cs) ≤ stretch.to = on-ge (holds_at (λ (c : Child). clings c.node || not (leads cuts c)) cs) (length cs - min (end_near re cs + x) (length cs)) (min (end_near re cs + x) (length cs)) in
+      elim (cases_lt (ended re cs) (length ts)) [
+        | inl fewer ↦ ended-behind from re ts stretch.to (omega (arith, fewer, least, length-laid from ts)) fewer
+        | inr none_more ↦ omega (arith, begins-last from ts stretch.to (omega (arith, none_more, least, length-laid from ts)), all)
+      ]
 
   -- and so it ends after its start
   pub from-less : 0 < stretch.from → begins from ts stretch.from < begins from ts stretch.to
@@ -331,7 +312,7 @@ module _ (cuts : List ℕ) (from : ℕ) (ts : List Tree) (rs re x : ℕ) (order 
   pub to-cut : stretch.to < length ts → is_among (begins from ts stretch.to) cuts ≡ true
   to-cut more =
       let c = child-at from ts stretch.to more in
-      ap (λ b. is_among b cuts) c.begin ∙ cut-on (nat_lt c.at (c.at + length (text_of c.node))) (is_among c.at cuts) (to-off more).1
+      ap (λ b. is_among b cuts) c.begin ∙ (cut-on (nat_lt c.at (c.at + length (text_of c.node))) (is_among c.at cuts) (to-off more).1).1
 
   pub to-stands : stretch.to < length ts → StandsAt from ts stretch.to (begins from ts stretch.to)
   to-stands more = stands from ts stretch.to (child-at from ts stretch.to more) (to-stop more).1
@@ -392,10 +373,6 @@ pub record Begun (r : Sequence) (from : ℕ) (ts : List Tree) (i n start end : �
   pub next : is_over i n r ≡ false → StandsAt from ts s.to end
   pub last : is_over i n r ≡ true → s.to ≡ length ts
 
-pub some-by : (n : ℕ) → (n ≡ 0 → ⊥) → 0 < n
-some-by zero f = absurd (f refl)
-some-by (suc n) f = omega arith
-
 same-behind : (xs ys us vs : List Tree) → xs ++ ys ≡ us ++ vs → length xs ≡ length us → ys ≡ vs
 same-behind xs ys us vs e l = sym (drop-front xs ys (length xs) refl) ∙ ap (λ ws. drop (length xs) ws) e ∙ drop-front us vs (length xs) l
 
@@ -405,7 +382,7 @@ module _ (cuts : List ℕ) (from : ℕ) (ts : List Tree) (rs re x : ℕ) (order 
 
   module _ (led : 0 < i → 0 < s.from) (start_is : 0 < i → start ≡ begins from ts s.from) (end_is : end ≡ begins from ts s.to) where
     some : 0 < i → 0 < n
-    some l = some-by n (λ none. (let same = p.empty l none in let less = from-less cuts from ts rs re x order (led l) in let a = start_is l in omega (arith, same, less, a, end_is)))
+    some l = pos_of_ne-zero (λ none. (let same = p.empty l none in let less = from-less cuts from ts rs re x order (led l) in let a = start_is l in omega (arith, same, less, a, end_is)))
 
     first : 0 < i → StandsAt from ts s.from start
     first l = subst (λ b. StandsAt from ts s.from b) (sym (start_is l)) (from-stands cuts from ts rs re x order (led l))
@@ -414,13 +391,7 @@ module _ (cuts : List ℕ) (from : ℕ) (ts : List Tree) (rs re x : ℕ) (order 
     mild l = false_from_ne_true _ (λ minds. (let e = p.minded l (some l) minds in not-lone cuts from ts rs re x order (led l) (subst (λ b. LoneError cuts from ts b) (sym (same-place from ts s.from start e.index (first l) e.leads)) e.lone)))
 
     to-more : (at index : ℕ) → LeadsAt from ts at index → end ≡ at → s.to < length ts
-    to-more at index e same = past (nat_lt s.to (length ts)) refl
-      where
-        past : (b : Bool) → nat_lt s.to (length ts) ≡ b → s.to < length ts
-        past true t = ltb-true s.to (length ts) t
-        past false t =
-            let over : length ts ≤ s.to = grind (arith, nat_tests) in
-            absurd (omega (arith, begins-last from ts s.to over, ap bytes_of e.is, bytes-append e.left (e.node ∷ e.right), bytes-first e.node e.right, e.begins, e.full, same, end_is))
+    to-more at index e same = lt_of_not-le (λ over. (omega (arith, begins-last from ts s.to over, ap bytes_of e.is, bytes-append e.left (e.node ∷ e.right), bytes-first e.node e.right, e.begins, e.full, same, end_is)))
 
     next : is_over i n r ≡ false → StandsAt from ts s.to end
     next over = let f = p.next some over in subst (λ b. StandsAt from ts s.to b) (sym end_is) (to-stands cuts from ts rs re x order (to-more end (length f.front) f.leads refl))

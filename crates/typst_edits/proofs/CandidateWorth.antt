@@ -1,6 +1,6 @@
 -- Each candidate that passes is worth its new nodes and entries: a block, pieces of a text's own run, and pieces of a content block.
 use Rattle.std.proofs.Common.{◌≡◌, ℕ, zero, suc, ◌+◌, ◌≤◌, List, [], ◌∷◌, ◌++◌, length, refl, ap, sym, ◌∙◌, subst, arith, Bool, true, false, IsTrue, length-append, take, Option}
-use Rattle.typst_edits.proofs.Words.{slice_get, Tree, forest, trees, inner_of, Forest, none, more, bare, Reaches, At, put_at, trees_forest, CharClasses, moved, position, width, Candidate, is_among, begins, laid, first_near, run_in, candidates_at, tree, parsed, max_depth, log, block_log, with_children, exchanged, Among, alter, replaced, text_with, Passes, put, path_of, blocks_of_text, notes_in, entries_from, token_start, Spot, last_node, unit_at, is_over, Agrees, top, PassesPieces, of_block, of_pieces, text_run, root_run, StandsAt, BeginsWell, end_note, pieces_log, asks_of, pieces, pieces_from, end_from, piece_at, lead, end_at, Note, Trivia, gap_of, top_cuts, candidates, Every, OpensApartLaw, listed}
+use Rattle.typst_edits.proofs.Words.{slice_get, Tree, forest, trees, inner_of, Forest, none, more, bare, Reaches, At, put_at, trees_forest, CharClasses, moved, position, width, Candidate, is_among, begins, laid, first_near, run_in, candidates_at, tree, parsed, max_depth, log, block_log, with_children, exchanged, Among, alter, replaced, text_with, Passes, put, path_of, blocks_of_text, notes_in, entries_from, token_start, Spot, last_node, unit_at, is_over, Agrees, top, PassesPieces, of_block, of_pieces, text_run, root_run, StandsAt, BeginsWell, end_note, pieces_log, asks_of, pieces, pieces_from, end_from, piece_at, lead, end_at, Note, Trivia, gap_of, top_cuts, candidates, Every, OpensApartLaw, listed, true_from_ne_false}
 use Rattle.typst_edits.specs.Frame.{inner}
 use Rattle.typst_edits.specs.Answer.{Worth, CandidateLaw}
 use Rattle.typst_edits.specs.BlockWorth.{BlockWorthLaw}
@@ -12,7 +12,7 @@ use Rattle.typst_edits.proofs.RunPieces.{joint-of, root-pieces-law, inner-joint-
 use Rattle.typst_edits.specs.InnerWorth.{InnerWorthLaw}
 use Rattle.typst_edits.proofs.CandidatePlaces.{bare-candidates-law, candidate-places-law}
 use Rattle.typst_edits.proofs.CandidateEnds.{stretch, to-cut}
-use Rattle.typst_edits.proofs.Cuts.{token-cuts}
+use Rattle.typst_edits.proofs.Cuts.{cut-token, text-tokens}
 use Rattle.typst_edits.proofs.Edit.{among}
 use Rattle.typst_edits.proofs.Every.{every-by}
 use Rattle.typst_edits.proofs.RunCandidates.{inner-candidate-law, cuts-of-text, of-the-root, root-candidate-law}
@@ -165,7 +165,7 @@ no-piece k front old new rest root c m past t u same chosen pieces path end h th
     let gap : gap_of e.state.known ≡ t.gap = ap gap_of h.known in
     let sum : e.taken + gap_of e.state.known ≡ (length front + length old) + past = omega (arith, gap, behind-zero (e.taken + 0) t.gap _ h.ends) in
     let byte : c.end ≡ width (take (e.taken + gap_of e.state.known) text) = end ∙ sym (ap width (take-past front old rest past (e.taken + gap_of e.state.known) sum)) in
-    absurd (omega (arith, byte, b.is, token-cuts k text 0 b.index b.some go))
+    absurd (omega (arith, byte, b.is, text-tokens k text 0 b.index b.some go, ap (λ d. width (take d text)) (cut-token b.index (end_at k b.index z) b.some)))
 
 -- so their run ends there
 none-over : (k : CharClasses) (front old new rest : List ℕ) (root : Tree) (c : Candidate) (i n m past : ℕ) (t u : Trivia) → bare root ≡ bare (tree k (front ++ (old ++ rest)))
@@ -174,11 +174,8 @@ none-over : (k : CharClasses) (front old new rest : List ℕ) (root : Tree) (c :
     → i + n ≡ 0 → is_over i n (text_run k (text_with front old rest)) ≡ true
 none-over k front old new rest root c (suc i) n m past t u same chosen pieces path end h well nothing = absurd (omega (arith, nothing))
 none-over k front old new rest root c zero (suc n) m past t u same chosen pieces path end h well nothing = absurd (omega (arith, nothing))
-none-over k front old new rest root c zero zero m past t u same chosen pieces path end h well nothing = by-test (is_over 0 0 (text_run k (text_with front old rest))) refl
-  where
-    by-test : (b : Bool) → is_over 0 0 (text_run k (text_with front old rest)) ≡ b → b ≡ true
-    by-test true over = refl
-    by-test false over = absurd (no-piece k front old new rest root c m past t u same chosen pieces path end h (well.next over))
+none-over k front old new rest root c zero zero m past t u same chosen pieces path end h well nothing =
+    true_from_ne_false (is_over 0 0 (text_run k (text_with front old rest))) (λ over. no-piece k front old new rest root c m past t u same chosen pieces path end h (well.next over))
 
 -- ---- each case of the test
 

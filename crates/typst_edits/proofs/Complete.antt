@@ -73,6 +73,10 @@ opened-hand k held known z =
     ahead-none None = opened-trivia k held.mode (length z.ahead) z
     ahead-none (Some t) = refl
 
+sum-by : {A B C D : Type 0} → (A → C) → (B → D) → A ⊎ B → C ⊎ D
+sum-by f g (inl a) = inl (f a)
+sum-by f g (inr b) = inr (g b)
+
 -- ---- each of these notes is of one of these blocks, or lost
 
 abbrev One : {A : Type 0} → List (Spot A) → List Ask → Ask → Type 0
@@ -85,11 +89,7 @@ covered-weaker : {A B : Type 0} (cs : List (Spot A)) (ds : List (Spot B)) (ls ms
 covered-weaker cs ds ls ms asks f h = every-by f (opened asks) h
 
 covered-map : {A B : Type 0} (f : Spot A → Spot B) → ((c : Spot A) → opening (f c) ≡ opening c) → (cs : List (Spot A)) (ls asks : List Ask) → Covered cs ls asks → Covered (map f cs) ls asks
-covered-map f e cs ls asks h = covered-weaker cs (map f cs) ls ls asks step h
-  where
-    step : (ask : Ask) → One cs ls ask → One (map f cs) ls ask
-    step ask (inl i) = inl (any-map (λ c. opening c ≡ ask) (λ d. opening d ≡ ask) f (λ c g. e c ∙ g) cs i)
-    step ask (inr i) = inr i
+covered-map f e cs ls asks h = covered-weaker cs (map f cs) ls ls asks (λ ask. sum-by (any-map (λ c. opening c ≡ ask) (λ d. opening d ≡ ask) f (λ c g. e c ∙ g) cs) (λ i. i)) h
 
 covered-none : {A : Type 0} (cs : List (Spot A)) (ls asks : List Ask) → opened asks ≡ [] → Covered cs ls asks
 covered-none cs ls asks e = subst (Every (One cs ls)) (sym e) tt
@@ -101,37 +101,24 @@ covered-joined o cs ls p ds ms h k =
     (every-append _ (opened o.asks) (map (shift_one o.taken) (opened p.asks)) (every-by first (opened o.asks) h) (every-map (One ds ms) _ (shift_one o.taken) second (opened p.asks) k))
   where
     first : (ask : Ask) → One cs ls ask → One (joined_spots o cs p ds) (ls ++ shift o.taken ms) ask
-    first ask (inl i) = inl (any-left _ (map (λ c. then_spot c p) cs) (map (after_spot o) ds) (any-map (λ c. opening c ≡ ask) (λ d. opening d ≡ ask) (λ c. then_spot c p) (λ c g. g) cs i))
-    first ask (inr i) = inr (any-left (λ l. l ≡ ask) ls (shift o.taken ms) i)
+    first ask = sum-by (λ i. any-left _ (map (λ c. then_spot c p) cs) (map (after_spot o) ds) (any-map (λ c. opening c ≡ ask) (λ d. opening d ≡ ask) (λ c. then_spot c p) (λ c g. g) cs i)) (any-left (λ l. l ≡ ask) ls (shift o.taken ms))
 
     second : (ask : Ask) → One ds ms ask → One (joined_spots o cs p ds) (ls ++ shift o.taken ms) (shift_one o.taken ask)
-    second ask (inl i) = inl (any-right _ (map (λ c. then_spot c p) cs) (map (after_spot o) ds) (any-map (λ c. opening c ≡ ask) (λ d. opening d ≡ shift_one o.taken ask) (after_spot o) (λ c g. ap (shift_one o.taken) g) ds i))
-    second ask (inr i) = inr (any-right (λ l. l ≡ shift_one o.taken ask) ls (shift o.taken ms) (any-map (λ l. l ≡ ask) (λ l. l ≡ shift_one o.taken ask) (shift_one o.taken) (λ l g. ap (shift_one o.taken) g) ms i))
+    second ask = sum-by (λ i. any-right _ (map (λ c. then_spot c p) cs) (map (after_spot o) ds) (any-map (λ c. opening c ≡ ask) (λ d. opening d ≡ shift_one o.taken ask) (after_spot o) (λ c g. ap (shift_one o.taken) g) ds i))
+        (λ i. any-right (λ l. l ≡ shift_one o.taken ask) ls (shift o.taken ms) (any-map (λ l. l ≡ ask) (λ l. l ≡ shift_one o.taken ask) (shift_one o.taken) (λ l g. ap (shift_one o.taken) g) ms i))
 
 -- ---- what becomes of several nodes
 
 covered-flat : {A B : Type 0} (f : Spot A → List (Spot B)) (g : Spot A → List Ask) → ((c : Spot A) → One (f c) (g c) (opening c)) → (cs : List (Spot A)) (ls asks : List Ask) → Covered cs ls asks → Covered (flat_map f cs) (ls ++ flat_map g cs) asks
 covered-flat f g e cs ls asks h = covered-weaker cs (flat_map f cs) ls (ls ++ flat_map g cs) asks step h
   where
-    here : (ask : Ask) (c : _) (ds : _) → opening c ≡ ask → One (f c) (g c) (opening c) → One (flat_map f (c ∷ ds)) (flat_map g (c ∷ ds)) ask
-    here ask c ds i (inl j) = inl (any-left _ (f c) (flat_map f ds) (subst (λ a. Any (λ d. opening d ≡ a) (f c)) i j))
-    here ask c ds i (inr j) = inr (any-left _ (g c) (flat_map g ds) (subst (λ a. Any (λ l. l ≡ a) (g c)) i j))
-
-    there : (ask : Ask) (c : _) (ds : _) → One (flat_map f ds) (flat_map g ds) ask → One (flat_map f (c ∷ ds)) (flat_map g (c ∷ ds)) ask
-    there ask c ds (inl j) = inl (any-right _ (f c) (flat_map f ds) j)
-    there ask c ds (inr j) = inr (any-right _ (g c) (flat_map g ds) j)
-
     within : (ask : Ask) (ds : _) → Any (λ c. opening c ≡ ask) ds → One (flat_map f ds) (flat_map g ds) ask
     within ask [] i = elim i [ ]
-    within ask (c ∷ ds) (inl i) = here ask c ds i (e c)
-    within ask (c ∷ ds) (inr i) = there ask c ds (within ask ds i)
-
-    more : (ask : Ask) → One (flat_map f cs) (flat_map g cs) ask → One (flat_map f cs) (ls ++ flat_map g cs) ask
-    more ask (inl i) = inl i
-    more ask (inr i) = inr (any-right _ ls (flat_map g cs) i)
+    within ask (c ∷ ds) (inl i) = sum-by (λ j. any-left _ (f c) (flat_map f ds) (subst (λ a. Any (λ d. opening d ≡ a) (f c)) i j)) (λ j. any-left _ (g c) (flat_map g ds) (subst (λ a. Any (λ l. l ≡ a) (g c)) i j)) (e c)
+    within ask (c ∷ ds) (inr i) = sum-by (any-right _ (f c) (flat_map f ds)) (any-right _ (g c) (flat_map g ds)) (within ask ds i)
 
     step : (ask : Ask) → One cs ls ask → One (flat_map f cs) (ls ++ flat_map g cs) ask
-    step ask (inl i) = more ask (within ask cs i)
+    step ask (inl i) = sum-by (λ j. j) (any-right _ ls (flat_map g cs)) (within ask cs i)
     step ask (inr i) = inr (any-left _ ls (flat_map g cs) i)
 
 one-rehole : {A : Type 0} (s : Point) (c : Spot A) (gs : List Hole) → One (map (rehole s c) gs) (unless_some (opening c) (map (rehole s c) gs)) (opening c)
@@ -142,11 +129,7 @@ one-reshaped : {A : Type 0} (shape : Shape) (n : ℕ) (c : Spot A) → One (resh
 one-reshaped shape n c = one-rehole _ c _
 
 one-wrapped : {A : Type 0} (f : A → Shape) (n : ℕ) (c : Spot A) → One (wrapped_spot f n c) (lost_in (f c.value) n c) (opening c)
-one-wrapped f n c = with_values (one-reshaped (f c.value) n c)
-  where
-    with_values : One (reshaped_spot (f c.value) n c) (lost_in (f c.value) n c) (opening c) → One (wrapped_spot f n c) (lost_in (f c.value) n c) (opening c)
-    with_values (inl i) = inl (any-map (λ d. opening d ≡ opening c) (λ d. opening d ≡ opening c) (valued _) (λ d g. g) (reshaped_spot (f c.value) n c) i)
-    with_values (inr i) = inr i
+one-wrapped f n c = sum-by (any-map (λ d. opening d ≡ opening c) (λ d. opening d ≡ opening c) (valued _) (λ d g. g) (reshaped_spot (f c.value) n c)) (λ i. i) (one-reshaped (f c.value) n c)
 
 one-grown : {A : Type 0} (n : ℕ) (shape : Option Shape) (c : Spot A) → One (grown_spot n shape c) (grown_lost n shape c) (opening c)
 one-grown n None c = inl (inl refl)
@@ -202,29 +185,18 @@ covered-closed b m sp z s ls h =
     let o = m z (forgot s) in (
       inl (inl refl),
       subst (Every (One (bounded_spots b m sp z s) ls)) (sym (opened-append o.asks (marked o.taken 0 0 mark.Closes (state_of o.state) ∷ []) ∙ append-nil (opened o.asks)))
-          (every-by more (opened o.asks) (covered-map (closed_spot b s) (λ c. refl) (sp z (forgot s)) ls o.asks h)),
+          (every-by (λ ask. sum-by (λ i. inr i) (λ i. i)) (opened o.asks) (covered-map (closed_spot b s) (λ c. refl) (sp z (forgot s)) ls o.asks h)),
     )
-  where
-    more : (ask : Ask) → One (map (closed_spot b s) (sp z (forgot s))) ls ask → One (bounded_spots b m sp z s) ls ask
-    more ask (inl i) = inl (inr i)
-    more ask (inr i) = inr i
 
 covered-sunk : {A : Type 0} (cs : List (Spot A)) (ls asks : List Ask) → Covered cs ls asks → Covered (map sunk_spot cs) (sunk ls) (sunk asks)
-covered-sunk cs ls asks h = subst (Every (One (map sunk_spot cs) (sunk ls))) (sym (opened-by sink_one opens-sink asks)) (every-map (One cs ls) _ sink_one step (opened asks) h)
-  where
-    step : (ask : Ask) → One cs ls ask → One (map sunk_spot cs) (sunk ls) (sink_one ask)
-    step ask (inl i) = inl (any-map (λ c. opening c ≡ ask) (λ d. opening d ≡ sink_one ask) sunk_spot (λ c g. ap sink_one g) cs i)
-    step ask (inr i) = inr (any-map (λ l. l ≡ ask) (λ l. l ≡ sink_one ask) sink_one (λ l g. ap sink_one g) ls i)
+covered-sunk cs ls asks h = subst (Every (One (map sunk_spot cs) (sunk ls))) (sym (opened-by sink_one opens-sink asks))
+    (every-map (One cs ls) _ sink_one (λ ask. sum-by (any-map (λ c. opening c ≡ ask) (λ d. opening d ≡ sink_one ask) sunk_spot (λ c g. ap sink_one g) cs) (any-map (λ l. l ≡ ask) (λ l. l ≡ sink_one ask) sink_one (λ l g. ap sink_one g) ls)) (opened asks) h)
 
 -- ---- whatever the language can say
 
 all-lost : {A : Type 0} (cs : List (Spot A)) (xs : List Ask) → Every (One cs xs) xs
 all-lost cs [] = tt
-all-lost cs (x ∷ xs) = (inr (inl refl), every-by more xs (all-lost cs xs))
-  where
-    more : (ask : Ask) → One cs xs ask → One cs (x ∷ xs) ask
-    more ask (inl i) = inl i
-    more ask (inr i) = inr (inr i)
+all-lost cs (x ∷ xs) = (inr (inl refl), every-by {P = One cs xs} {Q = One cs (x ∷ xs)} (λ ask. sum-by (λ i. i) (λ i. inr i)) xs (all-lost cs xs))
 
 module _ (l : Level) (deep : (c : Call) → Spots (Answer c)) (in_block : Block → Spots (Unit {0})) (deep_lost : Call → Lost) (lost_inside : Block → Lost) where
   module _ (i : (c : Call) (z : Place) (s : Point) → Covered (deep c z s) (deep_lost c z s) (l.deeper c z s).asks) (j : (b : Block) (z : Place) (s : Point) → Covered (in_block b z s) (lost_inside b z s) (l.blocks b z s).asks) where

@@ -228,19 +228,9 @@ zero-back : {A : Type 0} (o : Outcome A) (n : ℕ) → n ≡ 0 → o.back ≡ 0 
 zero-back o n e f = omega arith
 
 -- what is enclosed becomes one node
-one-node : (b : Block) (closed : Bool) (n : ℕ) (o : Outcome Bool) → n ≡ 0 → o.value ≡ closed → Apart o → Alone (wrapped (enclosing b) n o)
-one-node b true n o z e a = record {
-  node = _;
-  nodes = ap (λ m. take m o.nodes ++ shaped (enclosing b o.value) (drop m o.nodes)) (zero-back o n z a.back) ∙ ap (λ c. shaped (enclosing b c) (drop 0 o.nodes)) e;
-  back = a.back;
-  hints = a.hints;
-}
-one-node b false n o z e a = record {
-  node = _;
-  nodes = ap (λ m. take m o.nodes ++ shaped (enclosing b o.value) (drop m o.nodes)) (zero-back o n z a.back) ∙ ap (λ c. shaped (enclosing b c) (drop 0 o.nodes)) e;
-  back = a.back;
-  hints = a.hints;
-}
+one-node : (b : Block) (closed : Bool) (n : ℕ) (o : Outcome Bool) → n ≡ 0 → Apart o → Alone (wrapped (λ _. enclosing b closed) n o)
+one-node b true n o z a = record { node = _; nodes = ap (λ m. take m o.nodes ++ shaped (enclosing b true) (drop m o.nodes)) (zero-back o n z a.back); back = a.back; hints = a.hints }
+one-node b false n o z a = record { node = _; nodes = ap (λ m. take m o.nodes ++ shaped (enclosing b false) (drop m o.nodes)) (zero-back o n z a.back); back = a.back; hints = a.hints }
 
 shape-state : (b : Block) (closed : Bool) (ts : List Tree) (s : Point) → after_shape (enclosing b closed) ts s ≡ after_node false [] s
 shape-state b true ts s = refl
@@ -285,7 +275,7 @@ module _ (l : Level) (d : (c : Call) → Sane (l.deeper c)) (e : (b : Block) →
         let o = run l (enclosed r p q) z s1 in
         let a = apart-enclosed l d e p begins r q z s1 (ap (λ (h : Hand). h.gap) f ∙ g) (subst (λ (h : Hand). 0 < h.len) (sym f) some) (subst (λ (h : Hand). h.len ≤ length z.ahead) (sym f) room) in
         let n : before at_token s1 ≡ 0 = ap length t in
-        alone-after (run l peek z s) _ refl refl refl (alone-plain o.value (wrapped (enclosing b) (before at_token s1) o) (one-node b o.value (before at_token s1) o n refl a))
+        alone-after (run l peek z s) _ refl refl refl (alone-plain o.value (wrapped (enclosing b) (before at_token s1) o) (one-node b o.value (before at_token s1) o n a))
 
     alone-direct : (z : Place) (s : Point) → (hand_of l z s).trivia ≡ [] → (hand_of l z s).gap ≡ 0 → 0 < (hand_of l z s).len → (hand_of l z s).len ≤ length z.ahead → Alone (run l (peek >> block_of) z s)
     unfolding run

@@ -1,105 +1,87 @@
 -- After more pieces of a run the next token begins further on.
-use Rattle.std.proofs.Common.{◌≡◌, ℕ, zero, suc, ◌+◌, ◌<◌, ◌≤◌, Bool, true, List, length, take, ap, sym, arith, nat_lt, ◌-◌, false, ◌&&◌, ◌||◌, ◌==◌, eq-eqb, ne_eqb, [], ◌∷◌, ◌++◌, map, append_assoc, Some, refl, ◌∙◌, subst}
-use Rattle.typst_edits.proofs.Words.{CharClasses, Place, moved, width, gap_of, point_of, Point, peek, Meaning, bound, run, Within, sane-at, sane-run, ahead-left, moved-sum, markup_turn, ends_block, rules, max_depth, start_of, log, bracket, run_at, opened_at, inner_end, text_run, cut_after, of_level, Numbered, SaysOf, AllGo, End, end_at, pieces, start, made, end_of, Sequence, turn_of, first_of, first_end, Spot, eqb-true, eqb-false, and_left, and_right, ltb-false, or_left, Block, Mark, Note, opens_content, starts, up_to_end, after_first, cuts_in, is_closing, is_among, Among, Every, blocks_of_text, goes, OpensApartLaw, listed}
+use Rattle.std.proofs.Common.{◌≡◌, ℕ, zero, suc, ◌+◌, ◌<◌, ◌≤◌, Bool, true, List, length, take, ap, sym, arith, ◌-◌, false, ◌&&◌, ◌||◌, ◌==◌, eq-eqb, ne_eqb, [], ◌∷◌, ◌++◌, map, append_assoc, Some, refl, ◌∙◌, subst}
+use Rattle.typst_edits.proofs.Words.{both_ways, CharClasses, Place, moved, width, gap_of, point_of, Point, peek, Meaning, run, sane-at, ahead-left, moved-sum, markup_turn, rules, max_depth, start_of, log, bracket, run_at, opened_at, inner_end, text_run, token_byte, piece_at, lead, cut_after, of_level, Numbered, SaysOf, AllGo, End, end_at, pieces, start, made, end_of, turn_of, first_of, first_end, Spot, eqb-true, eqb-false, and_left, and_right, or_left, Block, Mark, Note, opens_content, starts, up_to_end, after_first, cuts_in, is_closing, is_among, Among, Every, blocks_of_text, goes, OpensApartLaw, listed, if-true, if-false}
 use Rattle.typst_edits.specs.NumberedNotes.{CutsLaw, InnerCutsLaw}
-use Rattle.std.proofs.lemmas.Bool.{ltb-true, or_right}
+use Rattle.std.proofs.lemmas.Bool.{or_right}
 use Rattle.typst_candidates.specs.Units.{is_piece}
-use Rattle.typst_edits.proofs.BlockRuns.{sane as in-sane}
-use Rattle.typst_edits.proofs.Boundary.{made-add, looks_in, each-ends, first-of, going-on, known-made}
-use Rattle.typst_edits.proofs.Children.{turn-fronts}
-use Rattle.typst_edits.proofs.Leading.{Leads, text-leads, block-leads}
-use Rattle.typst_edits.proofs.NumberedNotes.{cut-from, numbered-inner-law, go-fewer, go-next, turns-within, take-longer, least-taken, less-than}
+use Rattle.typst_edits.proofs.BlockRuns.{within, sane as in-sane}
+use Rattle.typst_edits.proofs.Leading.{text-leads, block-leads}
+use Rattle.typst_edits.proofs.Every.{not-less}
+use Rattle.typst_edits.proofs.Resumed.{further}
+use Rattle.typst_edits.proofs.NumberedNotes.{numbered-inner-law, go-fewer, go-next, turns-within}
 pub use Rattle.typst_grammar.proofs.Fine.{and-both as both-on}
-use Rattle.typst_edits.proofs.Spots.{if-true, if-false}
 use Rattle.typst_language.specs.declared.calls.Block.TheVariants as block
 use Rattle.typst_language.specs.declared.calls.Mark.TheVariants as mark
+use Rattle.std.proofs.Math.Arith.{lt_of_le-ne}
+use Rattle.typst_edits.proofs.Widths.{take-longer, take-more}
 
-module _ (r : Sequence) (leads : Leads r) where
-  abbrev turn : Bool × ℕ → Meaning (Bool × (Bool × ℕ))
-  turn x = turn_of r x
+pub cut-token : (i : ℕ) (e : End (Bool × ℕ)) → 0 < i → cut_after i e ≡ e.taken + gap_of e.state.known
+cut-token zero e l = absurd (omega (arith, l))
+cut-token (suc i) e l = refl
 
-  within : (x : Bool × ℕ) → Within (turn x)
-  within x = (sane-run r.level leads.taking.calls_sane leads.taking.blocks_sane (markup_turn true r.stops x)).within
+cut-most : (i : ℕ) (e : End (Bool × ℕ)) → cut_after i e ≤ e.taken + gap_of e.state.known
+cut-most zero e = omega arith
+cut-most (suc i) e = omega arith
 
-  -- a piece takes more than the trivia before it
-  next-cut : (i : ℕ) → AllGo (first_of (suc i) r) → (first_end i r).taken + gap_of (first_end i r).state.known < (first_end (suc i) r).taken
-  next-cut i g =
-      let e = first_end i r in
-      let w = moved e.taken r.place in
-      let o = turn e.value w e.state in
-      let there = known-made r.level r.stops i (true, 0) r.place r.point leads.known (go-fewer turn i (suc i) (true, 0) r.place r.point (omega arith) g) in
-      let not_stopped = going-on r.level r.stops e.value w e.state (first-of o.value.0 (nat_lt 0 o.taken) (go-next turn i (true, 0) r.place r.point g)) in
-      let led = (turn-fronts r.level r.stops leads.taking e.value w e.state there.trivia there.is not_stopped).led in
-      let one : suc i ≡ i + 1 = omega arith in
-      let next = ap (λ n. (first_end n r).taken) one in
-      omega (arith, led.some, led.front.taken, ap gap_of there.is, next, ap (λ (u : End (Bool × ℕ)). u.taken) (made-add turn (looks_in r) (each-ends r) i 1 (true, 0) r.place r.point))
+-- Where the token after more pieces begins further on, so does their cut.
+cut-by : (text : List ℕ) (i j : ℕ) (e f : End (Bool × ℕ)) → i < j → token_byte text e < token_byte text f → width (take (cut_after i e) text) < width (take (cut_after j f) text)
+cut-by text i j e f l h =
+    omega (arith, take-more (cut_after i e) (e.taken + gap_of e.state.known) text (cut-most i e), h, ap (λ d. width (take d text)) (cut-token j f (omega (arith, l))))
 
-  cut-least : (i : ℕ) (e : End (Bool × ℕ)) → e.taken ≤ cut_after i e
-  cut-least zero e = omega arith
-  cut-least (suc i) e = omega arith
+-- ---- a text's run
 
-  cut-most : (i : ℕ) (e : End (Bool × ℕ)) → cut_after i e ≤ e.taken + gap_of e.state.known
-  cut-most zero e = omega arith
-  cut-most (suc i) e = omega arith
+-- Pieces end within the text, with their trivia.
+pub ends-within : (k : CharClasses) (text : List ℕ) (i : ℕ) → (let e = end_at k i (start_of text) in e.taken + gap_of e.state.known ≤ length text)
+unfolding run
+ends-within k text i =
+    let z = start_of text in
+    omega (arith, (sane-at (rules k) k max_depth peek).within z start, turns-within (piece_at k) (within k) i (true, 0) z (lead k z).state)
 
-  pub tokens-rise : (i j : ℕ) → i < j → AllGo (first_of j r) → (first_end i r).taken + gap_of (first_end i r).state.known < cut_after j (first_end j r)
-  tokens-rise i j l g =
-      let next = next-cut i (go-fewer turn (suc i) j (true, 0) r.place r.point (omega (arith, l)) g) in
-      omega (arith, next, least-taken turn (suc i) j (true, 0) r.place r.point (omega (arith, l)), cut-least j (first_end j r))
-
-  cuts-rise : (i j : ℕ) → i < j → AllGo (first_of j r) → cut_after i (first_end i r) < cut_after j (first_end j r)
-  cuts-rise i j l g =
-      omega (arith, tokens-rise i j l g, cut-most i (first_end i r))
-
-  pub cuts-within : (j : ℕ) → cut_after j (first_end j r) ≤ bound r.place r.point
-  cuts-within j = let most = turns-within turn within j (true, 0) r.place r.point in let here = cut-most j (first_end j r) in omega (arith, most, here)
+-- After more pieces the next token begins further on, even if none come before.
+pub text-tokens : (k : CharClasses) (text : List ℕ) (i j : ℕ) → i < j → AllGo (pieces k j (start_of text)) → (let z = start_of text in token_byte text (end_at k i z) < token_byte text (end_at k j z))
+unfolding run
+text-tokens k text i j l g =
+    let z = start_of text in
+    let r = text_run k z in
+    let leads = text-leads k z in
+    let e = end_at k i z in
+    let f = end_at k j z in
+    take-longer (e.taken + gap_of e.state.known) (f.taken + gap_of f.state.known) text (further r.level r.stops leads.taking i j (true, 0) r.place r.point leads.known l g) (ends-within k text j)
 
 pub cuts-law : CutsLaw
-unfolding run
-cuts-law k text i j l g =
-    let z = start_of text in
-    let r = text_run k z in
-    let leads = text-leads k z in
-    let room = (sane-at (rules k) k max_depth peek).within z start in
-    take-longer (cut_after i (first_end i r)) (cut_after j (first_end j r)) text (cuts-rise r leads i j l g) (omega (arith, room, cuts-within r leads j))
+cuts-law k text i j l g = let z = start_of text in cut-by text i j (end_at k i z) (end_at k j z) l (text-tokens k text i j l g)
 
--- So does the token after fewer pieces, even after none.
-pub token-cuts : (k : CharClasses) (text : List ℕ) (i j : ℕ) → i < j → AllGo (pieces k j (start_of text))
-    → (let z = start_of text in width (take ((end_at k i z).taken + gap_of (end_at k i z).state.known) text) < width (take (cut_after j (end_at k j z)) text))
-unfolding run
-token-cuts k text i j l g =
-    let z = start_of text in
-    let r = text_run k z in
-    let leads = text-leads k z in
-    let room = (sane-at (rules k) k max_depth peek).within z start in
-    take-longer ((end_at k i z).taken + gap_of (end_at k i z).state.known) (cut_after j (first_end j r)) text (tokens-rise r leads i j l g) (omega (arith, room, cuts-within r leads j))
+-- ---- a content block's run
 
-pub inner-cuts-law : InnerCutsLaw
-unfolding run
-inner-cuts-law k levels text c i j l g =
-    let z = start_of text in
-    let r = run_at k levels c z in
-    let a = opened_at k levels c z in
-    let leads = block-leads k levels (moved c.at z) (point_of c.start) in
-    let room = (in-sane k levels peek).within r.place (bracket k levels (moved c.at z) (point_of c.start)).state in
-    let most = cuts-within r leads j in
-    let more = cuts-rise r leads i j l g in
-    let there : r.place ≡ moved a z = sym (moved-sum c.at (bracket k levels (moved c.at z) (point_of c.start)).taken z) in
-    let long = ap (λ (y : Place). length y.ahead) there in
-    let one = cut-from a i (first_end i r) in
-    let two = cut-from a j (first_end j r) in
-    take-longer (cut_after i (inner_end k levels i c z)) (cut_after j (inner_end k levels j c z)) text (omega (arith, more, one, two)) (omega (arith, room, most, more, ahead-left a z, long, two))
-
--- The trivia after pieces of a block's run end in the text.
-pub inner-within : (k : CharClasses) (levels : ℕ) (text : List ℕ) (c : Spot (Unit {0})) (j : ℕ) → opened_at k levels c (start_of text) ≤ length text
-    → (let e = inner_end k levels j c (start_of text) in e.taken + gap_of e.state.known ≤ length text)
-inner-within k levels text c j opened =
+-- With their trivia its pieces take no more than the text has after its bracket.
+inner-room : (k : CharClasses) (levels : ℕ) (text : List ℕ) (c : Spot (Unit {0})) (j : ℕ) → (let z = start_of text in let e = first_end j (run_at k levels c z) in e.taken + gap_of e.state.known ≤ length text - opened_at k levels c z)
+inner-room k levels text c j =
     let z = start_of text in
     let r = run_at k levels c z in
     let a = opened_at k levels c z in
     let most = turns-within (turn_of r) (λ x. (in-sane k levels (markup_turn true r.stops x)).within) j (true, 0) r.place r.point in
     let there : r.place ≡ moved a z = sym (moved-sum c.at (bracket k levels (moved c.at z) (point_of c.start)).taken z) in
-    omega (arith, (in-sane k levels peek).within r.place (bracket k levels (moved c.at z) (point_of c.start)).state, most, ahead-left a z, ap (λ (y : Place). length y.ahead) there, opened)
+    omega (arith, (in-sane k levels peek).within r.place (bracket k levels (moved c.at z) (point_of c.start)).state, most, ahead-left a z, ap (λ (y : Place). length y.ahead) there)
+
+-- So they end in the text.
+pub inner-within : (k : CharClasses) (levels : ℕ) (text : List ℕ) (c : Spot (Unit {0})) (j : ℕ) → opened_at k levels c (start_of text) ≤ length text
+    → (let e = inner_end k levels j c (start_of text) in e.taken + gap_of e.state.known ≤ length text)
+inner-within k levels text c j opened = let most = inner-room k levels text c j in omega (arith, most, opened)
+
+pub inner-tokens : (k : CharClasses) (levels : ℕ) (text : List ℕ) (c : Spot (Unit {0})) (i j : ℕ) → i < j → AllGo (first_of j (run_at k levels c (start_of text)))
+    → (let z = start_of text in token_byte text (inner_end k levels i c z) < token_byte text (inner_end k levels j c z))
+unfolding run
+inner-tokens k levels text c i j l g =
+    let z = start_of text in
+    let r = run_at k levels c z in
+    let leads = block-leads k levels (moved c.at z) (point_of c.start) in
+    let more = further r.level r.stops leads.taking i j (true, 0) r.place r.point leads.known l g in
+    let u = inner_end k levels i c z in
+    let v = inner_end k levels j c z in
+    take-longer (u.taken + gap_of u.state.known) (v.taken + gap_of v.state.known) text (omega (arith, more)) (omega (arith, more, inner-room k levels text c j))
+
+pub inner-cuts-law : InnerCutsLaw
+inner-cuts-law k levels text c i j l g = let z = start_of text in cut-by text i j (inner_end k levels i c z) (inner_end k levels j c z) l (inner-tokens k levels text c i j l g)
 
 -- ---- the cuts of a content block's run are where the tokens after its pieces begin, by the notes of a reading
 
@@ -195,7 +177,7 @@ module _ (text : List ℕ) (e : ℕ → End (Bool × ℕ)) where
           let same : j ≡ i = eqb-true j i f in
           or_left (width (take (cut_after j (e j)) text) == n.start) (is_among (width (take (cut_after j (e j)) text)) (starts_of ns)) (eq-eqb (width (take (cut_after j (e j)) text)) n.start (ap (λ l. width (take (cut_after l (e l)) text)) same ∙ sym h.0.start))
       by-test false f next =
-          or_right (width (take (cut_after j (e j)) text) == n.start) (is_among (width (take (cut_after j (e j)) text)) (starts_of ns)) (next (less-than i j from (λ s. eqb-false j i f (sym s))))
+          or_right (width (take (cut_after j (e j)) text) == n.start) (is_among (width (take (cut_after j (e j)) text)) (starts_of ns)) (next (lt_of_le-ne from (λ s. eqb-false j i f (sym s))))
 
   -- The starts, without the first, are the cuts.
   pub record Behind (count : ℕ) (starts : List ℕ) : Type 0 where
@@ -214,13 +196,8 @@ module _ (text : List ℕ) (e : ℕ → End (Bool × ℕ)) where
 -- ---- of a content block
 
 -- No more turns go on than up to the one that ends the loop.
-pub few-go : {A : Type 0} (m : A → Meaning (Bool × A)) → ((x : A) → Within (m x)) → (count j : ℕ) (x : A) (z : Place) (s : Point) (b : Bool) → nat_lt count j ≡ b → AllGo (made m j x z s)
-    → (let f = end_of x s (made m count x z s) in goes (m f.value (moved f.taken z) f.state) ≡ false) → j ≤ count
-few-go m within count j x z s true e h over =
-    let less : count < j = ltb-true count j e in
-    let go = go-next m count x z s (go-fewer m (suc count) j x z s (omega (arith, less)) h) in
-    absurd (let no = sym go ∙ over in cc)
-few-go m within count j x z s false e h over = ltb-false count j e
+pub few-go : {A : Type 0} (m : A → Meaning (Bool × A)) (count j : ℕ) (x : A) (z : Place) (s : Point) → AllGo (made m j x z s) → (let f = end_of x s (made m count x z s) in goes (m f.value (moved f.taken z) f.state) ≡ false) → j ≤ count
+few-go m count j x z s h over = not-less j count (λ less. both_ways _ over (go-next m count x z s (go-fewer m (suc count) j x z s (omega (arith, less)) h)))
 
 pub record BlockCuts (k : CharClasses) (levels : ℕ) (text : List ℕ) (c : Spot (Unit {0})) (at : ℕ) : Type 0 where
   pub count : ℕ
@@ -254,5 +231,5 @@ cuts-of-block apart k levels text c chosen name left =
       is = b.is;
       go = n.go;
       over = n.over;
-      all = λ j h. few-go (turn_of r) (λ x. (in-sane k levels (markup_turn true ends_block x)).within) n.count j (true, 0) r.place r.point (nat_lt n.count j) refl h n.over;
+      all = λ j h. few-go (turn_of r) n.count j (true, 0) r.place r.point h n.over;
     }

@@ -1,58 +1,18 @@
 -- A content block in which no level is left notes nothing; so if notes say that pieces stand in a block, a level is left there.
-use Rattle.std.proofs.Common.{◌≡◌, ℕ, ◌-◌, ◌==◌, eq-eqb, Bool, true, false, ◌&&◌, List, [], ◌∷◌, ◌++◌, take, Some, None, refl, ap, sym, ◌∙◌, arith}
-use Rattle.typst_edits.proofs.Words.{nil_from_length, Place, moved, CharClasses, width, Mark, Reading, shift, too_deep, meaning_of, Outcome, Level, blockless, start_point, run, Point, point_of, Shape, Making, peek, node, node_with_trivia, Parser, Begin, ◌>>◌, takes, gives, does, next, wraps, scoped, opens_content, starts, up_to_end, after_first, cuts_in, is_closing, ends_block, markup_is_empty, markup_run, content_block, markup_reading, rules, max_depth, start_of, whole, log, Guarded, guarded-deep, Among, blocks_of_text, block_at, Named, OpensApartLaw, listed, notes_in, Spot, ended, unit_at, none-some}
+use Rattle.std.proofs.Common.{◌≡◌, subst, ℕ, ◌-◌, ◌==◌, eq-eqb, true, false, ◌&&◌, List, [], ◌∷◌, ◌++◌, take, Some, None, refl, ap, sym, ◌∙◌, arith}
+use Rattle.typst_edits.proofs.Words.{is_deepest, ◌>>=◌, close_if, encloses, same, itself, flush_trivia, nil_from_length, Place, moved, CharClasses, width, Mark, too_deep, meaning_of, Outcome, Level, blockless, start_point, run, Point, point_of, peek, node, node_with_trivia, Parser, ◌>>◌, takes, gives, does, scoped, opens_content, starts, up_to_end, after_first, cuts_in, is_closing, ends_block, markup_is_empty, markup_run, content_block, markup_reading, rules, max_depth, start_of, whole, log, Guarded, guarded-deep, Among, blocks_of_text, block_at, Named, OpensApartLaw, listed, notes_in, Spot, ended, unit_at, none-some, if-true}
+use Rattle.typst_kinds.specs.declared.kind.SyntaxKind.TheVariants as kind
+use Rattle.typst_grammar.proofs.Guarded.{guarded-close, guarded-node}
 use Rattle.typst_language.specs.declared.calls.Block.TheVariants as block
 use Rattle.typst_language.specs.declared.calls.Mark.TheVariants as mark
 use Rattle.typst_edits.proofs.Edit.{among}
-use Rattle.typst_edits.proofs.EmptyRuns.{Never, none-flush}
+use Rattle.typst_edits.proofs.EmptyRuns.{Never}
 use Rattle.typst_edits.proofs.Cuts.{opens_at, cuts-past, opens-before, both-on}
-use Rattle.typst_edits.proofs.Bytes.{AllMarks, marks-append, marks-shift, none-hand, none-close}
+use Rattle.typst_edits.proofs.Bytes.{AllMarks}
 use Rattle.typst_edits.proofs.Names.{named-level}
 use Rattle.typst_edits.proofs.BlockLog.{nested-block-law}
 use Rattle.typst_edits.proofs.Splice.{count-none}
-use Rattle.typst_edits.proofs.Spots.{if-true}
 use Rattle.typst_edits.proofs.Rising.{Unmarked, unmarked, from-run}
-
--- ---- what notes nothing
-
-abbrev Silent : {A : Type 0} → Level → Parser A → Type 0
-Silent l p = (z : Place) (s : Point) → AllMarks Never (run l p z s).asks
-
-module _ (l : Level) where
-  silent-gives : {A : Type 0} (a : A) → Silent l (gives a)
-  unfolding run
-  silent-gives a z s = tt
-
-  silent-peek : Silent l peek
-  unfolding run
-  silent-peek z s = none-hand Never l.classes s.held s.known z
-
-  silent-takes : (trims : Bool) (making : Making) → Silent l (does (takes trims making))
-  unfolding run
-  silent-takes trims making z s = none-hand Never l.classes s.held s.known z
-
-  silent-next : {A B : Type 0} (p : Parser B) (f : B → Parser A) → Silent l p → ((b : B) → Silent l (f b)) → Silent l (next p f)
-  unfolding run
-  silent-next p f h g z s =
-      let o = run l p z s in
-      let w = moved o.taken z in
-      marks-append Never o.asks (shift o.taken (run l (f o.value) w o.state).asks) (h z s) (marks-shift Never o.taken (run l (f o.value) w o.state).asks (g o.value w o.state))
-
-  silent-wraps : {A : Type 0} (f : A → Shape) (begin : Begin) (p : Parser A) → Silent l p → Silent l (wraps f begin p)
-  unfolding run
-  silent-wraps f begin p h z s = h z s
-
-  silent-scoped : {A : Type 0} (f : Reading → Reading) (p : Parser A) → Silent l p → Silent l (scoped f p)
-  unfolding run
-  silent-scoped f p h z s = h z _
-
-  silent-node : {A : Type 0} (f : A → Shape) (p : Parser A) → Silent l p → Silent l (node f p)
-  unfolding node
-  silent-node f p h = silent-next _ _ silent-peek (λ a. silent-next _ _ (silent-wraps f _ p h) (λ b. silent-gives _))
-
-  silent-empty : (p : Parser (Unit {0})) → Silent l p → Silent l (markup_is_empty p)
-  unfolding markup_is_empty node_with_trivia
-  silent-empty p h = silent-next _ _ (silent-next _ _ (silent-wraps _ _ _ (silent-next _ _ h (λ a. none-flush Never l))) (λ a. silent-gives _)) (λ a. silent-gives _)
 
 -- ---- where no level is left
 
@@ -61,20 +21,29 @@ module _ (k : CharClasses) where
   last = blockless k 0 (meaning_of (rules k) k 0)
 
   -- no deeper call notes anything
-  silent : {A : Type 0} (p : Parser A) → Guarded (λ (m : Mark). false) false p → Silent last p
+  silent : {A : Type 0} (p : Parser A) → Guarded (λ (m : Mark). false) false p → (z : Place) (s : Point) → AllMarks Never (run last p z s).asks
   unfolding meaning_of
   silent p q z s =
       from-run (λ lo hi ls. Unmarked ls) unmarked last (λ m. false) (λ m gap s e. absurd (cc)) (λ z s. Unit {0}) (λ B p z s e. tt) (λ call z s. tt) (λ b has z s t. (let no : false ≡ true = has in absurd (cc))) false p q z s (λ e. tt)
 
-  silent-run : Silent last (markup_run ends_block)
-  unfolding markup_run run
-  silent-run z s = marks-shift Never 0 (run last (peek >> too_deep ends_block) (moved 0 z) s).asks (silent (peek >> too_deep ends_block) (refl, λ _. guarded-deep (λ (m : Mark). false) _ ends_block) (moved 0 z) s)
+  -- a content block whose run is too deep
+  abbrev deep_run : Parser (Unit {0})
+  deep_run = does is_deepest >>= λ _. (peek >> too_deep ends_block)
 
-  silent-block : Silent last (peek >> content_block)
-  unfolding content_block
-  silent-block =
-      silent-next last _ _ (silent-peek last)
-      (λ a. silent-next last _ _ (silent-node last _ _ (silent-scoped last _ _ (silent-next last _ _ (silent-takes last false _) (λ b. silent-next last _ _ (silent-empty last _ silent-run) (λ c. none-close Never last))))) (λ b. silent-gives last tt))
+  abbrev deep_block : Parser (Unit {0})
+  deep_block = node (encloses kind.ContentBlock) (scoped (λ _. markup_reading) (does (takes false itself) >>= λ _. (markup_is_empty deep_run >>= λ _. close_if (same kind.RightBracket)))) >>= λ _. gives (tt {0})
+
+  deep-is : (z : Place) (s : Point) → run last (peek >> content_block) z s ≡ run last (peek >> deep_block) z s
+  unfolding run content_block markup_is_empty markup_run node node_with_trivia
+  deep-is z s = refl
+
+  deep-guarded : Guarded (λ (m : Mark). false) false (peek >> deep_block)
+  unfolding markup_is_empty node_with_trivia flush_trivia
+  deep-guarded =
+      (refl, λ _. (guarded-node (λ (m : Mark). false) _ _ _ (refl, λ _. (((((refl, λ _. (refl, λ _. guarded-deep (λ (m : Mark). false) _ ends_block)), λ _. (refl, λ _. (refl, λ _. tt))), λ _. tt), λ _. tt), λ _. guarded-close (λ (m : Mark). false) _ _)), λ _. tt))
+
+  silent-block : (z : Place) (s : Point) → AllMarks Never (run last (peek >> content_block) z s).asks
+  silent-block z s = subst (λ (o : Outcome (Unit {0})). AllMarks Never o.asks) (sym (deep-is z s)) (silent (peek >> deep_block) deep-guarded z s)
 
 -- ---- a block in which pieces stand
 

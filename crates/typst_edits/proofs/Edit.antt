@@ -1,5 +1,5 @@
 -- A stretch of a text replaced: what ends before it and what begins after it shows the same.
-use Rattle.std.proofs.Common.{◌≡◌, ℕ, zero, suc, ◌+◌, ◌≤◌, List, [], ◌∷◌, ◌++◌, length, take, Some, refl, ap, sym, ◌∙◌, arith}
+use Rattle.std.proofs.Common.{◌≡◌, ℕ, zero, suc, ◌+◌, ◌≤◌, List, [], ◌∷◌, ◌++◌, length, take, Some, refl, ap, sym, ◌∙◌, arith, subst}
 use Rattle.typst_edits.proofs.Words.{Tree, forest, moved, Look, Ask, SameIn, looked, marked, Outcome, moved-sum, Deep, fill, Hole, plug, path_in, path_of, under, Spot, Fits, unit_at, Among, text_with, AllEndBy, AllBeginIn, Passes, alter, replaced, put, this, that}
 use Rattle.typst_tokens.specs.Reader.{Agree, marked as ended_by_mark}
 use Rattle.typst_edits.specs.Hole.Deep.{bare}
@@ -43,14 +43,12 @@ same-after zero look known bs cs rest h k = record { before = take-front look.ba
 same-after (suc n) look known bs cs [] h k = absurd (omega arith)
 same-after (suc n) look known bs cs (c ∷ rest) h k = same-after n look (c ∷ known) bs cs rest (omega arith) (omega arith)
 
-after-look : (at : ℕ) (look : Look) (d : ℕ) (bs cs rest : List ℕ) → look.back ≤ d + at → d + at ≤ length rest
-    → Agree look (moved at (moved d (record { before = bs; ahead = rest }))) (moved at (moved d (record { before = cs; ahead = rest })))
-after-look at look d bs cs rest h k =
-    rw (← moved-sum d at (record { before = bs; ahead = rest }), ← moved-sum d at (record { before = cs; ahead = rest })) (same-after (d + at) look [] bs cs rest (omega arith) k)
-
 after-looks : (asks : List Ask) (d : ℕ) (bs cs rest : List ℕ) → AllBeginIn d rest asks → SameIn asks (moved d (record { before = bs; ahead = rest })) (moved d (record { before = cs; ahead = rest }))
 after-looks [] d bs cs rest h = tt
-after-looks (looked at look ∷ asks) d bs cs rest h = (after-look at look d bs cs rest h.0 h.1, after-looks asks d bs cs rest h.2)
+after-looks (looked at look ∷ asks) d bs cs rest h = (
+  rw (← moved-sum d at (record { before = bs; ahead = rest }), ← moved-sum d at (record { before = cs; ahead = rest })) (same-after (d + at) look [] bs cs rest (let l = h.0 in omega arith) h.1),
+  after-looks asks d bs cs rest h.2,
+)
 after-looks (marked at gap fewer mark s ∷ asks) d bs cs rest h = (tt, after-looks asks d bs cs rest h)
 
 -- a given number of characters past the edit
@@ -82,6 +80,10 @@ pub replaced-plug : (h : Hole) (x y : Tree) → replaced (path_of h) x (plug h y
 replaced-plug h x y = alter-at (put (path_in h.deep) x) h.left (fill h.deep y) h.right ∙ ap (λ u. h.left ++ u ∷ h.right) (put-fill h.deep x y)
 
 -- ---- the law
+
+pub chosen-of : {X : Type 0} (xs earlier : List X) (c : X) (later : List X) → xs ≡ earlier ++ c ∷ later → Among c xs
+chosen-of xs [] c later e = subst (Among c) (sym e) (this later)
+chosen-of xs (y ∷ earlier) c later e = subst (Among c) (sym e) (that y (earlier ++ c ∷ later) (chosen-of _ earlier c later refl))
 
 pub among : {X : Type 0} (P : X → Type 0) (x : X) (xs : List X) → Among x xs → Every P xs → P x
 among P x ys (this xs) h = h.0

@@ -1,6 +1,7 @@
 -- Runs without an expression: after their trivia only the token at their end is asked for.
 use Rattle.std.proofs.Common.{◌≡◌, ℕ, ◌+◌, max, min, Bool, true, false, ◌&&◌, ◌==◌, if◌then◌else◌, nat_lt, List, [], ◌∷◌, ◌++◌, Some, refl, ap, sym, ◌∙◌, subst, arith}
-use Rattle.typst_edits.proofs.Words.{SyntaxKind, same, Place, moved, CharClasses, Look, look, position, far, near, token, Mark, Note, State, Ask, shift, looked, marked, is_end, AtHand, as_at_hand, hand_at, hand_asks, column_look, no_log, logged, Trivia, Point, state_of, flush_trivia, Outcome, Level, plain, joined, as_last, repeated, hand_of, hand_asks_of, asked, flushed_state, run, ends, markup_turn, markup_reading, level_at, max_depth, start_of, parsed, log, text_with, AllBeginIn, Every, onwards, passed, text_run, asked_past, lead, piece_at, tail, start, Sequence, hand-ends, IsEmpty}
+use Rattle.std.proofs.Math.Bool.{and-false}
+use Rattle.typst_edits.proofs.Words.{SyntaxKind, same, Place, moved, CharClasses, Look, look, position, far, near, token, Mark, Note, State, Ask, shift, looked, marked, is_end, AtHand, as_at_hand, hand_at, hand_asks, column_look, no_log, logged, Trivia, Point, state_of, flush_trivia, Outcome, Level, plain, joined, as_last, repeated, hand_of, hand_asks_of, asked, flushed_state, run, ends, markup_turn, markup_reading, level_at, max_depth, start_of, parsed, log, text_with, AllBeginIn, Every, onwards, passed, text_run, asked_past, lead, piece_at, tail, start, Sequence, hand-ends, IsEmpty, if-true, if-false}
 use Rattle.typst_edits.specs.EmptyRuns.{EmptyTextLaw}
 use Rattle.typst_kinds.specs.declared.kind.SyntaxKind.TheVariants as kind
 use Rattle.typst_kinds.specs.declared.mode.SyntaxMode.TheVariants as mode
@@ -10,7 +11,6 @@ use Rattle.typst_edits.proofs.Bytes.{none_yet, notes_from, logged-notes, AllMark
 use Rattle.typst_edits.proofs.Outcomes.{shift-zero}
 use Rattle.typst_edits.proofs.BlockRuns.{whole-is}
 use Rattle.typst_edits.proofs.RunTrees.{whole-asks}
-use Rattle.typst_edits.proofs.Spots.{if-true, if-false}
 use Rattle.typst_edits.proofs.Known.{flushed-held}
 
 -- ---- looks at one token
@@ -21,10 +21,6 @@ pub record Knows (n : ℕ) (s : Point) : Type 0 where
   pub trivia : Trivia
   pub known : s.known ≡ Some trivia
   pub gap : trivia.gap ≡ n
-
-pub and-false : (b : Bool) → (b && false) ≡ false
-and-false true = refl
-and-false false = refl
 
 pub hand-looks : (k : CharClasses) (t : Trivia) (z : Place) → hand_asks k markup_reading (Some t) z ≡ looked t.gap (look (token k mode.Markup) (moved t.gap z)) ∷ []
 unfolding hand_asks

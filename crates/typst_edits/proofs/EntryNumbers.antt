@@ -1,10 +1,12 @@
--- A block's two notes among the entries of records, by number.
-use Rattle.std.proofs.Common.{◌≡◌, ℕ, suc, ◌+◌, ◌-◌, ◌<◌, ◌≤◌, ◌==◌, eq-eqb, Bool, true, false, ◌&&◌, if◌then◌else◌, List, [], ◌∷◌, ◌++◌, length, drop, Some, refl, ap, sym, ◌∙◌, arith}
-use Rattle.typst_edits.proofs.Words.{eqb-true, Block, Mark, Note, State, entry_kind_of, entry_of, entries_by, last_start, opening_of, IsRising, AllEnd, AllBegin, highest, lowest}
+-- Notes among the entries of records, by number: a block's two, and what the number of a note says of looks.
+use Rattle.std.proofs.Common.{◌≡◌, ℕ, suc, ◌+◌, ◌-◌, ◌<◌, ◌≤◌, ◌==◌, eq-eqb, Bool, true, false, ◌&&◌, if◌then◌else◌, List, [], ◌∷◌, ◌++◌, length, drop, Some, refl, ap, sym, ◌∙◌, arith, nat_le, None, subst}
+use Rattle.typst_edits.proofs.Words.{and_parts, eqb-true, false_from_ne_true, if-false, Block, Mark, Note, State, entry_kind_of, entry_of, entries_by, last_start, opening_of, IsRising, AllEnd, AllBegin, highest, lowest, nat_tests, CharClasses, Log, Entry, units_of, Units, units_by, front_of, rear_of, log, InOrderLaw, listed, front-law, rear-law}
 use Rattle.typst_candidates.specs.Records.{is_opening}
 use Rattle.std.specs.List.{slice_get}
 use Rattle.typst_language.specs.declared.calls.Mark.TheVariants as mark
 use Rattle.typst_edits.proofs.Walk.{first-if as if-on}
+use Rattle.typst_edits.specs.InnerPiecesTest.{front_count, rear_count}
+use Rattle.typst_candidates.proofs.Nested.{token-of}
 pub use Rattle.std.proofs.lemmas.Option.{same_Some as some-number}
 
 -- ---- the first block that begins at a byte
@@ -16,9 +18,6 @@ NoneAt at ns = (ms : List Note) (n : Note) (ls : List Note) (b : Block) → ns �
 -- one entry: whether a block begins at it, and where
 abbrev here : ℕ → Note → ℕ
 here start n = (start + (n.before - start)) + (n.start - n.before)
-
-here-is : (start : ℕ) (n : Note) → start ≤ n.before → n.before ≤ n.start → here start n ≡ n.start
-here-is start n h k = omega (arith, h, k)
 
 abbrev opens : Mark → Bool
 opens (mark.Piece line brackets) = false
@@ -40,19 +39,17 @@ which-opens (mark.Opens b) e = record { block = b; is = refl }
 which-opens mark.Closes e = absurd (cc)
 
 if-off : {A : Type 0} (a b : Bool) (x y : A) → (a ≡ true → b ≡ true → ⊥) → (if a && b then x else y) ≡ y
-if-off true true x y h = absurd (h refl refl)
-if-off true false x y h = refl
-if-off false b x y h = refl
+if-off a b x y h = if-false (a && b) x y (false_from_ne_true (a && b) (λ e. (let both = and_parts a b e in h both.0 both.1)))
 
 step-on : (at start number : ℕ) (n : Note) (ns : List Note) (b : Block) → start ≤ n.before → n.before ≤ n.start → n.mark ≡ mark.Opens b → n.start ≡ at → opening_of at start number (entries_by start (n ∷ ns)) ≡ Some number
 step-on at start number n ns b h k m e =
-    if-on (is_opening (entry_kind_of n.mark n.state)) (here start n == at) _ _ (opening-is n.mark n.state ∙ ap opens m) (ap (λ i. i == at) (here-is start n h k ∙ e) ∙ eq-eqb at at refl)
+    if-on (is_opening (entry_kind_of n.mark n.state)) (here start n == at) _ _ (opening-is n.mark n.state ∙ ap opens m) (ap (λ i. i == at) (token-of start n h k ∙ e) ∙ eq-eqb at at refl)
 
 step-off : (at start number : ℕ) (n : Note) (ns : List Note) → start ≤ n.before → n.before ≤ n.start → ((b : Block) → n.mark ≡ mark.Opens b → n.start ≡ at → ⊥)
     → opening_of at start number (entries_by start (n ∷ ns)) ≡ opening_of at n.start (suc number) (entries_by n.start ns)
 step-off at start number n ns h k other =
-    if-off (is_opening (entry_kind_of n.mark n.state)) (here start n == at) _ _ (λ e f. (let w = which-opens n.mark (sym (opening-is n.mark n.state) ∙ e) in other w.block w.is (sym (here-is start n h k) ∙ eqb-true (here start n) at f)))
-    ∙ ap (λ i. opening_of at i (suc number) (entries_by n.start ns)) (here-is start n h k)
+    if-off (is_opening (entry_kind_of n.mark n.state)) (here start n == at) _ _ (λ e f. (let w = which-opens n.mark (sym (opening-is n.mark n.state) ∙ e) in other w.block w.is (sym (token-of start n h k) ∙ eqb-true (here start n) at f)))
+    ∙ ap (λ i. opening_of at i (suc number) (entries_by n.start ns)) (token-of start n h k)
 
 pub opening-some : (at start number : ℕ) (ms : List Note) (n : Note) (ls : List Note) (b : Block) → IsRising start (ms ++ n ∷ ls) → n.mark ≡ mark.Opens b → n.start ≡ at → NoneAt at ms
     → opening_of at start number (entries_by start (ms ++ n ∷ ls)) ≡ Some (number + length ms)
@@ -104,24 +101,58 @@ pub past-entry : (start : ℕ) (ms : List Note) (n : Note) (ls : List Note) → 
 past-entry start [] n ls = refl
 past-entry start (m ∷ ms) n ls = past-entry m.start ms n ls
 
-pub past-note : (ms : List Note) (n : Note) (ls : List Note) → drop (suc (length ms)) (ms ++ n ∷ ls) ≡ ls
-past-note [] n ls = refl
-past-note (m ∷ ms) n ls = past-note ms n ls
-
 -- ---- the tests of looks
 
-pub all-end : (at : ℕ) (ms : List Note) (n : Note) → highest ms n.reach ≤ at → AllEnd at (ms ++ n ∷ [])
-all-end at [] n h = (h, tt)
-all-end at (m ∷ ms) n h = (omega (arith, h), all-end at ms n (omega (arith, h)))
+-- The greatest of some numbers shows that all are no greater.
+all-end : (at : ℕ) (ns : List Note) (n : Note) → (AllEnd at (ns ++ n ∷ []) → highest ns n.reach ≤ at) × (highest ns n.reach ≤ at → AllEnd at (ns ++ n ∷ []))
+all-end at [] n = ((λ h. h.0), (λ h. (h, tt)))
+all-end at (m ∷ ns) n = let i = all-end at ns n in ((λ h. (let a = h.0 in let b = i.0 h.1 in omega (arith, a, b))), (λ h. (omega (arith, h), i.1 (omega (arith, h)))))
 
-pub end-all : (at : ℕ) (ms : List Note) (n : Note) → AllEnd at (ms ++ n ∷ []) → highest ms n.reach ≤ at
-end-all at [] n h = h.0
-end-all at (m ∷ ms) n h = let i = end-all at ms n h.1 in let f = h.0 in omega (arith, i, f)
+all-begin : (at : ℕ) (ns : List Note) (least : ℕ) → (AllBegin at ns least → at < lowest ns least) × (at < lowest ns least → AllBegin at ns least)
+all-begin at [] least = ((λ h. h), (λ h. h))
+all-begin at (m ∷ ns) least = let i = all-begin at ns least in ((λ h. (let a = h.0 in let b = i.0 h.1 in omega (arith, a, b))), (λ h. (omega (arith, h), i.1 (omega (arith, h)))))
 
-pub all-begin : (at : ℕ) (ms : List Note) (least : ℕ) → at < lowest ms least → AllBegin at ms least
-all-begin at [] least h = h
-all-begin at (m ∷ ms) least h = (omega (arith, h), all-begin at ms least (omega (arith, h)))
+-- Where a note is among the first that stand at a byte or before it with all looks, so is its token.
+counts-on : (here reach at rest : ℕ) (b : Bool) → nat_le (here + (reach - here)) at ≡ b → 0 < (if b then suc rest else 0) → here ≤ at
+counts-on here reach at rest true e l = let d : here + (reach - here) ≤ at = grind (arith, nat_tests, e) in omega (arith, d)
+counts-on here reach at rest false e l = absurd (omega (arith, l))
 
-pub begin-all : (at : ℕ) (ms : List Note) (least : ℕ) → AllBegin at ms least → at < lowest ms least
-begin-all at [] least h = h
-begin-all at (m ∷ ms) least h = let i = begin-all at ms least h.1 in let f = h.0 in omega (arith, i, f)
+counts-more : (n rest : ℕ) (b : Bool) → suc n < (if b then suc rest else 0) → n < rest
+counts-more n rest true l = omega (arith, l)
+counts-more n rest false l = absurd (omega (arith, l))
+
+step-front : (at start : ℕ) (n : Note) (es : List Entry) → start ≤ n.before → n.before ≤ n.start
+    → front_of at start (entry_of start n ∷ es) ≡ (if nat_le (n.start + (n.reach - n.start)) at then suc (front_of at n.start es) else 0)
+step-front at start n es a b = ap (λ here. if nat_le (here + (n.reach - n.start)) at then suc (front_of at here es) else 0) (token-of start n a b)
+
+front-start : (ns more : List Note) (n : Note) (at start : ℕ) → IsRising start (ns ++ n ∷ more) → length ns < front_of at start (entries_by start (ns ++ n ∷ more)) → n.start ≤ at
+front-start [] more n at start r l = counts-on n.start n.reach at (front_of at n.start (entries_by n.start more)) _ refl (subst (λ j. 0 < j) (step-front at start n (entries_by n.start more) r.0 r.1) l)
+front-start (m ∷ ns) more n at start r l =
+    let es = entries_by m.start (ns ++ n ∷ more) in
+    front-start ns more n at m.start r.2 (counts-more (length ns) (front_of at m.start es) (nat_le (m.start + (m.reach - m.start)) at) (subst (λ j. suc (length ns) < j) (step-front at start m es r.0 r.1) l))
+
+units-are : (h : Log) (ns : List Note) → h.notes ≡ Some ns → units_of h ≡ units_by ns h.least
+units-are h ns e = ap (λ o. units_by (elim o as (λ _. List Note) [ None ↦ [] | Some ms ↦ ms ]) h.least) e
+
+-- What the number of a note among all says of looks: they end at a byte that isn't before its token, or begin after one that isn't after it.
+pub record NumbersOf (k : CharClasses) (text : List ℕ) (earlier : List Note) (note : Note) (later : List Note) : Type 0 where
+  pub before : (at : ℕ) → length earlier < front_count k text at → highest earlier note.reach ≤ at
+  pub before_too : (at : ℕ) → note.start ≤ at → highest earlier note.reach ≤ at → length earlier < front_count k text at
+  pub after : (end : ℕ) → end ≤ note.start → rear_count k text end ≤ length earlier → end < lowest later (log k text).least
+  pub after_too : (end : ℕ) → end ≤ note.start → end < lowest later (log k text).least → rear_count k text end ≤ length earlier
+
+pub numbers-of : InOrderLaw → (k : CharClasses) (text : List ℕ) (earlier : List Note) (note : Note) (later : List Note) → (log k text).notes ≡ Some (earlier ++ note ∷ later) → NumbersOf k text earlier note later
+numbers-of ordered k text earlier note later is =
+    let l = log k text in
+    let order = subst (λ ns. IsRising 0 ns) (ap listed is) (ordered k text) in
+    let units = units-are l _ is in
+    let fronts : (at : ℕ) → front_count k text at ≡ front_of at 0 (entries_by 0 (earlier ++ note ∷ later)) = λ at. ap (λ (u : Units). front_of at 0 u.entries) units in
+    let rears = λ (end : ℕ). ap (λ (u : Units). rear_of end 0 0 u.entries u.back) units in
+    record {
+      before = λ at p.
+          (let q = subst (λ j. length earlier < j) (fronts at) p in
+          (all-end at earlier note).0 ((front-law earlier later note at order (front-start earlier later note at 0 order q)).0 q));
+      before_too = λ at here h. subst (λ j. length earlier < j) (sym (fronts at)) ((front-law earlier later note at order here).1 ((all-end at earlier note).1 h));
+      after = λ end behind q. (all-begin end later l.least).0 ((rear-law earlier later note end l.least order behind).0 (subst (λ j. j ≤ length earlier) (rears end) q));
+      after_too = λ end behind h. subst (λ j. j ≤ length earlier) (sym (rears end)) ((rear-law earlier later note end l.least order behind).1 ((all-begin end later l.least).1 h));
+    }

@@ -1,5 +1,5 @@
 -- What holds of each element of a list, and small facts of lists and numbers.
-use Rattle.std.proofs.Common.{◌≡◌, ℕ, zero, suc, ◌<◌, ◌≤◌, Bool, true, false, if◌then◌else◌, List, [], ◌∷◌, ◌++◌, map, Option, None, Some, refl, arith}
+use Rattle.std.proofs.Common.{◌≡◌, ℕ, suc, ◌<◌, ◌≤◌, Bool, true, false, if◌then◌else◌, List, [], ◌∷◌, ◌++◌, map, Option, None, Some, refl, arith, le_antisymm, lt_of_not-le}
 use Rattle.typst_edits.proofs.Words.{flat_map}
 pub use Rattle.typst_edits.specs.Every.{Every}
 
@@ -37,6 +37,7 @@ some_or x None = x
 some_or x (Some y) = y
 
 pub not-less : (m n : ℕ) → (n < m → ⊥) → m ≤ n
-not-less zero n h = omega arith
-not-less (suc m) zero h = absurd (h (omega arith))
-not-less (suc m) (suc n) h = let l = not-less m n (λ l. h (omega (arith, l))) in omega (arith, l)
+not-less m n h = let l : m < suc n = lt_of_not-le h in omega (arith, l)
+
+pub neither : (a b : ℕ) → (a < b → ⊥) → (b < a → ⊥) → a ≡ b
+neither a b f g = le_antisymm (not-less a b g) (not-less b a f)

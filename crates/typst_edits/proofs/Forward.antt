@@ -1,5 +1,5 @@
 -- Trivia look only ahead, and so does a token at which a content block's run ends.
-use Rattle.std.proofs.Common.{◌≡◌, ◌+◌, ℕ, zero, suc, Bool, true, false, not, ◌||◌, ◌&&◌, ◌==◌, nat_lt, if◌then◌else◌, List, [], ◌∷◌, ◌++◌, length, slice_get, Some, None, refl, ap, sym, ◌∙◌, subst, arith}
+use Rattle.std.proofs.Common.{◌≡◌, ◌+◌, ℕ, zero, suc, Bool, true, false, not, ◌||◌, ◌&&◌, ◌==◌, nat_lt, if◌then◌else◌, List, [], ◌∷◌, length, slice_get, Some, None, refl, ap, sym, ◌∙◌, subst, arith}
 use Rattle.typst_edits.proofs.Words.{and_parts, SyntaxKind, is_trivia, Place, moved, CharClasses, Look, look, no_look, token, Token, near, stretch, Ask, shift, looked, marked, token_at, len_at, at_trivia, Ahead, ahead_by, ahead, asks_by, ahead_asks, hand_at, hand_asks, Trivia, gap_of, moved-sum, on_both, ends_block, AllFrom, lead, codes}
 use Rattle.typst_lines.specs.Place.{scout, passes, run, past}
 use Rattle.typst_tokens.specs.Reader.{Reader, Turn, from_before, skip_look, place, spanned, span_look, at_word, exec}
@@ -27,6 +27,7 @@ use Rattle.typst_tokens.specs.Token.{plain}
 use Rattle.typst_tokens.specs.Memory.{Memory}
 use Rattle.typst_language.specs.Meaning.{run as read}
 use Rattle.typst_grammar.proofs.Fine.{or-left as or-first, or-right as or-second}
+use Rattle.typst_edits.proofs.Looks.{OfLooks, looks-both, looks-by, looks-shifted}
 
 -- ---- what is read is no trivia, and ends no block
 
@@ -300,15 +301,8 @@ AllAhead [] = Unit {0}
 AllAhead (looked at seen ∷ asks) = (seen.back ≡ 0) × AllAhead asks
 AllAhead (marked at gap fewer m s ∷ asks) = AllAhead asks
 
-ahead-append : (ls ks : List Ask) → AllAhead ls → AllAhead ks → AllAhead (ls ++ ks)
-ahead-append [] ks h i = i
-ahead-append (looked at seen ∷ ls) ks h i = (h.0, ahead-append ls ks h.1 i)
-ahead-append (marked at gap fewer m s ∷ ls) ks h i = ahead-append ls ks h i
-
-ahead-shift : (d : ℕ) (ls : List Ask) → AllAhead ls → AllAhead (shift d ls)
-ahead-shift d [] h = tt
-ahead-shift d (looked at seen ∷ ls) h = (h.0, ahead-shift d ls h.1)
-ahead-shift d (marked at gap fewer m s ∷ ls) h = ahead-shift d ls h
+abbrev only-ahead : OfLooks AllAhead
+only-ahead = record { P = λ at look. look.back ≡ 0; none = tt; put = λ at look ls p h. (p, h); own = λ at look ls h. h.0; rest = λ at look ls h. h.1; note = λ at gap fewer m s ls h. h; past = λ at gap fewer m s ls h. h }
 
 pub ahead-from : (z : Place) (asks : List Ask) → AllAhead asks → AllFrom 0 z asks
 unfolding near stretch
@@ -326,7 +320,7 @@ trivia-by k z true a c gap later e f g more h =
     let l = len_at k Markup z in
     let own = token-fore k z.before z.ahead (and_parts (is_trivia (token_at k Markup z).kind) (nat_lt 0 l) e).0 in
     let there : moved a.gap z ≡ moved gap (moved l z) = ap (λ n. moved n z) f ∙ moved-sum l gap z in
-    (own, ahead-shift l later (more (subst (λ p. (look (token k Markup) p).back ≡ 0) there h)))
+    (own, looks-by only-ahead (looks-shifted only-ahead l) (λ at look p. p) later (more (subst (λ p. (look (token k Markup) p).back ≡ 0) there h)))
 trivia-by k z false a c gap later e f g more h = (subst (λ n. (look (token k Markup) (moved n z)).back ≡ 0) g h, tt)
 
 trivia-ahead : (k : CharClasses) (n : ℕ) (z : Place) → (look (token k Markup) (moved (ahead_by k Markup n z).gap z)).back ≡ 0 → AllAhead (asks_by k Markup n z)
@@ -345,4 +339,4 @@ unfolding read hand_at hand_asks ahead ahead_asks
 lead-ahead k z t known h =
     let a = ahead_by k Markup (length z.ahead) z in
     let gap : a.gap ≡ t.gap = ap gap_of known in
-    ahead-append (asks_by k Markup (length z.ahead) z) _ (trivia-ahead k (length z.ahead) z (ap (λ n. (look (token k Markup) (moved n z)).back) gap ∙ h)) (column-ahead a.newlines.any _)
+    looks-both only-ahead (asks_by k Markup (length z.ahead) z) _ (trivia-ahead k (length z.ahead) z (ap (λ n. (look (token k Markup) (moved n z)).back) gap ∙ h)) (column-ahead a.newlines.any _)

@@ -1,6 +1,6 @@
 -- What the entries of notes say of the pieces of a run, whose notes stand among others, nested in each other.
 use Rattle.std.proofs.Common.{◌≡◌, ℕ, suc, ◌+◌, ◌<◌, ◌==◌, ne_eqb, eq-eqb, Bool, true, false, ◌&&◌, if◌then◌else◌, List, [], ◌∷◌, ◌++◌, length, take, drop, length-append, append_assoc, Option, Some, None, refl, ap, sym, ◌∙◌, subst, arith, ◌≤◌}
-use Rattle.typst_edits.proofs.Words.{Mark, Note, EntryKind, closing_of, entry_kind_of, entries_by, last_start, count_of, entry_of, Nested, IsRising, closing-found, Every, of_level, Numbered, cut_after, SaysOf, width, Entry, End, IsLast, BeginsAt, SaysPiece, on_both}
+use Rattle.typst_edits.proofs.Words.{Mark, Note, EntryKind, closing_of, entry_kind_of, entries_by, last_start, count_of, entry_of, Nested, IsRising, closing-found, Every, of_level, Numbered, cut_after, SaysOf, width, Entry, End, IsLast, BeginsAt, SaysPiece, on_both, if-true, if-false}
 use Rattle.typst_candidates.specs.Cursors.{leads, inside_after, piece_of, first_piece}
 use Rattle.typst_candidates.specs.Entries.{end_of}
 use Rattle.typst_candidates.specs.Nested.{none, piece, block}
@@ -8,8 +8,7 @@ use Rattle.typst_candidates.proofs.Nested.{token-of}
 use Rattle.typst_edits.proofs.Every.{first_or}
 use Rattle.typst_edits.proofs.InnerNumbers.{behind-first}
 use Rattle.typst_edits.proofs.NestedInner.{longer}
-use Rattle.typst_edits.proofs.NumberedNotes.{level-append, numbered-at}
-use Rattle.typst_edits.proofs.Spots.{if-true, if-false}
+use Rattle.typst_edits.proofs.NumberedNotes.{level-append, level-at, level-long, numbered-at}
 use Rattle.typst_edits.proofs.EntryNumbers.{got-entry, past-entry}
 use Rattle.typst_language.specs.declared.calls.Mark.TheVariants as mark
 
@@ -32,10 +31,6 @@ same-further : (o : Option ℕ) (f g : ℕ → Option ℕ) → ((m : ℕ) → f 
 same-further None f g h = refl
 same-further (Some m) f g h = h m
 
-same-if : (b : Bool) (x y z : Option ℕ) → y ≡ z → (if b then x else y) ≡ (if b then x else z)
-same-if true x y z e = refl
-same-if false x y z e = e
-
 -- The entries say the same.
 pub piece-found : (at inside start number : ℕ) (ns : List Note) → IsRising start ns → piece_of at inside start number (entries_by start ns) ≡ first_own (λ n. n.start == at) inside number ns
 piece-found at inside start number [] r = refl
@@ -43,7 +38,7 @@ piece-found at inside start number (n ∷ ns) r =
     let t = entry_kind_of n.mark n.state in
     let es = entries_by n.start ns in
     ap (λ (here : ℕ). if leads t inside && here == at then Some number else further t inside (λ m. piece_of at m here (suc number) es)) (token-of start n r.0 r.1)
-    ∙ same-if (leads t inside && n.start == at) (Some number) _ _ (same-further (inside_after t inside) (λ m. piece_of at m n.start (suc number) es) _ (λ m. piece-found at m n.start (suc number) ns r.2))
+    ∙ ap (λ u. if leads t inside && n.start == at then Some number else u) (same-further (inside_after t inside) (λ m. piece_of at m n.start (suc number) es) _ (λ m. piece-found at m n.start (suc number) ns r.2))
 
 if-and : (b : Bool) (x y : Option ℕ) → (if b then x else y) ≡ (if b && true then x else y)
 if-and true x y = refl
@@ -55,26 +50,24 @@ first-found inside start number (n ∷ ns) =
     let t = entry_kind_of n.mark n.state in
     let es = entries_by n.start ns in
     if-and (leads t inside) (Some number) _
-    ∙ same-if (leads t inside && true) (Some number) _ _ (same-further (inside_after t inside) (λ m. first_piece m (suc number) es) _ (λ m. first-found m n.start (suc number) ns))
+    ∙ ap (λ u. if leads t inside && true then Some number else u) (same-further (inside_after t inside) (λ m. first_piece m (suc number) es) _ (λ m. first-found m n.start (suc number) ns))
 
 -- ---- of a level
 
 level-other : (lv : ℕ) (n : Note) (ns : List Note) → n.levels < lv → of_level lv (n ∷ ns) ≡ of_level lv ns
 level-other lv n ns l = if-false (n.levels == lv) _ _ (ne_eqb n.levels lv (λ e. omega (arith, e, l)))
 
--- Notes in fewer levels say none of it.
+-- A block says none of it whose notes say none.
+level-block : (lv : ℕ) (o c : Note) (inner later : List Note) → c.levels ≡ o.levels → o.levels < lv → of_level lv inner ≡ [] → of_level lv (o ∷ (inner ++ c ∷ later)) ≡ of_level lv later
+level-block lv o c inner later same less alone =
+    level-other lv o (inner ++ c ∷ later) less ∙ level-append lv inner (c ∷ later) ∙ ap (λ us. us ++ of_level lv (c ∷ later)) alone ∙ level-other lv c later (omega (arith, same, less))
+
+-- Notes in fewer levels say none.
 level-none : (lv deep : ℕ) (ns : List Note) → Nested deep ns → deep < lv → of_level lv ns ≡ []
 level-none lv deep ns (none _) l = refl
 level-none lv deep ns (piece _ n ms line brackets m e more) l = level-other lv n ms (omega (arith, e, l)) ∙ level-none lv deep ms more l
 level-none lv deep ns (block _ o c inner later b m n same less nest rest) l =
-    level-other lv o (inner ++ c ∷ later) (omega (arith, less, l)) ∙ level-append lv inner (c ∷ later)
-    ∙ ap (λ us. us ++ of_level lv (c ∷ later)) (level-none lv o.levels inner nest (omega (arith, less, l)))
-    ∙ level-other lv c later (omega (arith, same, less, l)) ∙ level-none lv deep later rest l
-
--- Nor does a block.
-level-block : (lv : ℕ) (o c : Note) (inner later : List Note) → c.levels ≡ o.levels → o.levels < lv → Nested o.levels inner → of_level lv (o ∷ (inner ++ c ∷ later)) ≡ of_level lv later
-level-block lv o c inner later same less nest =
-    level-other lv o (inner ++ c ∷ later) less ∙ level-append lv inner (c ∷ later) ∙ ap (λ us. us ++ of_level lv (c ∷ later)) (level-none lv o.levels inner nest less) ∙ level-other lv c later (omega (arith, same, less))
+    let low : o.levels < lv = omega (arith, less, l) in level-block lv o c inner later same low (level-none lv o.levels inner nest low) ∙ level-none lv deep later rest l
 
 -- ---- past nested notes
 
@@ -120,7 +113,7 @@ module _ (p : Note → Bool) where
       ∙ own-by p 0 number o (inner ++ (c ∷ (later ++ ms))) (mark.Opens b) m
       ∙ past-inner o.levels 0 (suc number) inner (c ∷ (later ++ ms)) nest
       ∙ own-by p 1 (suc number + length inner) c (later ++ ms) mark.Closes n
-      ∙ past-nested lv (suc (suc number + length inner)) later ms rest (subst (λ ls. Every (λ n. p n ≡ false) ls) (level-block lv o c inner later same less nest) h)
+      ∙ past-nested lv (suc (suc number + length inner)) later ms rest (subst (λ ls. Every (λ n. p n ≡ false) ls) (level-block lv o c inner later same less (level-none lv o.levels inner nest less)) h)
       ∙ ap (λ j. first_own p 0 j ms) (long-block number o c inner later)
 
   pub own-here : (number : ℕ) (n : Note) (ns : List Note) (line : Bool) (brackets : ℕ) → n.mark ≡ mark.Piece line brackets → p n ≡ true → first_own p 0 number (n ∷ ns) ≡ Some number
@@ -140,7 +133,7 @@ some-own lv number ns ms (block _ o c inner later b m n same less nest rest) som
     ∙ own-by p 0 number o (inner ++ (c ∷ (later ++ ms))) (mark.Opens b) m
     ∙ past-inner p o.levels 0 (suc number) inner (c ∷ (later ++ ms)) nest
     ∙ own-by p 1 (suc number + length inner) c (later ++ ms) mark.Closes n in
-    some-own lv (suc (suc number + length inner)) later ms rest (subst (λ (ls : List Note). 0 < length ls) (level-block lv o c inner later same less nest) some) (sym past ∙ e)
+    some-own lv (suc (suc number + length inner)) later ms rest (subst (λ (ls : List Note). 0 < length ls) (level-block lv o c inner later same less (level-none lv o.levels inner nest less)) some) (sym past ∙ e)
 
 -- ---- apart at a note of the level
 
@@ -196,12 +189,6 @@ pub record NoteAt (lv before : ℕ) (ns : List Note) (i number : ℕ) : Type 0 w
   pub own : note.levels ≡ lv
   pub index : length (of_level lv earlier) ≡ i
   pub all : before + length earlier ≡ number
-
-level-at : (lv : ℕ) (ms : List Note) (n : Note) (ns : List Note) → n.levels ≡ lv → of_level lv (ms ++ n ∷ ns) ≡ of_level lv ms ++ n ∷ of_level lv ns
-level-at lv ms n ns e = level-append lv ms (n ∷ ns) ∙ ap (λ us. of_level lv ms ++ us) (if-true (n.levels == lv) _ _ (eq-eqb n.levels lv e))
-
-pub level-long : (lv : ℕ) (ms : List Note) (n : Note) (ns : List Note) → n.levels ≡ lv → length (of_level lv (ms ++ n ∷ ns)) ≡ length (of_level lv ms) + suc (length (of_level lv ns))
-level-long lv ms n ns e = ap length (level-at lv ms n ns e) ∙ length-append (of_level lv ms) (n ∷ of_level lv ns)
 
 -- The note of a number says what the notes of the level do.
 pub says-by : (lv : ℕ) (ns : List Note) (text : List ℕ) (e : ℕ → End (Bool × ℕ)) (ms : List Note) (n : Note) (ls : List Note) (i : ℕ) → Numbered (SaysOf text e) 0 (of_level lv ns) → ns ≡ ms ++ n ∷ ls → n.levels ≡ lv

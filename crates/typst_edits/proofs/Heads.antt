@@ -1,6 +1,6 @@
 -- An expression that isn't expected gives one error after the trivia, and only such an expression takes back the empty errors before it.
-use Rattle.std.proofs.Common.{◌≡◌, ℕ, zero, suc, ◌<◌, ◌==◌, Bool, true, false, ◌&&◌, nat_lt, List, [], ◌∷◌, ◌++◌, length, drop, length-append, append_assoc, Some, None, refl, ap, sym, ◌∙◌, subst, arith, ◌+◌, ◌≤◌}
-use Rattle.typst_edits.proofs.Words.{lt-ltb, is_error, SyntaxKind, Place, moved, CharClasses, hint_with, Tree, text_of, error_of, made_error, advised, all_advised, MarkupExpr, Reading, Ask, SameIn, shift, anywhere, too_deep, deeper, is_end, AtHand, as_at_hand, hand_at, Hand, meaning_of, Trivia, Point, pending, point_of, hinted, surprise, peek, eat_making, flush_trivia, note, unexpected, Parser, ◌>>=◌, ◌>>◌, takes, gives, does, next, pick, repeat, calls, Outcome, Meaning, Level, plain, less, standing, joined, repeated, hand_of, hand_asks_of, taken_node, run, sane-run, less-none, moved-sum, on_both, on_if, ends, ends_block, note_piece, markup_turn, markup_head, markup_by, markup_expr, rules, level_at, max_depth, Tidy, Backs, together, inner_run, inner, bracket, inner_lead, run_at, EndsBefore, minds_at, first_place, begins_wrong, after_known, minds, text_run, onwards_from, goes, made, AllGo, end_of, End, asks_of, lead, pieces, end_at, Sequence, turn_of, first_of, first_end, then_of, then_end, then_place, hand-frame, same_in-shift, same_in-first, same_in-second, text_with, AllEndBy, onwards_in, Spot, hinted-append, MarkupHead, both_ways}
+use Rattle.std.proofs.Common.{◌≡◌, ℕ, zero, suc, ◌<◌, ◌==◌, Bool, true, false, ◌&&◌, nat_lt, List, [], ◌∷◌, ◌++◌, length, drop, length-append, append_assoc, Some, None, refl, ap, sym, ◌∙◌, subst, arith, ◌+◌}
+use Rattle.typst_edits.proofs.Words.{lt-ltb, is_error, SyntaxKind, Place, moved, CharClasses, hint_with, Tree, text_of, error_of, made_error, advised, all_advised, MarkupExpr, Reading, Ask, SameIn, shift, anywhere, too_deep, deeper, is_end, AtHand, as_at_hand, hand_at, Hand, meaning_of, Trivia, Point, pending, point_of, hinted, surprise, peek, eat_making, flush_trivia, note, unexpected, Parser, ◌>>=◌, ◌>>◌, takes, gives, does, next, pick, repeat, calls, Outcome, Meaning, Level, plain, less, standing, joined, repeated, hand_of, hand_asks_of, taken_node, run, sane-run, less-none, moved-sum, on_both, on_if, ends, ends_block, note_piece, markup_turn, markup_head, markup_by, markup_expr, rules, level_at, max_depth, Tidy, Backs, together, inner_run, inner, bracket, inner_lead, run_at, EndsBefore, minds_at, first_place, begins_wrong, after_known, minds, text_run, onwards_from, goes, made, AllGo, end_of, End, asks_of, lead, pieces, end_at, Sequence, turn_of, first_of, first_end, then_of, then_end, then_place, hand-frame, same_in-shift, same_in-first, same_in-second, text_with, AllEndBy, onwards_in, Spot, hinted-append, MarkupHead, both_ways, false_from_ne_true}
 use Rattle.typst_edits.specs.Heads.{Headed, HeadLaw, InnerHeadLaw, MeetsLaw, InnerMeetsLaw, NoneBackLaw, InnerNoneBackLaw, NoneAfterLaw, InnerNoneAfterLaw}
 use Rattle.typst_edits.proofs.Boundary.{KnownAt, turn-goes, first-of, going-on, known-made, made-ends, turn-ends}
 use Rattle.typst_edits.proofs.Children.{tidy-together, back-law, both-open, inner-back-law}
@@ -50,10 +50,6 @@ wrong-standing t ts q w e = record {
 
 pub wrong-behind : (t : Trivia) (ts : List Tree) → WrongFirst t ts → begins_wrong (drop (length t.nodes) ts) ≡ true
 wrong-behind t ts w = ap (λ us. begins_wrong (drop (length t.nodes) us)) w.is ∙ ap begins_wrong (drop-front t.nodes w.rest (length t.nodes) refl) ∙ w.wrong
-
-not-both : (b c : Bool) → (b ≡ true → c ≡ true) → c ≡ false → b ≡ false
-not-both true c f e = let h : true ≡ false = sym (f refl) ∙ e in cc
-not-both false c f e = refl
 
 -- ---- an outcome that gives the trivia and one error
 
@@ -270,14 +266,14 @@ module _ (l : Level) (stops : SyntaxKind → Bool) (taking : Taking l stops)
     pieces-here : (n : ℕ) → Pieces n x z here
     pieces-here zero g = ((λ some right. absurd (omega (arith, some))), (λ mild. refl))
     pieces-here (suc n) g =
-        ((λ some right. not-both (minded x z here) _ (λ m. wrong-behind t _ (pieces-wrong x z r h e a t n g m)) right), (λ mild. pieces-mild x z r h e a t n g mild))
+        ((λ some right. false_from_ne_true (minded x z here) (λ m. both_ways _ right (wrong-behind t _ (pieces-wrong x z r h e a t n g m)))), (λ mild. pieces-mild x z r h e a t n g mild))
 
     back-here : (b : Bool) → over x z here ≡ b → (over x z here ≡ false → minded x z here ≡ false) → (onward x z here).back ≡ 0
     back-here true o mild = stopped-back l stops taking x z here o
     back-here false o mild = onward-mild x z r h e a t o (mild o)
 
     onward-here : Onward x z here
-    onward-here = ((λ right o. not-both (minded x z here) _ (λ m. wrong-behind t _ (onward-wrong x z r h e a t o m)) right), back-here (over x z here) refl)
+    onward-here = ((λ right o. false_from_ne_true (minded x z here) (λ m. both_ways _ right (wrong-behind t _ (onward-wrong x z r h e a t o m)))), back-here (over x z here) refl)
 
   pub pieces-facts : (n : ℕ) (x : Bool × ℕ) (z : Place) (p : Point) → KnownAt p → Pieces n x z p
   pieces-facts n x z p known = subst (Pieces n x z) (sym (known-is l.classes p known.trivia known.is)) (pieces-here x z p.reading p.held p.empties p.is_after_error known.trivia n)
@@ -383,9 +379,6 @@ pub minds-same : (l : Level) (d e : End (Bool × ℕ)) (y v : Place) → d ≡ e
 minds-same l d e y v same kind =
     ap (λ (f : End (Bool × ℕ)). minds (markup_head f.value.0 f.value.1 (hand_of l v f.state).kind)) same ∙ ap (λ k. minds (markup_head e.value.0 e.value.1 k)) kind
 
-none-left : (a b : ℕ) → a ≤ b → b ≡ 0 → a ≡ 0
-none-left a b h e = omega (arith, h, e)
-
 -- ---- a text's run
 
 pub lead-empties : (k : CharClasses) (z : Place) → (lead k z).state.empties ≡ 0
@@ -417,7 +410,7 @@ pub none-back-law : NoneBackLaw
 none-back-law k front old new rest zero n m past t u h well =
     let z = text_with front old rest in
     let w = text_with front new rest in
-    record { back = none-left _ _ (back-law k (front ++ (old ++ rest)) 0 n).pieces_back (lead-empties k z); back_now = none-left _ _ (back-law k (front ++ (new ++ rest)) 0 m).pieces_back (lead-empties k w) }
+    record { back = omega (arith, (back-law k (front ++ (old ++ rest)) 0 n).pieces_back, lead-empties k z); back_now = omega (arith, (back-law k (front ++ (new ++ rest)) 0 m).pieces_back, lead-empties k w) }
 none-back-law k front old new rest (suc i) n m past t u h well =
     let w = text_with front new rest in
     let some : 0 < suc i = omega arith in
@@ -463,8 +456,8 @@ inner-none-back-law k levels front old new rest c zero n m past t u chosen h wel
     let w = text_with front new rest in
     let opens = both-open k levels front old new rest c 0 n m past t u chosen h in
     record {
-      back = none-left _ _ (inner-back-law k levels (front ++ (old ++ rest)) c 0 n).pieces_back (block-empties k levels c z opens.old_opens.empties);
-      back_now = none-left _ _ (inner-back-law k levels (front ++ (new ++ rest)) c 0 m).pieces_back (block-empties k levels c w opens.new_opens.empties);
+      back = omega (arith, (inner-back-law k levels (front ++ (old ++ rest)) c 0 n).pieces_back, block-empties k levels c z opens.old_opens.empties);
+      back_now = omega (arith, (inner-back-law k levels (front ++ (new ++ rest)) c 0 m).pieces_back, block-empties k levels c w opens.new_opens.empties);
     }
 inner-none-back-law k levels front old new rest c (suc i) n m past t u chosen h well =
     let some : 0 < suc i = omega arith in

@@ -1,6 +1,6 @@
 -- Marks stand in order by their tokens: each at the token of the one before it, or after that.
-use Rattle.std.proofs.Common.{◌≡◌, ℕ, zero, suc, ◌+◌, ◌≤◌, ◌==◌, max, min, Bool, true, false, ◌&&◌, nat_lt, List, [], ◌∷◌, take, Option, Some, None, refl, ap, sym, ◌∙◌, subst, arith}
-use Rattle.typst_edits.proofs.Words.{same, SyntaxKind, Place, moved, CharClasses, width, position, far, near, IsRising, Block, Call, MarkupExpr, Mark, Reading, Ask, shift, looked, marked, deeper, is_end, too_deep, hand_at, meaning_of, level_of, blocks_of, Trivia, Point, forgot, gap_of, Shape, becomes, itself, peek, node, node_with_trivia, note, flush_trivia, close_if, Parser, ◌>>◌, at_token, takes, flushes, marks, is_deepest, gives, does, next, repeat, wraps, scoped, Outcome, Meaning, Level, plain, joined, turns, as_last, bound, repeated, blockless, entered, hand_of, hand_asks_of, start_point, done, run, moved-sum, on_both, on_if, rules, production, max_depth, start_of, whole, parsed, log, block_production, level_at, ends, ends_block, note_piece, markup_turn, markup_run, markup_is_empty, markup_reading, content_block, code_block, Guarded, guarded-deep, guarded-production, guarded-inside-code, InOrderLaw}
+use Rattle.std.proofs.Common.{◌≡◌, ℕ, zero, suc, ◌+◌, ◌≤◌, ◌==◌, max, min, Bool, true, false, ◌&&◌, nat_lt, List, [], ◌∷◌, take, Option, Some, None, refl, ap, sym, ◌∙◌, subst, arith, inl, inr}
+use Rattle.typst_edits.proofs.Words.{same, SyntaxKind, Place, moved, CharClasses, width, position, far, near, IsRising, Block, Call, MarkupExpr, Mark, Reading, Ask, shift, looked, marked, deeper, is_end, too_deep, hand_at, meaning_of, level_of, blocks_of, Trivia, Point, forgot, gap_of, Shape, becomes, itself, peek, node, node_with_trivia, note, flush_trivia, close_if, Parser, ◌>>◌, at_token, takes, flushes, marks, is_deepest, gives, does, next, repeat, wraps, scoped, Outcome, Meaning, Level, plain, joined, turns, as_last, bound, repeated, blockless, entered, hand_of, hand_asks_of, start_point, done, run, moved-sum, on_both, on_if, rules, production, max_depth, start_of, whole, parsed, log, block_production, level_at, ends, ends_block, note_piece, markup_turn, markup_run, markup_is_empty, markup_reading, content_block, code_block, Guarded, guarded-deep, guarded-production, guarded-inside-code, InOrderLaw, cases_Bool, if-true}
 use Rattle.typst_language.specs.Syntax.Begin.{at_trivia}
 use Rattle.typst_grammar.proofs.Guarded.{guarded-close, guarded-deeper, guarded-node}
 use Rattle.typst_kinds.specs.declared.kind.SyntaxKind.TheVariants as kind
@@ -10,9 +10,8 @@ use Rattle.typst_edits.proofs.Boundary.{KnownAt}
 use Rattle.typst_edits.proofs.Joint.{block-taking, known-is, text-taking}
 use Rattle.typst_edits.proofs.Turns.{after_trivia, before_trivia, turn_tail, Taking, turn-led}
 use Rattle.typst_edits.proofs.Bytes.{none_yet, note_by, notes_from, fresh_notes, logged-listed}
-use Rattle.typst_edits.proofs.Rising.{take-more, Joins, Upward, ups, up-low, up-append, up-shift, up-sunk, up-none, unmarked-hand, from-joined, from-hand, from-run}
-use Rattle.typst_edits.proofs.Spots.{if-true}
-use Rattle.typst_edits.proofs.Widths.{width-moved, width-none}
+use Rattle.typst_edits.proofs.Rising.{Joins, Upward, ups, up-low, up-append, up-shift, up-sunk, up-none, unmarked-hand, from-joined, from-hand, from-run}
+use Rattle.typst_edits.proofs.Widths.{width-moved, width-none, take-more}
 
 -- ---- marks in a list of asks
 
@@ -56,9 +55,6 @@ order-next lo mid gap o p h k =
 
 reaching : {A : Type 0} (gap : ℕ) (o : Outcome A) → InOrder o → Reaching 0 gap o
 reaching gap o h = orders-high 0 o.taken (o.taken + gap) o.asks (omega arith) h
-
-all-taken : {A : Type 0} (o : Outcome A) → Reaching 0 0 o → InOrder o
-all-taken o h = orders-high 0 (o.taken + 0) o.taken o.asks (omega arith) h
 
 -- up to the token at hand after it
 abbrev ToToken : {A : Type 0} → ℕ → Outcome A → Type 0
@@ -150,14 +146,11 @@ module _ (l : Level) (deep : (call : Call) → AllInOrder (l.deeper call)) (held
           (up-low gaps any t.gap (t.gap + 0) hi (shift t.gap c.asks) (omega arith) (orders-high (t.gap + 0) (t.gap + far) hi (shift t.gap c.asks) (omega (arith, led.front.taken, gap)) from))
 
       piece-order : (x : Bool × ℕ) (z : Place) (s : Point) → KnownAt s → ToToken (gap_of s.known) (run l (markup_turn true stops x) z s)
-      piece-order x z s known = by-end (ends stops x.1 (hand_of l z s).kind) refl
-        where
-          by-end : (b : Bool) → ends stops x.1 (hand_of l z s).kind ≡ b → ToToken (gap_of s.known) (run l (markup_turn true stops x) z s)
-          by-end true e = stopped-order x z s e
-          by-end false e =
-              let t = known.trivia in
-              subst (λ p. ends stops x.1 (hand_of l z p).kind ≡ false → ToToken (gap_of p.known) (run l (markup_turn true stops x) z p)) (sym (known-is l.classes s t known.is))
-              (led-order x z t s.reading s.held s.empties s.is_after_error) e
+      piece-order x z s known = elim (cases_Bool (ends stops x.1 (hand_of l z s).kind)) [
+        | inl e ↦ stopped-order x z s e
+        | inr e ↦ subst (λ p. ends stops x.1 (hand_of l z p).kind ≡ false → ToToken (gap_of p.known) (run l (markup_turn true stops x) z p)) (sym (known-is l.classes s known.trivia known.is))
+            (led-order x z known.trivia s.reading s.held s.empties s.is_after_error) e
+      ]
 
       pieces-order : (n : ℕ) (x : Bool × ℕ) (z : Place) (s : Point) → KnownAt s → ToToken (gap_of s.known) (turns (λ y. run l (markup_turn true stops y)) n x z s)
       pieces-order zero x z s known = omega arith
@@ -197,7 +190,8 @@ module _ (l : Level) (deep : (call : Call) → AllInOrder (l.deeper call)) (held
           let n = run l (peek >> gives (tt {0})) (moved f.taken w) f.state in
           let gap = gap_of o.state.known in
           let all = hand-gap l.classes o.state.held o.state.known w in
-          all-taken (joined o (joined f n)) (order-next 0 gap 0 o (joined f n) (run-order z s)
+          let all_read = joined o (joined f n) in
+          orders-high 0 (all_read.taken + 0) all_read.taken all_read.asks (omega arith) (order-next 0 gap 0 o (joined f n) (run-order z s)
           (order-next gap 0 0 f n (up-none gaps any gap (f.taken + 0) (hand_asks_of l w o.state) (omega (arith, all)) (unmarked-hand l w o.state)) (reaching 0 n (silent (peek >> gives (tt {0})) (refl, λ _. tt) (moved f.taken w) f.state))))
 
   all-next : {A B : Type 0} (p : Parser B) (f : B → Parser A) → AllInOrder (run l p) → ((b : B) → AllInOrder (run l (f b))) → AllInOrder (run l (next p f))

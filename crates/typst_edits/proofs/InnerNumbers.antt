@@ -1,16 +1,15 @@
 -- The number of a note where pieces of a content block's run end.
-use Rattle.std.proofs.Common.{◌≡◌, ℕ, suc, ◌+◌, ◌-◌, ◌<◌, ◌≤◌, ◌==◌, eq-eqb, Bool, true, false, List, [], ◌∷◌, ◌++◌, length, take, length-append, append_assoc, ap, sym, ◌∙◌, subst, arith, drop}
-use Rattle.typst_edits.proofs.Words.{Place, moved, CharClasses, width, Note, Hand, Point, point_of, itself, peek, takes, does, entered, hand_of, asked, run, sane-meaning, sane-plain, ahead-left, ends_block, markup_turn, markup_reading, rules, max_depth, start_of, log, inner, look_first, look_again, bracket, run_at, opened_at, Among, inner_end, blocks_of_text, of_level, Numbered, SaysOf, listed, AllGo, turn_of, first_of, first_end, Spot, unit_at, Rising}
+use Rattle.std.proofs.Common.{◌≡◌, ℕ, suc, ◌+◌, ◌-◌, ◌<◌, ◌≤◌, ◌==◌, eq-eqb, Bool, true, false, List, [], ◌∷◌, ◌++◌, length, take, length-append, append_assoc, ap, sym, ◌∙◌, subst, arith, drop, pos_of_ne-zero}
+use Rattle.typst_edits.proofs.Words.{Place, moved, CharClasses, width, Note, Hand, Point, point_of, itself, peek, takes, does, entered, hand_of, asked, run, sane-meaning, sane-plain, ahead-left, ends_block, markup_turn, markup_reading, rules, max_depth, start_of, log, inner, look_first, look_again, bracket, run_at, opened_at, Among, inner_end, blocks_of_text, of_level, Numbered, SaysOf, listed, AllGo, turn_of, first_of, first_end, Spot, unit_at, Rising, if-true}
 use Rattle.typst_edits.specs.NumberedNotes.{InnerNumberLaw}
 use Rattle.typst_language.specs.declared.calls.Block.TheVariants as block
 use Rattle.typst_edits.proofs.BlockRuns.{sane as in-sane}
 use Rattle.typst_edits.proofs.Content.{again, same-here}
-use Rattle.typst_edits.proofs.NumberedNotes.{level-append, numbered-at, neither, go-fewer, more-taken, turns-within, take-longer}
-use Rattle.typst_edits.proofs.Rising.{take-more, rising-law}
-use Rattle.typst_edits.proofs.Spots.{if-true}
-use Rattle.typst_edits.proofs.CandidateEnds.{some-by as positive}
+use Rattle.typst_edits.proofs.NumberedNotes.{level-append, numbered-at, go-fewer, more-taken, turns-within}
+use Rattle.typst_edits.proofs.Rising.{rising-law}
 use Rattle.typst_edits.proofs.Children.{begun-at}
-use Rattle.typst_edits.proofs.Every.{first_or}
+use Rattle.typst_edits.proofs.Every.{first_or, neither}
+use Rattle.typst_edits.proofs.Widths.{take-longer, take-more}
 
 -- ---- notes in order
 
@@ -110,7 +109,7 @@ inner-number-law k levels text c i chosen name left g n p inside =
     let least = take-more c.at (a + at_i) text (omega arith) in
     let some_by : (unit_at c z).taken ≡ 0 → ⊥ = λ none.
     (let there : c.at + (unit_at c z).taken ≡ c.at = omega (arith, none) in let same_byte = ap (λ d. width (take d text)) there in omega (arith, least, inside, before, n.end, same_byte)) in
-    let some : 0 < (unit_at c z).taken = positive (unit_at c z).taken some_by in
+    let some : 0 < (unit_at c z).taken = pos_of_ne-zero some_by in
     let bracket_some = bracket-some k levels text c chosen name left some in
     let room_i = run-room k levels text c chosen name left bracket_some i in
     let further = take-longer c.at (a + at_i) text (omega (arith, bracket_some)) room_i in

@@ -1,33 +1,29 @@
 -- A candidate that isn't at the root is pieces of a content block's run.
-use Rattle.std.proofs.Common.{◌≡◌, ℕ, ◌<◌, ◌==◌, Bool, true, false, ◌&&◌, if◌then◌else◌, List, [], ◌∷◌, ◌++◌, length, Some, refl, ap, sym, subst, arith, zero, suc, ◌+◌, ◌-◌, ◌≤◌, length-append, take, ◌∙◌}
-use Rattle.typst_edits.proofs.Words.{eqb-true, CharClasses, Tree, text_of, forest, trees, bare, inner_of, width, Mark, Note, opens_content, starts, up_to_end, after_first, cuts_in, top_cuts, log, max_depth, start_of, parsed, tree, Among, text_with, Hole, Deep, fill, path_in, plug, path_of, listed, Spot, kind_of, block_head, unit_at, seconds_of_text, IsOf, Stems, from_unit, from_second, take-append_seam, is_block, Head, Place, moved, start_at, Block, run, Trivia, gap_of, point_of, peek, texts, ahead-left, moved-sum, Child, laid, child_at, is_among, Candidate, candidates, inner, bracket, run_at, opened_at, IsPieces, InnerPiecesOfLaw, Every, is_over, under, inner_end, inner_both, block_run, kids_in, markup_from, blocks_of_text, bytes_of, opening_child, token_byte, goes, OpensApartLaw, AllGo, End, Sequence, turn_of, first_of, first_end}
+use Rattle.std.proofs.Common.{◌≡◌, ℕ, ◌<◌, ◌==◌, Bool, true, false, ◌&&◌, if◌then◌else◌, List, [], ◌∷◌, ◌++◌, length, Some, refl, ap, sym, subst, arith, zero, suc, ◌+◌, ◌-◌, length-append, take, ◌∙◌}
+use Rattle.typst_edits.proofs.Words.{eqb-true, CharClasses, Tree, text_of, forest, trees, bare, inner_of, width, Mark, Note, opens_content, starts, up_to_end, after_first, cuts_in, top_cuts, log, max_depth, start_of, parsed, tree, Among, text_with, Hole, Deep, fill, path_in, plug, path_of, listed, Spot, kind_of, block_head, seconds_of_text, IsOf, Stems, from_unit, from_second, take-append_seam, is_block, Head, moved, start_at, Block, run, gap_of, point_of, texts, Child, laid, child_at, Candidate, candidates, inner, bracket, run_at, opened_at, InnerPiecesOfLaw, Every, is_over, under, inner_end, inner_both, block_run, kids_in, markup_from, blocks_of_text, opening_child, token_byte, goes, OpensApartLaw, AllGo, End, turn_of, first_of, first_end}
 use Rattle.typst_edits.specs.CandidateRuns.{InnerPiecesOf}
 use Rattle.typst_edits.specs.Hole.Deep.{bare as alone}
-use Rattle.typst_edits.proofs.BlockPlaces.{hole-same, second-place, early-by as sooner}
+use Rattle.typst_edits.proofs.BlockPlaces.{hole-same, second-place}
 use Rattle.typst_edits.proofs.BlockTest.{never-second}
 use Rattle.typst_edits.proofs.Walk.{left_text, deep_text}
 use Rattle.typst_edits.proofs.CandidatePlaces.{bare-candidates-law}
-use Rattle.typst_edits.proofs.BlockRuns.{sane as in-sane}
-use Rattle.typst_edits.proofs.Boundary.{KnownAt}
 use Rattle.typst_edits.proofs.MarkupCandidates.{block-head, Covers, of-run}
-use Rattle.typst_edits.proofs.CandidateEnds.{begun}
-use Rattle.typst_edits.proofs.RootRuns.{cut-token, is-cut, picked, standing, matches, is-pieces}
-use Rattle.typst_edits.proofs.Cuts.{tokens-rise, cuts-within, BlockCuts}
+use Rattle.typst_edits.proofs.RootRuns.{is-cut, HasPieces, has-pieces}
+use Rattle.typst_edits.proofs.Cuts.{inner-tokens}
 use Rattle.typst_edits.proofs.Deepest.{some-level}
 use Rattle.typst_edits.proofs.Edit.{among, trees-of}
 use Rattle.typst_edits.proofs.RunCandidates.{OfBlock, of-block, joined-trees, lies, parted-in, plain-shape, seat-of}
 use Rattle.typst_edits.proofs.Leading.{Plain, block-leads, turn-over}
 use Rattle.typst_edits.proofs.Every.{some_or}
 use Rattle.typst_edits.proofs.MarkupPlaces.{InContent, in-tree, of-content}
-use Rattle.typst_edits.proofs.NumberedNotes.{go-fewer, take-longer}
 use Rattle.typst_edits.proofs.OneReading.{end-split-at}
-use Rattle.typst_edits.proofs.Resumed.{block-known}
+use Rattle.typst_edits.proofs.Resumed.{block-markup, known-after}
 use Rattle.typst_edits.proofs.RunTrees.{tree-is}
 use Rattle.typst_edits.proofs.Standing.{standing-law}
 use Rattle.typst_edits.proofs.StartBytes.{start-plug, start-same}
 use Rattle.typst_edits.proofs.Positions.{NoMarkup, no-wrong}
 use Rattle.typst_edits.proofs.Children.{tree-by-block}
-use Rattle.typst_edits.proofs.Widths.{width-append}
+use Rattle.typst_edits.proofs.Widths.{width-append, early-by as sooner}
 use Rattle.typst_language.specs.declared.calls.Block.TheVariants as block
 use Rattle.typst_language.specs.declared.calls.Mark.TheVariants as mark
 use Rattle.typst_kinds.specs.declared.kind.SyntaxKind.TheVariants as kind
@@ -160,60 +156,7 @@ inner-over k levels text s n g stopped =
     let z = start_of text in
     let r = run_at k levels s z in
     let e = first_end n r in
-    turn-over r (block-leads k levels (moved s.at z) (point_of s.start)) e.value (moved e.taken r.place) e.state (block-known k levels (moved s.at z) (point_of s.start) n g) stopped
-
--- After more pieces the next token begins further on.
-inner-tokens : (k : CharClasses) (levels : ℕ) (text : List ℕ) (s : Spot (Unit {0})) (i j : ℕ) → i < j → AllGo (first_of j (run_at k levels s (start_of text)))
-    → token_byte text (inner_end k levels i s (start_of text)) < token_byte text (inner_end k levels j s (start_of text))
-unfolding run
-inner-tokens k levels text s i j l g =
-    let z = start_of text in
-    let r = run_at k levels s z in
-    let a = opened_at k levels s z in
-    let leads = block-leads k levels (moved s.at z) (point_of s.start) in
-    let room = (in-sane k levels peek).within r.place (bracket k levels (moved s.at z) (point_of s.start)).state in
-    let more = tokens-rise r leads i j l g in
-    let last = cut-token j (first_end j r) (omega (arith, l)) in
-    let there : r.place ≡ moved a z = sym (moved-sum s.at (bracket k levels (moved s.at z) (point_of s.start)).taken z) in
-    let long = ap (λ (y : Place). length y.ahead) there in
-    let u = inner_end k levels i s z in
-    let v = inner_end k levels j s z in
-    take-longer (u.taken + gap_of u.state.known) (v.taken + gap_of v.state.known) text (omega (arith, more, last)) (omega (arith, room, cuts-within r leads j, more, ahead-left a z, long, last))
-
-module _ (k : CharClasses) (levels : ℕ) (front old rest : List ℕ) (s : Spot (Unit {0})) (there : Among s (blocks_of_text k (front ++ (old ++ rest)))) (name : s.name ≡ block.Content) (level : max_depth - s.fewer ≡ suc levels)
-    (some : 0 < (unit_at s (start_of (front ++ (old ++ rest)))).taken) (own : BlockCuts k levels (front ++ (old ++ rest)) s (width (take s.at (front ++ (old ++ rest))))) where
-  abbrev text : List ℕ
-  text = front ++ (old ++ rest)
-
-  abbrev z : Place
-  z = start_of text
-
-  abbrev q : Sequence
-  q = run_at k levels s z
-
-  abbrev byte : ℕ → ℕ
-  byte i = token_byte text (inner_end k levels i s z)
-
-  known-at : (m : ℕ) → AllGo (first_of m q) → KnownAt (first_end m q).state
-  known-at m g = block-known k levels (moved s.at z) (point_of s.start) m g
-
-  over : is_over 0 own.count q ≡ true
-  over = inner-over k levels text s own.count own.go own.over
-
-  rises : (i j : ℕ) → i < j → j ≤ own.count → byte i < byte j
-  rises i j less few = inner-tokens k levels text s i j less (go-fewer (turn_of q) j own.count (true, 0) q.place q.point few own.go)
-
-  -- where pieces that follow others end
-  both-end : (i n j : ℕ) → i + n ≡ j → token_byte text (inner_both k levels i n s z) ≡ byte j
-  both-end i n j sum =
-      sym (ap (λ (e : End (Bool × ℕ)). token_byte text (record e { taken = opened_at k levels s z + e.taken })) (end-split-at q i n)) ∙ ap byte sum
-
-  -- The last piece ends with the last child.
-  all-bytes : byte own.count ≡ markup_from k levels text s + bytes_of (kids_in s.node)
-  all-bytes =
-      let st = standing q own.count 0 own.count (omega arith) own.go known-at in
-      let p = parted-in k levels front old rest s there name level some 0 own.count st.trivia tt st.go_on st.known own in
-      sym (both-end 0 own.count own.count (omega arith)) ∙ p.last (λ l. absurd (omega (arith, l))) over
+    turn-over r (block-leads k levels (moved s.at z) (point_of s.start)) e.value (moved e.taken r.place) e.state (known-after r (block-markup k levels (moved s.at z) (point_of s.start)) n g) stopped
 
 -- ---- the pieces
 
@@ -234,42 +177,33 @@ from-is k levels text s =
     ap (λ d. width (take d text)) same
 
 -- The pieces of a block's run that a candidate is.
-record HasPieces (k : CharClasses) (levels : ℕ) (front old rest : List ℕ) (s : Spot (Unit {0})) (there : Among s (blocks_of_text k (front ++ (old ++ rest)))) (name : s.name ≡ block.Content) (level : max_depth - s.fewer ≡ suc levels) (c : Candidate) : Type 0 where
-  i : ℕ
-  n : ℕ
-  past : ℕ
-  t : Trivia
-  is : IsPieces k front old rest (block_run s levels there name level) c i n past t
-
 pieces-of : (k : CharClasses) (levels : ℕ) (front old rest : List ℕ) (s : Spot (Unit {0})) (there : Among s (blocks_of_text k (front ++ (old ++ rest)))) (name : s.name ≡ block.Content) (level : max_depth - s.fewer ≡ suc levels) (c : Candidate)
-    → OfBlock k levels front old rest s c → HasPieces k levels front old rest s there name level c
+    → OfBlock k levels front old rest s c → HasPieces k front old rest (block_run s levels there name level) c
 pieces-of k levels front old rest s there name level c b =
     let text = front ++ (old ++ rest) in
     let z = text_with front old rest in
-    let r = block_run s levels there name level in
     let q = run_at k levels s z in
-    let rs = width front in
-    let re = width (front ++ old) in
     let from = markup_from k levels text s in
-    let kids = kids_in s.node in
     let own = b.own in
-    let cuts = own.cuts in
-    let order : rs ≤ re = omega (arith, width-append front old) in
-    let o = of-run rs re c.path from kids cuts c b.chosen in
     let token = λ (i : ℕ). token_byte text (inner_end k levels i s z) in
-    let each = λ (d : ℕ) (h : is_among d cuts ≡ true). is-cut text (λ i. inner_end k levels i s z) own.count d (own.is.each d h) in
-    let p = picked cuts from kids rs re o.more order token own.count each (rises k levels front old rest s there name level b.some own) (all-bytes k levels front old rest s there name level b.some own) in
-    let i = p.i in
-    let n = p.j - i in
-    let go = standing q own.count i n (omega (arith, p.order, p.few)) own.go (known-at k levels front old rest s there name level b.some own) in
-    let end = token_byte text (inner_both k levels i n s z) in
-    let parted = parted-in k levels front old rest s there name level b.some i n go.trivia go.first_go go.go_on go.known own in
-    let well = begun cuts from kids rs re o.more order q i n (token i) end parted p.led.0 p.start (both-end k levels front old rest s there name level b.some own i n p.j (omega (arith, p.order)) ∙ p.end) in
     let begin = from-is k levels text s in
-    let before = sooner (opened_at k levels s z) front (old ++ rest) (subst (λ d. d < rs) begin b.starts) in
-    let m = matches k front old rest r c c.path cuts from kids o order token own.count (inner-token k levels text s) p begin (omega (arith, before)) (omega (arith, b.ends)) in
-    let h = is-pieces k front old rest r c own.count i p.j m (over k levels front old rest s there name level b.some own) go (λ l. (well.starts l).1) in
-    record { i = i; n = n; past = h.past; t = go.trivia; is = h.is }
+    let before = sooner (opened_at k levels s z) front (old ++ rest) (subst (λ d. d < width front) begin b.starts) in
+    has-pieces k front old rest (block_run s levels there name level) c c.path own.cuts from (kids_in s.node) (of-run (width front) (width (front ++ old)) c.path from (kids_in s.node) own.cuts c b.chosen) (record {
+      count = own.count;
+      go = own.go;
+      over = inner-over k levels text s own.count own.go own.over;
+      known = known-after q (block-markup k levels (moved s.at z) (point_of s.start));
+      byte = token;
+      at = inner-token k levels text s;
+      each = λ d h. is-cut text (λ i. inner_end k levels i s z) own.count d (own.is.each d h);
+      rises = inner-tokens k levels text s;
+      end = λ i n. token_byte text (inner_both k levels i n s z);
+      ends = λ i n j sum. sym (ap (λ (e : End (Bool × ℕ)). token_byte text (record e { taken = opened_at k levels s z + e.taken })) (end-split-at q i n)) ∙ ap token sum;
+      parted = λ i n g. parted-in k levels front old rest s there name level b.some i n g.trivia g.first_go g.go_on g.known own;
+      starts = begin;
+      before = omega (arith, before);
+      all = omega (arith, b.ends);
+    })
 
 -- ---- the law
 

@@ -6,7 +6,7 @@ use Rattle.typst_edits.specs.InnerJoint.{InnerJointLaw}
 use Rattle.typst_language.proofs.Rests.{Restful}
 use Rattle.typst_edits.proofs.Content.{reading-is}
 use Rattle.typst_edits.proofs.Turns.{after_trivia, SameJudged, before_trivia, kind-behind, Fronted, drop-front, Takes, same-renewed, asks-behind, fronted-behind, stopped-alike, hand-seen, Taking, fronted-same, takes-expr, KnownFlush, flush-known}
-use Rattle.typst_edits.proofs.EmptyRuns.{and-false as none-and}
+use Rattle.std.proofs.Math.Bool.{and-false as none-and}
 use Rattle.typst_edits.proofs.Edit.{before-same, after-same}
 use Rattle.typst_edits.proofs.Spots.{same_in-at}
 use Rattle.typst_edits.proofs.Runs.{moved-three, moved-four, split, split-taken}
@@ -180,6 +180,9 @@ module _ (k : CharClasses) where
   pub known-is : (s : Point) (t : Trivia) → s.known ≡ Some t → s ≡ before_trivia s.reading s.held s.empties s.is_after_error t
   known-is s t e = ap (λ u. record s { known = u }) e
 
+  pub known-read : (g : Reading) (s : Point) (t : Trivia) → s.known ≡ Some t → ReadAs g s → s ≡ before_trivia g g s.empties s.is_after_error t
+  known-read g s t e read = known-is s t e ∙ (λ v. before_trivia (read.reading v) (read.held v) s.empties s.is_after_error t)
+
 -- The pieces of a text are read as markup.
 pub text-read : (k : CharClasses) (i n : ℕ) (z : Place) → ReadAs markup_reading (end_from k i n z).state
 unfolding run
@@ -267,17 +270,13 @@ module _ (k : CharClasses) (levels : ℕ) where
       let took = λ (s : Point) (ls : List Ask). record (plain (tt {0}) s) { taken = 0 + old.len; nodes = tree ∷ []; asks = ls } in
       let state = same-renewed (is_error tree.head.kind) (text_of tree) markup_reading markup_reading 0 0 false false u t in
       let now = renewed (after_node (is_error tree.head.kind) (text_of tree) b) in
-      ap (λ x. forgets (closing (same kind.RightBracket x) (hand_asks_of l z b) (took now (hand_asks_of l z b)) b)) kind_is
-      ∙ ap (λ ls. forgets (closing (same kind.RightBracket old.kind) ls (took now ls) b)) asks
-      ∙ ap (λ s. forgets (closing (same kind.RightBracket old.kind) (hand_asks_of l z a) (took s (hand_asks_of l z a)) b)) state
+      (λ v. forgets (closing (same kind.RightBracket (kind_is v)) (asks v) (took (state v) (asks v)) b))
       ∙ closing-alike (same kind.RightBracket old.kind) (hand_asks_of l z a) (took (renewed (after_node (is_error tree.head.kind) (text_of tree) a)) (hand_asks_of l z a)) m n
 
   -- the point where it is asked for, by what the flush before it leaves
   at-close-is : (s : Point) → ReadAs markup_reading s → (f : KnownFlush s) → after_node false [] s ≡ at_close f.newlines
   at-close-is s a f =
-      ap (λ k. record s { empties = 0; is_after_error = false; known = k }) f.is
-      ∙ ap (λ (r : Reading). record { reading = r; held = s.held; empties = 0; is_after_error = false; known = (at_close f.newlines).known }) a.reading
-      ∙ ap (λ (r : Reading). record { reading = markup_reading; held = r; empties = 0; is_after_error = false; known = (at_close f.newlines).known }) a.held
+      (λ v. record { reading = a.reading v; held = a.held v; empties = 0; is_after_error = false; known = f.is v })
 
   -- the bracket after two runs that end alike
   pub shut-same : (z w : Place) (s p : Point) → ReadAs markup_reading s → ReadAs markup_reading p → KnownFlush s → KnownFlush p → SameIn (shut z (after_node false [] s)).asks z w

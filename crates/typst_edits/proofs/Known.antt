@@ -36,11 +36,8 @@ abbrev pub Keeps : {A : Type 0} → Saying → CharClasses → Meaning A → Typ
 Keeps P k m = (z : Place) (s : Point) → Holds P k z s → Holds P k (moved (m z s).taken z) (m z s).state
 
 module _ (P : Saying) (stays : Stays P) where
-  holds-at : (k : CharClasses) (s : Point) (z w : Place) → w ≡ z → Holds P k z s → Holds P k w s
-  holds-at k s z w e h = subst (λ x. Holds P k x s) (sym e) h
-
   pub holds-joined : {A B : Type 0} (k : CharClasses) (z : Place) (o : Outcome B) (p : Outcome A) → Holds P k (moved p.taken (moved o.taken z)) p.state → Holds P k (moved (joined o p).taken z) (joined o p).state
-  holds-joined k z o p h = holds-at k p.state _ _ (moved-sum o.taken p.taken z) h
+  holds-joined k z o p h = subst (λ w. Holds P k w p.state) (sym (moved-sum o.taken p.taken z)) h
 
   holds-reshaped : {A : Type 0} (k : CharClasses) (z : Place) (shape : Shape) (n : ℕ) (o : Outcome A) → Holds P k (moved o.taken z) o.state → Holds P k (moved (reshaped shape n o).taken z) (reshaped shape n o).state
   holds-reshaped k z shape n o h =

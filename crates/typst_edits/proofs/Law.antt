@@ -1,19 +1,14 @@
 -- The law of an edit inside a block, for every parser of the language.
 use Rattle.std.proofs.Common.{◌≡◌, ℕ, zero, suc, ◌+◌, Bool, true, false, if◌then◌else◌, List, [], ◌∷◌, ◌++◌, append_assoc, refl, ap, sym, ◌∙◌, arith}
-use Rattle.typst_edits.proofs.Words.{map-append, is_error, Tree, Place, moved, CharClasses, Block, Reading, shift, shift_one, sunk, sink_one, marked, Call, Answer, Point, state_of, forgot, peek, Parser, ◌>>◌, flushes, gives, does, next, pick, repeat, wraps, grows, nests, scoped, either, calls, block, Rules, blocks_of, meaning_of, level_of, Outcome, Meaning, Level, blockless, plain, less, followed, before, bounded, deeper_by_one, entered, left_to, done, run, left, closed, same_in-first, same_in-sunk, Sane, sane-run, sane-plain, sane-meaning, sane-block, Spot, around, Fits, block_head, lowered, after_spot, sunk_spot, closed_spot, ended, last_node, here_spot, Spots, scoped_spot, bounded_spots, spots, call_spots, block_spots, level_spots, left-empties}
+use Rattle.std.proofs.Math.Bool.{or-false}
+use Rattle.typst_edits.proofs.Words.{map-append, is_error, Tree, Place, moved, CharClasses, Block, shift, marked, Call, Answer, Point, state_of, forgot, peek, Parser, ◌>>◌, flushes, gives, does, next, pick, repeat, wraps, grows, nests, scoped, either, calls, block, Rules, blocks_of, meaning_of, level_of, Outcome, Meaning, Level, blockless, plain, less, followed, before, bounded, deeper_by_one, entered, left_to, done, run, left, closed, same_in-first, same_in-sunk, Sane, sane-run, sane-plain, sane-meaning, sane-block, Spot, around, Fits, block_head, lowered, after_spot, sunk_spot, closed_spot, ended, last_node, here_spot, Spots, scoped_spot, bounded_spots, spots, call_spots, block_spots, level_spots, left-empties, if-true, if-false}
 use Rattle.typst_language.specs.Meaning.{chosen}
 use Rattle.typst_language.specs.declared.calls.Block.TheVariants as block_kind
 use Rattle.typst_language.specs.declared.calls.Mark.TheVariants as mark
 use Rattle.typst_language.proofs.Frame.{framed-done}
 use Rattle.typst_edits.proofs.Every.{Every, every-map, every-if}
-use Rattle.typst_edits.proofs.Outcomes.{same-outcome, shift-zero, lowered-zero, sunk-lowered, sunk-shift, or-false}
-use Rattle.typst_edits.proofs.Spots.{Edits, Lawful, lawful-after, Inside, if-true, if-false, lawful-same, lawful-by, joined-inside, value-same, inside-repeated, inside-wrapped, inside-nesting, edits-as, inside-growing}
-
--- ---- another way to read
-
-lawful-scoped : {A : Type 0} (outer : Reading) (z w : Place) (o n : Outcome A) (c : Spot A) → Lawful z w o n c → Lawful z w (left_to outer o) (left_to outer n) (scoped_spot outer c)
-lawful-scoped outer z w o n c l =
-    lawful-by (left_to outer) z w o n c (scoped_spot outer c) l (λ b x e. refl) (λ y. refl) refl (record { state = l.fits.state; back = l.fits.back; hints = l.fits.hints; nodes = l.fits.nodes; head = l.fits.head }) (let f = l.few in omega (arith, f, left-empties outer c.state)) l.solid (λ x e. edits-as z w c.value (left outer c.state) c.hole c x e)
+use Rattle.typst_edits.proofs.Outcomes.{same-outcome, shift-zero, lowered-zero, sunk-lowered, sunk-shift}
+use Rattle.typst_edits.proofs.Spots.{Edits, Lawful, lawful-after, Inside, lawful-same, lawful-by, joined-inside, value-same, inside-repeated, inside-wrapped, inside-nesting, edits-as, inside-growing}
 
 -- ---- one level deeper
 
@@ -27,14 +22,7 @@ edits-sunk z w c x e = record {
 }
 
 sunk-around : {A : Type 0} (c : Spot A) (b : Outcome (Unit {0})) (x : Tree) → deeper_by_one (around c b x) ≡ around (sunk_spot c) b x
-sunk-around c b x =
-    let own = shift c.at (lowered c.fewer b.asks) in
-    let rest = shift (c.at + b.taken) c.after in
-    let e : sunk (c.before ++ (own ++ rest)) ≡ sunk c.before ++ (shift c.at (lowered (suc c.fewer) b.asks) ++ shift (c.at + b.taken) (sunk c.after)) =
-    map-append sink_one c.before (own ++ rest)
-    ∙ ap (λ u. sunk c.before ++ u) (map-append sink_one own rest ∙ ap (λ u. u ++ sunk rest) (sunk-shift c.at (lowered c.fewer b.asks) ∙ ap (shift c.at) (sunk-lowered c.fewer b.asks))
-    ∙ ap (λ u. shift c.at (lowered (suc c.fewer) b.asks) ++ u) (sunk-shift (c.at + b.taken) c.after)) in
-    same-outcome c.value _ _ c.state c.state _ _ _ _ _ _ _ _ _ _ refl refl refl refl refl e refl
+sunk-around c b x = same-outcome c.value _ _ c.state c.state _ _ _ _ _ _ _ _ _ _ refl refl refl refl refl (simp (map-append, sunk-shift, sunk-lowered)) refl
 
 -- ---- a block
 
@@ -55,7 +43,7 @@ here-around b m z s d x f =
     let e : d.asks ++ end d.taken d.state ≡ shift 0 (lowered 0 d.asks) ++ end ((0 + d.taken) + 0) (m z (forgot s)).state =
     ap (λ u. u ++ end d.taken d.state) (sym (shift-zero (lowered 0 d.asks) ∙ lowered-zero d.asks))
     ∙ ap (λ n. shift 0 (lowered 0 d.asks) ++ end n d.state) t ∙ ap (λ (u : Point). shift 0 (lowered 0 d.asks) ++ end ((0 + d.taken) + 0) u) f.state in
-    same-outcome tt _ _ _ _ _ _ _ _ _ _ _ _ _ _ (omega arith) f.state f.back f.hints f.nodes (ap (λ u. marked 0 0 0 (mark.Opens b) (state_of s) ∷ u) e) (or-false d.met)
+    same-outcome tt _ _ _ _ _ _ _ _ _ _ _ _ _ _ (omega arith) f.state f.back f.hints f.nodes (ap (λ u. marked 0 0 0 (mark.Opens b) (state_of s) ∷ u) e) (sym (or-false d.met))
 
 lawful-here : (b : Block) (m : Meaning (Unit {0})) (z w : Place) (s : Point) → Ends b (m z (forgot s)) → Lawful z w (closed b s (m z (forgot s))) (closed b s (m w (forgot s))) (here_spot b m z s)
 lawful-here b m z w s e =
@@ -80,15 +68,7 @@ edits-closed b s z w c x e = record {
 
 closed-around : (b : Block) (s : Point) (c : Spot (Unit {0})) (d : Outcome (Unit {0})) (x : Tree) → closed b s (around c d x) ≡ around (closed_spot b s c) d x
 closed-around b s c d x =
-    let m = c.at + d.taken in
-    let own = shift c.at (lowered c.fewer d.asks) in
-    let end = λ (n : ℕ). marked n 0 0 mark.Closes (state_of c.state) in
-    let f : c.at + (d.taken + c.rest) ≡ m + c.rest = omega arith in
-    let e : (own ++ shift m c.after) ++ end (c.at + (d.taken + c.rest)) ∷ [] ≡ own ++ shift m (c.after ++ end c.rest ∷ []) =
-    append_assoc own (shift m c.after) (end (c.at + (d.taken + c.rest)) ∷ [])
-    ∙ ap (λ u. own ++ u) (ap (λ j. shift m c.after ++ end j ∷ []) f ∙ sym (map-append (shift_one m) c.after (end c.rest ∷ []))) in
-    same-outcome tt _ _ _ _ _ _ _ _ _ _ _ _ _ _ refl refl refl refl refl
-    (ap (λ u. marked 0 0 0 (mark.Opens b) (state_of s) ∷ u) (append_assoc c.before (own ++ shift m c.after) (end (c.at + (d.taken + c.rest)) ∷ []) ∙ ap (λ u. c.before ++ u) e)) refl
+    let f : c.at + (d.taken + c.rest) ≡ (c.at + d.taken) + c.rest = omega arith in same-outcome tt _ _ _ _ _ _ _ _ _ _ _ _ _ _ refl refl refl refl refl (simp (map-append, append_assoc, f)) refl
 
 inside-bounded : (b : Block) (m : Meaning (Unit {0})) (sp : Spots (Unit {0})) → ((z : Place) (s : Point) → Ends b (m z s)) → Inside m sp → Inside (bounded b m) (bounded_spots b m sp)
 inside-bounded b m sp ends i z w s = (
@@ -125,7 +105,8 @@ module _ (l : Level) (deep : (c : Call) → Spots (Answer c)) (in_block : Block 
         inside-nesting f begin (λ y. run l (p y)) (λ y. spots l deep in_block (p y)) (λ y. (sane (p y)).within) (λ y. (sane (p y)).framed) (λ y. (sane (p y)).backs) (λ y. inside-run (p y)) x z w s
     inside-run (scoped f p) z w s =
         let t = entered (f s.reading) s in
-        every-map (Lawful z w (run l p z t) (run l p w t)) _ (scoped_spot s.reading) (λ c k. lawful-scoped s.reading z w _ _ c k) (spots l deep in_block p z t) (inside-run p z w t)
+        every-map (Lawful z w (run l p z t) (run l p w t)) _ (scoped_spot s.reading)
+        (λ c l. lawful-by (left_to s.reading) z w _ _ c (scoped_spot s.reading c) l (λ b x e. refl) (λ y. refl) refl (record { state = l.fits.state; back = l.fits.back; hints = l.fits.hints; nodes = l.fits.nodes; head = l.fits.head }) (let f = l.few in omega (arith, f, left-empties s.reading c.state)) l.solid (λ x e. edits-as z w c.value (left s.reading c.state) c.hole c x e)) (spots l deep in_block p z t) (inside-run p z w t)
     inside-run (either p is_wrong q) z w s =
         let o = run l p z s in
         let n = run l p w s in

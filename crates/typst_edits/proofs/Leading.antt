@@ -1,6 +1,6 @@
 -- Where the pieces of a run begin among the nodes that it gives.
 use Rattle.std.proofs.Common.{◌≡◌, ℕ, zero, suc, ◌+◌, ◌-◌, ◌<◌, ◌≤◌, Bool, true, false, ◌&&◌, nat_lt, List, [], ◌∷◌, ◌++◌, length, take, drop, length-append, append_assoc, append-nil, Option, None, Some, refl, ap, sym, ◌∙◌, subst, arith, codes}
-use Rattle.typst_edits.proofs.Words.{lt-ltb, nil_from_length, Place, moved, CharClasses, Tree, forest, trees, text_of, inner_of, made_error, width, as_at_hand, hand_at, utf8_ahead, Trivia, Point, point_of, gap_of, pending, turns_wrong, itself, keeps, peek, flush_trivia, does, repeat, Outcome, Meaning, plain, less, standing, joined, repeated, start_point, entered, hand_of, asked, run, Tidy, Backs, Stands, Sane, sane-run, sane-meaning, sane-block, texts, texts-append, texts-one, texts-first, text-shaped, text-add, Holds, kept-joined, less-none, moved-sum, ends, markup_turn, markup_reading, rules, max_depth, level_at, start_of, whole, tree, parsed, inner, look_first, look_again, bracket, inner_run, run_at, opened_at, tail_at, close_at, Settles, together, read_from, standing_before, nodes_with, Among, Every, inner_end, inner_both, standing_in, nodes_in, block_with, onwards_in, text_run, onwards_from, bytes_of, LeadsAt, opening_child, token_byte, both, LeadingInner, Leading, blocks_of_text, goes, given, made, start, AllGo, End, end_of, chain, pieces, end_at, pieces_from, end_from, rest_from, tail, Sequence, turn_of, first_of, first_end, then_of, then_end, then_place, rest_of, Spot, last_node, unit_at, ended}
+use Rattle.typst_edits.proofs.Words.{lt-ltb, nil_from_length, Place, moved, CharClasses, Tree, forest, trees, text_of, inner_of, made_error, width, as_at_hand, hand_at, utf8_ahead, Trivia, Point, point_of, gap_of, pending, turns_wrong, itself, keeps, peek, flush_trivia, does, repeat, Outcome, Meaning, plain, less, standing, joined, repeated, start_point, entered, hand_of, asked, run, Tidy, Backs, Stands, Sane, sane-run, sane-meaning, sane-block, texts, texts-append, texts-one, texts-first, text-shaped, text-add, Holds, kept-joined, less-none, moved-sum, ends, markup_turn, markup_reading, rules, max_depth, level_at, start_of, whole, tree, parsed, inner, look_first, look_again, bracket, inner_run, run_at, opened_at, tail_at, close_at, Settles, together, read_from, standing_before, nodes_with, Among, Every, inner_end, inner_both, standing_in, nodes_in, block_with, onwards_in, text_run, onwards_from, bytes_of, LeadsAt, opening_child, token_byte, both, LeadingInner, Leading, blocks_of_text, goes, given, made, start, AllGo, End, end_of, chain, pieces, end_at, pieces_from, end_from, rest_from, tail, Sequence, turn_of, first_of, first_end, then_of, then_end, then_place, rest_of, Spot, last_node, unit_at, ended, true_from_ne_false, both_ways}
 use Rattle.typst_language.proofs.Leaves.{Keeps, blank-nil}
 use Rattle.typst_edits.specs.Leading.{is_over, LeadingLaw, LeadingInnerLaw}
 use Rattle.typst_kinds.specs.declared.kind.SyntaxKind.TheVariants as kind
@@ -117,11 +117,7 @@ module _ (r : Sequence) (leads : Leads r) where
 
   -- Where none goes on, the run ends.
   pub turn-over : (x : Bool × ℕ) (z : Place) (s : Point) → KnownAt s → goes (turn x z s) ≡ false → ends r.stops x.1 (as_at_hand (hand_of r.level z s)).kind ≡ true
-  turn-over x z s there stopped = by-end (ends r.stops x.1 (as_at_hand (hand_of r.level z s)).kind) refl
-    where
-      by-end : (b : Bool) → ends r.stops x.1 (as_at_hand (hand_of r.level z s)).kind ≡ b → b ≡ true
-      by-end true e = refl
-      by-end false e = let d : true ≡ false = sym (turn-goes-on x z s there.trivia there.is e) ∙ stopped in cc
+  turn-over x z s there stopped = true_from_ne_false (ends r.stops x.1 (as_at_hand (hand_of r.level z s)).kind) (λ e. both_ways _ stopped (turn-goes-on x z s there.trivia there.is e))
 
   -- all after some pieces, where another follows
   rest-front : (x : Bool × ℕ) (z : Place) (s : Point) (t : Trivia) (last : Outcome (Unit {0})) → s.known ≡ Some t → Tidy (repeated turn x z s).state last → ends r.stops x.1 (as_at_hand (hand_of r.level z s)).kind ≡ false

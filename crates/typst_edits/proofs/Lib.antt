@@ -1,6 +1,6 @@
 -- From what a contract promises to the lemma behind it:
 --   block_law: edit              Text: of a whole text; Law: for every parser; Spots, Outcomes: word by word; Blocks: each block's node; Edit: looks
---     that the block fits        Content; Known: what is known of trivia is all of them, and what stays true of it; Traversal: what holds of whatever the language can say, word by word
+--     that the block fits        Content; Known: what is known of trivia is all of them, and what stays true of it; Traversal, and Gathering with the blocks that are read: what holds of whatever the language can say, word by word
 --   block_law: names             Names: each block is the one of its name, between its marks, and what holds of each block of a reading, word by word
 --   complete_law                 Complete: word by word, by the notes of the log
 --   standing_law: blocks         Standing; Seats: a spot at a position, and in what nodes become; Positions: what holds at each position, and of each token's node
@@ -10,7 +10,7 @@
 --   joint_law                    Joint; Turns: each word before a token is taken, each head of markup, and how a run is read
 --   children_law                 Children: of a whole text and of a content block, also without the trivia before the pieces
 --   head_law                     Heads
---   decision_law                 Bytes: where looks end and begin, the notes of a log, and what their numbers say; Boundary: where pieces of any run end; RunBytes: the note there in the log, of any run, of a whole text and of a content block; Widths: characters and bytes; Within: looks are at places of the text
+--   decision_law                 Bytes: where looks end and begin, the notes of a log, and what their numbers say; Boundary: where pieces of any run end; RunBytes: the note there in the log, of any run, of a whole text and of a content block; Widths: characters and bytes; Looks: what is said of each look; Within: looks are at places of the text
 --   replaced_law                 Replaced
 --   empty_run_law                EmptyRuns: of a whole text; EmptyBlocks: of a content block
 --   candidates_law               CandidatePlaces
@@ -22,8 +22,8 @@
 --   part_law                     BlockPart
 --   splice_law                   Splice: notes before a stretch and after it, what stands after a note, and any asks; RunSplice: of a block, and of pieces of a text's run and of a block's; PieceAsks: what is asked of them; Seen: what is noted was looked at; Forward: trivia look ahead alone
 --   one_reading_law              OneReading
---   block_test_law               BlockTest: entries and the block by itself; EntryNumbers: a block's two notes among the entries; MarkupCandidates: the candidate's node in a hole; BlockPlaces: the block there, by bytes, also one that a reading that was given up covers
---   pieces_test_law              ReadAlone: pieces read by themselves, of any run; PiecesTest: of a whole text and of a content block
+--   block_test_law               BlockTest: entries and the block by itself; EntryNumbers: a block's two notes among the entries, and what a note's number says of looks; MarkupCandidates: the candidate's node in a hole; BlockPlaces: the block there, by bytes, also one that a reading that was given up covers
+--   pieces_test_law              ReadAlone: pieces read by themselves, of any run; EntryNumbers: looks by a note's number; PiecesTest: of a whole text and of a content block
 --   inner_pieces_test_law        PiecesTest
 --   run_test_law, inner_run_test_law      AnyRun: any run; RunTest: of a whole text and of a content block; RunOver: the end of a run
 --   served_law                   AnyRun: any run; Served: of a whole text and of a content block
@@ -31,7 +31,7 @@
 --   path_law                     Walk
 --   root_worth_law, inner_worth_law      CandidateWorth
 --   pieces_worth_law             RunPieces: at the root and in a content block
---   piece_candidates_law         RunCandidates: at the root and in a content block; CandidateEnds: of any run; MarkupCandidates: from which run a candidate comes; Cuts: the cuts of a block's run
+--   piece_candidates_law         RunCandidates: at the root and in a content block; CandidateEnds: of any run; MarkupCandidates, MarkupPlaces: from which run a candidate comes; Cuts: the cuts of a block's run
 --   candidate_runs_law           RootRuns: at the root, and of any run; InnerRuns: in a content block; MarkupPlaces: the node of a block in whose markup a candidate stands; Deepest: a level is left in it; StartBytes: where it begins
 --   candidate_law                CandidateWorth: each case of the test (proofs of code use answer_law and the laws of tests)
 --   answer_law                   AnswerTree: the answer's tree; Unique: the nodes in a candidate's place, and so the answer, are one
@@ -49,6 +49,7 @@ pub mod Law
 pub mod Edit
 pub mod Blocks
 pub mod Text
+pub mod Gathering
 pub mod Names
 pub mod Complete
 pub mod Positions
@@ -62,6 +63,7 @@ pub mod BlockRuns
 pub mod Turns
 pub mod Begins
 pub mod Joint
+pub mod Looks
 pub mod Within
 pub mod Widths
 pub mod Bytes

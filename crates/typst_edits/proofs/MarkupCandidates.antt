@@ -1,30 +1,22 @@
--- Where a candidate among the children of a content block's markup comes from: from that run, in a markup that covers the replaced bytes.
-use Rattle.std.proofs.Common.{◌≡◌, ℕ, zero, suc, ◌+◌, ◌*◌, ◌<◌, Bool, true, false, ◌&&◌, if◌then◌else◌, nat_lt, List, [], ◌∷◌, ◌++◌, length, Option, Some, None, refl, ap, sym, subst, ◌∙◌, arith, append_assoc, append-nil, length-append}
-use Rattle.typst_edits.proofs.Words.{nat_tests, is_block, Head, Note, texts, Forest, none, more, Tree, forest, trees, text_of, Child, laid, first_near, end_near, child_at, ChildRange, Candidate, of_run, run_in, candidates_at, begins, of_children, is_all, of_child_ranges, child_ranges, covers, Among, this, that, Every, Deep, fill, path_in, Hole, plug, path_of, under, on_both, forest_trees, ◌==◌, append_cancel_left, is_block_head}
+-- What holds of the candidates of a node, by those of its child near the replaced bytes and of its own run; and where a candidate that is a block stands.
+use Rattle.std.proofs.Common.{◌≡◌, ℕ, zero, suc, ◌+◌, ◌*◌, ◌<◌, Bool, true, false, ◌&&◌, if◌then◌else◌, nat_lt, List, [], ◌∷◌, ◌++◌, length, Option, Some, None, refl, ap, sym, subst, ◌∙◌, arith, append_assoc, length-append}
+use Rattle.typst_edits.proofs.Words.{nat_tests, is_block, Head, Note, texts, Forest, none, more, Tree, forest, trees, text_of, Child, laid, first_near, end_near, child_at, ChildRange, Candidate, of_run, run_in, candidates_at, begins, of_children, is_all, of_child_ranges, child_ranges, covers, Among, this, that, Every, Hole, plug, path_of, under, on_both, forest_trees, ◌==◌, is_block_head}
 use Rattle.typst_tree.specs.Tree.{joined}
 use Rattle.typst_candidates.specs.Candidates.{around, of_block}
 use Rattle.typst_edits.specs.Hole.Deep.{bare}
-use Rattle.typst_edits.proofs.Edit.{among, trees-of}
-use Rattle.typst_edits.proofs.Every.{every-append, every-by, every-if, first_or, some_or}
-use Rattle.typst_edits.proofs.Walk.{deep_text, length-texts, left_text}
+use Rattle.typst_edits.proofs.Edit.{among}
+use Rattle.typst_edits.proofs.Every.{every-append, every-by, every-if, some_or}
+use Rattle.typst_edits.proofs.Walk.{length-texts, left_text}
 use Rattle.typst_candidates.proofs.Edges.{begins_first}
 use Rattle.typst_grammar.proofs.Fine.{and-both}
 
 -- ---- lists
 
-every-among : {X : Type 0} (xs : List X) → Every (λ x. Among x xs) xs
+pub every-among : {X : Type 0} (xs : List X) → Every (λ x. Among x xs) xs
 every-among [] = tt
 every-among (x ∷ xs) = (this xs, every-by (λ y h. that x xs h) xs (every-among xs))
 
-pub longer-other : (xs : List ℕ) (y : ℕ) (ys : List ℕ) → xs ≡ xs ++ y ∷ ys → ⊥
-longer-other xs y ys e = let l = ap length e in let m = length-append xs (y ∷ ys) in absurd (omega (arith, l, m))
-
 -- ---- those of a node
-
--- A path begins with this one.
-pub record Below (path : List ℕ) (c : Candidate) : Type 0 where
-  pub behind : List ℕ
-  pub is : c.path ≡ path ++ behind
 
 -- pieces of the node at the end of a path
 pub record Own (path : List ℕ) (c : Candidate) : Type 0 where
@@ -102,126 +94,6 @@ module _ (ns : List Note) (rs re : ℕ) where
           (λ e. every-append P (candidates_at ns rs re (path ++ i ∷ []) (run_in ns at h.kind c.node.head.kind) i inside ks) (of_block path inside (trees ks) i c.node.head.kind) (f c refl e)
           (every-if P (is_block c.node.head.kind) (of_children true path inside (trees ks) i (suc i) ∷ []) [] (λ one. (g c refl e one, tt)) (λ no. tt)))
           (λ e. tt)
-
-  -- Each path of them begins with the node's.
-  pub paths-below : (path : List ℕ) (run : Option (List ℕ)) (index at : ℕ) (f : Forest) → Every (Below path) (candidates_at ns rs re path run index at f)
-  unfolding candidates_at
-  paths-below path run index at none = tt
-  paths-below path run (suc index) at (more h ks r) = paths-below path run index (at + length (h.text ++ joined ks)) r
-  paths-below path run zero at (more h ks r) =
-      let inside = at + length h.text in
-      let i = first_near rs (laid inside (trees ks)) in
-      node-every (Below path) path run at h ks r
-      (λ c e on. every-by (λ d b. record { behind = i ∷ b.behind; is = b.is ∙ append_assoc path (i ∷ []) b.behind }) _ (paths-below (path ++ i ∷ []) (run_in ns at h.kind c.node.head.kind) i inside ks))
-      (λ c e on one. record { behind = []; is = sym (append-nil path) })
-      (every-by (λ c o. record { behind = []; is = o.at_end ∙ sym (append-nil path) }) _ (run-own rs re path inside (trees ks) run))
-
-  -- those of the tree of an index are those of that tree alone
-  pub at-index : (path : List ℕ) (run : Option (List ℕ)) (index at : ℕ) (f : Forest) (c : Child) → child_at (laid at (trees f)) index ≡ Some c
-      → candidates_at ns rs re path run index at f ≡ candidates_at ns rs re path run zero c.start (more c.node.head c.node.kids none)
-  unfolding candidates_at
-  at-index path run index at none c e = absurd (cc)
-  at-index path run zero at (more h ks r) c e = some-same (λ (d : Child). candidates_at ns rs re path run zero d.start (more d.node.head d.node.kids none)) _ c e
-    where
-      some-same : (f : Child → List Candidate) (b c : Child) → ◌≡◌ {A = Option Child} (Some b) (Some c) → f b ≡ f c
-      some-same f b c e = ap (λ o. elim o as (λ _. List Candidate) [ None ↦ f b | Some d ↦ f d ]) e
-  at-index path run (suc index) at (more h ks r) c e = at-index path run index (at + length (h.text ++ joined ks)) r c e
-
-  -- Pieces of the node itself are those of its run.
-  pub own-run : (path : List ℕ) (run : Option (List ℕ)) (at : ℕ) (h : Head) (ks r : Forest)
-      → Every (λ c. c.is_block ≡ false → c.path ≡ path → Among c (of_run rs re path (at + length h.text) (trees ks) run)) (candidates_at ns rs re path run zero at (more h ks r))
-  own-run path run at h ks r =
-      let inside = at + length h.text in
-      let i = first_near rs (laid inside (trees ks)) in
-      node-every _ path run at h ks r
-      (λ c e on. every-by (λ d b pieces p. absurd (longer-other path i b.behind (sym p ∙ b.is ∙ append_assoc path (i ∷ []) b.behind))) _ (paths-below (path ++ i ∷ []) (run_in ns at h.kind c.node.head.kind) i inside ks))
-      (λ c e on one pieces p. absurd (cc))
-      (every-by (λ c a pieces p. a) _ (every-among (of_run rs re path inside (trees ks) run)))
-
-  -- ---- down to a block
-
-  -- it is one of the run of the node's second child, which begins before the bytes and ends after them
-  pub record InMarkup (at : ℕ) (x : Tree) (c : Candidate) : Type 0 where
-    pub child : Child
-    pub is : child_at (laid (at + length x.head.text) (trees x.kids)) 1 ≡ Some child
-    pub starts : child.start < rs
-    pub ends : re < child.end
-    pub chosen : Among c (of_run rs re c.path (child.start + length child.node.head.text) (trees child.node.kids) (run_in ns at x.head.kind child.node.head.kind))
-
-  -- the child after some others
-  child-behind : (at : ℕ) (left : List Tree) (y : Tree) (right : List Tree)
-      → child_at (laid at (left ++ y ∷ right)) (length left) ≡ Some (record { start = at + length (texts left); end = (at + length (texts left)) + length (text_of y); node = y })
-  child-behind at [] y right = let e : at ≡ at + 0 = omega arith in ap (λ n. Some (record { start = n; end = n + length (text_of y); node = y })) e
-  child-behind at (t ∷ left) y right =
-      let e : (at + length (text_of t)) + length (texts left) ≡ at + length (texts (t ∷ left)) = omega (arith, length-texts t left) in
-      child-behind (at + length (text_of t)) left y right ∙ ap (λ n. Some (record { start = n; end = n + length (text_of y); node = y })) e
-
-  -- the first step of a path after another
-  step-is : (path : List ℕ) (i : ℕ) (behind : List ℕ) (j : ℕ) (onwards : List ℕ) (p : List ℕ) → p ≡ (path ++ i ∷ []) ++ behind → p ≡ path ++ j ∷ onwards → i ≡ j
-  step-is path i behind j onwards p e f = ap (first_or 0) (append_cancel_left path (i ∷ behind) (j ∷ onwards) (sym (append_assoc path (i ∷ []) behind) ∙ sym e ∙ f))
-
-  pub every-both : {X : Type 0} (P Q : X → Type 0) (xs : List X) → Every P xs → Every Q xs → Every (λ x. P x × Q x) xs
-  every-both P Q [] h g = tt
-  every-both P Q (x ∷ xs) h g = ((h.0, g.0), every-both P Q xs h.1 g.1)
-
-  every-given : {X : Type 0} (E : Type 0) (P : X → Type 0) (xs : List X) → (E → Every P xs) → Every (λ x. E → P x) xs
-  every-given E P [] f = tt
-  every-given E P (x ∷ xs) f = ((λ e. (f e).0), every-given E P xs (λ e. (f e).1))
-
-  -- of the tree with the block in place of a hole, those at the path of its second child are in its markup
-  pub descend : (d : Deep) (x : Tree) (path : List ℕ) (run : Option (List ℕ)) (at : ℕ)
-      → Every (λ c. c.is_block ≡ false → c.path ≡ path ++ (path_in d ++ 1 ∷ []) → InMarkup (at + length (deep_text d)) x c) (candidates_at ns rs re path run zero at (more (fill d x).head (fill d x).kids none))
-  descend bare x path run at =
-      let none_more : at ≡ at + 0 = omega arith in
-      let inside = at + length x.head.text in
-      let cs = laid inside (trees x.kids) in
-      let i = first_near rs cs in
-      node-every _ path run at x.head x.kids none
-      (λ ch e on. every-by
-      (λ c b pieces p.
-      let first : i ≡ 1 = step-is path i b.0.behind 1 [] c.path b.0.is p in
-      let there : child_at cs 1 ≡ Some ch = subst (λ j. child_at cs j ≡ Some ch) first e in
-      let on_way = covers-is rs re cs i ch on in
-      let here : c.path ≡ path ++ i ∷ [] = p ∙ ap (λ j. path ++ j ∷ []) (sym first) in
-      subst (λ n. InMarkup n x c) none_more (record {
-        child = ch;
-        is = there;
-        starts = on_way.starts;
-        ends = on_way.ends;
-        chosen = subst (λ q. Among c (of_run rs re q (ch.start + length ch.node.head.text) (trees ch.node.kids) (run_in ns at x.head.kind ch.node.head.kind))) (sym here) (b.1 pieces here);
-      }))
-      _ (every-both (Below (path ++ i ∷ [])) _ _ (paths-below (path ++ i ∷ []) (run_in ns at x.head.kind ch.node.head.kind) i inside x.kids)
-      (subst (λ cs. Every (λ c. c.is_block ≡ false → c.path ≡ path ++ i ∷ [] → Among c (of_run rs re (path ++ i ∷ []) (ch.start + length ch.node.head.text) (trees ch.node.kids) (run_in ns at x.head.kind ch.node.head.kind))) cs)
-      (sym (at-index (path ++ i ∷ []) (run_in ns at x.head.kind ch.node.head.kind) i inside x.kids ch e))
-      (own-run (path ++ i ∷ []) (run_in ns at x.head.kind ch.node.head.kind) ch.start ch.node.head ch.node.kids none))))
-      (λ c e on one pieces p. absurd (cc))
-      (every-by (λ c o pieces p. absurd (longer-other path 1 [] (sym o.at_end ∙ p))) _ (run-own rs re path inside (trees x.kids) run))
-  descend (under head left d right) x path run at =
-      let ts = left ++ fill d x ∷ right in
-      let inside = at + length head.text in
-      let cs = laid inside (trees (forest ts)) in
-      let i = first_near rs cs in
-      let next = inside + length (texts left) in
-      let f = length-append head.text (texts left ++ deep_text d) in
-      let sum : next + length (deep_text d) ≡ at + length (head.text ++ (texts left ++ deep_text d)) = omega (arith, f, length-append (texts left) (deep_text d)) in
-      let found : child_at cs (length left) ≡ Some (record { start = next; end = next + length (text_of (fill d x)); node = fill d x }) =
-      ap (λ us. child_at (laid inside us) (length left)) (trees-of ts) ∙ child-behind inside left (fill d x) right in
-      node-every _ path run at head (forest ts) none
-      (λ ch e on. every-by
-      (λ c b pieces p.
-      let first : i ≡ length left = step-is path i b.0.behind (length left) (path_in d ++ 1 ∷ []) c.path b.0.is p in
-      subst (λ n. InMarkup n x c) sum (b.1 first pieces p))
-      _ (every-both (Below (path ++ i ∷ [])) (λ c. i ≡ length left → c.is_block ≡ false → c.path ≡ path ++ (length left ∷ (path_in d ++ 1 ∷ [])) → InMarkup (next + length (deep_text d)) x c) _
-      (paths-below (path ++ i ∷ []) (run_in ns at head.kind ch.node.head.kind) i inside (forest ts))
-      (every-given (i ≡ length left) _ _ (λ first.
-      let there : child_at cs i ≡ Some (record { start = next; end = next + length (text_of (fill d x)); node = fill d x }) = subst (λ j. child_at cs j ≡ Some (record { start = next; end = next + length (text_of (fill d x)); node = fill d x })) (sym first) found in
-      let q = path ++ i ∷ [] in
-      let r = run_in ns at head.kind ch.node.head.kind in
-      let same : q ++ (path_in d ++ 1 ∷ []) ≡ path ++ (length left ∷ (path_in d ++ 1 ∷ [])) = append_assoc path (i ∷ []) (path_in d ++ 1 ∷ []) ∙ ap (λ j. path ++ j ∷ (path_in d ++ 1 ∷ [])) first in
-      subst (λ cs. Every (λ c. c.is_block ≡ false → c.path ≡ path ++ (length left ∷ (path_in d ++ 1 ∷ [])) → InMarkup (next + length (deep_text d)) x c) cs) (sym (at-index q r i inside (forest ts) _ there))
-      (every-by (λ c h pieces p. h pieces (p ∙ sym same)) _ (descend d x q r next))))))
-      (λ c e on one pieces p. absurd (cc))
-      (every-by (λ c o pieces p. absurd (longer-other path (length left) (path_in d ++ 1 ∷ []) (sym o.at_end ∙ p))) _ (run-own rs re path inside (trees (forest ts)) run))
 
 -- ---- candidates of a run
 

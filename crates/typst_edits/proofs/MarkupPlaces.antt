@@ -1,11 +1,12 @@
--- Where a candidate that is pieces and doesn't stand at the root comes from: from a child that covers the replaced bytes and is the markup of a content block.
-use Rattle.std.proofs.Common.{◌≡◌, ℕ, zero, suc, ◌+◌, Bool, true, false, ◌&&◌, if◌then◌else◌, List, [], ◌∷◌, ◌++◌, length, Option, Some, None, refl, ap, sym, ◌∙◌, subst, arith, append_assoc, append-nil, length-append}
+-- Where a candidate that is pieces comes from: from the run of the tree's root, or from that of a child that covers the replaced bytes and is the markup of a content block.
+use Rattle.std.proofs.Common.{◌≡◌, ◌⊎◌, inl, inr, ℕ, zero, suc, ◌+◌, ◌<◌, Bool, true, false, ◌&&◌, if◌then◌else◌, List, [], ◌∷◌, ◌++◌, length, Option, Some, None, refl, ap, sym, ◌∙◌, subst, arith, append_assoc, length-append}
 use Rattle.typst_edits.proofs.Words.{same, Head, SyntaxKind, Note, texts, Forest, none, more, Tree, forest, trees, Child, laid, first_near, child_at, Candidate, of_run, run_in, candidates_at, cuts_in, Among, Every, Deep, fill, path_in, under, forest_trees}
 use Rattle.typst_tree.specs.Tree.{joined}
 use Rattle.typst_edits.specs.Hole.Deep.{bare}
 use Rattle.typst_kinds.specs.declared.kind.SyntaxKind.TheVariants as kind
 use Rattle.typst_kinds.proofs.Sameness.{same-is}
-use Rattle.typst_edits.proofs.MarkupCandidates.{split-child, Covers, covers-is, AtIndex, at-child, Below, at-index, every-both, longer-other, node-every, own-run, paths-below, run-own}
+use Rattle.typst_edits.proofs.MarkupCandidates.{split-child, Covers, covers-is, AtIndex, at-child, Own, every-among, node-every, run-own}
+use Rattle.typst_edits.proofs.BlockPlaces.{deep-same, split-same}
 use Rattle.typst_edits.proofs.Edit.{among}
 use Rattle.typst_edits.proofs.Every.{every-by}
 use Rattle.typst_edits.proofs.Walk.{deep_text}
@@ -24,12 +25,12 @@ module _ (ns : List Note) (rs re : ℕ) where
     pub covers : Covers rs re child
     pub own : Among c (of_run rs re c.path (child.start + length child.node.head.text) (trees child.node.kids) (run_in ns (at + length (deep_text deep)) node.head.kind child.node.head.kind))
 
-  -- what is found of the one of an index of some trees side by side
-  abbrev In : List ℕ → Candidate → ℕ → Head → Forest → Type 0
-  In path c at h ks = h.is_inner ≡ true → (c.path ≡ path → ⊥) → Placed path at (record { head = h; kids = ks }) c
+  -- The candidate is of a node's own run, or of a child's.
+  abbrev Comes : List ℕ → Option (List ℕ) → Candidate → ℕ → Head → Forest → Type 0
+  Comes path run c at h ks = ((c.path ≡ path) × Among c (of_run rs re path (at + length h.text) (trees ks) run)) ⊎ (h.is_inner ≡ true → Placed path at (record { head = h; kids = ks }) c)
 
-  abbrev Finds : List ℕ → ℕ → ℕ → Forest → Candidate → Type 0
-  Finds path index at f c = c.is_block ≡ false → AtIndex (In path c) index at f
+  abbrev Finds : List ℕ → Option (List ℕ) → ℕ → ℕ → Forest → Candidate → Type 0
+  Finds path run index at f c = c.is_block ≡ false → AtIndex (Comes path run c) index at f
 
   -- one within a child
   within-child : (path : List ℕ) (at i : ℕ) (h : Head) (ks : Forest) (d : Child) (c : Candidate) → child_at (laid (at + length h.text) (trees ks)) i ≡ Some d → Placed (path ++ i ∷ []) d.start d.node c → Placed path at (record { head = h; kids = ks }) c
@@ -74,20 +75,13 @@ module _ (ns : List Note) (rs re : ℕ) where
             (subst (λ q. Among c (of_run rs re q (d.start + length d.node.head.text) (trees d.node.kids) (run_in ns at h.kind d.node.head.kind))) (sym p) own);
       }
 
-  -- those of a child that covers the replaced bytes
-  abbrev OfChild : List ℕ → ℕ → ℕ → Head → Forest → Child → Candidate → Type 0
-  OfChild path at i h ks d c = Below (path ++ i ∷ []) c × (Finds (path ++ i ∷ []) i (at + length h.text) ks c
-      × (c.is_block ≡ false → c.path ≡ path ++ i ∷ [] → Among c (of_run rs re (path ++ i ∷ []) (d.start + length d.node.head.text) (trees d.node.kids) (run_in ns at h.kind d.node.head.kind))))
+  -- one of a child that covers the replaced bytes
+  by-child : (path : List ℕ) (at i : ℕ) (h : Head) (ks : Forest) (d : Child) (c : Candidate) → child_at (laid (at + length h.text) (trees ks)) i ≡ Some d → Covers rs re d → h.is_inner ≡ true
+      → Comes (path ++ i ∷ []) (run_in ns at h.kind d.node.head.kind) c d.start d.node.head d.node.kids → Placed path at (record { head = h; kids = ks }) c
+  by-child path at i h ks d c e on inner (inl own) = of-child path at i h ks d c e on inner own.0 own.1
+  by-child path at i h ks d c e on inner (inr f) = within-child path at i h ks d c e (f on.inner)
 
-  by-child : (path : List ℕ) (at i : ℕ) (h : Head) (ks r : Forest) (d : Child) (c : Candidate) → child_at (laid (at + length h.text) (trees ks)) i ≡ Some d → Covers rs re d → OfChild path at i h ks d c → Finds path zero at (more h ks r) c
-  by-child path at i h ks r d c e on o pieces inner other = by-path o.0.behind o.0.is
-    where
-      by-path : (behind : List ℕ) → c.path ≡ (path ++ i ∷ []) ++ behind → Placed path at (record { head = h; kids = ks }) c
-      by-path [] p = let here = p ∙ append-nil (path ++ i ∷ []) in of-child path at i h ks d c e on inner here (o.1.1 pieces here)
-      by-path (j ∷ behind) p =
-          within-child path at i h ks d c e (at-child (In (path ++ i ∷ []) c) i (at + length h.text) ks d e (o.1.0 pieces) on.inner (λ same. longer-other (path ++ i ∷ []) j behind (sym same ∙ p)))
-
-  all-find : (path : List ℕ) (run : Option (List ℕ)) (index at : ℕ) (f : Forest) → Every (Finds path index at f) (candidates_at ns rs re path run index at f)
+  all-find : (path : List ℕ) (run : Option (List ℕ)) (index at : ℕ) (f : Forest) → Every (Finds path run index at f) (candidates_at ns rs re path run index at f)
   unfolding candidates_at
   all-find path run index at none = tt
   all-find path run (suc index) at (more h ks r) = all-find path run index (at + length (h.text ++ joined ks)) r
@@ -95,22 +89,47 @@ module _ (ns : List Note) (rs re : ℕ) where
       let inside = at + length h.text in
       let cs = laid inside (trees ks) in
       let i = first_near rs cs in
-      node-every ns rs re (Finds path zero at (more h ks r)) path run at h ks r
+      node-every ns rs re (Finds path run zero at (more h ks r)) path run at h ks r
       (λ d e on.
       let q = path ++ i ∷ [] in
       let own = run_in ns at h.kind d.node.head.kind in
-      let all = candidates_at ns rs re q own i inside ks in
-      let mine : Every (λ c. c.is_block ≡ false → c.path ≡ q → Among c (of_run rs re q (d.start + length d.node.head.text) (trees d.node.kids) own)) all =
-      subst (λ cs. Every (λ c. c.is_block ≡ false → c.path ≡ q → Among c (of_run rs re q (d.start + length d.node.head.text) (trees d.node.kids) own)) cs) (sym (at-index ns rs re q own i inside ks d e))
-      (own-run ns rs re q own d.start d.node.head d.node.kids none) in
-      every-by (λ c o. by-child path at i h ks r d c e (covers-is rs re cs i d on) o) all
-      (every-both ns rs re (Below q) _ all (paths-below ns rs re q own i inside ks) (every-both ns rs re (Finds q i inside ks) _ all (all-find q own i inside ks) mine)))
-      (λ c e on one pieces inner other. absurd (cc))
-      (every-by {Q = Finds path zero at (more h ks r)} (λ c o pieces inner other. absurd (other o.at_end)) _ (run-own rs re path inside (trees ks) run))
+      every-by {Q = Finds path run zero at (more h ks r)} (λ c f pieces. inr (λ inner. by-child path at i h ks d c e (covers-is rs re cs i d on) inner (at-child (Comes q own c) i inside ks d e (f pieces)))) _ (all-find q own i inside ks))
+      (λ c e on one pieces. absurd (cc))
+      (every-by {Q = Finds path run zero at (more h ks r)} (λ c a pieces. inl ((among (Own path) c _ a (run-own rs re path inside (trees ks) run)).at_end, a)) _ (every-among (of_run rs re path inside (trees ks) run)))
 
   -- of a tree whose root is an inner node
   pub in-tree : (path : List ℕ) (run : Option (List ℕ)) (at : ℕ) (t : Tree) → t.head.is_inner ≡ true → Every (λ c. c.is_block ≡ false → (c.path ≡ path → ⊥) → Placed path at t c) (candidates_at ns rs re path run zero at (more t.head t.kids none))
-  in-tree path run at t inner = every-by {Q = λ c. c.is_block ≡ false → (c.path ≡ path → ⊥) → Placed path at t c} (λ c f pieces other. f pieces inner other) _ (all-find path run zero at (more t.head t.kids none))
+  in-tree path run at t inner =
+      every-by {Q = λ c. c.is_block ≡ false → (c.path ≡ path → ⊥) → Placed path at t c} (λ c f pieces other. elim (f pieces) [ inl own ↦ absurd (other own.0) | inr placed ↦ placed inner ]) _ (all-find path run zero at (more t.head t.kids none))
+
+  -- Pieces of its root are those of the root's run.
+  pub own-run : (path : List ℕ) (run : Option (List ℕ)) (at : ℕ) (t : Tree) → t.head.is_inner ≡ true
+      → Every (λ c. c.is_block ≡ false → c.path ≡ path → Among c (of_run rs re path (at + length t.head.text) (trees t.kids) run)) (candidates_at ns rs re path run zero at (more t.head t.kids none))
+  own-run path run at t inner =
+      every-by {Q = λ c. c.is_block ≡ false → c.path ≡ path → Among c (of_run rs re path (at + length t.head.text) (trees t.kids) run)}
+      (λ c f pieces p. elim (f pieces) [ inl own ↦ own.1 | inr placed ↦ (let x = placed inner in absurd (omega (arith, ap length (sym p ∙ x.path_is), length-append path (path_in x.deep ++ x.step ∷ []), length-append (path_in x.deep) (x.step ∷ [])))) ])
+      _ (all-find path run zero at (more t.head t.kids none))
+
+  -- ---- down to a block
+
+  -- it is one of the run of the node's second child, which begins before the bytes and ends after them
+  pub record InMarkup (at : ℕ) (x : Tree) (c : Candidate) : Type 0 where
+    pub child : Child
+    pub is : child_at (laid (at + length x.head.text) (trees x.kids)) 1 ≡ Some child
+    pub starts : child.start < rs
+    pub ends : re < child.end
+    pub chosen : Among c (of_run rs re c.path (child.start + length child.node.head.text) (trees child.node.kids) (run_in ns at x.head.kind child.node.head.kind))
+
+  -- of the tree with the block in place of a hole, one at the path of its second child is in its markup
+  pub at-second : (d : Deep) (x : Tree) (run : Option (List ℕ)) (at : ℕ) (c : Candidate) → (fill d x).head.is_inner ≡ true → Among c (candidates_at ns rs re [] run zero at (more (fill d x).head (fill d x).kids none)) → c.is_block ≡ false
+      → c.path ≡ path_in d ++ 1 ∷ [] → InMarkup (at + length (deep_text d)) x c
+  at-second d x run at c inner chosen pieces path =
+      let p = among _ c _ chosen (in-tree [] run at (fill d x) inner) pieces (λ root. absurd (omega (arith, ap length (sym root ∙ path), length-append (path_in d) (1 ∷ [])))) in
+      let steps : path_in d ++ 1 ∷ [] ≡ path_in p.deep ++ p.step ∷ [] = sym path ∙ p.path_is in
+      let same = split-same (path_in d) [] (path_in p.deep) [] 1 p.step (omega (arith, ap length steps, length-append (path_in d) (1 ∷ []), length-append (path_in p.deep) (p.step ∷ []))) steps in
+      let there = deep-same d p.deep x p.node same.0 p.is in
+      subst (λ text. InMarkup (at + length text) x c) (sym there.0) (subst (λ y. InMarkup (at + length (deep_text p.deep)) y c) (sym there.1)
+      (record { child = p.child; is = subst (λ i. child_at (laid ((at + length (deep_text p.deep)) + length p.node.head.text) (trees p.node.kids)) i ≡ Some p.child) (sym same.1) p.there; starts = p.covers.starts; ends = p.covers.ends; chosen = p.own }))
 
 -- ---- the markup of a content block
 

@@ -1,7 +1,8 @@
 -- Each block of a reading is the one of its name, and its marks stand in the log.
-use Rattle.std.proofs.Common.{◌≡◌, ℕ, zero, suc, ◌+◌, ◌-◌, Bool, true, false, ◌&&◌, nat_lt, Option, Some, None, List, [], ◌++◌, map, subst, arith, ◌∷◌, append_assoc, refl, ap, sym, ◌∙◌}
-use Rattle.typst_edits.proofs.Words.{flat_map, Place, moved, CharClasses, Block, Reading, Call, Answer, Point, forgot, state_of, Shape, peek, Parser, Begin, ◌>>◌, flushes, gives, does, next, pick, repeat, wraps, grows, nests, scoped, either, calls, block, Rules, meaning_of, level_of, blocks_of, Outcome, Meaning, Level, blockless, bound, before, is_more, turns, nestings, entered, done, run, grew, Hole, wrap_hole, Spot, block_head, valued, then_spot, after_spot, rehole, sunk_spot, closed_spot, here_spot, ended, Spots, joined_spots, goes, last_spot, turns_spots, repeated_spots, reshaped_spot, wrapped_spot, grown_spot, growths_spots, growing_spots, nestings_spots, nesting_spots, scoped_spot, spots, call_spots, block_spots, level_spots, seconds, call_seconds, block_seconds, level_seconds, map-append, shift, shift_one, sunk, sink_one, marked, Named}
-use Rattle.typst_edits.proofs.Every.{Every, every-any, every-append, every-map, every-flat, every-if}
+use Rattle.std.proofs.Common.{◌≡◌, ℕ, suc, ◌+◌, ◌-◌, true, Option, Some, None, List, [], ◌++◌, map, arith, ◌∷◌, append_assoc, refl, ap, sym, ◌∙◌}
+use Rattle.typst_edits.proofs.Words.{is_ordinary, Place, moved, CharClasses, Block, Reading, Point, forgot, state_of, Shape, peek, Parser, ◌>>◌, flushes, does, Rules, meaning_of, level_of, blocks_of, Outcome, Meaning, Level, blockless, entered, done, run, grew, Hole, wrap_hole, Spot, block_head, valued, then_spot, after_spot, rehole, sunk_spot, closed_spot, here_spot, ended, Spots, joined_spots, last_spot, reshaped_spot, wrapped_spot, grown_spot, scoped_spot, call_spots, block_spots, level_spots, call_seconds, block_seconds, level_seconds, map-append, shift, shift_one, sunk, sink_one, marked, Named}
+use Rattle.typst_edits.proofs.Gathering.{Parts, Given, AllHold, CallsHold, all-run, all-level}
+use Rattle.typst_edits.proofs.Every.{Every, every-any, every-append, every-map, every-flat}
 use Rattle.typst_language.specs.declared.calls.Mark.TheVariants as mark
 
 -- ---- a property of each block of a reading, word by word: it holds in the whole if it holds in each part
@@ -26,7 +27,7 @@ module _ (At : Place → Point → Type 0) (Gone : (A : Type 0) → Place → Po
     pub deeper : (A : Type 0) (n : ℕ) (z : Place) (s : Point) (c : Spot A) → P A (n - 1) z s c → P A n z s (sunk_spot c)
     pub in_block : (n : ℕ) (z : Place) (s : Point) (b : Block) (c : Spot (Unit {0})) → P (Unit {0}) n z (forgot s) c → P (Unit {0}) n z s (closed_spot b s c)
 
-  -- So it holds of each block of a reading.
+  -- of each block of a reading
   abbrev pub Holds : {A : Type 0} → ℕ → Spots A → Type 0
   Holds {A} n sp = (z : Place) (s : Point) → At z s → Every (P A n z s) (sp z s)
 
@@ -42,146 +43,73 @@ module _ (At : Place → Point → Type 0) (Gone : (A : Type 0) → Place → Po
     each-wrapped : {A : Type 0} (z : Place) (s : Point) (f : A → Shape) (i : ℕ) (c : Spot A) → P A n z s c → Every (P _ n z s) (wrapped_spot f i c)
     each-wrapped z s f i c h = every-map _ _ (valued _) (λ d k. w.with_value _ _ n z s _ d k) (reshaped_spot (f c.value) i c) (w.in_shape _ n z s (f c.value) i c h)
 
-    each-grown : {A : Type 0} (z : Place) (s : Point) (i : ℕ) (shape : Option Shape) (c : Spot A) → P A n z s c → Every (P A n z s) (grown_spot i shape c)
-    each-grown z s i None c h = (h, tt)
-    each-grown z s i (Some shape) c h = w.in_shape _ n z s shape i c h
+    each-grown : {A : Type 0} (z : Place) (s : Point) (i : ℕ) (shape : Option Shape) (c : Spot (Option Shape × A)) → P _ n z s c → Every (P A n z s) (grown_spot i shape (last_spot c))
+    each-grown z s i None c h = (w.with_value _ _ n z s c.value.1 c h, tt)
+    each-grown z s i (Some shape) c h = w.in_shape _ n z s shape i (last_spot c) (w.with_value _ _ n z s c.value.1 c h)
 
-    module _ {A : Type 0} (m : A → Meaning (Bool × A)) (sp : A → Spots (Bool × A)) (f : (x : A) (z : Place) (s : Point) → At z s → Gone (Bool × A) z s (m x z s)) (h : (x : A) → Holds n (sp x)) where
-      each-turns : (i : ℕ) (x : A) → Holds n (turns_spots m sp i x)
-      each-turns zero x z s a = tt
-      each-turns (suc i) x z s a =
-          let o = m x z s in
-          let v = moved o.taken z in
-          let g = f x z s a in
-          every-if _ (goes o) _ _ (λ t. each-joined z s o (sp x z s) (turns m i o.value.1 v o.state) (turns_spots m sp i o.value.1 v o.state) g (h x z s a) (each-turns i o.value.1 v o.state (w.at_end _ z s o g))) (λ t. each-last z s (sp x z s) (h x z s a))
+  -- all of them, those that count and those of second readings
+  abbrev EachOf : (A : Type 0) → ℕ → Place → Point → Outcome A → List (Spot A) → List (Spot A) → Type 0
+  EachOf A n z s o cs ds = Every (P A n z s) cs × Every (P A n z s) ds
 
-      each-nestings : (shape : A → Shape) (begin : Begin) (i : ℕ) (x : A) → Holds n (nestings_spots shape begin m sp i x)
-      each-nestings shape begin zero x z s a = tt
-      each-nestings shape begin (suc i) x z s a =
-          let o = m x z s in
-          let v = moved o.taken z in
-          let g = f x z s a in
-          every-flat _ _ (λ c. reshaped_spot (shape c.value) (before begin s) c) (λ c k. w.in_shape _ n z s (shape c.value) (before begin s) c k) _
-          (every-if _ (goes o) _ _ (λ t. each-joined z s o (sp x z s) (nestings shape begin m i o.value.1 v o.state) (nestings_spots shape begin m sp i o.value.1 v o.state) g (h x z s a) (each-nestings shape begin i o.value.1 v o.state (w.at_end _ z s o g))) (λ t. each-last z s (sp x z s) (h x z s a)))
+  each-parts : Walks → Parts At Gone EachOf ⊥ is_ordinary
+  each-parts w = record {
+    at_entered = w.at_entered;
+    at_end = w.at_end;
+    gone_grew = w.gone_grew;
+    nothing = λ A n z s a m k. (tt, tt);
+    both = λ A B n z s o p cs ds es fs g h k. (each-joined w n z s o cs p es g h.0 k.0, each-joined w n z s o ds p fs g h.1 k.1);
+    last_turn = λ A B n z s o cs ds h. (each-last w n z s cs h.0, each-last w n z s ds h.1);
+    in_wrap = λ A n z s f i o cs ds e h. (every-flat _ _ (wrapped_spot f i) (λ c x. each-wrapped w n z s f i c x) cs h.0, every-flat _ _ (wrapped_spot f i) (λ c x. each-wrapped w n z s f i c x) ds h.1);
+    in_growth = λ A n z s i shape o cs ds e h.
+        (every-flat _ _ (λ c. grown_spot i shape (last_spot c)) (λ c x. each-grown w n z s i shape c x) cs h.0, every-flat _ _ (λ c. grown_spot i shape (last_spot c)) (λ c x. each-grown w n z s i shape c x) ds h.1);
+    in_nest = λ A n z s f i o cs ds e h.
+        (every-flat _ _ (λ c. reshaped_spot (f c.value) i c) (λ c x. w.in_shape _ n z s (f c.value) i c x) cs h.0, every-flat _ _ (λ c. reshaped_spot (f c.value) i c) (λ c x. w.in_shape _ n z s (f c.value) i c x) ds h.1);
+    in_scope = λ A n z s r o cs ds h. (every-map _ _ (scoped_spot s.reading) (λ c x. w.in_scope _ n z s r c x) cs h.0, every-map _ _ (scoped_spot s.reading) (λ c x. w.in_scope _ n z s r c x) ds h.1);
+    instead = λ A n z s o p cs ds h. (tt, every-append _ cs ds h.0 h.1);
+    deeper = λ A n z s o cs ds h. (every-map _ _ sunk_spot (λ c x. w.deeper _ n z s c x) cs h.0, every-map _ _ sunk_spot (λ c x. w.deeper _ n z s c x) ds h.1);
+  }
 
-    module _ {A : Type 0} (m : A → Meaning (Option Shape × A)) (sp : A → Spots (Option Shape × A)) (f : (x : A) (z : Place) (s : Point) → At z s → Gone (Option Shape × A) z s (m x z s)) (h : (x : A) → Holds n (sp x)) (i : ℕ) where
-      each-growths : (j : ℕ) (o : Outcome A) (cs : List (Spot A)) (z : Place) (s : Point) → Gone A z s o → Every (P A n z s) cs → Every (P A n z s) (growths_spots m sp i j o cs z)
-      each-growths zero o cs z s g k = k
-      each-growths (suc j) o cs z s g k =
-          let v = moved o.taken z in
-          let a = w.at_end _ z s o g in
-          let p = m o.value v o.state in
-          let ds = flat_map (λ c. grown_spot i p.value.0 (last_spot c)) (joined_spots o cs p (sp o.value v o.state)) in
-          let all : Every (P A n z s) ds = every-flat _ _ (λ c. grown_spot i p.value.0 (last_spot c)) (λ c b. each-grown z s i p.value.0 (last_spot c) (w.with_value _ _ n z s c.value.1 c b)) _ (each-joined z s o cs p (sp o.value v o.state) g k (h o.value v o.state a)) in
-          every-if _ (is_more p.value.0 && nat_lt 0 p.taken) _ _ (λ t. each-growths j (grew i o p) ds z s (w.gone_grew _ z s i o p g (f o.value v o.state a)) all) (λ t. all)
-
-  -- ---- whatever the language can say
+  -- ---- by any rules, at every level
 
   -- What a level gives to a walk: what is known of all that it reads, and each block itself, after the trivia at hand.
   pub record Steps (l : Level) : Type 1 where
     pub reads : (A : Type 0) (p : Parser A) (z : Place) (s : Point) → At z s → Gone A z s (run l p z s)
     pub here : (b : Block) → l.has b ≡ true → (z : Place) (s : Point) → At z s → (let o = done l flushes z s in P (Unit {0}) l.levels z s (after_spot o (here_spot b (l.blocks b) (moved o.taken z) o.state)))
 
-  module _ (w : Walks) (l : Level) (steps : Steps l) (deep : (c : Call) → Spots (Answer c)) (within : Block → Spots (Unit {0})) (i : (c : Call) → Holds (l.levels - 1) (deep c)) where
-    flushed : (z : Place) (s : Point) → At z s → Gone (Unit {0}) z s (done l flushes z s)
+  module _ (w : Walks) (r : Rules) (k : CharClasses) (by_level : (levels : ℕ) → Steps (level_of r k levels)) (by_block : (levels : ℕ) → Steps (blockless k levels (meaning_of r k levels))) where
+    flushed : (levels : ℕ) (z : Place) (s : Point) → At z s → Gone (Unit {0}) z s (done (level_of r k levels) flushes z s)
     unfolding run
-    flushed z s a = steps.reads _ (does flushes) z s a
+    flushed levels z s a = (by_level levels).reads _ (does flushes) z s a
 
     -- those in a block
-    each-inside : (b : Block) (cs : List (Spot (Unit {0}))) (z : Place) (s : Point) → At z s → (let o = done l flushes z s in Every (P (Unit {0}) l.levels (moved o.taken z) (forgot o.state)) cs → Every (P (Unit {0}) l.levels z s) (map (after_spot o) (map (closed_spot b o.state) cs)))
-    each-inside b cs z s a h =
-        let o = done l flushes z s in
-        every-map _ _ (after_spot o) (λ c k. w.after _ _ l.levels z s o c (flushed z s a) k) (map (closed_spot b o.state) cs) (every-map _ _ (closed_spot b o.state) (λ c k. w.in_block l.levels (moved o.taken z) o.state b c k) cs h)
+    each-inside : (levels : ℕ) (b : Block) (cs : List (Spot (Unit {0}))) (z : Place) (s : Point) → At z s
+        → (let o = done (level_of r k levels) flushes z s in Every (P (Unit {0}) levels (moved o.taken z) (forgot o.state)) cs → Every (P (Unit {0}) levels z s) (map (after_spot o) (map (closed_spot b o.state) cs)))
+    each-inside levels b cs z s a h =
+        let o = done (level_of r k levels) flushes z s in
+        every-map _ _ (after_spot o) (λ c x. w.after _ _ levels z s o c (flushed levels z s a) x) (map (closed_spot b o.state) cs) (every-map _ _ (closed_spot b o.state) (λ c x. w.in_block levels (moved o.taken z) o.state b c x) cs h)
 
-    module _ (j : (b : Block) → Holds l.levels (within b)) where
-      each-run : {A : Type 0} (p : Parser A) → Holds l.levels (spots l deep within p)
-      unfolding spots repeated_spots growing_spots nesting_spots
-      each-run (gives a) z s r = tt
-      each-run (does o) z s r = tt
-      each-run (next p f) z s r =
-          let o = run l p z s in
+    each-given : (levels : ℕ) → CallsHold At Gone EachOf ⊥ is_ordinary r k levels → Given At Gone EachOf ⊥ is_ordinary (level_of r k levels) (call_spots r k levels) (call_seconds r k levels) (block_spots r k levels) (block_seconds r k levels)
+    each-given levels called = record {
+      reads = λ A p z s a h. (by_level levels).reads A p z s a;
+      step = λ A o e z s a. (tt, tt);
+      held = λ b t z s a.
+          (let o = done (level_of r k levels) flushes z s in
           let v = moved o.taken z in
-          let g = steps.reads _ p z s r in
-          each-joined w l.levels z s o (spots l deep within p z s) (run l (f o.value) v o.state) (spots l deep within (f o.value) v o.state) g (each-run p z s r) (each-run (f o.value) v o.state (w.at_end _ z s o g))
-      each-run (pick true p q) z s r = each-run p z s r
-      each-run (pick false p q) z s r = each-run q z s r
-      each-run (repeat p x) z s r = each-turns w l.levels (λ y. run l (p y)) (λ y. spots l deep within (p y)) (λ y. steps.reads _ (p y)) (λ y. each-run (p y)) (suc (bound z s)) x z s r
-      each-run (wraps f begin p) z s r = every-flat _ _ (wrapped_spot f (before begin s)) (λ c h. each-wrapped w l.levels z s f (before begin s) c h) (spots l deep within p z s) (each-run p z s r)
-      each-run (grows begin p f) z s r =
-          each-growths w l.levels (λ y. run l (f y)) (λ y. spots l deep within (f y)) (λ y. steps.reads _ (f y)) (λ y. each-run (f y)) (before begin s) (suc (bound z s)) (run l p z s) (spots l deep within p z s) z s (steps.reads _ p z s r) (each-run p z s r)
-      each-run (nests f begin p x) z s r = each-nestings w l.levels (λ y. run l (p y)) (λ y. spots l deep within (p y)) (λ y. steps.reads _ (p y)) (λ y. each-run (p y)) f begin (suc (bound z s)) x z s r
-      each-run (scoped f p) z s r = every-map _ _ (scoped_spot s.reading) (λ c h. w.in_scope _ l.levels z s (f s.reading) c h) _ (each-run p z (entered (f s.reading) s) (w.at_entered z s (f s.reading) r))
-      each-run (either p is_wrong q) z s r = every-if _ (is_wrong (run l p z s).value) [] _ (λ t. tt) (λ t. each-run p z s r)
-      each-run (calls c) z s r = every-map _ _ sunk_spot (λ x h. w.deeper _ l.levels z s x h) (deep c z s) (i c z s r)
-      each-run (block b) z s r =
-          let o = done l flushes z s in
-          every-if _ (l.has b) _ [] (λ t. (steps.here b t z s r, each-inside b (within b (moved o.taken z) (forgot o.state)) z s r (j b (moved o.taken z) (forgot o.state) (w.at_none (moved o.taken z) o.state)))) (λ t. tt)
+          let x = all-run At Gone EachOf ⊥ is_ordinary (each-parts w) (blockless k levels (meaning_of r k levels)) (call_spots r k levels) (call_seconds r k levels) (λ c y u. []) (λ c y u. [])
+          (record { reads = λ A p y u c h. (by_block levels).reads A p y u c; step = λ A p e y u c. (tt, tt); held = λ c e. absurd (cc) }) called (peek >> r.block_production b) (λ e. absurd e) v (forgot o.state) (w.at_none v o.state) in
+          (((by_level levels).here b t z s a, each-inside levels b (block_spots r k levels b v (forgot o.state)) z s a x.0), each-inside levels b (block_seconds r k levels b v (forgot o.state)) z s a x.1));
+    }
 
-      -- and of each in a second reading
-      module _ (deep_seconds : (c : Call) → Spots (Answer c)) (seconds_inside : Block → Spots (Unit {0})) (i_too : (c : Call) → Holds (l.levels - 1) (deep_seconds c)) (j_too : (b : Block) → Holds l.levels (seconds_inside b)) where
-        abbrev second : {A : Type 0} → Parser A → Spots A
-        second = seconds l deep within deep_seconds seconds_inside
+    each-all : {A : Type 0} (levels : ℕ) (p : Parser A) → AllHold At Gone EachOf ⊥ is_ordinary levels (run (level_of r k levels) p) (level_spots r k levels p) (level_seconds r k levels p)
+    each-all levels p = all-level At Gone EachOf ⊥ is_ordinary (each-parts w) r k (λ c e. absurd e) each-given levels p (λ e. absurd e)
 
-        each-second : {A : Type 0} (p : Parser A) → Holds l.levels (seconds l deep within deep_seconds seconds_inside p)
-        unfolding seconds repeated_spots growing_spots nesting_spots
-        each-second (gives a) z s r = tt
-        each-second (does o) z s r = tt
-        each-second (next p f) z s r =
-            let o = run l p z s in
-            let v = moved o.taken z in
-            let g = steps.reads _ p z s r in
-            each-joined w l.levels z s o (second p z s) (run l (f o.value) v o.state) (second (f o.value) v o.state) g (each-second p z s r) (each-second (f o.value) v o.state (w.at_end _ z s o g))
-        each-second (pick true p q) z s r = each-second p z s r
-        each-second (pick false p q) z s r = each-second q z s r
-        each-second (repeat p x) z s r = each-turns w l.levels (λ y. run l (p y)) (λ y. second (p y)) (λ y. steps.reads _ (p y)) (λ y. each-second (p y)) (suc (bound z s)) x z s r
-        each-second (wraps f begin p) z s r = every-flat _ _ (wrapped_spot f (before begin s)) (λ c h. each-wrapped w l.levels z s f (before begin s) c h) (second p z s) (each-second p z s r)
-        each-second (grows begin p f) z s r =
-            each-growths w l.levels (λ y. run l (f y)) (λ y. second (f y)) (λ y. steps.reads _ (f y)) (λ y. each-second (f y)) (before begin s) (suc (bound z s)) (run l p z s) (second p z s) z s (steps.reads _ p z s r) (each-second p z s r)
-        each-second (nests f begin p x) z s r = each-nestings w l.levels (λ y. run l (p y)) (λ y. second (p y)) (λ y. steps.reads _ (p y)) (λ y. each-second (p y)) f begin (suc (bound z s)) x z s r
-        each-second (scoped f p) z s r = every-map _ _ (scoped_spot s.reading) (λ c h. w.in_scope _ l.levels z s (f s.reading) c h) _ (each-second p z (entered (f s.reading) s) (w.at_entered z s (f s.reading) r))
-        each-second (either p is_wrong q) z s r = every-if _ (is_wrong (run l p z s).value) (spots l deep within q z s ++ second q z s) (second p z s) (λ t. every-append _ (spots l deep within q z s) (second q z s) (each-run q z s r) (each-second q z s r)) (λ t. each-second p z s r)
-        each-second (calls c) z s r = every-map _ _ sunk_spot (λ x h. w.deeper _ l.levels z s x h) (deep_seconds c z s) (i_too c z s r)
-        each-second (block b) z s r =
-            let o = done l flushes z s in
-            every-if _ (l.has b) (map (after_spot o) (map (closed_spot b o.state) (seconds_inside b (moved o.taken z) (forgot o.state)))) []
-            (λ t. each-inside b (seconds_inside b (moved o.taken z) (forgot o.state)) z s r (j_too b (moved o.taken z) (forgot o.state) (w.at_none (moved o.taken z) o.state))) (λ t. tt)
-
-  -- ---- by any rules, at every level
-
-  module _ (w : Walks) (r : Rules) (k : CharClasses) (by_level : (levels : ℕ) → Steps (level_of r k levels)) (by_block : (levels : ℕ) → Steps (blockless k levels (meaning_of r k levels))) where
-    each-block : (levels : ℕ) → ((call : Call) → Holds (levels - 1) (call_spots r k levels call)) → (b : Block) → Holds levels (block_spots r k levels b)
-    each-block levels i b = each-run w (blockless k levels (meaning_of r k levels)) (by_block levels) (call_spots r k levels) (λ c y t. []) i (λ c y t u. tt) (peek >> r.block_production b)
-
-    each-call : (levels : ℕ) (call : Call) → Holds (levels - 1) (call_spots r k levels call)
-    unfolding call_spots
-    each-call zero call z s a = tt
-    each-call (suc levels) call z s a =
-        let e : levels ≡ suc levels - 1 = omega arith in
-        subst (λ n. Every (P (Answer call) n z s) (call_spots r k (suc levels) call z s)) e
-        (each-run w (level_of r k levels) (by_level levels) (call_spots r k levels) (block_spots r k levels) (each-call levels) (each-block levels (each-call levels)) (r.production call) z s a)
-
-    -- of each block that a parser reads
+    -- So it holds of each block that a parser reads,
     pub each-level : {A : Type 0} (levels : ℕ) (p : Parser A) → Holds levels (level_spots r k levels p)
-    each-level levels p = each-run w (level_of r k levels) (by_level levels) (call_spots r k levels) (block_spots r k levels) (each-call levels) (each-block levels (each-call levels)) p
+    each-level levels p z s a = (each-all levels p z s a).0
 
-    second-block : (levels : ℕ) → ((call : Call) → Holds (levels - 1) (call_seconds r k levels call)) → (b : Block) → Holds levels (block_seconds r k levels b)
-    second-block levels i b =
-        each-second w (blockless k levels (meaning_of r k levels)) (by_block levels) (call_spots r k levels) (λ c y t. []) (each-call levels) (λ c y t u. tt) (call_seconds r k levels) (λ c y t. []) i (λ c y t u. tt) (peek >> r.block_production b)
-
-    second-by : {A : Type 0} (levels : ℕ) → ((call : Call) → Holds (levels - 1) (call_seconds r k levels call)) → (p : Parser A) → Holds levels (level_seconds r k levels p)
-    second-by levels i p =
-        each-second w (level_of r k levels) (by_level levels) (call_spots r k levels) (block_spots r k levels) (each-call levels) (each-block levels (each-call levels)) (call_seconds r k levels) (block_seconds r k levels) i (second-block levels i) p
-
-    second-call : (levels : ℕ) (call : Call) → Holds (levels - 1) (call_seconds r k levels call)
-    unfolding call_seconds
-    second-call zero call z s a = tt
-    second-call (suc levels) call z s a =
-        let e : levels ≡ suc levels - 1 = omega arith in
-        subst (λ n. Every (P (Answer call) n z s) (call_seconds r k (suc levels) call z s)) e (second-by levels (second-call levels) (r.production call) z s a)
-
-    -- and of each that a second reading reads
+    -- and of each that a second reading reads.
     pub each-second-level : {A : Type 0} (levels : ℕ) (p : Parser A) → Holds levels (level_seconds r k levels p)
-    each-second-level levels p = second-by levels (second-call levels) p
+    each-second-level levels p z s a = (each-all levels p z s a).1
 
 module _ (meant : ℕ → Block → Meaning (Unit {0})) (levels : ℕ) where
   abbrev Name : {A : Type 0} → Spot A → Type 0

@@ -1,12 +1,10 @@
 -- The notes between the two of a content block are nested, so no other note ends it.
-use Rattle.std.proofs.Common.{◌≡◌, ℕ, suc, ◌<◌, ◌==◌, eq-eqb, Bool, true, nat_lt, List, [], ◌∷◌, ◌++◌, length, drop, length-append, refl, ap, sym, ◌∙◌, subst, arith}
-use Rattle.typst_edits.proofs.Words.{Note, Nested, start_of, ends_block, markup_turn, run_at, of_level, NumberedInner, listed, turn_of}
+use Rattle.std.proofs.Common.{◌≡◌, ℕ, suc, ◌<◌, true, List, [], ◌∷◌, ◌++◌, length, drop, refl, ap, sym, ◌∙◌, subst, arith}
+use Rattle.typst_edits.proofs.Words.{Note, Nested, start_of, run_at, of_level, NumberedInner, listed, turn_of}
 use Rattle.typst_edits.specs.Nested.{NestedInnerLaw}
-use Rattle.typst_edits.proofs.BlockRuns.{sane as in-sane}
 use Rattle.typst_edits.proofs.Cuts.{few-go}
-use Rattle.typst_edits.proofs.NumberedNotes.{level-append, NestedNumbers, nested-numbers}
+use Rattle.typst_edits.proofs.NumberedNotes.{level-long, NestedNumbers, nested-numbers}
 use Rattle.typst_edits.proofs.OpensApart.{opens-apart-law}
-use Rattle.typst_edits.proofs.Spots.{if-true}
 use Rattle.typst_edits.proofs.Every.{first_or}
 
 -- A list cut at two of its notes: the same, or one of those before or after the other.
@@ -28,10 +26,7 @@ cuts (x ∷ es) o ahead (f ∷ fs) p beyond e = with-one x f es fs o p ahead bey
 
 -- a note of the level more
 pub longer : (lv : ℕ) (xs ys zs : List Note) (n : Note) → n.levels ≡ lv → zs ≡ xs ++ n ∷ ys → length (of_level lv xs) < length (of_level lv zs)
-longer lv xs ys zs n l e =
-    let own : of_level lv (n ∷ ys) ≡ n ∷ of_level lv ys = if-true (n.levels == lv) _ _ (eq-eqb n.levels lv l) in
-    let all : of_level lv zs ≡ of_level lv xs ++ n ∷ of_level lv ys = ap (of_level lv) e ∙ level-append lv xs (n ∷ ys) ∙ ap (λ us. of_level lv xs ++ us) own in
-    omega (arith, ap length all, length-append (of_level lv xs) (n ∷ of_level lv ys))
+longer lv xs ys zs n l e = omega (arith, ap (λ us. length (of_level lv us)) e, level-long lv xs n ys l)
 
 pub nested-inner-law : NestedInnerLaw
 nested-inner-law k levels text c chosen name left n =
@@ -52,9 +47,8 @@ nested-inner-law k levels text c chosen name left n =
     same-count : n.count ≡ m.count
     same-count =
         let r = run_at k levels c (start_of text) in
-        let within = λ (x : Bool × ℕ). (in-sane k levels (markup_turn true ends_block x)).within in
-        let one = few-go (turn_of r) within n.count m.count (true, 0) r.place r.point (nat_lt n.count m.count) refl m.go n.over in
-        omega (arith, one, few-go (turn_of r) within m.count n.count (true, 0) r.place r.point (nat_lt m.count n.count) refl n.go m.over)
+        let one = few-go (turn_of r) n.count m.count (true, 0) r.place r.point m.go n.over in
+        omega (arith, one, few-go (turn_of r) m.count n.count (true, 0) r.place r.point n.go m.over)
 
     same-long : length (of_level (suc levels) n.inner) ≡ length (of_level (suc levels) m.inner)
     same-long = n.all ∙ ap suc same-count ∙ sym m.all

@@ -1,10 +1,9 @@
 -- The notes of a run by their numbers.
 use Rattle.std.proofs.Common.{◌≡◌, ℕ, zero, suc, ◌+◌, ◌-◌, ◌<◌, ◌==◌, eq-eqb, ne_eqb, max, min, List, [], ◌∷◌, ◌++◌, length, refl, ap, sym, subst, arith, Bool, true, false, ◌&&◌, nat_lt, take, Some, ◌∙◌, ◌≤◌, if◌then◌else◌, length-append}
-use Rattle.typst_edits.proofs.Words.{Place, moved, position, far, near, width, Mark, Note, State, Ask, shift, looked, marked, of_level, Numbered, cut_after, SaysOf, NumberedInner, ltb-true, lt-ltb, SyntaxKind, same, Nested, CharClasses, MarkupExpr, deeper, is_end, as_at_hand, Point, gap_of, point_of, state_of, after_node, Outcome, Meaning, Level, joined, turns, as_last, bound, repeated, hand_of, hand_asks_of, asked, run, sane-run, sane-at, moved-sum, and-second, ends, markup_turn, ends_block, max_depth, level_at, start_of, parsed, log, rules, inner, bracket, inner_lead, inner_run, inner_tail, inner_close, run_at, opened_at, Among, inner_end, blocks_of_text, block_at, goes, listed, made, AllGo, End, end_of, piece_at, end_at, start, lead, tail, pieces, Sequence, turn_of, notes_in, Spot, unit_at, width-positive, peek, Within}
+use Rattle.typst_edits.proofs.Words.{Place, moved, position, far, near, width, Mark, Note, State, Ask, shift, looked, marked, of_level, Numbered, cut_after, SaysOf, NumberedInner, ltb-true, lt-ltb, SyntaxKind, same, Nested, CharClasses, MarkupExpr, deeper, is_end, as_at_hand, Point, gap_of, point_of, state_of, after_node, Outcome, Meaning, Level, joined, turns, as_last, bound, repeated, hand_of, hand_asks_of, asked, run, sane-run, sane-at, moved-sum, and-second, ends, markup_turn, ends_block, max_depth, level_at, start_of, parsed, log, rules, inner, bracket, inner_lead, inner_run, inner_tail, inner_close, run_at, opened_at, Among, inner_end, blocks_of_text, block_at, goes, listed, made, AllGo, End, end_of, piece_at, end_at, start, lead, tail, pieces, Sequence, turn_of, notes_in, Spot, unit_at, peek, Within, if-true, if-false}
 use Rattle.typst_edits.specs.NumberedNotes.{NumberedRunLaw, NumberedInnerLaw, NumberLaw}
 use Rattle.typst_edits.specs.PieceNotes.{Says}
 use Rattle.typst_edits.proofs.Bytes.{none_yet, note_by, notes_from, fresh_notes, AllMarks, marks-append, marks-shift, none-hand, none-close, logged-listed}
-use Rattle.typst_edits.proofs.Spots.{if-true, if-false}
 use Rattle.typst_edits.proofs.BlockRuns.{content-is, whole-is, within}
 use Rattle.typst_edits.proofs.Boundary.{KnownAt, stopped-is, stopped-asks, turn-asks, early-marks, turn-goes, turn-known, piece_mark}
 use Rattle.typst_edits.proofs.BlockLog.{block-log}
@@ -12,11 +11,12 @@ use Rattle.typst_edits.proofs.RunBytes.{asks_before, inner_run_mark as run_mark,
 use Rattle.typst_edits.proofs.Joint.{known-is, text-taking, block-taking}
 use Rattle.typst_edits.proofs.RunTrees.{whole-asks}
 use Rattle.typst_edits.proofs.Text.{content-reads}
-use Rattle.typst_edits.proofs.Widths.{width-moved}
+use Rattle.typst_edits.proofs.Widths.{width-moved, take-longer}
 use Rattle.typst_edits.proofs.EmptyRuns.{none-flush as flush-marks}
 use Rattle.typst_edits.proofs.Turns.{Taking, turn-led}
 use Rattle.typst_language.specs.declared.calls.Block.TheVariants as block
 use Rattle.typst_language.specs.declared.calls.Mark.TheVariants as mark
+use Rattle.typst_edits.proofs.Every.{neither}
 
 -- ---- the marks of a run among those of all that is asked in it, in turn
 
@@ -198,12 +198,6 @@ pub record CutsNth (m : Bool × ℕ → Meaning (Bool × (Bool × ℕ))) (x : Bo
   pub says : (let e = end_of x s (made m i x z s) in what ≡ mark.Piece e.value.0 e.value.1)
   pub state_is : state ≡ state_of (end_of x s (made m i x z s)).state
 
--- the marks of a run, after its own, in a list of all that is asked from its start on
-pub cuts-in : (m : Bool × ℕ → Meaning (Bool × (Bool × ℕ))) (x : Bool × ℕ) (z : Place) (s : Point) (d count : ℕ) (asks : List Ask) → InTurn (EndsNth m x z s) 1 (suc count) asks
-    → InTurn (λ i at gap what state. CutsNth m x z s d i (d + at) gap what state) 1 (suc count) asks
-cuts-in m x z s d count asks h = turn-by (EndsNth m x z s) (λ i at gap what state. CutsNth m x z s d i (d + at) gap what state)
-    (λ i at gap what state g. (let there = g.at_is in let behind = g.gap_is in record { at_is = omega (arith, there); cut = omega (arith, there, behind); says = g.says; state_is = g.state_is })) 0 (suc count) asks h
-
 pub cut-from : (d i : ℕ) (u : End (Bool × ℕ)) → cut_after i (record u { taken = d + u.taken }) ≡ d + cut_after i u
 cut-from d zero u = refl
 cut-from d (suc i) u = omega arith
@@ -292,7 +286,7 @@ module _ (k : CharClasses) (levels : ℕ) (z : Place) (s : Point) where
       let b = bracket k levels z s in
       let ls = (inner_lead k levels z s).asks in
       let first = turn-none Q 1 ls (none-hand Deeper k b.state.held b.state.known r.place) in
-      let own = cuts-in (turn_of r) (true, 0) r.place r.point opened block-turns.count o.asks block-turns.marks in
+      let own = turn-by (EndsNth (turn_of r) (true, 0) r.place r.point) Q (λ i at gap m p g. (let there = g.at_is in let after = g.gap_is in record { at_is = omega (arith, there); cut = omega (arith, there, after); says = g.says; state_is = g.state_is })) 0 c o.asks block-turns.marks in
       let behind = t.asks ++ shift t.taken close.asks in
       let last = marks-shift Deeper o.taken behind (marks-append Deeper t.asks (shift t.taken close.asks) (flush-marks Deeper (inner k levels) (moved o.taken r.place) o.state)
       (marks-shift Deeper t.taken close.asks (none-close Deeper (inner k levels) (moved (o.taken + t.taken) r.place) (after_node false [] t.state)))) in
@@ -377,12 +371,6 @@ numbered-inner-law k levels text c chosen name left = (nested-numbers k levels t
 
 -- ---- the number of a note where pieces of a run end
 
-pub less-than : (m n : ℕ) → m ≤ n → (m ≡ n → ⊥) → m < n
-less-than zero zero l f = absurd (f refl)
-less-than zero (suc n) l f = omega arith
-less-than (suc m) zero l f = absurd (omega (arith, l))
-less-than (suc m) (suc n) l f = let i = less-than m n (omega (arith, l)) (λ e. f (ap suc e)) in omega (arith, i)
-
 -- ---- notes
 
 level-by : (b : Bool) (n : Note) (xs ys zs : List Note) → xs ≡ ys ++ zs → (if b then n ∷ xs else xs) ≡ (if b then n ∷ ys else ys) ++ zs
@@ -392,6 +380,12 @@ level-by false n xs ys zs e = e
 pub level-append : (lv : ℕ) (ms ns : List Note) → of_level lv (ms ++ ns) ≡ of_level lv ms ++ of_level lv ns
 level-append lv [] ns = refl
 level-append lv (m ∷ ms) ns = level-by (m.levels == lv) m (of_level lv (ms ++ ns)) (of_level lv ms) (of_level lv ns) (level-append lv ms ns)
+
+pub level-at : (lv : ℕ) (ms : List Note) (n : Note) (ns : List Note) → n.levels ≡ lv → of_level lv (ms ++ n ∷ ns) ≡ of_level lv ms ++ n ∷ of_level lv ns
+level-at lv ms n ns e = level-append lv ms (n ∷ ns) ∙ ap (λ us. of_level lv ms ++ us) (if-true (n.levels == lv) _ _ (eq-eqb n.levels lv e))
+
+pub level-long : (lv : ℕ) (ms : List Note) (n : Note) (ns : List Note) → n.levels ≡ lv → length (of_level lv (ms ++ n ∷ ns)) ≡ length (of_level lv ms) + suc (length (of_level lv ns))
+level-long lv ms n ns e = ap length (level-at lv ms n ns e) ∙ length-append (of_level lv ms) (n ∷ of_level lv ns)
 
 -- The note after a given number of notes has that number.
 pub numbered-at : (P : ℕ → Note → Type 0) (i : ℕ) (ms : List Note) (n : Note) (ns : List Note) → Numbered P i (ms ++ n ∷ ns) → P (i + length ms) n
@@ -433,22 +427,7 @@ module _ {A : Type 0} (m : A → Meaning (Bool × A)) (within : (x : A) → With
   turns-within zero x z s = omega arith
   turns-within (suc n) x z s = let o = m x z s in let most = within x z s in let more = turns-within n o.value.1 (moved o.taken z) o.state in omega (arith, most, more)
 
--- ---- bytes
-
-pub take-longer : (a b : ℕ) (xs : List ℕ) → a < b → b ≤ length xs → width (take a xs) < width (take b xs)
-unfolding width
-take-longer a zero xs l e = absurd (omega (arith, l))
-take-longer a (suc b) [] l e = absurd (omega (arith, e))
-take-longer zero (suc b) (x ∷ xs) l e = omega (arith, width-positive x)
-take-longer (suc a) (suc b) (x ∷ xs) l e = let i = take-longer a b xs (omega (arith, l)) (omega (arith, e)) in omega (arith, i)
-
 -- ---- the law
-
-pub neither : (a b : ℕ) → (a < b → ⊥) → (b < a → ⊥) → a ≡ b
-neither zero zero f g = refl
-neither zero (suc b) f g = absurd (f (omega arith))
-neither (suc a) zero f g = absurd (g (omega arith))
-neither (suc a) (suc b) f g = ap suc (neither a b (λ l. f (omega (arith, l))) (λ l. g (omega (arith, l))))
 
 pub number-law : NumberLaw
 unfolding run

@@ -1,6 +1,6 @@
 -- One reading of a new text serves every candidate of a run.
 use Rattle.std.proofs.Common.{◌≡◌, ℕ, zero, suc, ◌+◌, ◌-◌, ◌<◌, ◌≤◌, ◌==◌, ne_eqb, if◌then◌else◌, Bool, true, false, ◌&&◌, nat_lt, List, [], ◌∷◌, ◌++◌, length, drop, length-append, append_assoc, Some, refl, ap, sym, ◌∙◌, subst, arith, map, take, slice_get, inl}
-use Rattle.typst_edits.proofs.Words.{lt-ltb, Place, moved, CharClasses, MarkupExpr, Reading, Ask, shift, is_end, hand_at, Trivia, Point, gap_of, pending, point_of, peek, Parser, Outcome, Meaning, Level, plain, less, joined, hand_of, run, hinted, sane-run, moved-sum, less-none, ends, ends_block, markup_turn, markup_head, rules, max_depth, start_of, tree, bracket, inner_lead, run_at, opened_at, EndsBefore, tail_at, close_at, together, standing_before, nodes_with, read_from, Among, text_with, AllEndBy, Run, top, read_as, opened_by, end_by, is_over, nodes_now, Before, Agrees, PassesPieces, cut_at, path_to, first_place, minds_at, read_by, onwards_by, minds, text_run, onwards_from, blocks_of_text, goes, TakesNone, ServesMore, fresh, SamePiece, made, AllGo, End, end_of, asks_of, chain, lead, start, pieces, end_at, Sequence, turn_of, first_of, first_end, then_of, then_end, then_place, rest_of, Spot, unit_at, made-sum, map-append, drop-map, drop-append-le, take-map, length-map, take-append-drop, Tree, bare, forest, trees, inner_of, replaced_at, At, kids_of, width, Deep, Hole, fill, plug, path_in, path_of, inner_end, inner_both, read_in, standing_in, nodes_in, block_with, onwards_in, kids_in, markup_from, LeadsAt, LeadingInner, both, root_run, given, AtPath, kids_of_run, run_from, StandsBetween, Begins}
+use Rattle.typst_edits.proofs.Words.{lt-ltb, Place, moved, CharClasses, MarkupExpr, Reading, Ask, shift, is_end, hand_at, Trivia, Point, gap_of, pending, point_of, peek, Parser, Outcome, Meaning, Level, plain, less, joined, hand_of, run, hinted, sane-run, moved-sum, less-none, ends, ends_block, markup_turn, markup_head, rules, max_depth, start_of, tree, bracket, inner_lead, run_at, opened_at, EndsBefore, tail_at, close_at, together, standing_before, nodes_with, read_from, Among, text_with, AllEndBy, Run, top, read_as, opened_by, end_by, is_over, nodes_now, Before, Agrees, PassesPieces, cut_at, path_to, first_place, minds_at, read_by, onwards_by, minds, text_run, onwards_from, blocks_of_text, goes, TakesNone, ServesMore, fresh, made, AllGo, End, end_of, asks_of, chain, lead, start, pieces, end_at, Sequence, turn_of, first_of, first_end, then_of, then_end, then_place, rest_of, Spot, unit_at, made-sum, map-append, drop-map, drop-append-le, take-map, length-map, take-append-drop, Tree, bare, forest, trees, inner_of, replaced_at, At, kids_of, width, Deep, Hole, fill, plug, path_in, path_of, inner_end, inner_both, read_in, standing_in, nodes_in, block_with, onwards_in, kids_in, markup_from, LeadsAt, LeadingInner, both, root_run, given, AtPath, kids_of_run, run_from, StandsBetween, Begins}
 use Rattle.typst_edits.specs.BlockRuns.{inner as block_level}
 use Rattle.typst_edits.specs.Frame.{inner}
 use Rattle.typst_edits.specs.OneReading.{EndsOld, EndsNew, OneReadingLaw, GivesAgain, GivesAgainLaw}
@@ -9,8 +9,8 @@ use Rattle.typst_grammar.proofs.Pieces.{asks-append}
 use Rattle.std.proofs.lemmas.List.{length-take-le}
 use Rattle.typst_edits.specs.Hole.{under}
 use Rattle.typst_edits.specs.KeptNodes.{KeptNodes, KeptNodesLaw, PutAfterLaw}
-use Rattle.typst_edits.proofs.Boundary.{KnownAt, first-of, made-add, looks_in, each-ends, end-split, going-on, known-made}
-use Rattle.typst_edits.proofs.Children.{tidy-together, gives-pieces, Leads, leads-pieces, back-law, inner-back-law, tree-by-block}
+use Rattle.typst_edits.proofs.Boundary.{KnownAt, first-of, made-add, looks_in, each-ends, going-on, known-made}
+use Rattle.typst_edits.proofs.Children.{tidy-together, gives-pieces, Leads, leads-run, back-law, inner-back-law, tree-by-block}
 use Rattle.typst_edits.proofs.Edit.{before-same, trees-of}
 use Rattle.typst_edits.proofs.Heads.{erring-call, headed, Erring, text-minds, block-minds}
 use Rattle.typst_edits.proofs.Joint.{block-taking, text-taking, onwards-is}
@@ -20,18 +20,20 @@ use Rattle.typst_edits.proofs.Outcomes.{shift-zero}
 use Rattle.typst_edits.proofs.Resumed.{takes-more, resume-law, inner-resume-law}
 use Rattle.typst_edits.proofs.RunTrees.{standing-still}
 use Rattle.typst_edits.proofs.BlockRuns.{pieces-same, first-same, content-split, content-taken}
-use Rattle.typst_edits.proofs.Seen.{Sees, end-first, end-second, end-shift, sees-plain, sees-run, sees-meaning, sees-level}
+use Rattle.typst_edits.proofs.Seen.{Sees, end-shift, sees-plain, sees-run, sees-meaning, sees-level}
 use Rattle.typst_edits.proofs.Every.{not-less}
 pub use Rattle.typst_grammar.proofs.Pieces.{go-append as go-both}
-use Rattle.typst_edits.proofs.RunPieces.{kids-of, same-place}
+use Rattle.typst_edits.proofs.RunCandidates.{more-ends, more-goes}
+use Rattle.typst_edits.proofs.RunPieces.{cut-some, kids-of, same-place}
 use Rattle.typst_edits.proofs.Leading.{leading-law, leading-inner-law}
 use Rattle.typst_edits.proofs.Replaced.{front-law, trees-bare}
 use Rattle.typst_edits.proofs.Text.{content-reads}
 use Rattle.typst_candidates.proofs.Tallies.{fewer}
-use Rattle.typst_edits.proofs.Runs.{split-taken}
+use Rattle.typst_edits.proofs.Runs.{split-taken, end-by-pieces}
 use Rattle.typst_language.specs.declared.calls.Block.TheVariants as block
 use Rattle.typst_kinds.specs.declared.kind.SyntaxKind.TheVariants as kind
 use Rattle.typst_edits.specs.Hole as deep
+use Rattle.typst_edits.proofs.Looks.{ending, looks-first, looks-second, looks-shifted, looks-split}
 
 -- ---- pieces in two parts
 
@@ -43,8 +45,8 @@ module _ (m : Bool × ℕ → Meaning (Bool × (Bool × ℕ))) where
   made-seen sees (suc n) x z s most g h =
       let o = m x z s in
       let later = asks_of (made m n o.value.1 (moved o.taken z) o.state) in
-      let one = (sees x z s most g).ends (end-first most o.asks (shift o.taken later) h) in
-      let two = made-seen sees n o.value.1 (moved o.taken z) o.state (most - o.taken) (omega (arith, one)) (end-shift o.taken (most - o.taken) most later (omega arith) (end-second most o.asks (shift o.taken later) h)) in
+      let one = (sees x z s most g).ends (looks-first (ending most) o.asks (shift o.taken later) h) in
+      let two = made-seen sees n o.value.1 (moved o.taken z) o.state (most - o.taken) (omega (arith, one)) (end-shift o.taken (most - o.taken) most later (omega arith) (looks-second (ending most) o.asks (shift o.taken later) h)) in
       omega (arith, one, two)
 
 module _ {A : Type 0} where
@@ -92,9 +94,6 @@ module _ (q : Sequence) where
   pub later-place : (a d : ℕ) → moved ((first_end a q).taken + (then_end a d q).taken) q.place ≡ moved (then_end a d q).taken (first_place a q)
   later-place a d = moved-sum (first_end a q).taken (then_end a d q).taken q.place
 
-  abbrev read_later : ℕ → ℕ → ℕ → List (Outcome (Bool × (Bool × ℕ)))
-  read_later a d m = let f = then_end a d q in made (turn_of q) m f.value (moved f.taken (first_place a q)) f.state
-
   then-split : (a d m : ℕ) → then_of a (d + m) q ≡ then_of a d q ++ then_of (a + d) m q
   then-split a d m =
       let e = first_end a q in
@@ -104,17 +103,6 @@ module _ (q : Sequence) where
   then-end-split a d m =
       let e = first_end a q in
       made-add (turn_of q) (looks_in q) (each-ends q) d m e.value (first_place a q) e.state ∙ ap (λ (f : End (Bool × ℕ)). record f { taken = (then_end a d q).taken + f.taken }) (sym (ap (λ (e : End (Bool × ℕ)). end_of e.value e.state (made (turn_of q) m e.value (moved e.taken q.place) e.state)) (end-split-at a d) ∙ ap (λ w. let f = then_end a d q in end_of f.value f.state (made (turn_of q) m f.value w f.state)) (later-place a d)))
-
-  -- one more goes on
-  go-longer : (i n : ℕ) → AllGo (first_of i q) → AllGo (then_of i (suc n) q) → AllGo (first_of (suc i) q)
-  go-longer i n g h =
-      let one : i + 1 ≡ suc i = omega arith in
-      subst (λ j. AllGo (first_of j q)) one (subst (λ os. AllGo os) (sym (first-split i 1)) (go-both (first_of i q) (then_of i 1 q) g (h.0, tt)))
-
-  first-taken : (i : ℕ) → (first_end (suc i) q).taken ≡ (first_end i q).taken + (let e = first_end i q in (turn_of q e.value (first_place i q) e.state).taken)
-  first-taken i =
-      let one : suc i ≡ i + 1 = omega arith in
-      omega (arith, ap (λ j. (first_end j q).taken) one, ap (λ (e : End (Bool × ℕ)). e.taken) (end-split-at i 1))
 
 -- what holds of a run's pieces
 pub record Facts (q : Sequence) : Type 0 where
@@ -156,15 +144,12 @@ module _ (q : Sequence) (taking : Taking q.level q.stops)
       let w = moved e.taken q.place in
       let go = go-next (turn_of q) i (true, 0) q.place q.point g in
       let at = there i (go-fewer (turn_of q) i (suc i) (true, 0) q.place q.point (omega arith) g) in
-      let one : suc i ≡ i + 1 = omega arith in
-      omega (arith, takes-more q.level q.stops taking e.value w e.state at (first-of _ _ go), ap (λ n. (first_end n q).taken) one, ap (λ (u : End (Bool × ℕ)). u.taken) (end-split-at q i 1))
+      omega (arith, takes-more q.level q.stops taking e.value w e.state at (first-of _ _ go), ap (λ (u : End (Bool × ℕ)). u.taken) (more-ends q i))
 
   facts : Facts q
   facts = record {
     leads = λ i n t g h k.
-        (let e = first_end i q in
-        let l = leads-pieces q.level q.stops taking n 0 t.nodes e.value (first_place i q) e.state (there i g) h (omega arith) (ap pending k) in
-        subst (λ us. Leads (pending e.state.known) (us ++ t.nodes)) (less-none (read_by i n q).nodes) l);
+        subst (λ us. Leads (pending (first_end i q).state.known) (us ++ t.nodes)) (less-none (read_by i n q).nodes) (leads-run q taking known i n 0 t (omega arith) g h k);
     hints = none-hinted;
     back = λ i n g h none. none-back i n g h (minds_at q (first_place i q) (first_end i q)) refl none;
     further = goes-further;
@@ -180,11 +165,6 @@ module _ (q : Sequence) (taking : Taking q.level q.stops)
   }
 
 -- ---- what two runs share before the stretch
-
--- Where pieces end depends only on them, if there are some.
-end-by-pieces : (i : ℕ) (q p : Sequence) → 0 < i → first_of i q ≡ first_of i p → first_end i q ≡ first_end i p
-end-by-pieces zero q p some e = absurd (omega (arith, some))
-end-by-pieces (suc i) q p some e = ap (end_of (true, 0) p.point) e
 
 record Starts (k : CharClasses) (front old new rest : List ℕ) (r : Run k (front ++ (old ++ rest))) (a d : ℕ) : Type 0 where
   first : first_of (a + d) (read_as r (text_with front new rest)) ≡ first_of (a + d) (read_as r (text_with front old rest))
@@ -335,7 +315,7 @@ fewer-looks q a d most at ls h =
     let first = asks_of (first_of a q) in
     let later = shift (first_end a q).taken (asks_of (then_of a d q)) in
     let is : ls ++ asks_of (first_of (a + d) q) ≡ (ls ++ first) ++ later = ap (λ ks. ls ++ ks) (ap (λ os. asks_of os) (first-split q a d) ∙ asks-append (true, 0) q.point (first_of a q) (then_of a d q)) ∙ sym (append_assoc ls first later) in
-    (end-split most at (ls ++ first) later (subst (λ ks. AllEndBy most (shift at ks)) is h)).0
+    (looks-split (looks-shifted (ending most) at) (ls ++ first) later (subst (λ ks. AllEndBy most (shift at ks)) is h)).0
 
 minded-too : (i : ℕ) (q p : Sequence) → minds_at p (first_place i p) (first_end i p) ≡ minds_at q (first_place i q) (first_end i q) → first_end i p ≡ first_end i q → TakesNone i q → TakesNone i p
 minded-too i q p m e none h = ap (λ (x : End (Bool × ℕ)). x.state.empties) e ∙ none (sym m ∙ h)
@@ -349,8 +329,8 @@ module _ (k : CharClasses) (z : Place) where
   pub text-seen : (i most : ℕ) → AllEndBy most ((lead k z).asks ++ asks_of (pieces k i z)) → (end_at k i z).taken + gap_of (end_at k i z).state.known ≤ most
   text-seen i most h =
       let o = lead k z in
-      let gap : gap_of o.state.known ≤ most = omega (arith, (sees-level (rules k) k max_depth peek z start most (omega arith)).ends (end-first most o.asks (asks_of (pieces k i z)) h)) in
-      made-seen (turn_of (text_run k z)) (λ x. sees-level (rules k) k max_depth (markup_turn true is_end x)) i (true, 0) z o.state most gap (end-second most o.asks (asks_of (pieces k i z)) h)
+      let gap : gap_of o.state.known ≤ most = omega (arith, (sees-level (rules k) k max_depth peek z start most (omega arith)).ends (looks-first (ending most) o.asks (asks_of (pieces k i z)) h)) in
+      made-seen (turn_of (text_run k z)) (λ x. sees-level (rules k) k max_depth (markup_turn true is_end x)) i (true, 0) z o.state most gap (looks-second (ending most) o.asks (asks_of (pieces k i z)) h)
 
 module _ (k : CharClasses) (front old new rest : List ℕ) where
   abbrev text_was : Place
@@ -398,13 +378,10 @@ module _ (k : CharClasses) (levels : ℕ) (c : Spot (Unit {0})) (z : Place) wher
   block-seen i most h =
       let r = run_at k levels c z in
       let o = inner_lead k levels (moved c.at z) (point_of c.start) in
-      let first = (block-sees peek r.place (bracket k levels (moved c.at z) (point_of c.start)).state most (omega (arith, bracket-gap))).ends (end-first most o.asks (asks_of (first_of i r)) h) in
+      let first = (block-sees peek r.place (bracket k levels (moved c.at z) (point_of c.start)).state most (omega (arith, bracket-gap))).ends (looks-first (ending most) o.asks (asks_of (first_of i r)) h) in
       let gap : gap_of o.state.known ≤ most = omega (arith, first) in
-      let end = made-seen (turn_of r) (λ x. block-sees (markup_turn true ends_block x)) i (true, 0) r.place o.state most gap (end-second most o.asks (asks_of (first_of i r)) h) in
+      let end = made-seen (turn_of r) (λ x. block-sees (markup_turn true ends_block x)) i (true, 0) r.place o.state most gap (looks-second (ending most) o.asks (asks_of (first_of i r)) h) in
       omega (arith, end)
-
-within-front : (opened taken most : ℕ) → taken ≤ most - opened → 0 < taken → opened + taken ≤ most
-within-front opened taken most l some = omega (arith, l, some)
 
 module _ (k : CharClasses) (levels : ℕ) (front old new rest : List ℕ) (c : Spot (Unit {0})) where
   abbrev run_was : Sequence
@@ -435,8 +412,7 @@ module _ (k : CharClasses) (levels : ℕ) (front old new rest : List ℕ) (c : S
         fewer = fewer;
         opens = ap (λ (b : Outcome (Unit {0})). c.at + b.taken) f.opened;
         clear = λ some. block-clear (a + d) some go before;
-        room = λ some. within-front opened (first_end (a + d) run_was).taken (length front)
-            (omega (arith, block-seen k levels c z (a + d) (length front - opened) (end-shift opened (length front - opened) (length front) (o.asks ++ asks_of (first_of (a + d) run_was)) (omega arith) (before.before_run some)))) (takes-some (a + d) some go);
+        room = λ some. omega (arith, block-seen k levels c z (a + d) (length front - opened) (end-shift opened (length front - opened) (length front) (o.asks ++ asks_of (first_of (a + d) run_was)) (omega arith) (before.before_run some)), takes-some (a + d) some go);
         facts_was = block-facts k levels c z;
         facts_now = block-facts k levels c (text_with front new rest);
       }
@@ -447,10 +423,6 @@ one-reading-law k front old new rest (inner c levels chosen name left) a d go be
     serves k front old new rest (inner c levels chosen name left) a d go (block-starts k levels front old new rest c chosen name left a d go before)
 
 -- ---- read again
-
--- A first piece that is read the same, except for the trivia before it, gives the same with those after it.
-same-nodes : (t : Trivia) (o c : Outcome (Bool × (Bool × ℕ))) (p : Outcome (Unit {0})) → SamePiece t o c → p.back < length c.nodes → (joined o p).nodes ≡ t.nodes ++ (joined c p).nodes
-same-nodes t o c p same few = standing-led t.nodes c.nodes o p same.nodes few
 
 module _ (k : CharClasses) (text : List ℕ) (r : Run k text) (z : Place) (f : Facts (read_as r z)) (resumes : Resumes (read_as r z)) where
   abbrev own : Sequence
@@ -469,7 +441,7 @@ module _ (k : CharClasses) (text : List ℕ) (r : Run k text) (z : Place) (f : F
       let same = resumes i (suc n) t g h known none in
       let one = same.0 in
       let ends : end_of o.value.1 o.state os ≡ end_of c.value.1 c.state cs = (λ j. end_of (one.value j).1 (one.state j) (same.1 j)) in
-      let some_c : 0 < c.taken = omega (arith, f.further i (go-longer own i n g h), first-taken own i, ap gap_of known, one.taken) in
+      let some_c : 0 < c.taken = omega (arith, f.further i (more-goes own i g (h.0, tt)), ap (λ (x : End (Bool × ℕ)). x.taken) (more-ends own i), ap gap_of known, one.taken) in
       let go_c : goes c ≡ true = ap (λ b. b && nat_lt 0 c.taken) (sym (ap (λ (v : Bool × (Bool × ℕ)). v.0) one.value) ∙ first-of o.value.0 (nat_lt 0 o.taken) h.0) ∙ lt-ltb 0 c.taken some_c in
       let p = together (end_of o.value.1 o.state os).state os in
       let d = together (end_of c.value.1 c.state cs).state cs in
@@ -477,7 +449,7 @@ module _ (k : CharClasses) (text : List ℕ) (r : Run k text) (z : Place) (f : F
       let back = f.tidy n o.value.1 (moved o.taken y) o.state in
       let few = f.few e.value w go_c in
       let empties = ap (λ (x : Point). x.empties) one.state in
-      let nodes : (joined o p).nodes ≡ t.nodes ++ (joined c d).nodes = same-nodes t o c p one (omega (arith, back, few, empties)) ∙ ap (λ (a : Outcome (Unit {0})). t.nodes ++ (joined c a).nodes) alike in
+      let nodes : (joined o p).nodes ≡ t.nodes ++ (joined c d).nodes = standing-led t.nodes c.nodes o p one.nodes (omega (arith, back, few, empties)) ∙ ap (λ (a : Outcome (Unit {0})). t.nodes ++ (joined c a).nodes) alike in
       let length_t : leading i e ≡ length t.nodes = leading-is i e t some known in
       let taken = ap (λ (x : End (Bool × ℕ)). x.taken) ends in
       record {
@@ -581,9 +553,6 @@ module _ (k : CharClasses) (text : List ℕ) (r : Run k text) (a d : ℕ) (t : T
 
 -- ---- where the pieces stand
 
-cut-some : (a o x : ℕ) → 0 < a → o + (if a == 0 then 0 else x) ≡ o + x
-cut-some a o x some = ap (λ b. o + (if b then 0 else x)) (ne_eqb a 0 (omega (arith, some)))
-
 module _ (q : Sequence) (a d : ℕ) where
   -- The run doesn't end after pieces that are followed by another which goes on.
   goes-past : Facts q → AllGo (first_of (suc (a + d)) q) → is_over a d q ≡ false
@@ -632,14 +601,14 @@ module _ (k : CharClasses) (text : List ℕ) (a d : ℕ) (t : Trivia) (some : 0 
       let kids = trees (tree k text).kids in
       let sum = end-split-at q a d in
       let at_end : (both k a d z).taken + gap_of (both k a d z).state.known ≡ cut_at (root_run k text) (a + d) z =
-      omega (arith, ap (λ (x : End (Bool × ℕ)). x.taken) sum, ap (λ (x : End (Bool × ℕ)). gap_of x.state.known) sum, cut-some (a + d) 0 ((first_end (a + d) q).taken + gap_of (first_end (a + d) q).state.known) (omega (arith, some))) in
+      omega (arith, ap (λ (x : End (Bool × ℕ)). x.taken) sum, ap (λ (x : End (Bool × ℕ)). gap_of x.state.known) sum, cut-some (root_run k text) (a + d) z (omega (arith, some))) in
       record {
         before = before;
         behind = led.behind;
         children = led.children ∙ ap (λ us. before ++ (us ++ led.behind)) own_run;
         none_before = λ e. none-stand a (read_from k a d z).back (λ j. given (pieces k j z) []) e refl;
         first = λ l.
-            (let at_start : e.taken + gap_of e.state.known ≡ cut_at (root_run k text) a z = (let cut = cut-some a 0 (e.taken + gap_of e.state.known) l in omega (arith, cut)) in
+            (let at_start : e.taken + gap_of e.state.known ≡ cut_at (root_run k text) a z = (let cut = cut-some (root_run k text) a z l in omega (arith, cut)) in
             subst (λ b. LeadsAt 0 kids b (length before + length (pending e.state.known))) (ap (λ n. width (take n text)) at_start) (led.first some));
         next = subst (λ us. LeadsAt 0 kids (width (take (cut_at (root_run k text) (a + d) z) text)) (length before + length us)) own_run
             (subst (λ b. LeadsAt 0 kids b (length before + length (nodes_with k a d t z))) (ap (λ n. width (take n text)) at_end) (led.next (goes-past q a d f go)));
@@ -711,7 +680,7 @@ module _ (k : CharClasses) (levels : ℕ) (text : List ℕ) (c : Spot (Unit {0})
       let u = inner_both k levels a d c z1 in
       let v = inner_end k levels a c z1 in
       let at_end : u.taken + gap_of u.state.known ≡ cut_at here (a + d) z1 =
-      omega (arith, ap (λ (x : End (Bool × ℕ)). x.taken) sum, ap (λ (x : End (Bool × ℕ)). gap_of x.state.known) sum, cut-some (a + d) opened ((first_end (a + d) q).taken + gap_of (first_end (a + d) q).state.known) (omega (arith, some))) in
+      omega (arith, ap (λ (x : End (Bool × ℕ)). x.taken) sum, ap (λ (x : End (Bool × ℕ)). gap_of x.state.known) sum, cut-some here (a + d) z1 (omega (arith, some))) in
       let lead_in = λ (at index : ℕ) (l : LeadsAt led.from led.kids at index). subst (λ ts. LeadsAt from ts at index) (sym kids-are) (subst (λ f. LeadsAt f led.kids at index) led.begins l) in
       record {
         before = before;
@@ -719,7 +688,7 @@ module _ (k : CharClasses) (levels : ℕ) (text : List ℕ) (c : Spot (Unit {0})
         children = kids-are ∙ led.children ∙ ap (λ us. before ++ (us ++ led.behind)) own_run;
         none_before = λ e. none-stand a (read_in k levels a d c z1).back (λ j. given (first_of j q) []) e refl;
         first = λ l.
-            (let at_start : v.taken + gap_of v.state.known ≡ cut_at here a z1 = (let cut = cut-some a opened (e.taken + gap_of e.state.known) l in omega (arith, cut)) in
+            (let at_start : v.taken + gap_of v.state.known ≡ cut_at here a z1 = (let cut = cut-some here a z1 l in omega (arith, cut)) in
             subst (λ b. LeadsAt from kids b (length before + length (pending e.state.known))) (ap (λ n. width (take n text)) at_start) (lead_in _ _ (led.first some)));
         next = subst (λ us. LeadsAt from kids (width (take (cut_at here (a + d) z1) text)) (length before + length us)) own_run
             (subst (λ b. LeadsAt from kids b (length before + length (nodes_in k levels a d t c z1))) (ap (λ n. width (take n text)) at_end) (lead_in _ _ (led.next (goes-past q a d (block-facts k levels c z1) go))));

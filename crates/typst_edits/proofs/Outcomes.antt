@@ -1,5 +1,6 @@
 -- A block in a larger whole.
-use Rattle.std.proofs.Common.{◌≡◌, ℕ, suc, ◌+◌, ◌-◌, ◌<◌, ◌≤◌, Bool, true, false, ◌||◌, List, [], ◌∷◌, ◌++◌, length, map, take, length-append, append_assoc, refl, ap, sym, ◌∙◌, arith}
+use Rattle.std.proofs.Common.{◌≡◌, ℕ, suc, ◌+◌, ◌-◌, ◌<◌, ◌≤◌, Bool, false, ◌||◌, List, [], ◌∷◌, ◌++◌, length, map, take, length-append, append_assoc, refl, ap, sym, ◌∙◌, arith}
+use Rattle.std.proofs.Math.Bool.{or_assoc}
 use Rattle.typst_edits.proofs.Words.{map-append, lt-ltb, is_error, Head, Tree, Ask, shift, shift_one, sunk, sink_one, looked, marked, Point, hinted, seen, hinted_last, Outcome, less, joined, Deep, fill, Hole, plug, under, Spot, around, then_spot, after_spot, lowered, lower}
 use Rattle.typst_language.specs.Shape.{hinted_error}
 use Rattle.typst_language.specs.Meaning.{hints_before}
@@ -38,20 +39,6 @@ sink-shift n (marked at gap fewer mark s) = refl
 pub sunk-shift : (n : ℕ) (ls : List Ask) → sunk (shift n ls) ≡ shift n (sunk ls)
 sunk-shift n [] = refl
 sunk-shift n (l ∷ ls) = rw (sink-shift n l, sunk-shift n ls) refl
-
--- ---- facts of either
-
-pub or-false : (m : Bool) → m ≡ (m || false)
-or-false true = refl
-or-false false = refl
-
-pub or-assoc : (a b c : Bool) → ((a || b) || c) ≡ (a || (b || c))
-or-assoc true b c = refl
-or-assoc false b c = refl
-
-or-then : (a b c d : Bool) → ((a || (b || c)) || d) ≡ (a || (b || (c || d)))
-or-then true b c d = refl
-or-then false b c d = or-assoc b c d
 
 -- ---- the ends of lists with a hole
 
@@ -94,18 +81,14 @@ seen-plug h x y a e f =
 
 -- ---- the whole of a larger whole
 
+pub shift-append : (n : ℕ) (ls ks : List Ask) → shift n (ls ++ ks) ≡ shift n ls ++ shift n ks
+shift-append n = map-append (shift_one n)
+
 looks-then : (bs ls ks qs : List Ask) (m k r : ℕ) → (bs ++ (shift m ls ++ shift (m + k) ks)) ++ shift (m + (k + r)) qs ≡ bs ++ (shift m ls ++ shift (m + k) (ks ++ shift r qs))
-looks-then bs ls ks qs m k r =
-    let f : (m + k) + r ≡ m + (k + r) = omega arith in
-    let e : shift (m + k) (ks ++ shift r qs) ≡ shift (m + k) ks ++ shift (m + (k + r)) qs = map-append (shift_one (m + k)) ks (shift r qs) ∙ ap (λ u. shift (m + k) ks ++ u) (shift-twice (m + k) r qs ∙ ap (λ j. shift j qs) f) in
-    append_assoc bs (shift m ls ++ shift (m + k) ks) (shift (m + (k + r)) qs)
-    ∙ ap (λ u. bs ++ u) (append_assoc (shift m ls) (shift (m + k) ks) (shift (m + (k + r)) qs) ∙ ap (λ u. shift m ls ++ u) (sym e))
+looks-then bs ls ks qs m k r = let f : (m + k) + r ≡ m + (k + r) = omega arith in simp (append_assoc, map-append, shift-twice, f)
 
 looks-after : (os bs ls ks : List Ask) (t m k : ℕ) → os ++ shift t (bs ++ (shift m ls ++ shift (m + k) ks)) ≡ (os ++ shift t bs) ++ (shift (t + m) ls ++ shift ((t + m) + k) ks)
-looks-after os bs ls ks t m k =
-    let f : t + (m + k) ≡ (t + m) + k = omega arith in
-    let e : shift t (shift m ls ++ shift (m + k) ks) ≡ shift (t + m) ls ++ shift ((t + m) + k) ks = map-append (shift_one t) (shift m ls) (shift (m + k) ks) ∙ ap (λ u. u ++ shift t (shift (m + k) ks)) (shift-twice t m ls) ∙ ap (λ u. shift (t + m) ls ++ u) (shift-twice t (m + k) ks ∙ ap (λ j. shift j ks) f) in
-    ap (λ u. os ++ u) (map-append (shift_one t) bs (shift m ls ++ shift (m + k) ks)) ∙ sym (append_assoc os (shift t bs) (shift t (shift m ls ++ shift (m + k) ks))) ∙ ap (λ u. (os ++ shift t bs) ++ u) e
+looks-after os bs ls ks t m k = let f : t + (m + k) ≡ (t + m) + k = omega arith in simp (append_assoc, map-append, shift-twice, f)
 
 pub hints-first : {A B : Type 0} (o : Outcome B) (q : Outcome A) → q.back < length o.nodes → hints_before o q ≡ o.hints
 hints-first o q h = rw (lt-ltb q.back (length o.nodes) h) refl
@@ -121,7 +104,7 @@ then-around c b x q h solid =
     same-outcome q.value _ _ q.state q.state _ _ _ _ _ _ _ _ _ _
     (omega arith) refl (omega (arith, few)) (hints-first (around c b x) q few) ns
     (looks-then c.before (lowered c.fewer b.asks) c.after q.asks c.at b.taken c.rest)
-    (or-then c.met_before b.met c.met_after q.met)
+    (or_assoc c.met_before (b.met || c.met_after) q.met ∙ ap (λ m. c.met_before || m) (or_assoc b.met c.met_after q.met))
 
 pub after-around : {A B : Type 0} (o : Outcome B) (c : Spot A) (b : Outcome (Unit {0})) (x : Tree) → joined o (around c b x) ≡ around (after_spot o c) b x
 after-around o c b x =
@@ -129,4 +112,4 @@ after-around o c b x =
     (omega arith) refl refl refl
     (sym (append_assoc (hinted c.hints (less c.back o.nodes)) c.hole.left (fill c.hole.deep x ∷ c.hole.right)))
     (looks-after o.asks c.before (lowered c.fewer b.asks) c.after o.taken c.at b.taken)
-    (sym (or-assoc o.met c.met_before (b.met || c.met_after)))
+    (sym (or_assoc o.met c.met_before (b.met || c.met_after)))

@@ -1,12 +1,13 @@
 -- What is asked of pieces of any run, cut at the note where some of them end.
 use Rattle.std.proofs.Common.{◌≡◌, ℕ, zero, suc, ◌+◌, ◌<◌, true, List, [], ◌∷◌, ◌++◌, append_assoc, append-nil, refl, ap, sym, ◌∙◌, subst, arith, Bool}
-use Rattle.typst_edits.proofs.Words.{map-append, Place, moved, Ask, shift, shift_one, SameIn, looked, marked, hand_asks_of, Point, gap_of, state_of, AllEndBy, AllBeginIn, note_at, looks_next, own_of, AllGo, asks_of, End, end_of, Sequence, turn_of, first_of, first_end, then_of, then_end, then_place, Noting, noting, notes_in, lowered, lower, same_in-shift, same_in-second}
+use Rattle.typst_edits.proofs.Words.{map-append, Place, moved, Ask, shift, shift_one, SameIn, looked, marked, hand_asks_of, Point, gap_of, state_of, AllEndBy, AllBeginIn, note_at, looks_next, own_of, AllGo, asks_of, End, end_of, Sequence, turn_of, first_of, first_end, then_of, then_end, then_place, Noting, noting, notes_in, lowered, same_in-shift, same_in-second}
 use Rattle.typst_language.specs.declared.calls.Mark.TheVariants as mark
-use Rattle.typst_edits.proofs.Boundary.{looks_in, piece_mark, each-ends, made-ends, end-split, end-both}
+use Rattle.typst_edits.proofs.Boundary.{looks_in, piece_mark, each-ends, made-ends}
 use Rattle.typst_edits.proofs.EmptyRuns.{Never}
 use Rattle.typst_edits.proofs.Bytes.{AllMarks, none-hand}
 use Rattle.typst_edits.proofs.Outcomes.{shift-zero, shift-twice, lowered-zero}
 use Rattle.typst_edits.proofs.Splice.{Side, entries_at, back_at, count-append, count-none, bare-shift, side-closed, side-open, token-at}
+use Rattle.typst_edits.proofs.Looks.{ending, in-rest, looks-both, looks-by, looks-shifted, looks-split}
 
 -- ---- asks of a larger whole
 
@@ -16,8 +17,7 @@ module _ (a f : ℕ) where
   lifted ls = shift a (lowered f ls)
 
   pub lifted-append : (ls ks : List Ask) → lifted (ls ++ ks) ≡ lifted ls ++ lifted ks
-  lifted-append [] ks = refl
-  lifted-append (l ∷ ls) ks = ap (λ u. shift_one a (lower f l) ∷ u) (lifted-append ls ks)
+  lifted-append ls ks = simp (map-append)
 
   abbrev pub lifted_note : Noting → Noting
   lifted_note p = record { at = a + p.at; gap = p.gap; fewer = f + p.fewer; mark = p.mark; state = p.state }
@@ -32,34 +32,14 @@ module _ (a f : ℕ) where
   lifted-count (looked at look ∷ ls) = lifted-count ls
   lifted-count (marked at gap fewer m s ∷ ls) = ap suc (lifted-count ls)
 
-  pub lifted-ends : (n : ℕ) (ls : List Ask) → AllEndBy n (shift a ls) → AllEndBy n (lifted ls)
-  lifted-ends n [] h = tt
-  lifted-ends n (looked at look ∷ ls) h = (h.0, lifted-ends n ls h.1)
-  lifted-ends n (marked at gap fewer m s ∷ ls) h = lifted-ends n ls h
-
 -- counted from further on
-pub lifted-shift : (a f d : ℕ) (ls : List Ask) → lifted a f (shift d ls) ≡ shift (a + d) (lowered f ls)
-lifted-shift a f d [] = refl
-lifted-shift a f d (looked at look ∷ ls) = let e : a + (d + at) ≡ (a + d) + at = omega arith in ap (λ n. looked n look ∷ lifted a f (shift d ls)) e ∙ ap (λ u. looked ((a + d) + at) look ∷ u) (lifted-shift a f d ls)
-lifted-shift a f d (marked at gap fewer m s ∷ ls) =
-    let e : a + (d + at) ≡ (a + d) + at = omega arith in
-    ap (λ n. marked n gap (f + fewer) m s ∷ lifted a f (shift d ls)) e ∙ ap (λ u. marked ((a + d) + at) gap (f + fewer) m s ∷ u) (lifted-shift a f d ls)
-
--- looks that begin after a stretch, in a larger whole
-pub begins-lowered : (past : ℕ) (rest : List ℕ) (f : ℕ) (ls : List Ask) → AllBeginIn past rest ls → AllBeginIn past rest (lowered f ls)
-begins-lowered past rest f [] h = tt
-begins-lowered past rest f (looked at look ∷ ls) h = (h.0, h.1, begins-lowered past rest f ls h.2)
-begins-lowered past rest f (marked at gap fewer m s ∷ ls) h = begins-lowered past rest f ls h
-
-pub begins-both : (past : ℕ) (rest : List ℕ) (ls ks : List Ask) → AllBeginIn past rest ls → AllBeginIn past rest ks → AllBeginIn past rest (ls ++ ks)
-begins-both past rest [] ks h i = i
-begins-both past rest (looked at look ∷ ls) ks h i = (h.0, h.1, begins-both past rest ls ks h.2 i)
-begins-both past rest (marked at gap fewer m s ∷ ls) ks h i = begins-both past rest ls ks h i
+pub low-shift : (f d : ℕ) (ls : List Ask) → lowered f (shift d ls) ≡ shift d (lowered f ls)
+low-shift f d [] = refl
+low-shift f d (looked at look ∷ ls) = ap (λ u. looked (d + at) look ∷ u) (low-shift f d ls)
+low-shift f d (marked at gap fewer m s ∷ ls) = ap (λ u. marked (d + at) gap (f + fewer) m s ∷ u) (low-shift f d ls)
 
 pub begins-further : (past d : ℕ) (rest : List ℕ) (ls : List Ask) → AllBeginIn (past + d) rest ls → AllBeginIn past rest (shift d ls)
-begins-further past d rest [] h = tt
-begins-further past d rest (looked at look ∷ ls) h = (omega (arith, h.0), omega (arith, h.1), begins-further past d rest ls h.2)
-begins-further past d rest (marked at gap fewer m s ∷ ls) h = begins-further past d rest ls h
+begins-further past d rest ls h = looks-by (in-rest (past + d) rest) (looks-shifted (in-rest past rest) d) (λ at look p. (omega (arith, p.0), omega (arith, p.1))) ls h
 
 -- ---- the notes of a run
 
@@ -109,13 +89,13 @@ module _ (r : Sequence) (first : Point) (ls : List Ask) where
         count = omega (arith, count-none ls bare, next-none (suc j) bare, ap notes_in is ∙ count-append before (p ∷ looks), count-append ls (asks_of os));
         none = λ e. absurd (omega (arith, e));
         ends = λ n d h.
-            (let one = end-split n d ls (asks_of os) (h (omega arith)) in
-            let two = end-split n d b.early (looks ++ p ∷ looks) (subst (λ u. AllEndBy n (shift d u)) b.is one.1) in
-            end-both n d ls (b.early ++ looks) one.0 (end-both n d b.early looks two.0 (end-split n d looks (p ∷ looks) two.1).0));
+            (let one = looks-split (looks-shifted (ending n) d) ls (asks_of os) (h (omega arith)) in
+            let two = looks-split (looks-shifted (ending n) d) b.early (looks ++ p ∷ looks) (subst (λ u. AllEndBy n (shift d u)) b.is one.1) in
+            looks-both (looks-shifted (ending n) d) ls (b.early ++ looks) one.0 (looks-both (looks-shifted (ending n) d) b.early looks two.0 (looks-split (looks-shifted (ending n) d) looks (p ∷ looks) two.1).0));
         ended = λ n d l h.
-            (let one = end-split n d ls (b.early ++ looks) h in
-            let two = end-split n d b.early looks one.1 in
-            end-both n d ls (asks_of os) one.0 (subst (λ u. AllEndBy n (shift d u)) (sym b.is) (end-both n d b.early (looks ++ p ∷ looks) two.0 (end-both n d looks (p ∷ looks) two.1 two.1))));
+            (let one = looks-split (looks-shifted (ending n) d) ls (b.early ++ looks) h in
+            let two = looks-split (looks-shifted (ending n) d) b.early looks one.1 in
+            looks-both (looks-shifted (ending n) d) ls (asks_of os) one.0 (subst (λ u. AllEndBy n (shift d u)) (sym b.is) (looks-both (looks-shifted (ending n) d) b.early (looks ++ p ∷ looks) two.0 (looks-both (looks-shifted (ending n) d) looks (p ∷ looks) two.1 two.1))));
       }
 
   -- what is asked of some pieces, cut at the note where they end
@@ -187,9 +167,6 @@ pub lifted-none : (ls : List Ask) → lifted 0 0 ls ≡ ls
 lifted-none ls = shift-zero (lowered 0 ls) ∙ lowered-zero ls
 
 module _ (r q : Sequence) (first : Point) (ls ks : List Ask) where
-  abbrev note_by : End (Bool × ℕ) → Noting
-  note_by e = record { at = e.taken; gap = gap_of e.state.known; fewer = 0; mark = mark.Piece e.value.0 e.value.1; state = state_of e.state }
-
   -- what is asked there up to the note where some pieces end
   pub record Again (i : ℕ) (early : List Ask) : Type 0 where
     pub note : note_at q first i ≡ note_at r first i
@@ -209,6 +186,6 @@ module _ (r q : Sequence) (first : Point) (ls ks : List Ask) where
       let seen : SameIn hand (moved e.taken r.place) (moved e.taken q.place) = same_in-shift e.taken hand r.place q.place (same_in-second c.early (p ∷ shift e.taken hand) r.place q.place all).1 in
       let looks_is : looks_next q ks (suc j) ≡ shift e.taken hand = ap (λ (x : End (Bool × ℕ)). shift x.taken (hand_asks_of q.level (moved x.taken q.place) x.state)) end_is ∙ ap (shift e.taken) (frame (moved e.taken r.place) (moved e.taken q.place) e.state seen) in
       record {
-        note = ap note_by end_is;
+        note = (λ v. let e = end_is v in record { at = e.taken; gap = gap_of e.state.known; fewer = 0; mark = mark.Piece e.value.0 e.value.1; state = state_of e.state });
         is = ap (λ us. piece_mark 0 (true, 0) first ∷ (us ++ asks_of (first_of (suc j) q))) (asks some) ∙ ap (λ os. piece_mark 0 (true, 0) first ∷ (ls ++ asks_of os)) same ∙ c.is ∙ ap (λ u. c.early ++ p ∷ u) (sym looks_is);
       }

@@ -1,14 +1,13 @@
 -- What is logged of pieces that are read again: of any run.
 use Rattle.std.proofs.Common.{◌≡◌, ℕ, zero, suc, ◌+◌, Bool, false, List, [], ◌∷◌, ◌++◌, Some, refl, ap, sym, ◌∙◌, subst, arith}
-use Rattle.typst_edits.proofs.Words.{map-append, Place, moved, look, token, Ask, shift, shift_one, looked, at_trivia, no_log, logged, Outcome, hand_asks_of, start_point, run, Trivia, point_of, peek, moved-sum, max_depth, markup_reading, inner_lead, run_at, own_of, text_run, read_again, SamePieces, End, asks_of, lead, end_at, Sequence, first_end, then_of}
+use Rattle.typst_edits.proofs.Words.{map-append, Place, moved, look, token, Ask, shift, looked, at_trivia, no_log, logged, Outcome, hand_asks_of, start_point, run, Trivia, point_of, peek, moved-sum, max_depth, markup_reading, inner_lead, run_at, own_of, text_run, read_again, SamePieces, End, asks_of, lead, end_at, Sequence, first_end, then_of}
 use Rattle.typst_kinds.specs.declared.mode.SyntaxMode.TheVariants as mode
 use Rattle.typst_language.proofs.Logs.{logged-shift}
 use Rattle.typst_edits.specs.InnerPiecesLog.{asks_again, InnerPiecesLogLaw}
 use Rattle.typst_edits.specs.PiecesLog.{PiecesLogLaw}
 use Rattle.typst_edits.proofs.EmptyRuns.{hand-asks}
-use Rattle.typst_edits.proofs.Joint.{block-read, known-is, text-read, ReadAs}
+use Rattle.typst_edits.proofs.Joint.{block-read, known-read, text-read, ReadAs}
 use Rattle.typst_edits.proofs.RunSplice.{hand-direct}
-use Rattle.typst_edits.proofs.Turns.{before_trivia}
 use Rattle.typst_edits.proofs.Outcomes.{shift-twice}
 use Rattle.typst_edits.proofs.Known.{Reached}
 use Rattle.typst_edits.proofs.Resumed.{text-reached, block-reached, resume-law, inner-resume-law}
@@ -19,8 +18,7 @@ same-asks t [] [] h = refl
 same-asks t [] (c ∷ cs) h = absurd h
 same-asks t (o ∷ os) [] h = absurd h
 same-asks t (o ∷ os) (c ∷ cs) h =
-    ap (λ ls. ls ++ shift o.taken (asks_of os)) h.0.asks ∙ ap (λ n. shift t.gap c.asks ++ shift n (asks_of os)) h.0.taken ∙ ap (λ us. shift t.gap c.asks ++ shift (t.gap + c.taken) (asks_of us)) h.1
-    ∙ ap (λ ls. shift t.gap c.asks ++ ls) (sym (shift-twice t.gap c.taken (asks_of cs))) ∙ sym (map-append (shift_one t.gap) c.asks (shift c.taken (asks_of cs)))
+    ap (λ us. o.asks ++ shift o.taken (asks_of us)) h.1 ∙ simp (h.0.asks, h.0.taken, map-append, shift-twice)
 
 -- ---- any run
 
@@ -46,15 +44,12 @@ module _ (r : Sequence) (ls : List Ask) (j m lv : ℕ) (t : Trivia) where
       let s = e.state in
       let os = then_of (suc j) m r in
       let cs = read_again (suc j) m t r in
-      let is : s ≡ before_trivia markup_reading markup_reading s.empties s.is_after_error t = known-is l.classes s t known ∙ (λ v. before_trivia (read.reading v) (read.held v) s.empties s.is_after_error t) in
-      let clear : at_trivia l.classes mode.Markup here ≡ false = subst (λ p. Reached l.classes y p) is reached in
+      let clear : at_trivia l.classes mode.Markup here ≡ false = subst (λ p. Reached l.classes y p) (known-read l.classes markup_reading s t known read) reached in
       let lead = (run l peek here (start_point markup_reading)).asks in
       let first : hand_asks_of l y s ≡ shift t.gap lead =
       hand-asks l y t.gap s (record { held = read.held; trivia = t; known = known; gap = refl }) ∙ ap (λ n. looked n (look (token l.classes mode.Markup) here) ∷ []) (omega arith) ∙ ap (shift t.gap) (sym (first-look clear)) in
       let asks : own_of r ls (suc j) m ≡ shift (e.taken + t.gap) (asks_again (suc j) m t r) =
-      ap (λ us. shift e.taken us ++ shift e.taken (asks_of os)) first ∙ ap (λ us. shift e.taken (shift t.gap lead) ++ shift e.taken us) (same-asks t os cs pieces)
-      ∙ sym (map-append (shift_one e.taken) (shift t.gap lead) (shift t.gap (asks_of cs))) ∙ ap (shift e.taken) (sym (map-append (shift_one t.gap) lead (asks_of cs)))
-      ∙ shift-twice e.taken t.gap (asks_again (suc j) m t r) in
+      ap (λ us. shift e.taken us ++ shift e.taken (asks_of os)) first ∙ ap (λ us. shift e.taken (shift t.gap lead) ++ shift e.taken us) (same-asks t os cs pieces) ∙ simp (map-append, shift-twice) in
       ap (logged lv r.place no_log) asks ∙ logged-shift lv (e.taken + t.gap) r.place no_log (asks_again (suc j) m t r) ∙ ap (λ p. logged lv p no_log (asks_again (suc j) m t r)) (moved-sum e.taken t.gap r.place)
 
 -- ---- a text's run, and a content block's

@@ -1,9 +1,9 @@
 -- What code finds of a candidate that is pieces of a run, a content block's or a text's, by the numbers of its entries and a reading from its first token on.
-use Rattle.std.proofs.Common.{◌≡◌, ◌↔◌, ℕ, zero, suc, ◌+◌, ◌-◌, ◌<◌, ◌≤◌, nat_le, Bool, true, false, if◌then◌else◌, List, [], ◌∷◌, ◌++◌, length, take, None, Some, refl, ap, sym, ◌∙◌, subst, arith}
-use Rattle.typst_edits.proofs.Words.{nat_tests, Place, moved, CharClasses, Tree, bare, width, position, Note, shift, Outcome, start_point, entered, run, itself, takes, does, peek, Log, no_log, logged, markup_reading, Trivia, gap_of, pending, point_of, moved-sum, Entry, Candidate, units_of, entry_of, entries_by, spliced, Units, units_by, front_of, rear_of, IsRising, AllEnd, AllBegin, max_depth, log, tree, first_look, look_first, look_again, bracket, inner_lead, run_at, opened_at, EndsBefore, highest, lowest, Among, text_with, Run, top, cut_at, is_over, Agrees, PassesPieces, Gives, of_block, of_pieces, Before, candidates, path_of, OpensApartLaw, first_place, minds_at, block_run, Around, inner_end, inner_both, InOrderLaw, read_alone, level_in, end_alone, InnerPart, TakesNone, fresh, blocks_of_text, listed, made, AllGo, End, asks_of, pieces, end_at, pieces_from, piece_at, lead, turn_of, first_of, first_end, then_of, then_end, Sequence, Spot, entries_from, notes_in, token_start, of_level, cut_after, root_run, text_run, end_note, pieces_log, front-law, rear-law, both_ways, PieceNote}
+use Rattle.std.proofs.Common.{◌≡◌, ◌↔◌, ℕ, zero, suc, ◌+◌, ◌-◌, ◌<◌, ◌≤◌, Bool, true, false, List, [], ◌∷◌, ◌++◌, length, take, Some, refl, ap, sym, ◌∙◌, subst, arith}
+use Rattle.typst_edits.proofs.Words.{Place, moved, CharClasses, Tree, bare, width, position, Note, shift, Outcome, start_point, entered, run, itself, takes, does, peek, no_log, logged, markup_reading, Trivia, gap_of, pending, point_of, moved-sum, Candidate, units_of, spliced, max_depth, log, tree, first_look, look_first, look_again, bracket, inner_lead, run_at, opened_at, EndsBefore, Among, text_with, Run, top, cut_at, is_over, Agrees, PassesPieces, Gives, of_block, of_pieces, Before, candidates, path_of, OpensApartLaw, first_place, minds_at, block_run, Around, inner_end, inner_both, InOrderLaw, read_alone, level_in, end_alone, InnerPart, TakesNone, fresh, blocks_of_text, made, AllGo, End, asks_of, pieces, end_at, pieces_from, piece_at, lead, turn_of, first_of, first_end, then_of, then_end, Sequence, Spot, entries_from, notes_in, token_start, of_level, cut_after, root_run, text_run, end_note, pieces_log, both_ways, PieceNote}
 use Rattle.typst_grammar.specs.Pieces.{given}
 use Rattle.typst_edits.specs.Frame.{inner as block_inner, inner}
-use Rattle.typst_edits.specs.InnerPiecesTest.{front_count, rear_count, InnerEntriesLaw, InnerReadLaw, InnerOnceLaw, InnerTestLaw, InnerPartLaw, InnerUnitsLaw}
+use Rattle.typst_edits.specs.InnerPiecesTest.{InnerEntriesLaw, InnerReadLaw, InnerOnceLaw, InnerTestLaw, InnerPartLaw, InnerUnitsLaw}
 use Rattle.typst_edits.specs.RunBytes.{both_end}
 use Rattle.typst_language.specs.declared.calls.Block.TheVariants as block
 use Rattle.typst_edits.specs.InnerJoint.{BeginsPast}
@@ -11,93 +11,31 @@ use Rattle.typst_edits.proofs.RunCandidates.{no-errors, inner-candidate-law, roo
 use Rattle.typst_edits.proofs.PiecesLog.{inner-pieces-log-law}
 use Rattle.typst_edits.proofs.RunSplice.{inner-splice-law, run-splice-law}
 use Rattle.typst_edits.proofs.Outcomes.{shift-zero}
-use Rattle.typst_edits.proofs.Resumed.{block-known, block-then-known, block-fresh, bracket-gap, inner-count-law, inner-goes-too, start-asks, start-known, start-same, start-goes, text-fresh, text-goes-too}
+use Rattle.typst_edits.proofs.Heads.{lead-empties}
+use Rattle.typst_edits.proofs.EntryNumbers.{numbers-of}
+use Rattle.typst_edits.proofs.Resumed.{block-markup, bracket-gap, inner-count-law, start-asks, start-known, start-same, start-goes, text-markup, then-known}
 use Rattle.typst_edits.proofs.RunBytes.{inner-decision-law, text-note, text-both, text-count, text-token, reaches, reaches-too, begins-past, begins-past-too, trivia-end}
 use Rattle.typst_edits.proofs.OneReading.{block-seen, block-sees, block-clear, takes-some, text-seen, text-clear}
 use Rattle.typst_edits.proofs.ReadAlone.{Rereads, first-goes, begun, alike, goes-there, gives-to, reads-to}
 use Rattle.typst_edits.proofs.RunPieces.{take-past}
-use Rattle.typst_edits.proofs.Seen.{end-first, end-second, end-shift}
-use Rattle.typst_edits.proofs.Widths.{width-append}
+use Rattle.typst_edits.proofs.Seen.{end-shift}
+use Rattle.typst_edits.proofs.Widths.{width-append, short}
 use Rattle.typst_edits.proofs.BlockRuns.{first-same, pieces-same}
 use Rattle.typst_edits.specs.PiecesTest.{CutOnceLaw, RunEntriesLaw, RunReadLaw, RunGives, RunGivesLaw, RunPartLaw}
 use Rattle.typst_edits.proofs.Content.{tail-none}
-use Rattle.typst_edits.proofs.Boundary.{KnownAt, looks_in, each-ends, made-add, go-add}
-use Rattle.typst_edits.proofs.Children.{top-known}
+use Rattle.typst_edits.proofs.Boundary.{looks_in, each-ends, made-add, go-add}
 use Rattle.typst_edits.proofs.Cuts.{cuts-law}
 use Rattle.typst_edits.proofs.Edit.{before-same}
-use Rattle.typst_edits.proofs.NumberedNotes.{neither, number-law}
+use Rattle.typst_edits.proofs.NumberedNotes.{number-law}
 use Rattle.typst_edits.proofs.Splice.{count-made}
+use Rattle.typst_edits.proofs.Looks.{ending, looks-first, looks-second}
+use Rattle.typst_edits.proofs.Every.{neither}
 
--- ---- numbers of notes
-
--- The greatest of some numbers shows that all are no greater.
-pub all-end : (at : ℕ) (ns : List Note) (n : Note) → (AllEnd at (ns ++ n ∷ []) → highest ns n.reach ≤ at) × (highest ns n.reach ≤ at → AllEnd at (ns ++ n ∷ []))
-all-end at [] n = ((λ h. h.0), (λ h. (h, tt)))
-all-end at (m ∷ ns) n = let i = all-end at ns n in ((λ h. (let a = h.0 in let b = i.0 h.1 in omega (arith, a, b))), (λ h. (omega (arith, h), i.1 (omega (arith, h)))))
-
-pub all-begin : (at : ℕ) (ns : List Note) (least : ℕ) → (AllBegin at ns least → at < lowest ns least) × (at < lowest ns least → AllBegin at ns least)
-all-begin at [] least = ((λ h. h), (λ h. h))
-all-begin at (m ∷ ns) least = let i = all-begin at ns least in ((λ h. (let a = h.0 in let b = i.0 h.1 in omega (arith, a, b))), (λ h. (omega (arith, h), i.1 (omega (arith, h)))))
-
--- Where a note is among the first that stand at a byte or before it with all looks, so is its token.
-counts-on : (here reach at rest : ℕ) (b : Bool) → nat_le (here + (reach - here)) at ≡ b → 0 < (if b then suc rest else 0) → here ≤ at
-counts-on here reach at rest true e l = let d : here + (reach - here) ≤ at = grind (arith, nat_tests, e) in omega (arith, d)
-counts-on here reach at rest false e l = absurd (omega (arith, l))
-
-counts-more : (n rest : ℕ) (b : Bool) → suc n < (if b then suc rest else 0) → n < rest
-counts-more n rest true l = omega (arith, l)
-counts-more n rest false l = absurd (omega (arith, l))
-
-here-is : (start : ℕ) (n : Note) → start ≤ n.before → n.before ≤ n.start → (start + (n.before - start)) + (n.start - n.before) ≡ n.start
-here-is start n a b = omega arith
-
-step-front : (at start : ℕ) (n : Note) (es : List Entry) → start ≤ n.before → n.before ≤ n.start
-    → front_of at start (entry_of start n ∷ es) ≡ (if nat_le (n.start + (n.reach - n.start)) at then suc (front_of at n.start es) else 0)
-step-front at start n es a b = ap (λ here. if nat_le (here + (n.reach - n.start)) at then suc (front_of at here es) else 0) (here-is start n a b)
-
-pub front-start : (ns more : List Note) (n : Note) (at start : ℕ) → IsRising start (ns ++ n ∷ more) → length ns < front_of at start (entries_by start (ns ++ n ∷ more)) → n.start ≤ at
-front-start [] more n at start r l = counts-on n.start n.reach at (front_of at n.start (entries_by n.start more)) _ refl (subst (λ j. 0 < j) (step-front at start n (entries_by n.start more) r.0 r.1) l)
-front-start (m ∷ ns) more n at start r l =
-    let es = entries_by m.start (ns ++ n ∷ more) in
-    front-start ns more n at m.start r.2 (counts-more (length ns) (front_of at m.start es) (nat_le (m.start + (m.reach - m.start)) at) (subst (λ j. suc (length ns) < j) (step-front at start m es r.0 r.1) l))
-
-pub units-are : (h : Log) (ns : List Note) → h.notes ≡ Some ns → units_of h ≡ units_by ns h.least
-units-are h ns e = ap (λ o. units_by (elim o as (λ _. List Note) [ None ↦ [] | Some ms ↦ ms ]) h.least) e
-
--- What the number of a note among all says of looks: they end at a byte that isn't before its token, or begin after one that isn't after it.
-pub record NumbersOf (k : CharClasses) (text : List ℕ) (earlier : List Note) (note : Note) (later : List Note) : Type 0 where
-  pub before : (at : ℕ) → length earlier < front_count k text at → highest earlier note.reach ≤ at
-  pub before_too : (at : ℕ) → note.start ≤ at → highest earlier note.reach ≤ at → length earlier < front_count k text at
-  pub after : (end : ℕ) → end ≤ note.start → rear_count k text end ≤ length earlier → end < lowest later (log k text).least
-  pub after_too : (end : ℕ) → end ≤ note.start → end < lowest later (log k text).least → rear_count k text end ≤ length earlier
-
-pub numbers-of : InOrderLaw → (k : CharClasses) (text : List ℕ) (earlier : List Note) (note : Note) (later : List Note) → (log k text).notes ≡ Some (earlier ++ note ∷ later) → NumbersOf k text earlier note later
-numbers-of ordered k text earlier note later is =
-    let l = log k text in
-    let order = subst (λ ns. IsRising 0 ns) (ap listed is) (ordered k text) in
-    let units = units-are l _ is in
-    let fronts : (at : ℕ) → front_count k text at ≡ front_of at 0 (entries_by 0 (earlier ++ note ∷ later)) = λ at. ap (λ (u : Units). front_of at 0 u.entries) units in
-    let rears = λ (end : ℕ). ap (λ (u : Units). rear_of end 0 0 u.entries u.back) units in
-    record {
-      before = λ at p.
-          (let q = subst (λ j. length earlier < j) (fronts at) p in
-          (all-end at earlier note).0 ((front-law earlier later note at order (front-start earlier later note at 0 order q)).0 q));
-      before_too = λ at here h. subst (λ j. length earlier < j) (sym (fronts at)) ((front-law earlier later note at order here).1 ((all-end at earlier note).1 h));
-      after = λ end behind q. (all-begin end later l.least).0 ((rear-law earlier later note end l.least order behind).0 (subst (λ j. j ≤ length earlier) (rears end) q));
-      after_too = λ end behind h. subst (λ j. j ≤ length earlier) (sym (rears end)) ((rear-law earlier later note end l.least order behind).1 ((all-begin end later l.least).1 h));
-    }
+-- ---- from characters to bytes
 
 pub behind-end : (front old rest : List ℕ) (past : ℕ) {start : ℕ} → start ≡ width (front ++ (old ++ take past rest)) → width (front ++ old) ≤ start
 behind-end front old rest past here =
     omega (arith, here, width-append front old, width-append front (old ++ take past rest), width-append old (take past rest))
-
--- ---- from characters to bytes
-
-pub short : (n : ℕ) (xs ys : List ℕ) → n ≤ length xs → width (take n (xs ++ ys)) ≤ width xs
-unfolding width
-short zero xs ys l = omega arith
-short (suc n) [] ys l = absurd (omega (arith, l))
-short (suc n) (x ∷ xs) ys l = let i = short n xs ys (omega (arith, l)) in omega (arith, i)
 
 -- Where the looks before a token end before a stretch, the token begins there.
 token-before : (k : CharClasses) (levels : ℕ) (front old rest : List ℕ) (s : Spot (Unit {0})) (i : ℕ) → 0 < i → EndsBefore k levels front old rest s i → 0 < (first_end i (run_at k levels s (text_with front old rest))).taken
@@ -122,10 +60,10 @@ run-before k levels front old rest s i starts looks =
     let again = look_again k levels y p in
     let b = bracket k levels y p in
     let all = end-shift s.at most (length front) (first.asks ++ (again.asks ++ b.asks)) (omega arith) looks.opens in
-    let behind = end-second most first.asks (again.asks ++ b.asks) all in
-    let gap_one : gap_of first.state.known ≤ most = omega (arith, (block-sees k levels s z peek y p most (omega arith)).ends (end-first most first.asks (again.asks ++ b.asks) all)) in
-    let gap_two : gap_of again.state.known ≤ most = omega (arith, (block-sees k levels s z peek y first.state most gap_one).ends (end-first most again.asks b.asks behind)) in
-    let three = (block-sees k levels s z (does (takes false itself)) y (entered markup_reading again.state) most gap_two).ends (end-second most again.asks b.asks behind) in
+    let behind = looks-second (ending most) first.asks (again.asks ++ b.asks) all in
+    let gap_one : gap_of first.state.known ≤ most = omega (arith, (block-sees k levels s z peek y p most (omega arith)).ends (looks-first (ending most) first.asks (again.asks ++ b.asks) all)) in
+    let gap_two : gap_of again.state.known ≤ most = omega (arith, (block-sees k levels s z peek y first.state most gap_one).ends (looks-first (ending most) again.asks b.asks behind)) in
+    let three = (block-sees k levels s z (does (takes false itself)) y (entered markup_reading again.state) most gap_two).ends (looks-second (ending most) again.asks b.asks behind) in
     omega (arith, three, starts)
 
 -- So does the token of its first note.
@@ -187,10 +125,7 @@ module _ (k : CharClasses) (levels : ℕ) (front old new rest : List ℕ) (s : S
         opened = λ i looks. ap (λ (o : Outcome (Unit {0})). s.at + o.taken) (first-same k levels front old new rest s i looks).opened;
         first = λ i looks. (first-same k levels front old new rest s i looks).first;
         none = λ i some g looks none. block-clear k levels front old new rest s i some g looks none;
-        known = block-known k levels y t;
-        then_known = block-then-known k levels y t;
-        bare = block-fresh k levels y t;
-        goes_too = inner-goes-too k levels y t;
+        markup = block-markup k levels y t;
         start_known = start-known k levels y t;
         start_same = λ clear looks m go. start-same k levels y t m (λ minds. begins-none looks clear) go;
         start_goes = λ clear looks m go. start-goes k levels y t m (λ minds. begins-none looks clear) go;
@@ -217,8 +152,8 @@ inner-once-law k levels front old new rest s chosen name level i n m j past ts u
     let g_now = first-goes k front old new rest own again i looks g in
     let go = goes-there k front old new rest own again i m g clear none looks one.go in
     let go_too = goes-there k front old new rest own again i j g clear none looks two.go in
-    let u = block-then-known k levels (moved s.at w) (point_of s.start) i m g_now go in
-    let v = block-then-known k levels (moved s.at w) (point_of s.start) i j g_now go_too in
+    let u = then-known (run_at k levels s w) again.markup i m g_now go in
+    let v = then-known (run_at k levels s w) again.markup i j g_now go_too in
     let b = alike k front old new rest own again i m u.trivia g clear none looks go u.is in
     let d = alike k front old new rest own again i j v.trivia g clear none looks go_too v.is in
     let same : m ≡ j = inner-count-law k levels (moved s.at w) (point_of s.start) i m j g_now go go_too (omega (arith, b.sum, d.sum, one.ends, two.ends, ap gap_of u.is, ap gap_of v.is)) in
@@ -383,22 +318,13 @@ module _ (k : CharClasses) (front old new rest : List ℕ) where
   abbrev q : Sequence
   q = text_run k text_w
 
-  pub no-errors-before : (text_run k (text_with front old rest)).point.empties ≡ 0
-  unfolding run
-  no-errors-before = refl
-
   pub text-rereads : Rereads k front old new rest (root_run k (front ++ (old ++ rest)))
   text-rereads = record {
     place = refl;
     opened = λ i looks. refl;
     first = λ i looks. (pieces-same k i (text_with front old rest) text_w (λ l. before-same _ front old new rest (looks l))).pieces_same;
     none = λ i some g looks none. text-clear k front old new rest i some g (looks some) none;
-    known = λ i g. top-known k i text_w g;
-    then_known = λ i m g h.
-        (let both : end_at k (i + m) text_w ≡ record (then_end i m q) { taken = (first_end i q).taken + (then_end i m q).taken } = made-add (piece_at k) (looks_in q) (each-ends q) i m (true, 0) text_w (lead k text_w).state in
-        subst (λ (v : End (Bool × ℕ)). KnownAt v.state) both (top-known k (i + m) text_w (go-add (piece_at k) (looks_in q) (each-ends q) i m (true, 0) text_w (lead k text_w).state g h)));
-    bare = text-fresh k text_w;
-    goes_too = text-goes-too k text_w;
+    markup = text-markup k text_w;
     start_known = refl;
     start_same = λ clear looks m go. refl;
     start_goes = λ clear looks m go. go;
@@ -408,7 +334,7 @@ pub run-read-law : RunReadLaw
 run-read-law k front old new rest i n m past t ts g h known sum none looks behind =
     let own = root_run k (front ++ (old ++ rest)) in
     let again = text-rereads k front old new rest in
-    let clear = no-errors-before k front old new rest in (
+    let clear = lead-empties k (text_with front old rest) in (
       (λ reads. (let x = gives-to k front old new rest own again i n past t ts g clear none looks m h known (omega (arith, sum)) behind (record { go = reads.go; ends = reads.ends; agrees = reads.agrees; nodes = reads.nodes }) in record { behind = x.behind; passes = x.passes; are = x.are })),
       (λ gives. (let x = reads-to k front old new rest own again i n past t ts g clear none looks m (record { behind = gives.behind; passes = gives.passes; are = gives.are }) in record { go = x.go; ends = x.ends; agrees = x.agrees; nodes = x.nodes })),
     )

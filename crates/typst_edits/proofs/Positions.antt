@@ -315,8 +315,6 @@ each-plug P hole x e h = each-fill P (length hole.left) hole.deep x (forest hole
 
 -- ---- what holds of each token's node: none has a node of a block's kind in it
 
--- ---- what holds of each token's node
-
 -- WHAT A TOKEN'S NODE IS MADE OF: a property that these keep holds of each.
 pub record OfTokens (P : Tree → Type 0) : Type 0 where
   pub leaves : (k : SyntaxKind) (s : List ℕ) → P (leaf_of k s)

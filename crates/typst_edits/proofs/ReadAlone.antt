@@ -4,10 +4,10 @@ use Rattle.typst_edits.proofs.Words.{Place, moved, CharClasses, Tree, Outcome, T
 use Rattle.typst_edits.specs.OneReading.{again_end}
 use Rattle.typst_grammar.specs.Pieces.{given}
 use Rattle.typst_edits.proofs.Turns.{none-less}
-use Rattle.typst_edits.proofs.Boundary.{KnownAt}
 use Rattle.typst_edits.proofs.Children.{given-together}
 use Rattle.typst_edits.proofs.OneReading.{gives-again-law}
-use Rattle.typst_edits.proofs.Resumed.{no_trivia}
+use Rattle.typst_edits.proofs.RunPieces.{cut-some}
+use Rattle.typst_edits.proofs.Resumed.{ReadsMarkup, known-after, then-known, stand-too, fresh-after}
 
 -- ---- the nodes of pieces
 
@@ -53,11 +53,7 @@ module _ (k : CharClasses) (front old new rest : List ℕ) (r : Run k (front ++ 
     pub opened : (i : ℕ) → Before k front old rest r i → opened_by r w ≡ opened_by r z
     pub first : (i : ℕ) → Before k front old rest r i → first_of i q ≡ first_of i p
     pub none : (i : ℕ) → 0 < i → AllGo (first_of i p) → Before k front old rest r i → TakesNone i p → TakesNone i q
-    pub known : (i : ℕ) → AllGo (first_of i q) → KnownAt (first_end i q).state
-    pub then_known : (i m : ℕ) → AllGo (first_of i q) → AllGo (then_of i m q) → KnownAt (then_end i m q).state
-    -- Where a token begins no trivia are known.
-    pub bare : (i : ℕ) (t : Trivia) → (first_end i q).state.known ≡ Some t → (fresh q.level (moved t.gap (first_place i q))).known ≡ Some no_trivia
-    pub goes_too : (i m : ℕ) (t : Trivia) → AllGo (first_of i q) → AllGo (read_again i m t q) → (first_end i q).state.known ≡ Some t → TakesNone i q → AllGo (then_of i m q)
+    pub markup : ReadsMarkup q
     -- where the run begins, and no errors stand before it
     pub start_known : q.point.known ≡ (fresh q.level q.place).known
     pub start_same : p.point.empties ≡ 0 → Before k front old rest r 0 → (m : ℕ) → AllGo (then_of 0 m q) → then_of 0 m q ≡ made_at m (true, 0) q.place
@@ -81,14 +77,14 @@ module _ (k : CharClasses) (front old new rest : List ℕ) (r : Run k (front ++ 
     pub begun : (j : ℕ) → AllGo (first_of (suc j) p) → TakesNone (suc j) p → Before k front old rest r (suc j) → Begun (suc j)
     begun j g none looks =
         let i = suc j in
-        let at = s.known i (first-goes i looks g) in
+        let at = known-after q s.markup i (first-goes i looks g) in
         let t = at.trivia in
         let same : first_end i q ≡ first_end i p = ap (end_of (true, 0) p.point) (s.first i looks) in
         let opened = s.opened i looks in
         let e = first_end i q in
         let taken = ap (λ (v : End (Bool × ℕ)). v.taken) same in
         let gap = ap gap_of (sym (ap (λ (v : End (Bool × ℕ)). v.state.known) same) ∙ at.is) in
-        let cut : cut_at r i z ≡ opened_by r z + ((first_end i p).taken + gap_of (first_end i p).state.known) = ap (λ v. opened_by r z + (if v then 0 else (first_end i p).taken + gap_of (first_end i p).state.known)) (ne_eqb i 0 (omega arith)) in
+        let cut : cut_at r i z ≡ opened_by r z + ((first_end i p).taken + gap_of (first_end i p).state.known) = cut-some r i z (omega arith) in
         let count : (opened_by r w + e.taken) + t.gap ≡ opened_by r z + ((first_end i p).taken + gap_of (first_end i p).state.known) = omega (arith, opened, taken, gap) in
         let steps : moved ((opened_by r w + e.taken) + t.gap) w ≡ moved t.gap (first_place i q) = moved-sum (opened_by r w + e.taken) t.gap w ∙ ap (moved t.gap) (moved-sum (opened_by r w) e.taken w ∙ ap (moved e.taken) (sym s.place)) in
         record {
@@ -135,7 +131,7 @@ module _ (k : CharClasses) (front old new rest : List ℕ) (r : Run k (front ++ 
     alike (suc j) zero u g clear none looks go known =
         let i = suc j in
         let b = begun j g (none (omega arith)) looks in
-        let new = ap (λ y. (fresh q.level y).known) (sym b.place) ∙ s.bare i b.trivia b.known in
+        let new = ap (λ y. (fresh q.level y).known) (sym b.place) ∙ fresh-after q s.markup i b.trivia b.known in
         record {
           go = tt;
           sum = omega (arith, b.opened, b.cut, ap (λ (v : End (Bool × ℕ)). v.taken) b.same, ap (λ (v : End (Bool × ℕ)). gap_of v.state.known) b.same, ap gap_of known, ap gap_of new);
@@ -171,7 +167,7 @@ module _ (k : CharClasses) (front old new rest : List ℕ) (r : Run k (front ++ 
         let b = begun j g (none (omega arith)) looks in
         let y = moved b.trivia.gap (first_place i q) in
         let os : read_again i m b.trivia q ≡ made_at m (carried i) (at_cut i) = ap (λ v. made_at m v y) (ap (λ (v : End (Bool × ℕ)). v.value) b.same) ∙ ap (made_at m (carried i)) b.place in
-        s.goes_too i m b.trivia b.go (subst (λ us. AllGo us) (sym os) go) b.known b.none
+        stand-too q s.markup i m b.trivia (subst (λ us. AllGo us) (sym os) go) b.known b.none
 
     -- ---- the reading of a candidate's pieces
 
@@ -191,7 +187,7 @@ module _ (k : CharClasses) (front old new rest : List ℕ) (r : Run k (front ++ 
       pub gives-to : (m : ℕ) → AllGo (then_of i n p) → (then_end i n p).state.known ≡ Some t → end_by r i n t z ≡ (length front + length old) + past → After k front old rest r i n past t → ReadsTo m → GivesTo m
       gives-to m h known sum behind reads =
           let go = goes-there i m g clear none looks reads.go in
-          let u = s.then_known i m (first-goes i looks g) go in
+          let u = then-known q s.markup i m (first-goes i looks g) go in
           let a = alike i m u.trivia g clear none looks go u.is in
           record {
             behind = u.trivia;

@@ -1,11 +1,12 @@
 -- Pieces that are read again from their first token are those that stood there, and their number follows from where they end.
 use Rattle.std.proofs.Common.{◌≡◌, ℕ, zero, suc, ◌+◌, ◌<◌, ◌&&◌, Bool, true, false, nat_lt, List, [], ◌∷◌, ◌++◌, None, Some, refl, ap, sym, ◌∙◌, subst, arith}
-use Rattle.typst_edits.proofs.Words.{ltb-true, lt-ltb, and_parts, SyntaxKind, Place, moved, CharClasses, is_end, as_at_hand, at_trivia, hand_at, Trivia, Point, gap_of, no_newlines, peek, Outcome, Meaning, Level, start_point, asked, hand_of, run, hand-takes, moved-sum, ends, ends_block, markup_turn, markup_head, markup_reading, rules, level_at, max_depth, inner, bracket, inner_lead, inner_run, first_place, minds_at, read_alone, end_alone, minds, text_run, goes, fresh, read_again, SamePiece, SamePieces, made, AllGo, End, end_of, lead, start, Sequence, turn_of, first_of, first_end, then_of, then_end}
-use Rattle.typst_edits.specs.Resumed.{ResumeLaw, InnerResumeLaw, CountLaw, InnerCountLaw}
+use Rattle.typst_edits.proofs.Words.{ltb-true, lt-ltb, and_parts, SyntaxKind, Place, moved, CharClasses, is_end, as_at_hand, at_trivia, hand_at, Trivia, Point, gap_of, no_newlines, peek, Outcome, Meaning, Level, start_point, asked, hand_of, run, hand-takes, moved-sum, ends, ends_block, markup_turn, markup_head, markup_reading, rules, level_at, max_depth, inner, bracket, inner_lead, inner_run, first_place, minds_at, read_alone, end_alone, minds, text_run, goes, fresh, read_again, SamePiece, SamePieces, made, AllGo, end_of, lead, start, Sequence, turn_of, first_of, first_end, then_of, then_end}
+use Rattle.typst_edits.specs.Resumed.{Resumes, ResumeLaw, InnerResumeLaw, CountsOnce, CountLaw, InnerCountLaw}
 use Rattle.typst_edits.proofs.BlockModes.{hand-first}
 use Rattle.typst_edits.proofs.Boundary.{KnownAt, first-of, turn-known, going-on, known-made}
-use Rattle.typst_edits.proofs.Children.{top-known}
-use Rattle.typst_edits.proofs.Joint.{block-read, block-taking, known-is, text-read, text-taking, ReadAs, judged-alike}
+use Rattle.typst_edits.proofs.Children.{text-known}
+use Rattle.typst_edits.proofs.Every.{neither}
+use Rattle.typst_edits.proofs.Joint.{block-read, block-taking, known-is, known-read, text-read, text-taking, ReadAs, judged-alike}
 use Rattle.typst_edits.proofs.Turns.{kind-behind, Led, before_trivia, takes-turn, end-by, Taking, turn-led}
 use Rattle.typst_edits.proofs.Known.{Reached, Reaches, reached-run, reached-meaning}
 
@@ -70,9 +71,7 @@ module _ (l : Level) (stops : SyntaxKind → Bool) (taking : Taking l stops) whe
       (p, (λ i. made turn n (p.value i).1 (there i) (p.state i)))
 
   pub resumed : (m : ℕ) (x : Bool × ℕ) (z : Place) (t : Trivia) (s : Point) → s.known ≡ Some t → ReadAs markup_reading s → Same m x z t s
-  resumed m x z t s known read =
-      let is : s ≡ before_trivia markup_reading markup_reading s.empties s.is_after_error t = known-is l.classes s t known ∙ (λ i. before_trivia (read.reading i) (read.held i) s.empties s.is_after_error t) in
-      subst (Same m x z t) (sym is) (resumed-known m x z t s.empties s.is_after_error)
+  resumed m x z t s known read = subst (Same m x z t) (sym (known-read l.classes markup_reading s t known read)) (resumed-known m x z t s.empties s.is_after_error)
 
   -- ---- what is read again goes on where the pieces do
 
@@ -102,14 +101,10 @@ module _ (l : Level) (stops : SyntaxKind → Bool) (taking : Taking l stops) whe
       (goes_on, subst (λ us. AllGo us) (sym behind) g.1)
 
   pub goes-too : (m : ℕ) (x : Bool × ℕ) (z : Place) (t : Trivia) (s : Point) → s.known ≡ Some t → ReadAs markup_reading s → GoesToo m x z t s
-  goes-too m x z t s known read =
-      let is : s ≡ before_trivia markup_reading markup_reading s.empties s.is_after_error t = known-is l.classes s t known ∙ (λ i. before_trivia (read.reading i) (read.held i) s.empties s.is_after_error t) in
-      subst (GoesToo m x z t) (sym is) (goes-known m x z t s.empties s.is_after_error)
+  goes-too m x z t s known read = subst (GoesToo m x z t) (sym (known-read l.classes markup_reading s t known read)) (goes-known m x z t s.empties s.is_after_error)
 
   pub fresh-known : (z : Place) (t : Trivia) (s : Point) → s.known ≡ Some t → ReadAs markup_reading s → Reached l.classes z s → (fresh l (moved t.gap z)).known ≡ Some no_trivia
-  fresh-known z t s known read =
-      let is : s ≡ before_trivia markup_reading markup_reading s.empties s.is_after_error t = known-is l.classes s t known ∙ (λ i. before_trivia (read.reading i) (read.held i) s.empties s.is_after_error t) in
-      subst (λ p. Reached l.classes z p → (fresh l (moved t.gap z)).known ≡ Some no_trivia) (sym is) (λ clear. ap (λ (p : Point). p.known) (fresh-is l (moved t.gap z) clear))
+  fresh-known z t s known read = subst (λ p. Reached l.classes z p → (fresh l (moved t.gap z)).known ≡ Some no_trivia) (sym (known-read l.classes markup_reading s t known read)) (λ clear. ap (λ (p : Point). p.known) (fresh-is l (moved t.gap z) clear))
 
   -- ---- how many there are
 
@@ -123,17 +118,6 @@ module _ (l : Level) (stops : SyntaxKind → Bool) (taking : Taking l stops) whe
       (λ h. (let led = turn-led l stops taking x z s.reading s.held s.empties s.is_after_error known.trivia (going-on l stops x z _ h) in
       omega (arith, led.front.taken, led.some))) g
 
-  pub counted : (m n : ℕ) (x : Bool × ℕ) (z : Place) (s : Point) → KnownAt s → AllGo (made turn m x z s) → AllGo (made turn n x z s) → place_after x s (made turn m x z s) ≡ place_after x s (made turn n x z s) → m ≡ n
-  counted zero zero x z s known g h e = refl
-  counted zero (suc n) x z s known g h e =
-      absurd (omega (arith, e, takes-more x z s known (first-of _ _ h.0)))
-  counted (suc m) zero x z s known g h e =
-      absurd (omega (arith, e, takes-more x z s known (first-of _ _ g.0)))
-  counted (suc m) (suc n) x z s known g h e =
-      let o = turn x z s in
-      let rest : place_after o.value.1 o.state (made turn m o.value.1 (moved o.taken z) o.state) ≡ place_after o.value.1 o.state (made turn n o.value.1 (moved o.taken z) o.state) = omega (arith, e) in
-      ap suc (counted m n o.value.1 (moved o.taken z) o.state (turn-known l stops x z s (first-of _ _ g.0)) g.1 h.1 rest)
-
   -- More of them end further on.
   pub further : (m n : ℕ) (x : Bool × ℕ) (z : Place) (s : Point) → KnownAt s → m < n → AllGo (made turn n x z s) → place_after x s (made turn m x z s) < place_after x s (made turn n x z s)
   further m zero x z s known some g = absurd (omega (arith, some))
@@ -142,6 +126,9 @@ module _ (l : Level) (stops : SyntaxKind → Bool) (taking : Taking l stops) whe
   further (suc m) (suc n) x z s known some g =
       let o = turn x z s in
       omega (arith, further m n o.value.1 (moved o.taken z) o.state (turn-known l stops x z s (first-of _ _ g.0)) (omega (arith, some)) g.1)
+
+  pub counted : (m n : ℕ) (x : Bool × ℕ) (z : Place) (s : Point) → KnownAt s → AllGo (made turn m x z s) → AllGo (made turn n x z s) → place_after x s (made turn m x z s) ≡ place_after x s (made turn n x z s) → m ≡ n
+  counted m n x z s known g h e = neither m n (λ l. (let more = further m n x z s known l h in omega (arith, more, e))) (λ l. (let more = further n m x z s known l g in omega (arith, more, e)))
 
   -- ---- where a run begins
 
@@ -190,89 +177,72 @@ module _ (l : Level) (stops : SyntaxKind → Bool) (taking : Taking l stops) whe
   goes-both m x z t s f known known_too read read_too reach reach_too none none_too g =
       goes-too m x z t s known read reach (goes-again m x z t f known_too (resumed m x z t f known_too read_too reach_too g (λ e. none_too)) g) none
 
--- ---- a text's run, and a content block's
+-- ---- any run
 
-module _ (k : CharClasses) (z : Place) (i : ℕ) where
-  pub text-reached : Reached k (moved (first_end i (text_run k z)).taken z) (first_end i (text_run k z)).state
-  unfolding run
-  text-reached =
-      let l = level_at k max_depth in
-      let reach = reached-meaning (rules k) k max_depth in
-      reached-made k (λ x. run l (markup_turn true is_end x)) (λ x. reached-run l reach (markup_turn true is_end x)) i (true, 0) z (lead k z).state (reached-run l reach peek z start tt)
+-- WHAT A RUN GIVES TO READINGS OF ITS PIECES: it is read as markup, and where its pieces end all trivia before the next token are known.
+pub record ReadsMarkup (r : Sequence) : Type 0 where
+  pub taking : Taking r.level r.stops
+  pub known : KnownAt r.point
+  pub read : (i : ℕ) → ReadAs markup_reading (first_end i r).state
+  pub reached : (i : ℕ) → Reached r.level.classes (first_place i r) (first_end i r).state
 
-pub resume-law : ResumeLaw
-resume-law k z i m t g h known none =
-    let e = first_end i (text_run k z) in
-    resumed (level_at k max_depth) is_end (text-taking k) m e.value (moved e.taken z) t e.state known (text-read k i 0 z) (text-reached k z i) h none
+module _ (r : Sequence) (a : ReadsMarkup r) where
+  pub known-after : (i : ℕ) → AllGo (first_of i r) → KnownAt (first_end i r).state
+  known-after i g = known-made r.level r.stops i (true, 0) r.place r.point a.known g
 
--- Pieces that go on where they are read again do so where they stood.
-pub text-goes-too : (k : CharClasses) (z : Place) (i m : ℕ) (t : Trivia) → (let r = text_run k z in AllGo (first_of i r) → AllGo (read_again i m t r) → (first_end i r).state.known ≡ Some t
-    → (minds_at r (first_place i r) (first_end i r) ≡ true → (first_end i r).state.empties ≡ 0) → AllGo (then_of i m r))
-text-goes-too k z i m t g h known none =
-    let e = first_end i (text_run k z) in
-    goes-too (level_at k max_depth) is_end (text-taking k) m e.value (moved e.taken z) t e.state known (text-read k i 0 z) (text-reached k z i) h none
+  pub then-known : (i m : ℕ) → AllGo (first_of i r) → AllGo (then_of i m r) → KnownAt (then_end i m r).state
+  then-known i m g h = let e = first_end i r in known-made r.level r.stops m e.value (first_place i r) e.state (known-after i g) h
 
--- Where a token begins nothing is known of trivia.
-pub text-fresh : (k : CharClasses) (z : Place) (i : ℕ) (t : Trivia) → (let e = first_end i (text_run k z) in e.state.known ≡ Some t → (fresh (level_at k max_depth) (moved t.gap (moved e.taken z))).known ≡ Some no_trivia)
-text-fresh k z i t known =
-    let e = first_end i (text_run k z) in
-    fresh-known (level_at k max_depth) is_end (text-taking k) (moved e.taken z) t e.state known (text-read k i 0 z) (text-reached k z i)
+  resumes : Resumes r
+  resumes i m t g h known none = let e = first_end i r in resumed r.level r.stops a.taking m e.value (first_place i r) t e.state known (a.read i) (a.reached i) h none
 
-pub count-law : CountLaw
-count-law k z i m n g h j same =
-    let e = first_end i (text_run k z) in
-    counted (level_at k max_depth) is_end (text-taking k) m n e.value (moved e.taken z) e.state (top-known k i z g) h j same
+  counts : CountsOnce r
+  counts i m n g h j same = let e = first_end i r in counted r.level r.stops a.taking m n e.value (first_place i r) e.state (known-after i g) h j same
 
-module _ (k : CharClasses) (levels : ℕ) (z : Place) (s : Point) (i : ℕ) where
-  abbrev block_run : Sequence
-  block_run = inner_run k levels z s
-
-  abbrev block_end : End (Bool × ℕ)
-  block_end = first_end i block_run
-
-  pub block-reached : Reached k (moved block_end.taken block_run.place) block_end.state
-  unfolding run
-  block-reached =
-      let l = inner k levels in
-      let reach = reached-meaning (rules k) k (suc levels) in
-      let b = bracket k levels z s in
-      reached-made k (λ x. run l (markup_turn true ends_block x)) (λ x. reached-run l reach (markup_turn true ends_block x)) i (true, 0) block_run.place block_run.point (reached-run l reach peek (moved b.taken z) b.state tt)
-
-  pub block-known : AllGo (first_of i block_run) → KnownAt block_end.state
-  unfolding run
-  block-known g =
-      known-made (inner k levels) ends_block i (true, 0) block_run.place block_run.point (record { trivia = _; is = refl }) g
-
-  -- What is known of trivia at the end of m more pieces of the block's run.
-  pub block-then-known : (m : ℕ) → AllGo (first_of i block_run) → AllGo (then_of i m block_run) → KnownAt (then_end i m block_run).state
-  unfolding run
-  block-then-known m g h =
-      known-made (inner k levels) ends_block m block_end.value (moved block_end.taken block_run.place) block_end.state (block-known g) h
+  -- Pieces that go on where they are read again do so where they stood.
+  pub stand-too : (i m : ℕ) (t : Trivia) → AllGo (read_again i m t r) → (first_end i r).state.known ≡ Some t → (minds_at r (first_place i r) (first_end i r) ≡ true → (first_end i r).state.empties ≡ 0) → AllGo (then_of i m r)
+  stand-too i m t h known none = let e = first_end i r in goes-too r.level r.stops a.taking m e.value (first_place i r) t e.state known (a.read i) (a.reached i) h none
 
   -- Where a token begins nothing is known of trivia.
-  pub block-fresh : (t : Trivia) → block_end.state.known ≡ Some t → (fresh (inner k levels) (moved t.gap (moved block_end.taken block_run.place))).known ≡ Some no_trivia
-  block-fresh t known =
-      fresh-known (inner k levels) ends_block (block-taking k levels) (moved block_end.taken block_run.place) t block_end.state known (block-read k levels i 0 z s) block-reached
+  pub fresh-after : (i : ℕ) (t : Trivia) → (first_end i r).state.known ≡ Some t → (fresh r.level (moved t.gap (first_place i r))).known ≡ Some no_trivia
+  fresh-after i t known = let e = first_end i r in fresh-known r.level r.stops a.taking (first_place i r) t e.state known (a.read i) (a.reached i)
+
+-- ---- a text's run, and a content block's
+
+pub text-reached : (k : CharClasses) (z : Place) (i : ℕ) → Reached k (moved (first_end i (text_run k z)).taken z) (first_end i (text_run k z)).state
+unfolding run
+text-reached k z i =
+    let l = level_at k max_depth in
+    let reach = reached-meaning (rules k) k max_depth in
+    reached-made k (λ x. run l (markup_turn true is_end x)) (λ x. reached-run l reach (markup_turn true is_end x)) i (true, 0) z (lead k z).state (reached-run l reach peek z start tt)
+
+pub block-reached : (k : CharClasses) (levels : ℕ) (z : Place) (s : Point) (i : ℕ) → (let r = inner_run k levels z s in let e = first_end i r in Reached k (moved e.taken r.place) e.state)
+unfolding run
+block-reached k levels z s i =
+    let l = inner k levels in
+    let r = inner_run k levels z s in
+    let reach = reached-meaning (rules k) k (suc levels) in
+    let b = bracket k levels z s in
+    reached-made k (λ x. run l (markup_turn true ends_block x)) (λ x. reached-run l reach (markup_turn true ends_block x)) i (true, 0) r.place r.point (reached-run l reach peek (moved b.taken z) b.state tt)
+
+pub text-markup : (k : CharClasses) (z : Place) → ReadsMarkup (text_run k z)
+text-markup k z = record { taking = text-taking k; known = text-known k z; read = λ i. text-read k i 0 z; reached = text-reached k z }
+
+pub block-markup : (k : CharClasses) (levels : ℕ) (z : Place) (s : Point) → ReadsMarkup (inner_run k levels z s)
+unfolding run
+block-markup k levels z s = record { taking = block-taking k levels; known = record { trivia = _; is = refl }; read = λ i. block-read k levels i 0 z s; reached = block-reached k levels z s }
+
+pub resume-law : ResumeLaw
+resume-law k z = resumes (text_run k z) (text-markup k z)
 
 pub inner-resume-law : InnerResumeLaw
-inner-resume-law k levels z s i m t g h known none =
-    let r = inner_run k levels z s in
-    let e = first_end i r in
-    resumed (inner k levels) ends_block (block-taking k levels) m e.value (moved e.taken r.place) t e.state known (block-read k levels i 0 z s) (block-reached k levels z s i) h none
+inner-resume-law k levels z s = resumes (inner_run k levels z s) (block-markup k levels z s)
+
+pub count-law : CountLaw
+count-law k z = counts (text_run k z) (text-markup k z)
 
 pub inner-count-law : InnerCountLaw
-inner-count-law k levels z s i m n g h j same =
-    let r = inner_run k levels z s in
-    let e = first_end i r in
-    counted (inner k levels) ends_block (block-taking k levels) m n e.value (moved e.taken r.place) e.state (block-known k levels z s i g) h j same
-
--- Pieces that go on where they are read again do so where they stood.
-pub inner-goes-too : (k : CharClasses) (levels : ℕ) (z : Place) (s : Point) (i m : ℕ) (t : Trivia) → (let r = inner_run k levels z s in AllGo (first_of i r) → AllGo (read_again i m t r) → (first_end i r).state.known ≡ Some t
-    → (minds_at r (first_place i r) (first_end i r) ≡ true → (first_end i r).state.empties ≡ 0) → AllGo (then_of i m r))
-inner-goes-too k levels z s i m t g h known none =
-    let r = inner_run k levels z s in
-    let e = first_end i r in
-    goes-too (inner k levels) ends_block (block-taking k levels) m e.value (moved e.taken r.place) t e.state known (block-read k levels i 0 z s) (block-reached k levels z s i) h none
+inner-count-law k levels z s = counts (inner_run k levels z s) (block-markup k levels z s)
 
 module _ (k : CharClasses) (levels : ℕ) (z : Place) (s : Point) where
   abbrev first_place_of : Place

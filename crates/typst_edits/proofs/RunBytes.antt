@@ -1,18 +1,17 @@
 -- The test of an edit inside some pieces of a run in bytes, by the notes of a reading: of any run, of a text's and of a content block's.
 use Rattle.std.proofs.Common.{◌≡◌, ℕ, zero, suc, ◌+◌, ◌-◌, ◌<◌, ◌≤◌, ◌^◌, Bool, true, List, [], ◌∷◌, ◌++◌, length, take, append_assoc, refl, ap, sym, ◌∙◌, subst, arith, append-nil, Some}
-use Rattle.typst_edits.proofs.Words.{Place, moved, CharClasses, width, Ask, shift, shift_one, looked, marked, Point, gap_of, state_of, Trivia, point_of, max_depth, start_of, parsed, log, rules, whole, highest, lowest, AllEndBy, text_with, AllBeginIn, note_at, looks_next, cut_after, AllGo, End, asks_of, chain, piece_at, start, lead, pieces, end_at, pieces_from, end_from, rest_from, tail, whole_of, after_pieces, Sequence, turn_of, first_of, first_end, then_of, then_end, rest_of, noting, notes_in, lowered, Spot, unit_at, around, ended, Outcome, repeated, run, start_point, moved-sum, text_run, onwards_from, run_mark, asked_past, map-append, Mark, State, ends_block, markup_turn, markup_reading, look_first, look_again, bracket, inner_lead, inner_run, inner_tail, inner_close, run_at, opened_at, tail_at, close_at, left_at, inner_both, onwards_past, left_past, blocks_of_text, block_at, PieceNote}
+use Rattle.typst_edits.proofs.Words.{Place, moved, CharClasses, width, Ask, shift, Point, gap_of, state_of, Trivia, point_of, max_depth, start_of, parsed, log, rules, whole, highest, lowest, AllEndBy, text_with, AllBeginIn, note_at, looks_next, cut_after, AllGo, End, asks_of, chain, piece_at, start, lead, pieces, end_at, pieces_from, end_from, rest_from, tail, whole_of, after_pieces, Sequence, turn_of, first_of, first_end, then_of, then_end, rest_of, noting, notes_in, Spot, unit_at, around, ended, Outcome, repeated, run, start_point, moved-sum, text_run, onwards_from, run_mark, asked_past, map-append, Mark, State, ends_block, markup_turn, markup_reading, look_first, look_again, bracket, inner_lead, inner_run, inner_tail, inner_close, run_at, opened_at, tail_at, close_at, left_at, inner_both, onwards_past, left_past, blocks_of_text, block_at, PieceNote}
 use Rattle.typst_edits.specs.InnerSplice.{noted_at}
 use Rattle.typst_edits.specs.JointBytes.{JointDecisionLaw}
 use Rattle.typst_edits.specs.InnerBytes.{InnerDecisionLaw}
 use Rattle.typst_edits.specs.RunBytes.{RunDecisionLaw}
-use Rattle.typst_edits.proofs.Boundary.{Begins, begins-shift, looks_in, each-ends, made-add, go-add, from-first, from-both, noted-at, begins-append, pieces-begin, piece_mark, split-from}
-use Rattle.typst_edits.proofs.Bytes.{AllFrom, both-end, end-first, begin-by, begin-to, AllMarks, none-hand, marks-append}
+use Rattle.typst_edits.proofs.Boundary.{Begins, begins-shift, looks_in, each-ends, made-add, go-add, noted-at, begins-append, pieces-begin, piece_mark}
+use Rattle.typst_edits.proofs.Bytes.{AllFrom, begin-by, begin-to, AllMarks, none-hand, marks-append}
 use Rattle.typst_edits.proofs.EmptyRuns.{Never}
-use Rattle.typst_edits.proofs.Outcomes.{shift-twice, shift-zero}
-use Rattle.typst_edits.proofs.PieceAsks.{lifted, lifted_note, lifted-append, lifted-count, lifted-ends, asks_in, cut, lifted-none, lifted-shift}
-use Rattle.typst_edits.proofs.Seen.{end-second}
+use Rattle.typst_edits.proofs.Outcomes.{shift-twice, shift-zero, shift-append}
+use Rattle.typst_edits.proofs.PieceAsks.{lifted, lifted_note, lifted-count, asks_in, cut, lifted-none, low-shift}
 use Rattle.typst_edits.proofs.Splice.{count-append, count-none, count-made}
-use Rattle.typst_edits.proofs.Within.{AllAt, at-first, at-second}
+use Rattle.typst_edits.proofs.Within.{AllAt, at-most}
 use Rattle.typst_edits.proofs.BlockRuns.{whole-is, within, sane, content_by, by_run, content-is, content-split, content-taken}
 use Rattle.typst_edits.proofs.Runs.{repeated-chain, chain-state, chain-taken, split-taken}
 use Rattle.typst_edits.proofs.RunTrees.{whole-asks, chain-last}
@@ -23,28 +22,7 @@ use Rattle.typst_edits.proofs.Edit.{among}
 use Rattle.typst_edits.proofs.Spots.{Lawful}
 use Rattle.typst_edits.proofs.Law.{inside-level}
 use Rattle.typst_edits.proofs.Text.{content-reads}
-
--- ---- looks in a larger whole
-
-pub ends-lowered : (n a f : ℕ) (ls : List Ask) → AllEndBy n (shift a (lowered f ls)) → AllEndBy n (shift a ls)
-ends-lowered n a f [] h = tt
-ends-lowered n a f (looked at look ∷ ls) h = (h.0, ends-lowered n a f ls h.1)
-ends-lowered n a f (marked at gap fewer m s ∷ ls) h = ends-lowered n a f ls h
-
-from-lowered : (b : ℕ) (z : Place) (a f : ℕ) (ls : List Ask) → AllFrom b z (shift a (lowered f ls)) → AllFrom b z (shift a ls)
-from-lowered b z a f [] h = tt
-from-lowered b z a f (looked at look ∷ ls) h = (h.0, from-lowered b z a f ls h.1)
-from-lowered b z a f (marked at gap fewer m s ∷ ls) h = from-lowered b z a f ls h
-
-from-lower : (b : ℕ) (z : Place) (a f : ℕ) (ls : List Ask) → AllFrom b z (shift a ls) → AllFrom b z (shift a (lowered f ls))
-from-lower b z a f [] h = tt
-from-lower b z a f (looked at look ∷ ls) h = (h.0, from-lower b z a f ls h.1)
-from-lower b z a f (marked at gap fewer m s ∷ ls) h = from-lower b z a f ls h
-
-at-lowered : (n a f : ℕ) (ls : List Ask) → AllAt n (shift a (lowered f ls)) → AllAt n (shift a ls)
-at-lowered n a f [] h = tt
-at-lowered n a f (looked at look ∷ ls) h = (h.0, at-lowered n a f ls h.1)
-at-lowered n a f (marked at gap fewer m s ∷ ls) h = at-lowered n a f ls h
+use Rattle.typst_edits.proofs.Looks.{ending, from-byte, looks-both, looks-first, looks-lowered, looks-raised, looks-second, looks-shifted, looks-split}
 
 -- ---- the note
 
@@ -98,7 +76,7 @@ module _ (k : CharClasses) (text : List ℕ) (r : Sequence) (first : Point) (ls 
         let e = first_end (suc j) r in
         let ahead = looks_in r (moved e.taken r.place) e.state in
         let next = begins-shift e.taken ahead (behind e) (begins e) in
-        from-first b d z (shift e.taken ahead) next.more (subst (λ u. AllFrom b z (shift d u)) next.is h)
+        looks-first (looks-shifted (from-byte b z) d) (shift e.taken ahead) next.more (subst (λ u. AllFrom b z (shift d u)) next.is h)
 
     pub note-in : (j : ℕ) → AllGo (first_of j r) → NoteIn j (first_end j r)
     note-in j g =
@@ -109,12 +87,8 @@ module _ (k : CharClasses) (text : List ℕ) (r : Sequence) (first : Point) (ls 
         let low = lifted a f in
         let own = noting (lifted_note a f p) in
         let rest = shift e.taken (behind e) in
-        let is : low (asks_in r first ls j (behind e)) ≡ low c.early ++ own ∷ (low next ++ low rest) =
-        ap (λ u. low (u ++ rest)) c.is ∙ ap low (append_assoc c.early (noting p ∷ next) rest) ∙ lifted-append a f c.early (noting p ∷ (next ++ rest)) ∙ ap (λ u. low c.early ++ own ∷ u) (lifted-append a f next rest) in
         let asks : (parsed k max_depth text).asks ≡ (before ++ low c.early) ++ own ∷ (low next ++ (low rest ++ after)) =
-        all j g ∙ ap (λ u. before ++ (u ++ after)) is
-        ∙ ap (λ u. before ++ u) (append_assoc (low c.early) (own ∷ (low next ++ low rest)) after ∙ ap (λ u. low c.early ++ own ∷ u) (append_assoc (low next) (low rest) after))
-        ∙ sym (append_assoc before (low c.early) (own ∷ (low next ++ (low rest ++ after)))) in
+        all j g ∙ ap (λ u. before ++ (low (u ++ rest) ++ after)) c.is ∙ simp (map-append, append_assoc) in
         let t = noted-at k text (before ++ low c.early) (low next ++ (low rest ++ after)) (a + e.taken) p.gap (f + 0) p.mark p.state asks in
         let place : a + e.taken ≡ at e = sym (there e) in
         let none : f + 0 ≡ f = omega arith in
@@ -136,17 +110,17 @@ module _ (k : CharClasses) (text : List ℕ) (r : Sequence) (first : Point) (ls 
           reached = λ front more is_front h.
               (let n = length front in
               let both = t.reached front more is_front h in
-              (end-first n before (low c.early) both, λ l. c.ended n a l (ends-lowered n a f c.early (end-second n before (low c.early) both))));
-          reached_too = λ front more is_front h i. (let n = length front in t.reached_too front more is_front (both-end n before (low c.early) h (lifted-ends a f n c.early (c.ends n a i))));
+              (looks-first (ending n) before (low c.early) both, λ l. c.ended n a l (looks-raised (looks-shifted (ending n) a) f c.early (looks-second (ending n) before (low c.early) both))));
+          reached_too = λ front more is_front h i. (let n = length front in t.reached_too front more is_front (looks-both (ending n) before (low c.early) h (looks-lowered (looks-shifted (ending n) a) f c.early (c.ends n a i))));
           begun = λ b l.
-              (let one = split-from b z0 (low next) (low rest ++ after) (t.begun b l) in
-              let two = split-from b z0 (low rest) after one.1 in
-              (subst (λ u. AllFrom b z0 u) late (from-lowered b z0 a f rest two.0), two.1));
+              (let one = looks-split (from-byte b z0) (low next) (low rest ++ after) (t.begun b l) in
+              let two = looks-split (from-byte b z0) (low rest) after one.1 in
+              (subst (λ u. AllFrom b z0 u) late (looks-raised (looks-shifted (from-byte b z0) a) f rest two.0), two.1));
           begun_too = λ b l big h i.
               (let here = subst (λ u. AllFrom b z0 u) (sym late) h in
-              t.begun_too b big (from-both b z0 (low next) (low rest ++ after) (from-lower b z0 a f next (looks-from b a z0 j l here)) (from-both b z0 (low rest) after (from-lower b z0 a f rest here) i)));
-          placed = (let n = length text in subst (λ u. AllAt n u) late (at-lowered n a f rest (at-first n (low rest) after (at-second n (low next) (low rest ++ after) t.placed))));
-          placed_after = (let n = length text in at-second n (low rest) after (at-second n (low next) (low rest ++ after) t.placed));
+              t.begun_too b big (looks-both (from-byte b z0) (low next) (low rest ++ after) (looks-lowered (looks-shifted (from-byte b z0) a) f next (looks-from b a z0 j l here)) (looks-both (from-byte b z0) (low rest) after (looks-lowered (looks-shifted (from-byte b z0) a) f rest here) i)));
+          placed = (let n = length text in subst (λ u. AllAt n u) late (looks-raised (looks-shifted (at-most n) a) f rest (looks-first (at-most n) (low rest) after (looks-second (at-most n) (low next) (low rest ++ after) t.placed))));
+          placed_after = (let n = length text in looks-second (at-most n) (low rest) after (looks-second (at-most n) (low next) (low rest ++ after) t.placed));
         }
 
     -- The note where the n pieces after the first i end.
@@ -327,30 +301,13 @@ module _ (k : CharClasses) (levels : ℕ) (inner_z : Place) (s : Point) where
       → (content_by k levels inner_z s q t close).asks ≡ asks_before ++ shift opened (inner_run_mark ∷ ((asks_first ++ q.asks) ++ shift q.taken (t.asks ++ shift t.taken close.asks)))
   unfolding run
   content-asks q t close =
-      let ls = asks_first in
-      let n = q.taken in
-      let sum : 0 + (0 + (0 + (n + 0))) ≡ n = omega arith in
-      let all : (((0 + (0 + (0 + (n + 0)))) + t.taken) + 0) + 0 ≡ n + t.taken = omega arith in
-      let inner : shift 0 (inner_run_mark ∷ shift 0 (ls ++ shift 0 (q.asks ++ []))) ≡ inner_run_mark ∷ (ls ++ q.asks) =
-      shift-zero (inner_run_mark ∷ shift 0 (ls ++ shift 0 (q.asks ++ []))) ∙ ap (λ u. inner_run_mark ∷ u) (shift-zero (ls ++ shift 0 (q.asks ++ [])) ∙ ap (λ u. ls ++ u) (shift-zero (q.asks ++ []) ∙ append-nil q.asks)) in
-      let in_run = shift 0 (inner_run_mark ∷ shift 0 (ls ++ shift 0 (q.asks ++ []))) ++ shift (0 + (0 + (0 + (n + 0)))) t.asks in
-      let run_is : in_run ≡ (inner_run_mark ∷ (ls ++ q.asks)) ++ shift n t.asks =
-      ap (λ u. u ++ shift (0 + (0 + (0 + (n + 0)))) t.asks) inner ∙ ap (λ m. (inner_run_mark ∷ (ls ++ q.asks)) ++ shift m t.asks) sum in
-      let body = (in_run ++ []) ++ [] in
-      let body_is : body ≡ (inner_run_mark ∷ (ls ++ q.asks)) ++ shift n t.asks = append-nil (in_run ++ []) ∙ append-nil in_run ∙ run_is in
-      let last = t.asks ++ shift t.taken close.asks in
-      let behind_is : body ++ shift ((((0 + (0 + (0 + (n + 0)))) + t.taken) + 0) + 0) close.asks ≡ inner_run_mark ∷ ((ls ++ q.asks) ++ shift n last) =
-      ap (λ u. u ++ shift ((((0 + (0 + (0 + (n + 0)))) + t.taken) + 0) + 0) close.asks) body_is ∙ ap (λ m. ((inner_run_mark ∷ (ls ++ q.asks)) ++ shift n t.asks) ++ shift m close.asks) all
-      ∙ append_assoc (inner_run_mark ∷ (ls ++ q.asks)) (shift n t.asks) (shift (n + t.taken) close.asks)
-      ∙ ap (λ u. (inner_run_mark ∷ (ls ++ q.asks)) ++ u) (ap (λ u. shift n t.asks ++ u) (sym (shift-twice n t.taken close.asks)) ∙ sym (map-append (shift_one n) t.asks (shift t.taken close.asks))) in
-      let opens = (bracket k levels inner_z s).asks in
-      let w = opens ++ shift opened (body ++ shift ((((0 + (0 + (0 + (n + 0)))) + t.taken) + 0) + 0) close.asks) in
-      let first = (look_first k levels inner_z s).asks in
-      let second = (look_again k levels inner_z s).asks in
-      let outer : first ++ shift 0 ((second ++ shift 0 (w ++ [])) ++ []) ≡ first ++ (second ++ w) =
-      ap (λ u. first ++ u) (shift-zero ((second ++ shift 0 (w ++ [])) ++ []) ∙ append-nil (second ++ shift 0 (w ++ [])) ∙ ap (λ u. second ++ u) (shift-zero (w ++ []) ∙ append-nil w)) in
-      let rest = shift opened (inner_run_mark ∷ ((ls ++ q.asks) ++ shift n last)) in
-      outer ∙ ap (λ u. first ++ (second ++ (opens ++ shift opened u))) behind_is ∙ ap (λ u. first ++ u) (sym (append_assoc second opens rest)) ∙ sym (append_assoc first (second ++ opens) rest)
+      let none : (n : ℕ) → n + 0 ≡ n = λ n. omega arith in
+      let zero : (n : ℕ) → 0 + n ≡ n = λ n. omega arith in
+      let in_run = shift 0 (inner_run_mark ∷ shift 0 (asks_first ++ shift 0 (q.asks ++ []))) ++ shift (0 + (0 + (0 + (q.taken + 0)))) t.asks in
+      let body = ((in_run ++ []) ++ []) ++ shift ((((0 + (0 + (0 + (q.taken + 0)))) + t.taken) + 0) + 0) close.asks in
+      let all : (look_first k levels inner_z s).asks ++ shift 0 (((look_again k levels inner_z s).asks ++ shift 0 (((bracket k levels inner_z s).asks ++ shift opened body) ++ [])) ++ [])
+      ≡ asks_before ++ shift opened (inner_run_mark ∷ ((asks_first ++ q.asks) ++ shift q.taken (t.asks ++ shift t.taken close.asks))) = simp (shift-zero, append-nil, none, zero, shift-append, shift-twice, append_assoc) in
+      all
 
   -- what comes after some pieces, by where they end
   abbrev pub rest_by : End (Bool × ℕ) → Outcome (Bool × ℕ)
@@ -430,13 +387,9 @@ module _ (k : CharClasses) (levels : ℕ) (text : List ℕ) (c : Spot (Unit {0})
 
   inner-all-asks : (j : ℕ) → AllGo (first_of j r) → (parsed k max_depth text).asks ≡ asks_until ++ (lifted at c.fewer (asks_in r (first_point k levels inner_z s) (asks_first k levels inner_z s) j (inner_asks_by k levels inner_z s (first_end j r))) ++ asks_after)
   inner-all-asks j g =
-      let b = opened k levels inner_z s in
-      let f = c.fewer in
-      let pre = asks_before k levels inner_z s in
-      let own = asks_in r (first_point k levels inner_z s) (asks_first k levels inner_z s) j (inner_asks_by k levels inner_z s (first_end j r)) in
-      ap (λ (o : Outcome (Unit {0})). o.asks) is ∙ ap (λ u. c.before ++ (lifted c.at f u ++ asks_after)) (ap (λ (o : Outcome (Unit {0})). o.asks) reads ∙ block-asks k levels inner_z s j g)
-      ∙ ap (λ u. c.before ++ (u ++ asks_after)) (lifted-append c.at f pre (shift b own) ∙ ap (λ u. lifted c.at f pre ++ u) (lifted-shift c.at f b own))
-      ∙ ap (λ u. c.before ++ u) (append_assoc (lifted c.at f pre) (lifted at f own) asks_after) ∙ sym (append_assoc c.before (lifted c.at f pre) (lifted at f own ++ asks_after))
+      let all = asks_in r (first_point k levels inner_z s) (asks_first k levels inner_z s) j (inner_asks_by k levels inner_z s (first_end j r)) in
+      let flat : (pre own : List Ask) → c.before ++ (lifted c.at c.fewer (pre ++ shift (opened k levels inner_z s) own) ++ asks_after) ≡ (c.before ++ lifted c.at c.fewer pre) ++ (lifted at c.fewer own ++ asks_after) = λ pre own. simp (map-append, low-shift, shift-twice, append_assoc) in
+      ap (λ (o : Outcome (Unit {0})). o.asks) is ∙ ap (λ u. c.before ++ (lifted c.at c.fewer u ++ asks_after)) (ap (λ (o : Outcome (Unit {0})). o.asks) reads ∙ block-asks k levels inner_z s j g) ∙ flat (asks_before k levels inner_z s) all
 
   first-at : (e : End (Bool × ℕ)) → (at + e.taken) + gap_of (first_point k levels inner_z s).known ≡ at + e.taken
   unfolding run
@@ -493,10 +446,7 @@ asks_past k levels i n t c inner_z = let o = onwards_past k levels i n t c inner
 pub past-both : (q : Outcome (Bool × ℕ)) (tail : Outcome (Unit {0})) (close asks : List Ask) (gap more : ℕ) → q.asks ++ shift q.taken tail.asks ≡ shift gap asks → q.taken + tail.taken ≡ gap + more
     → q.asks ++ shift q.taken (tail.asks ++ shift tail.taken close) ≡ shift gap (asks ++ shift more close)
 past-both q tail close asks gap more is took =
-    ap (λ ls. q.asks ++ ls) (map-append (shift_one q.taken) tail.asks (shift tail.taken close) ∙ ap (λ ls. shift q.taken tail.asks ++ ls) (shift-twice q.taken tail.taken close))
-    ∙ sym (append_assoc q.asks (shift q.taken tail.asks) (shift (q.taken + tail.taken) close))
-    ∙ ap (λ ls. ls ++ shift (q.taken + tail.taken) close) is ∙ ap (λ j. shift gap asks ++ shift j close) took
-    ∙ ap (λ ls. shift gap asks ++ ls) (sym (shift-twice gap more close)) ∙ sym (map-append (shift_one gap) asks (shift more close))
+    simp (map-append, shift-twice, ← append_assoc, is, took)
 
 past-trivia : (k : CharClasses) (levels i n : ℕ) (c : Spot (Unit {0})) (inner_z : Place) (t : Trivia) → (then_end i n (run_at k levels c inner_z)).state.known ≡ Some t
     → (let q = rest_of i n (run_at k levels c inner_z) in let u = tail_at k levels i n c inner_z in q.asks ++ shift q.taken (u.asks ++ shift u.taken (close_at k levels i n c inner_z).asks) ≡ shift t.gap (asks_past k levels i n t c inner_z))
@@ -528,6 +478,8 @@ inner-decision-law k levels front old rest c i n chosen name level g h =
     let begun_too = λ (l : 0 < i + n) (big : b < 2 ^ 64 - 1) (p : AllFrom b inner_z (shift u.taken asks)) (q : AllFrom b inner_z (shift end c.after)). two.begun_too b l big (subst (λ ls. AllFrom b inner_z ls) (sym here) p) q in
     let opens = asks_before k levels (moved c.at inner_z) (point_of c.start) in
     let until = lifted c.at c.fewer opens in
+    let fronted = onwards-fronted (run_at k levels c inner_z) (block-taking k levels) i n in
+    let further = λ (t : Trivia) (known : (then_end i n (run_at k levels c inner_z)).state.known ≡ Some t). ap (shift u.taken) (past-trivia k levels i n c inner_z t known) ∙ shift-twice u.taken t.gap (asks_past k levels i n t c inner_z) in
     record {
       begins = one.told;
       ends = two.told;
@@ -539,8 +491,8 @@ inner-decision-law k levels front old rest c i n chosen name level g h =
       before = λ m.
           (let n = length front in
           let e = one.reached front (old ++ rest) refl m in
-          record { before = end-first n c.before until e.0; opens = ends-lowered n c.at c.fewer opens (end-second n c.before until e.0); before_run = e.1 });
-      before_too = λ m. (let n = length front in one.reached_too front (old ++ rest) refl (both-end n c.before until m.before (lifted-ends c.at c.fewer n opens m.opens)) m.before_run);
+          record { before = looks-first (ending n) c.before until e.0; opens = looks-raised (looks-shifted (ending n) c.at) c.fewer opens (looks-second (ending n) c.before until e.0); before_run = e.1 });
+      before_too = λ m. (let n = length front in one.reached_too front (old ++ rest) refl (looks-both (ending n) c.before until m.before (looks-lowered (looks-shifted (ending n) c.at) c.fewer opens m.opens)) m.before_run);
       after = λ past e m.
           record {
             inside = begin-by front old rest u.taken past asks e placed (inside m);
@@ -548,17 +500,11 @@ inner-decision-law k levels front old rest c i n chosen name level g h =
           };
       after_too = λ past e m big f. begun_too m big (begin-to front old rest u.taken past asks e f.inside) (begin-to front old rest end (past + left_at k levels i n c inner_z) c.after (omega (arith, taken, e)) f.behind);
       after_trivia = λ past t known e m.
-          (let f = onwards-fronted (run_at k levels c inner_z) (block-taking k levels) i n t known in
-          let ls = asks_past k levels i n t c inner_z in
-          let is = ap (shift u.taken) (past-trivia k levels i n c inner_z t known) ∙ shift-twice u.taken t.gap ls in
           record {
-            inside = begin-by front old rest (u.taken + t.gap) past ls e (subst (λ ls. AllAt (length text) ls) is placed) (subst (λ ls. AllFrom b inner_z ls) is (inside m));
-            behind = begin-by front old rest end (past + left_past k levels i n t c inner_z) c.after (omega (arith, taken, e, f.taken)) two.placed_after (two.begun b m).1;
-          });
+            inside = begin-by front old rest (u.taken + t.gap) past (asks_past k levels i n t c inner_z) e (subst (λ ls. AllAt (length text) ls) (further t known) placed) (subst (λ ls. AllFrom b inner_z ls) (further t known) (inside m));
+            behind = begin-by front old rest end (past + left_past k levels i n t c inner_z) c.after (omega (arith, taken, e, (fronted t known).taken)) two.placed_after (two.begun b m).1;
+          };
       after_trivia_too = λ past t known e m big f.
-          (let v = onwards-fronted (run_at k levels c inner_z) (block-taking k levels) i n t known in
-          let ls = asks_past k levels i n t c inner_z in
-          let is = ap (shift u.taken) (past-trivia k levels i n c inner_z t known) ∙ shift-twice u.taken t.gap ls in
-          begun_too m big (subst (λ ls. AllFrom b inner_z ls) (sym is) (begin-to front old rest (u.taken + t.gap) past ls e f.inside))
-          (begin-to front old rest end (past + left_past k levels i n t c inner_z) c.after (omega (arith, taken, e, v.taken)) f.behind));
+          begun_too m big (subst (λ ls. AllFrom b inner_z ls) (sym (further t known)) (begin-to front old rest (u.taken + t.gap) past (asks_past k levels i n t c inner_z) e f.inside))
+          (begin-to front old rest end (past + left_past k levels i n t c inner_z) c.after (omega (arith, taken, e, (fronted t known).taken)) f.behind);
     }

@@ -1,11 +1,12 @@
 -- A candidate among the nodes of a run begins well, by what the run's pieces give: at the top of a text's tree and in a content block.
-use Rattle.std.proofs.Common.{◌≡◌, ◌↔◌, ℕ, suc, ◌+◌, ◌<◌, ◌≤◌, true, false, List, length, Option, Some, ap, sym, ◌∙◌, subst, arith, inl, inr, zero, ◌==◌, ne_eqb, Bool, nat_lt, [], ◌++◌, take, refl, ◌-◌, if◌then◌else◌, ◌∷◌, length-append, append_assoc, None}
-use Rattle.typst_edits.proofs.Words.{moved, Place, Tree, none, trees, bare, Forest, more, forest, text_of, inner_of, Trivia, pending, gap_of, point_of, Candidate, begins, is_among, of_run, Child, laid, child_at, run_in, Every, is_over, cut_at, minds_at, first_place, GoesOnWell, StartsWell, StandsAt, AllGo, End, piece_at, lead, pieces, end_at, pieces_from, end_from, Sequence, turn_of, first_of, first_end, then_of, then_end, CharClasses, width, Outcome, run, after_first, top_cuts, cuts_in, max_depth, start_of, tree, log, Settles, standing_before, Among, text_with, text_run, onwards_from, both, token_byte, LeadsAt, bytes_of, opening_child, LeadingInner, of_level, cut_after, goes, listed, inner_head, width-positive, Note, texts, candidates, run_at, opened_at, fill, path_of, under, standing_in, nodes_in, block_with, inner_end, inner_both, onwards_in, block_run, Around, kids_in, markup_from, blocks_of_text, OpensApartLaw, Spot, unit_at}
+use Rattle.std.proofs.Common.{◌≡◌, ◌↔◌, ℕ, suc, ◌+◌, ◌<◌, ◌≤◌, true, false, List, length, Option, Some, ap, sym, ◌∙◌, subst, arith, inl, inr, zero, ◌==◌, ne_eqb, Bool, [], ◌++◌, take, refl, ◌-◌, if◌then◌else◌, ◌∷◌, length-append, append_assoc, None}
+use Rattle.typst_edits.proofs.Words.{moved, Place, Tree, none, trees, bare, Forest, more, forest, text_of, inner_of, Trivia, pending, gap_of, point_of, Candidate, begins, is_among, of_run, Child, laid, child_at, run_in, Every, is_over, cut_at, minds_at, first_place, GoesOnWell, StartsWell, StandsAt, AllGo, End, piece_at, lead, pieces, end_at, pieces_from, end_from, Sequence, turn_of, first_of, first_end, then_of, then_end, CharClasses, width, Outcome, run, after_first, top_cuts, cuts_in, max_depth, start_of, tree, log, Settles, standing_before, Among, text_with, text_run, onwards_from, both, token_byte, LeadsAt, bytes_of, opening_child, LeadingInner, of_level, cut_after, goes, listed, inner_head, Note, texts, candidates, run_at, opened_at, fill, path_of, under, standing_in, nodes_in, block_with, inner_end, inner_both, onwards_in, block_run, Around, kids_in, markup_from, blocks_of_text, OpensApartLaw, Spot, unit_at}
 use Rattle.typst_tree.specs.Tree.{joined}
 use Rattle.typst_edits.proofs.Boundary.{KnownAt, looks_in, each-ends, made-add, go-add, known-made}
 use Rattle.typst_edits.proofs.CandidateEnds.{Quiet, stretch, GivesAt, GivesOne, Parted, begun, parted, text-quiet, inner-quiet}
 use Rattle.typst_edits.proofs.Heads.{MindsAlone, text-lone, inner-lone, lead-empties}
-use Rattle.typst_edits.proofs.MarkupCandidates.{OfStretch, of-run, own-run, InMarkup, descend}
+use Rattle.typst_edits.proofs.MarkupCandidates.{OfStretch, of-run}
+use Rattle.typst_edits.proofs.MarkupPlaces.{InMarkup, at-second, own-run}
 use Rattle.typst_edits.proofs.NumberedNotes.{go-fewer, numbered-run-law}
 use Rattle.typst_candidates.specs.Candidates as candidate
 use Rattle.typst_edits.specs.CandidateEnds.{RootCandidateLaw}
@@ -15,17 +16,15 @@ use Rattle.typst_edits.proofs.Edit.{among, trees-of}
 use Rattle.typst_edits.proofs.Cuts.{CutOf, starts-are, behind-are, few-go, BlockCuts, cuts-of-block}
 use Rattle.typst_edits.proofs.Joint.{onwards-is}
 use Rattle.typst_edits.proofs.Leading.{leading-law, Plain, leading-inner-law, plain-block}
-use Rattle.typst_edits.proofs.BlockRuns.{within}
 use Rattle.typst_edits.proofs.RunPieces.{take-past, behind-zero, cut-is}
 use Rattle.typst_edits.proofs.RunTrees.{tree-is}
-use Rattle.typst_edits.proofs.Widths.{width-append}
+use Rattle.typst_edits.proofs.Widths.{width-append, early-by as sooner, late-by as further}
 use Rattle.typst_kinds.specs.declared.kind.SyntaxKind.TheVariants as kind
 use Rattle.typst_language.specs.declared.calls.Block.TheVariants as block
 use Rattle.typst_edits.specs.InnerCandidates.{InnerCandidateLaw}
 use Rattle.typst_edits.proofs.Blocks.{ends}
 use Rattle.typst_edits.proofs.Content.{same-here}
 use Rattle.typst_edits.proofs.Walk.{left_text, spot-place, length-texts}
-use Rattle.typst_edits.proofs.BlockPlaces.{early-by as sooner, late-by as further}
 
 -- ---- one more piece
 
@@ -115,7 +114,7 @@ cuts-of-text k text =
       over = n.over;
       each = b.is.each;
       are = ap after_first (starts-are text e max_depth 0 ns n.each) ∙ b.are;
-      has = λ j some go. b.is.has j some (few-go (piece_at k) (within k) n.count j (true, 0) z (lead k z).state (nat_lt n.count j) refl go n.over);
+      has = λ j some go. b.is.has j some (few-go (piece_at k) n.count j (true, 0) z (lead k z).state go n.over);
     }
 
 -- ---- what its pieces give
@@ -171,7 +170,7 @@ of-the-root k text rs re root c cuts same chosen pieces path =
     let ns = listed (log k text).notes in
     let ts = trees was.kids in
     let there : Among c (candidate.candidates ns rs re was) = subst (λ cs. Among c cs) (bare-candidates-law ns rs re root was same) chosen in
-    let own = among _ c _ there (own-run ns rs re [] (top_cuts ns) 0 was.head was.kids none) pieces path in
+    let own = among _ c _ there (own-run ns rs re [] (top_cuts ns) 0 was (ap (λ (t : Tree). t.head.is_inner) (tree-is k text 0 0 tt tt))) pieces path in
     let at : 0 + length was.head.text ≡ 0 = omega (arith, head-none k text) in
     of-run rs re [] 0 ts cuts.cuts c (subst (λ run. Among c (of_run rs re [] 0 ts run)) cuts.are (subst (λ b. Among c (of_run rs re [] b ts (top_cuts ns))) at own))
 
@@ -191,15 +190,6 @@ root-candidate-law k front old new rest root c i n m past t u same chosen pieces
     (pieces-parted k text i h.first_go n t cuts h.old_go h.known) led (λ l. start ∙ ap (λ d. width (take d text)) (cut-is (i == 0) (e.taken + gap_of e.state.known) (ne_eqb i 0 (omega (arith, l)))))
     (end ∙ sym (ap width (take-past front old rest past (f.taken + gap_of f.state.known) sum))) in
     record { starts = w.starts; goes_on = w.goes_on; first = w.first; next = w.next; last = w.last }
-
--- ---- from bytes to characters
-
--- What ends after a stretch in bytes, or with it, does so in characters.
-pub as-far : (n : ℕ) (xs ys : List ℕ) → width xs ≤ width (take n (xs ++ ys)) → length xs ≤ n
-unfolding width
-as-far n [] ys h = omega arith
-as-far zero (x ∷ xs) ys h = absurd (omega (arith, h, width-positive x))
-as-far (suc n) (x ∷ xs) ys h = let i = as-far n xs ys (omega (arith, h)) in omega (arith, i)
 
 -- ---- where a block's node stands
 
@@ -309,7 +299,7 @@ of-block apart k levels front old rest root s chosen name level c same candidate
     let deep = under (inner_head kind.Markup) hole.left hole.deep hole.right in
     let own_tree = tree-by-block k front old rest s chosen s.node refl in
     let there : Among c (candidates k text rs re (fill deep s.node)) = subst (λ cs. Among c cs) (bare-candidates-law ns rs re root was same ∙ ap (candidates k text rs re) own_tree) candidate in
-    let m : InMarkup ns rs re (0 + length (left_text hole)) s.node c = among _ c _ there (descend ns rs re deep s.node [] (top_cuts ns) 0) pieces path in
+    let m : InMarkup ns rs re (0 + length (left_text hole)) s.node c = at-second ns rs re deep s.node (top_cuts ns) 0 c refl there pieces path in
     let in_node = lies ((0 + length (left_text hole)) + length s.node.head.text) (trees s.node.kids) 1 m.child m.is in
     let held : length (text_of s.node) ≡ length s.node.head.text + length (texts (trees s.node.kids)) = length-append s.node.head.text _ ∙ ap (λ n. length s.node.head.text + n) (ap length (joined-trees s.node.kids)) in
     let full : 0 < length (text_of s.node) = omega (arith, width-append front old, m.starts, m.ends, in_node.from, in_node.to, held) in

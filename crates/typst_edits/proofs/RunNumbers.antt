@@ -1,21 +1,19 @@
 -- The entries of a run, by their numbers: of a text's run and of a content block's.
-use Rattle.std.proofs.Common.{◌≡◌, ℕ, suc, ◌+◌, ◌≤◌, ◌==◌, Bool, true, false, nat_lt, List, [], append-nil, refl, ap, sym, ◌∙◌, subst, arith, ◌-◌, ◌<◌, ◌∷◌, ◌++◌, length, take, drop, length-append, append_assoc, Some}
-use Rattle.typst_edits.proofs.Words.{eqb-true, eqb-false, moved, Place, CharClasses, Note, Meaning, hand_of, run, moved-sum, entries_by, entry_kind_of, count_of, entry_of, last_start, IsRising, opening_of, ends, ends_block, markup_turn, max_depth, start_of, log, entries_in, SaysBlock, is_over, InOrderLaw, text_run, of_level, NumberedInner, goes, listed, number_of, RunNumbersLaw, number_in, InnerNumbersLaw, cut_of, cut_in, AllGo, End, pieces, piece_at, end_at, lead, asks_of, Sequence, turn_of, first_of, first_end, then_end, width, Block, shift, point_of, closing_of, closing-found, run_at, Among, inner_end, blocks_of_text, BeginsAt, notes_in, Spot}
+use Rattle.std.proofs.Common.{◌≡◌, ℕ, suc, ◌+◌, ◌≤◌, ◌==◌, Bool, true, false, List, [], append-nil, refl, ap, sym, ◌∙◌, subst, arith, ◌-◌, ◌<◌, ◌∷◌, ◌++◌, length, drop, length-append, append_assoc, Some}
+use Rattle.typst_edits.proofs.Words.{eqb-true, eqb-false, moved, Place, CharClasses, Note, Meaning, hand_of, run, moved-sum, entries_by, IsRising, ends, max_depth, start_of, log, entries_in, SaysBlock, is_over, InOrderLaw, text_run, of_level, NumberedInner, goes, listed, number_of, RunNumbersLaw, number_in, InnerNumbersLaw, cut_of, cut_in, AllGo, End, pieces, piece_at, end_at, lead, asks_of, Sequence, turn_of, first_of, first_end, then_end, Block, shift, point_of, closing_of, run_at, Among, inner_end, blocks_of_text, BeginsAt, notes_in, Spot}
 use Rattle.typst_edits.specs.NumberedNotes.{NumberedRun}
-use Rattle.typst_edits.proofs.BlockTest.{units-listed}
+use Rattle.typst_edits.proofs.BlockTest.{BlockEntries, block-entries, units-listed}
 use Rattle.typst_edits.proofs.Boundary.{looks_in, each-ends, made-add, first-of, going-on, known-made}
 use Rattle.typst_edits.proofs.Cuts.{cuts-law, inner-cuts-law, few-go}
-use Rattle.typst_edits.proofs.FoundPieces.{NoteAt, RunAmong, FoundPieces, found-pieces, says-by, level-long, closing, own-none, head-same, tail-same}
+use Rattle.typst_edits.proofs.FoundPieces.{NoteAt, RunAmong, FoundPieces, found-pieces, says-by, closing, own-none, head-same, tail-same}
 use Rattle.typst_edits.proofs.Leading.{Leads, text-leads, turn-over, block-leads}
 use Rattle.typst_edits.proofs.Nested.{nested-law}
-use Rattle.typst_edits.proofs.NumberedNotes.{less-than, go-fewer, go-next, number-law, neither, numbered-run-law, NestedNumbers, nested-numbers}
-use Rattle.typst_edits.proofs.BlockRuns.{within, sane as in-sane}
+use Rattle.typst_edits.proofs.NumberedNotes.{go-fewer, go-next, number-law, numbered-run-law, NestedNumbers, nested-numbers, level-long}
 use Rattle.typst_edits.proofs.RunBytes.{text-note, text-count, asks_before, asks_first, inner_run_mark as run_mark, opened, inner_asks_by as asks_by, block-asks, inner-decision-law, cut-here}
 use Rattle.typst_language.specs.declared.calls.Block.TheVariants as block
-use Rattle.typst_candidates.specs.declared.entry.EntryKind.TheVariants as entry_kind
-use Rattle.typst_edits.proofs.EntryNumbers.{NoneAt, opening-some, got-entry, past-entry}
-use Rattle.typst_edits.proofs.OpensApart.{opens-apart-law}
 use Rattle.typst_edits.proofs.Splice.{count-append, count-shift}
+use Rattle.std.proofs.Math.Arith.{lt_of_le-ne}
+use Rattle.typst_edits.proofs.Every.{neither}
 
 -- ---- where a run is over
 
@@ -43,7 +41,7 @@ module _ (r : Sequence) (leads : Leads r) where
           ap ended (eqb-true m count t) ∙ turn-over r leads e.value (moved e.taken r.place) e.state (known-made r.level r.stops count (true, 0) r.place r.point leads.known g) over
       by-test false t =
           let e = first_end m r in
-          let go = go-next turn m (true, 0) r.place r.point (go-fewer turn (suc m) count (true, 0) r.place r.point (omega (arith, less-than m count l (eqb-false m count t))) g) in
+          let go = go-next turn m (true, 0) r.place r.point (go-fewer turn (suc m) count (true, 0) r.place r.point (lt_of_le-ne l (eqb-false m count t)) g) in
           going-on r.level r.stops e.value (moved e.taken r.place) e.state (first-of _ _ go)
 
   pub over-at : (count i n : ℕ) → AllGo (first_of count r) → (let e = first_end count r in goes (turn e.value (moved e.taken r.place) e.state) ≡ false) → i + n ≤ count → is_over i n r ≡ (i + n == count)
@@ -98,7 +96,7 @@ run-numbers-law ordered k text =
     record {
       count = n.count;
       go = n.go;
-      most = λ i g. few-go (piece_at k) (within k) n.count i (true, 0) z (lead k z).state (nat_lt n.count i) refl g n.over;
+      most = λ i g. few-go (piece_at k) n.count i (true, 0) z (lead k z).state g n.over;
       over = text-over ordered k text;
       begins = λ i l. f.goes_on 0 i (omega arith) l;
       goes_on = f.goes_on;
@@ -148,6 +146,9 @@ module _ (ordered : InOrderLaw) (k : CharClasses) (levels : ℕ) (text : List �
 
   abbrev z0 : Place
   z0 = start_of text
+
+  abbrev own : BlockEntries k text s
+  own = block-entries ordered k text s chosen
 
   notes-are : listed (log k text).notes ≡ all
   notes-are = ap listed inner_n.notes
@@ -225,37 +226,17 @@ module _ (ordered : InOrderLaw) (k : CharClasses) (levels : ℕ) (text : List �
       subst (λ es. FoundPieces es (number_in k levels text s) (cut_in k levels text s) (λ i. (inner_end k levels i s z0).value) inner_n.count) entries-are
       (found-pieces (suc levels) pre inner_n.inner (inner_n.closes ∷ inner_n.later) text (λ i. inner_end k levels i s z0) inner_n.count (number_in k levels text s) inner-among)
 
-  closes-at : (let m = suc (number_in k levels text s inner_n.count) in closing_of 0 m (drop m (entries_in k text)) ≡ Some (length pre + length inner_n.inner))
+  closes-at : (let m = suc (number_in k levels text s inner_n.count) in closing_of 0 m (drop m (entries_in k text)) ≡ Some own.to)
   closes-at =
       let m = suc (number_in k levels text s inner_n.count) in
+      let same : length pre + length inner_n.inner ≡ own.to = omega (arith, pre-long, known.number, known.long, own.number, own.last) in
       ap (λ es. closing_of 0 m (drop m es)) (sym entries-are)
       ∙ closing (suc levels) pre inner_n.inner (inner_n.closes ∷ inner_n.later) text (λ i. inner_end k levels i s z0) inner_n.count (number_in k levels text s) inner-among inner_n.closes inner_n.later refl inner_n.name_end
+      ∙ ap Some same
 
-  opens-at : opening_of (width (take s.at text)) 0 0 (entries_in k text) ≡ Some (length inner_n.earlier)
-  opens-at =
-      let at = width (take s.at text) in
-      let start = inner_n.start in
-      let alone : NoneAt at inner_n.earlier = λ xs m ys b e f g.
-      (let less = opens-apart-law k text xs ys tail m inner_n.opens b s.name (notes-are ∙ ap (λ us. us ++ inner_n.opens ∷ tail) e ∙ append_assoc xs (m ∷ ys) (inner_n.opens ∷ tail)) f inner_n.name in absurd (omega (arith, less, g, start))) in
-      let same : 0 + length inner_n.earlier ≡ length inner_n.earlier = omega arith in
-      ap (opening_of at 0 0) (units-listed (log k text) ∙ ap (entries_by 0) notes-are) ∙ opening-some at 0 0 inner_n.earlier inner_n.opens tail s.name rising inner_n.name inner_n.start alone ∙ ap Some same
-
-  says-at : SaysBlock (entries_in k text) (length inner_n.earlier) (length pre + length inner_n.inner) (suc levels) block.Content s.start.held.mode
-  says-at =
-      let from = length inner_n.earlier in
-      let same : suc from + length inner_n.inner ≡ length pre + length inner_n.inner = omega (arith, pre-long) in
-      let says : SaysBlock (entries_by 0 all) from (length pre + length inner_n.inner) (suc levels) block.Content s.start.held.mode = record {
-        entry = entry_of (last_start 0 inner_n.earlier) inner_n.opens;
-        is = got-entry 0 inner_n.earlier inner_n.opens tail;
-        kind = (λ i. entry_kind_of (inner_n.name i) (inner_n.state i)) ∙ ap (λ (b : Block). entry_kind.Opens b s.start.held.mode) name;
-        count = (λ i. count_of (inner_n.name i) (inner_n.levels_there i));
-        closes = ap (closing_of 0 (suc from)) (past-entry 0 inner_n.earlier inner_n.opens tail) ∙ closing-found (suc levels) (suc from) inner_n.opens.start inner_n.inner inner_n.closes inner_n.later known.nested inner_n.name_end ∙ ap Some same;
-      } in
-      subst (λ es. SaysBlock es from (length pre + length inner_n.inner) (suc levels) block.Content s.start.held.mode) (ap (entries_by 0) (sym notes-are) ∙ sym (units-listed (log k text))) says
-
-  begins-at : (i : ℕ) → i ≤ inner_n.count → BeginsAt (entries_in k text) (suc (length inner_n.earlier)) (cut_in k levels text s i) (number_in k levels text s i)
+  begins-at : (i : ℕ) → i ≤ inner_n.count → BeginsAt (entries_in k text) (suc own.from) (cut_in k levels text s i) (number_in k levels text s i)
   begins-at i l =
-      let first : number_in k levels text s 0 ≡ suc (length inner_n.earlier) = omega (arith, known.number) in
+      let first : number_in k levels text s 0 ≡ suc own.from = omega (arith, own.number) in
       subst (λ m. BeginsAt (entries_in k text) m (cut_in k levels text s i) (number_in k levels text s i)) first (inner-found.goes_on 0 i (omega arith) l)
 
   block-over : (i m : ℕ) → i + m ≤ inner_n.count → is_over i m (run_at k levels s z0) ≡ (i + m == inner_n.count)
@@ -266,20 +247,20 @@ module _ (ordered : InOrderLaw) (k : CharClasses) (levels : ℕ) (text : List �
 pub inner-numbers-law : InOrderLaw → InnerNumbersLaw
 inner-numbers-law ordered k levels text s chosen name left =
     let r = run_at k levels s (start_of text) in
-    let h = nested-numbers k levels text s chosen name left in
-    let inner_n = h.numbers in
+    let inner_n = (nested-numbers k levels text s chosen name left).numbers in
+    let b = block-entries ordered k text s chosen in
     let f = inner-found ordered k levels text s chosen name left in
     record {
-      opens = length inner_n.earlier;
-      closes = length (inner_n.earlier ++ inner_n.opens ∷ []) + length inner_n.inner;
+      opens = b.from;
+      closes = b.to;
       mode = s.start.held.mode;
-      before = h.number;
-      opening = opens-at ordered k levels text s chosen name left;
-      says_block = says-at ordered k levels text s chosen name left;
+      before = b.number;
+      opening = b.opens;
+      says_block = subst (λ (x : Block). SaysBlock (entries_in k text) b.from b.to (suc levels) x s.start.held.mode) name (subst (λ n. SaysBlock (entries_in k text) b.from b.to n s.name s.start.held.mode) left b.says);
       mode_is = refl;
       count = inner_n.count;
       go = inner_n.go;
-      most = λ i g. few-go (turn_of r) (λ x. (in-sane k levels (markup_turn true ends_block x)).within) inner_n.count i (true, 0) r.place r.point (nat_lt inner_n.count i) refl g inner_n.over;
+      most = λ i g. few-go (turn_of r) inner_n.count i (true, 0) r.place r.point g inner_n.over;
       over = block-over ordered k levels text s chosen name left;
       begins = begins-at ordered k levels text s chosen name left;
       goes_on = f.goes_on;

@@ -1,6 +1,7 @@
 -- Pieces that pass the test, at the root or in a content block: a candidate's place is that of their nodes.
 use Rattle.std.proofs.Common.{◌≡◌, inr, ℕ, zero, suc, ◌+◌, ◌<◌, ◌==◌, ne_eqb, if◌then◌else◌, Bool, true, false, List, [], ◌∷◌, ◌++◌, length, take, drop, length-append, refl, ap, sym, ◌∙◌, subst, arith, ◌⊎◌, ◌-◌, Some}
-use Rattle.typst_edits.proofs.Words.{CharClasses, Tree, trees, put_at, width, Outcome, less, Trivia, gap_of, point_of, less-none, Candidate, tree, max_depth, with_children, read_from, standing_before, nodes_with, text_with, Among, nodes_now, is_over, Agrees, PassesPieces, Run, end_by, GoesOnWell, text_run, onwards_from, PassesJoint, LeadsAt, both, token_byte, LeadingInner, Leading, root_run, StandsAt, BeginsWell, end_at, end_from, AllGo, chain, Place, moved, run_at, opened_at, tail_at, close_at, path_of, inner_end, inner_both, read_in, standing_in, nodes_in, block_with, onwards_in, left_past, PassesInnerJoint, block_run, kids_in, markup_from, Around, blocks_of_text, first_of, first_end, then_of, then_end, rest_of, Spot, unit_at}
+use Rattle.std.proofs.Math.Seq.{take-append-add}
+use Rattle.typst_edits.proofs.Words.{CharClasses, Tree, trees, put_at, width, Outcome, less, Trivia, gap_of, point_of, less-none, Candidate, tree, max_depth, with_children, read_from, standing_before, nodes_with, text_with, Among, nodes_now, is_over, Agrees, PassesPieces, Run, end_by, GoesOnWell, text_run, onwards_from, PassesJoint, LeadsAt, both, token_byte, LeadingInner, Leading, root_run, StandsAt, BeginsWell, end_at, end_from, AllGo, chain, Place, moved, run_at, opened_at, tail_at, close_at, path_of, inner_end, inner_both, read_in, standing_in, nodes_in, block_with, onwards_in, left_past, PassesInnerJoint, block_run, kids_in, markup_from, Around, blocks_of_text, first_of, first_end, then_of, then_end, rest_of, Spot, unit_at, if-false, read_as, cut_at, opened_by}
 use Rattle.typst_edits.specs.RootPieces.{RootPiecesLaw}
 use Rattle.typst_edits.specs.InnerPieces.{BeginsWellIn, InnerPiecesLaw}
 use Rattle.typst_edits.specs.LeadingTrivia.{trivia_at, trivia_in}
@@ -12,21 +13,15 @@ use Rattle.typst_language.specs.declared.calls.Block.TheVariants as block
 use Rattle.typst_edits.proofs.BlockRuns.{content-split, content-taken}
 use Rattle.typst_edits.proofs.Edit.{trees-of}
 use Rattle.typst_edits.proofs.Text.{content-reads}
-use Rattle.typst_edits.proofs.Spots.{if-false}
 use Rattle.typst_edits.proofs.Joint.{onwards-fronted, block-taking}
 use Rattle.typst_edits.proofs.Runs.{split-taken}
 
 -- ---- counts and stretches
 
-take-behind : (xs ys : List ℕ) (n j : ℕ) → j ≡ length xs + n → take j (xs ++ ys) ≡ xs ++ take n ys
-take-behind [] ys n j e = ap (λ i. take i ys) (omega (arith, e))
-take-behind (x ∷ xs) ys n zero e = absurd (omega (arith, e))
-take-behind (x ∷ xs) ys n (suc j) e = ap (λ u. x ∷ u) (take-behind xs ys n j (omega (arith, e)))
-
 pub take-past : (front old rest : List ℕ) (past n : ℕ) → n ≡ (length front + length old) + past → take n (front ++ (old ++ rest)) ≡ front ++ (old ++ take past rest)
 take-past front old rest past n e =
     let sum : n ≡ length front + (length old + past) = omega (arith, e) in
-    take-behind front (old ++ rest) (length old + past) n sum ∙ ap (λ u. front ++ u) (take-behind old rest past (length old + past) refl)
+    ap (λ i. take i (front ++ (old ++ rest))) sum ∙ take-append-add front (old ++ rest) (length old + past) ∙ ap (λ u. front ++ u) (take-append-add old rest past)
 
 pub behind-zero : (a g x : ℕ) → (0 + a) + g ≡ x → a + g ≡ x
 behind-zero a g x e = omega (arith, e)
@@ -34,6 +29,12 @@ behind-zero a g x e = omega (arith, e)
 pub cut-is : (b : Bool) (a : ℕ) → b ≡ false → 0 + (if b then 0 else a) ≡ a
 cut-is false a e = omega arith
 cut-is true a e = cc
+
+-- After some pieces of a run the next begins at its first token.
+pub cut-some : {k : CharClasses} {text : List ℕ} (r : Run k text) (i : ℕ) (z : Place) → 0 < i → (let e = first_end i (read_as r z) in cut_at r i z ≡ opened_by r z + (e.taken + gap_of e.state.known))
+cut-some {k} {text} r i z l =
+    let e = first_end i (read_as r z) in
+    ap (λ b. opened_by r z + (if b then 0 else e.taken + gap_of e.state.known)) (ne_eqb i 0 (omega (arith, l)))
 
 pub drop-some : (b : Bool) (l : ℕ) (ts : List Tree) → b ≡ false → drop (if b then 0 else l) ts ≡ drop l ts
 drop-some b l ts e = ap (λ (c : Bool). drop (if c then 0 else l) ts) e

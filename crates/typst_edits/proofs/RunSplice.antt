@@ -1,33 +1,33 @@
 -- The units of a text with an edit inside a block, and inside some pieces of a run, its own or a content block's.
-use Rattle.std.proofs.Common.{◌≡◌, ℕ, suc, ◌+◌, ◌≤◌, List, [], ◌∷◌, ◌++◌, length, ap, sym, ◌∙◌, subst, arith, ◌==◌, inl, inr, ◌⊎◌, zero, ◌-◌, ◌<◌, ◌^◌, Bool, true, map, append_assoc, Some, refl, ◌&&◌, if◌then◌else◌, false, None}
-use Rattle.typst_edits.proofs.Words.{units_of, spliced, moved, Place, position, width, Ask, shift, SameIn, shift_one, marked, looked, no_log, logged, Outcome, start_point, hand_of, hand_asks_of, repeated, run, state_of, Trivia, Point, gap_of, point_of, markup_reading, ends, rules, max_depth, whole, parsed, log, level_at, start_of, text_with, AllEndBy, AllBeginIn, Noting, noting, notes_in, entries_from, token_start, block_log, closing, Spot, unit_at, lowered, map-append, same, Entry, CharClasses, Look, look, no_look, is_end, AtHand, Hand, as_at_hand, hand_at, len_at, at_trivia, column_look, column_asks, ahead, asks_by, ahead_asks, hand_asks, peek, sane-at, AllFrom, passed, onwards, text_run, place_from, onwards_from, asked_past, end_note, OverAt, run_mark, start, AllGo, asks_of, chain, lead, pieces, end_at, pieces_from, end_from, rest_from, tail, whole_of, Sequence, turn_of, first_of, first_end, then_of, then_end, then_place, rest_of, note_at, looks_next, own_of, token, same_in-shift, same_in-first, same_in-second, moved-sum, inner, look_first, look_again, bracket, inner_lead, inner_run, content_with, run_at, tail_at, close_at, onwards_past, left_past, hand-ends}
+use Rattle.std.proofs.Common.{◌≡◌, ℕ, suc, ◌+◌, ◌≤◌, List, [], ◌∷◌, ◌++◌, length, ap, sym, ◌∙◌, subst, arith, ◌==◌, inl, inr, zero, ◌-◌, ◌<◌, ◌^◌, Bool, true, map, append_assoc, Some, refl, ◌&&◌, if◌then◌else◌, false, None, eq-zero-or-pos}
+use Rattle.typst_edits.proofs.Words.{units_of, spliced, moved, Place, position, width, Ask, shift, SameIn, shift_one, marked, looked, no_log, logged, Outcome, start_point, hand_of, hand_asks_of, repeated, run, state_of, Trivia, Point, gap_of, point_of, markup_reading, ends, rules, max_depth, whole, parsed, log, level_at, start_of, text_with, AllEndBy, AllBeginIn, Noting, noting, notes_in, entries_from, token_start, block_log, closing, Spot, unit_at, lowered, lower, map-append, same, Entry, CharClasses, Look, look, no_look, is_end, AtHand, Hand, as_at_hand, hand_at, len_at, at_trivia, column_look, column_asks, ahead, asks_by, ahead_asks, hand_asks, peek, sane-at, AllFrom, passed, onwards, text_run, place_from, onwards_from, asked_past, end_note, OverAt, run_mark, start, AllGo, asks_of, chain, lead, pieces, end_at, pieces_from, end_from, rest_from, tail, whole_of, Sequence, turn_of, first_of, first_end, then_of, then_end, then_place, rest_of, note_at, looks_next, own_of, token, same_in-shift, same_in-first, same_in-second, moved-sum, inner, look_first, look_again, bracket, inner_lead, inner_run, content_with, run_at, tail_at, close_at, onwards_past, left_past, hand-ends}
 use Rattle.typst_edits.specs.BlockSplice.{BlockSpliceLaw}
 use Rattle.typst_edits.specs.RunSplice.{next_looks, own_asks, RunSpliceLaw}
 use Rattle.typst_edits.specs.InnerSplice.{end_note_in, pieces_log_in, InnerSpliceLaw, AroundSpliceLaw}
-use Rattle.typst_edits.proofs.Bytes.{asks-are, notes-one, notes-own, both-end, AllMarks, marks-append, logged-lowered}
-use Rattle.typst_edits.proofs.Seen.{AllSeen, end-first, seen-first, sees-level}
-use Rattle.typst_edits.proofs.Splice.{splice-law, Side, Last, entries_at, back_at, count-append, count-shift, each-bare, each-from, from-zero, bare-shift, side-none, side-by, same-at, last-at, splice-texts, count-none, take-width}
+use Rattle.typst_edits.proofs.Bytes.{asks-are, notes-one, notes-own, AllMarks, marks-append, logged-lowered}
+use Rattle.typst_edits.proofs.Seen.{AllSeen, seen-first, sees-level}
+use Rattle.typst_edits.proofs.Splice.{splice-law, Side, Last, entries_at, back_at, count-append, count-shift, each-bare, each-from, from-zero, bare-shift, side-none, side-by, same-at, last-at, splice-texts, count-none}
 use Rattle.typst_edits.proofs.Text.{block-law, names-law}
-use Rattle.typst_edits.proofs.Boundary.{Begins, begins-append, looks_in, pieces-begin, from-both, split-from, piece_mark}
+use Rattle.typst_edits.proofs.Boundary.{Begins, begins-append, looks_in, pieces-begin, piece_mark}
 use Rattle.typst_edits.proofs.Edit.{before-same}
 use Rattle.typst_edits.proofs.EmptyRuns.{Knows, Never, hand-asks, hand-gap, passed-kind, onwards-looks, end-look, token_look, end-any}
 use Rattle.typst_edits.proofs.Every.{Every}
 use Rattle.typst_edits.proofs.Forward.{ahead-from, lead-ahead}
-use Rattle.typst_edits.proofs.Joint.{text-read, onwards-is, onwards-fronted, joint-law, block-read, inner-joint-law, known-is, text-taking, block-taking}
-use Rattle.typst_edits.proofs.Outcomes.{shift-zero, shift-twice}
+use Rattle.typst_edits.proofs.Joint.{text-read, onwards-is, onwards-fronted, joint-law, block-read, inner-joint-law, known-read, text-taking, block-taking}
+use Rattle.typst_edits.proofs.Outcomes.{shift-zero, shift-twice, shift-append}
 use Rattle.typst_edits.proofs.BlockRuns.{whole-is, within, sane, seq_by, first-same}
 use Rattle.typst_edits.proofs.RunBytes.{lead-bare, asks_before, content-asks, inner-lead-bare, before-marks, past-both}
 use Rattle.typst_edits.proofs.RunTrees.{whole-asks, chained-asks}
 use Rattle.typst_edits.proofs.Runs.{chain-state, split, split-taken}
-use Rattle.typst_edits.proofs.Widths.{width-moved}
-use Rattle.typst_edits.proofs.PieceAsks.{lifted, lifted_note, lifted-none, Cut as AnyCut, cut as cut-any, next-none as next-none-any, side-in, again, lifted-append, lifted-count, lifted-ends, lifted-shift, begins-lowered, begins-both, begins-further, next-none as inner-next-none, Cut as InnerCut, cut as inner-cut, again as again-any, Plain}
+use Rattle.typst_edits.proofs.Widths.{width-moved, take-width}
+use Rattle.typst_edits.proofs.PieceAsks.{lifted, lifted_note, lifted-none, Cut as AnyCut, cut as cut-any, next-none as next-none-any, side-in, again, lifted-count, low-shift, begins-further, next-none as inner-next-none, Cut as InnerCut, cut as inner-cut, again as again-any, Plain}
 use Rattle.typst_edits.proofs.Spots.{same_in-at}
-use Rattle.typst_edits.proofs.Turns.{before_trivia}
 use Rattle.typst_edits.proofs.Known.{Reached}
 use Rattle.typst_edits.proofs.Resumed.{block-reached}
 use Rattle.typst_language.specs.declared.calls.Mark.TheVariants as mark
 use Rattle.typst_kinds.specs.declared.kind.SyntaxKind.TheVariants as kind
 use Rattle.typst_kinds.specs.declared.mode.SyntaxMode.TheVariants as mode
+use Rattle.typst_edits.proofs.Looks.{ending, from-byte, in-rest, looks-both, looks-first, looks-lowered, looks-shifted, looks-split}
 
 -- ---- the units of a text with an edit inside a block
 
@@ -65,7 +65,7 @@ block-splice-law k front old new rest c past i h big more =
     let was = block-asks c a (parsed k max_depth (front ++ (old ++ rest))).asks named.earlier named.later end kept.reading.was named.opened named.closed ends in
     let now = block-asks c b (parsed k max_depth (front ++ (new ++ rest))).asks named.earlier named.later stop kept.reading.log named.opened named.closed stops in
     let seen = sees-level (rules k) k max_depth whole z (start_point markup_reading) (length front) (omega arith) in
-    let early = end-first (length front) named.earlier _ (subst (AllEndBy (length front)) named.opened h.before) in
+    let early = looks-first (ending (length front)) named.earlier _ (subst (AllEndBy (length front)) named.opened h.before) in
     let noted = seen-first (length front) named.earlier _ (subst (AllSeen (length front)) was seen.noted) early in
     let late = subst (AllBeginIn past rest) named.closed h.after in
     let from = notes_in named.earlier in
@@ -193,14 +193,12 @@ module _ (k : CharClasses) where
       let looks = hand_asks_of (level_at k max_depth) (place_from k i n z) f.state in
       let on = (onwards_from k i n z).asks in
       let both = e.taken + f.taken in
-      let over : shift e.taken (shift f.taken on) ≡ shift both on = shift-twice e.taken f.taken on in
       let late : lifted 0 0 (shift both looks) ++ shift both on ≡ shift end last =
       ap (λ u. u ++ shift both on) (lifted-none (shift both looks)) ∙ sym (map-append (shift_one both) looks on) ∙ ap (shift both) a.asks ∙ shift-twice both t.gap last ∙ ap (λ d. shift d last) a.ends in
       let note : lifted_note 0 0 (note_at r start i) ≡ end_note k i z = (let at : 0 + e.taken ≡ e.taken = omega arith in ap (λ d. record (note_at r start i) { at = d }) at) ∙ note-is i z in
       let own : lifted 0 0 (own_of r ls i n) ≡ own_asks k i n z = lifted-none (own_of r ls i n) ∙ ap (λ u. u ++ shift e.taken (asks_of (pieces_from k i n z))) (looks-are i z) in
       let all : lifted 0 0 (own_of r ls i n) ++ shift both on ≡ all_asks i n z =
-      ap (λ u. u ++ shift both on) own ∙ ap (λ u. own_asks k i n z ++ u) (sym over) ∙ append_assoc (next_looks k i z) (shift e.taken (asks_of (pieces_from k i n z))) (shift e.taken (shift f.taken on))
-      ∙ ap (λ u. next_looks k i z ++ u) (sym (map-append (shift_one e.taken) (asks_of (pieces_from k i n z)) (shift f.taken on))) in
+      let sum : (x y z : ℕ) → (x + y) + z ≡ x + (y + z) = λ x y z. omega arith in ap (λ u. u ++ shift both on) own ∙ simp (map-append, shift-twice, append_assoc, sum) in
       subst (λ (x : Noting × List Ask × List Ask). Side max_depth z x.0 x.1 x.2 (entries_at max_depth z end last) (back_at max_depth z end last)) (λ v. (note v, own v, all v))
       (side-in r start ls max_depth 0 0 z (shift both on) end last i n g late (omega (arith, a.ends, ap gap_of a.known)) (λ none. absurd (omega (arith, none, some))))
 
@@ -216,11 +214,11 @@ module _ (k : CharClasses) where
       let same : t.gap ≡ end = omega (arith, a.ends) in
       let all_last : hand ++ on ≡ shift end last = a.asks ∙ ap (λ d. shift d last) same in
       let behind : AllMarks Never on = bare-second hand on (subst (λ u. AllMarks Never u) (sym all_last) (bare-shift end last none)) in
-      let behind_too : AllFrom 0 z on = (split-from 0 z hand on (subst (λ u. AllFrom 0 z u) (sym all_last) begun_last)).1 in
+      let behind_too : AllFrom 0 z on = (looks-split (from-byte 0 z) hand on (subst (λ u. AllFrom 0 z u) (sym all_last) begun_last)).1 in
       let still : shift 0 (shift 0 on) ≡ on = shift-zero (shift 0 on) ∙ shift-zero on in
       side-none max_depth z (end_note k 0 z) (own_asks k 0 0 z) (all_asks 0 0 z) (marks-append Never ls [] (lead-bare k z) tt)
       (subst (λ u. AllMarks Never (ls ++ u)) (sym still) (marks-append Never ls on (lead-bare k z) behind))
-      (subst (λ u. AllFrom 0 z (ls ++ u)) (sym still) (from-both 0 z ls on begun behind_too)) refl
+      (subst (λ u. AllFrom 0 z (ls ++ u)) (sym still) (looks-both (from-byte 0 z) ls on begun behind_too)) refl
 
   -- None follows the last pieces of a text either.
   side-last : (text : List ℕ) (i n : ℕ) (t : Trivia) (end : ℕ) (last : List Ask) → (let z = start_of text in AllGo (pieces_from k i n z) → Tail i n z t end last → AllMarks Never last → (i + n ≡ 0 → AllFrom 0 z (lead k z).asks)
@@ -237,10 +235,6 @@ module _ (k : CharClasses) where
   hands-same y v s h = ap (λ (o : Outcome AtHand). o.asks) ((sane-at (rules k) k max_depth peek).framed y v s h)
 
 -- ---- the law
-
-none-or-some : (n : ℕ) → (n ≡ 0) ⊎ (0 < n)
-none-or-some zero = inl refl
-none-or-some (suc n) = inr (omega arith)
 
 pub onwards-begin : (r : Sequence) (x : Bool × ℕ) (z : Place) (s : Point) → Begins (looks_in r z s) (onwards r x z s).asks
 unfolding run
@@ -338,9 +332,9 @@ run-splice-law k front old new rest i n m past t u h over over_new big big_new =
       two = side-last k (front ++ (new ++ rest)) i m u stop last h.new_go tail_new (each-bare seen last each) (lead-begun k i m w u h.meets.known_now still_new)
           (from-zero (position (moved stop w)) w (shift stop last) (each-from stop seen w last still each)) (last-at max_depth w stop seen last still each (word-fits (front ++ (new ++ rest)) stop big_new));
     }) in
-    let both : Both k i n m z w = elim (none-or-some (i + n)) [
+    let both : Both k i n m z w = elim (eq-zero-or-pos (i + n)) [
       | inl e ↦ ended (over e)
-      | inr some ↦ elim (none-or-some (i + m)) [ inl e ↦ ended (over_new e) | inr some_new ↦ apart some some_new ]
+      | inr some ↦ elim (eq-zero-or-pos (i + m)) [ inl e ↦ ended (over_new e) | inr some_new ↦ apart some some_new ]
     ] in
     -- what is asked of both
     let any = cut-any r start (lead k z).asks i (lead-bare k z) h.first_go in
@@ -383,8 +377,7 @@ module _ (k : CharClasses) (levels : ℕ) where
       let r = inner_run k levels z s in
       let p = r.point in
       let read = block-read k levels 0 0 z s in
-      let is : p ≡ before_trivia markup_reading markup_reading p.empties p.is_after_error t = known-is k p t known ∙ (λ v. before_trivia (read.reading v) (read.held v) p.empties p.is_after_error t) in
-      let clear_there : at_trivia k mode.Markup (moved t.gap r.place) ≡ false = subst (λ q. Reached k r.place q) is (block-reached k levels z s 0) in
+      let clear_there : at_trivia k mode.Markup (moved t.gap r.place) ≡ false = subst (λ q. Reached k r.place q) (known-read k markup_reading p t known read) (block-reached k levels z s 0) in
       let clear : at_trivia k mode.Markup r.place ≡ false = subst (λ n. at_trivia k mode.Markup (moved n r.place) ≡ false) none clear_there in
       record {
         looks = ap (λ h. hand_asks k h None r.place) read.held ∙ hand-direct k r.place clear ∙ sym (hand-asks (inner k levels) r.place 0 p (record { held = read.held; trivia = t; known = known; gap = none }));
@@ -399,9 +392,7 @@ module _ (k : CharClasses) (levels : ℕ) where
       let first : look_first k levels w s ≡ look_first k levels z s = (sane k levels peek).framed z w s (same_in-first (look_first k levels z s).asks _ z w h) in
       let second : look_again k levels w s ≡ look_again k levels z s =
       ap (λ (o : Outcome AtHand). look_first k levels w o.state) first ∙ (sane k levels peek).framed z w (look_first k levels z s).state (same_in-first (look_again k levels z s).asks _ z w a) in
-      ap (λ (o : Outcome AtHand). o.asks ++ ((look_again k levels w s).asks ++ (bracket k levels w s).asks)) first
-      ∙ ap (λ (o : Outcome AtHand). (look_first k levels z s).asks ++ (o.asks ++ (bracket k levels w s).asks)) second
-      ∙ ap (λ (o : Outcome (Unit {0})). (look_first k levels z s).asks ++ ((look_again k levels z s).asks ++ o.asks)) same
+      (λ v. (first v).asks ++ ((second v).asks ++ (same v).asks))
 
   -- the look at the first token after a bracket
   abbrev lead_by : Outcome (Unit {0}) → Place → Outcome AtHand
@@ -446,34 +437,18 @@ whole-cut : (a f b e g : ℕ) (before opens early next own behind after first : 
     → before ++ (lifted a f (opens ++ shift b (first ++ shift e (own ++ shift g behind))) ++ after)
     ≡ (before ++ (lifted a f opens ++ lifted (a + b) f early)) ++ noting (lifted_note (a + b) f p) ∷ (lifted (a + b) f (next ++ shift e own) ++ (lifted (a + b) f (shift (e + g) behind) ++ after))
 whole-cut a f b e g before opens early next own behind after first p is =
-    let low = lifted (a + b) f in
-    let q = noting (lifted_note (a + b) f p) in
-    let over = shift (e + g) behind in
-    let more = next ++ shift e own in
-    let inner : first ++ shift e (own ++ shift g behind) ≡ early ++ noting p ∷ (more ++ over) =
-    ap (λ u. u ++ shift e (own ++ shift g behind)) is ∙ append_assoc early (noting p ∷ next) (shift e (own ++ shift g behind))
-    ∙ ap (λ u. early ++ noting p ∷ (next ++ u)) (map-append (shift_one e) own (shift g behind) ∙ ap (λ u. shift e own ++ u) (shift-twice e g behind))
-    ∙ ap (λ u. early ++ noting p ∷ u) (sym (append_assoc next (shift e own) over)) in
-    let low_is : low (early ++ noting p ∷ (more ++ over)) ≡ low early ++ q ∷ (low more ++ low over) = lifted-append (a + b) f early _ ∙ ap (λ u. low early ++ q ∷ u) (lifted-append (a + b) f more over) in
-    let block : lifted a f (opens ++ shift b (first ++ shift e (own ++ shift g behind))) ≡ lifted a f opens ++ (low early ++ q ∷ (low more ++ low over)) =
-    lifted-append a f opens _ ∙ ap (λ u. lifted a f opens ++ u) (lifted-shift a f b _ ∙ ap low inner ∙ low_is) in
-    let opens_low = lifted a f opens in
-    ap (λ u. before ++ (u ++ after)) block
-    ∙ ap (λ u. before ++ u) (append_assoc opens_low (low early ++ q ∷ (low more ++ low over)) after ∙ ap (λ u. opens_low ++ u) (append_assoc (low early) (q ∷ (low more ++ low over)) after ∙ ap (λ u. low early ++ q ∷ u) (append_assoc (low more) (low over) after))
-    ∙ sym (append_assoc opens_low (low early) (q ∷ (low more ++ (low over ++ after)))))
-    ∙ sym (append_assoc before (opens_low ++ low early) (q ∷ (low more ++ (low over ++ after))))
+    let sum : (x y z : ℕ) → (x + y) + z ≡ x + (y + z) = λ x y z. omega arith in
+    let any : (one : List Ask) → first ≡ early ++ (one ++ next) → before ++ (lifted a f (opens ++ shift b (first ++ shift e (own ++ shift g behind))) ++ after)
+    ≡ (before ++ (lifted a f opens ++ lifted (a + b) f early)) ++ (lifted (a + b) f one ++ (lifted (a + b) f (next ++ shift e own) ++ (lifted (a + b) f (shift (e + g) behind) ++ after))) =
+    λ one h. simp (h, low-shift, map-append (lower f), shift-append, shift-twice, append_assoc, sum) in
+    any (noting p ∷ []) is
 
 -- what is asked from the token after pieces on
 late-is : (a f n gap end left : ℕ) (seen : Look) (hand behind asks after : List Ask) → hand ≡ looked gap seen ∷ [] → behind ≡ shift gap asks → (a + n) + gap ≡ end
     → lifted a f (shift n hand) ++ (lifted a f (shift n behind) ++ shift (end + left) after) ≡ shift end (lowered f (looked 0 seen ∷ asks) ++ shift left after)
 late-is a f n gap end left seen hand behind asks after hand_is behind_is sum =
-    let at : a + (n + gap) ≡ end + 0 = omega (arith, sum) in
-    let there : a + (n + gap) ≡ end = omega (arith, sum) in
-    let rest : lifted a f (shift n behind) ≡ shift end (lowered f asks) =
-    ap (λ u. lifted a f (shift n u)) behind_is ∙ ap (lifted a f) (shift-twice n gap asks) ∙ lifted-shift a f (n + gap) asks ∙ ap (λ d. shift d (lowered f asks)) there in
-    ap (λ u. lifted a f (shift n u) ++ (lifted a f (shift n behind) ++ shift (end + left) after)) hand_is
-    ∙ ap (λ d. looked d seen ∷ (lifted a f (shift n behind) ++ shift (end + left) after)) at
-    ∙ ap (λ u. looked (end + 0) seen ∷ u) (ap (λ u. u ++ shift (end + left) after) rest ∙ ap (λ u. shift end (lowered f asks) ++ u) (sym (shift-twice end left after)) ∙ sym (map-append (shift_one end) (lowered f asks) (shift left after)))
+    let at : a + (n + gap) ≡ end = omega (arith, sum) in let none : end + 0 ≡ end = omega arith in simp (hand_is, behind_is, low-shift, shift-twice, at, none)
+    (ap (λ u. looked end seen ∷ (shift end (lowered f asks) ++ u)) (sym (shift-twice end left after)) ∙ ap (λ u. looked end seen ∷ u) (sym (map-append (shift_one end) (lowered f asks) (shift left after))))
 
 -- a run at its start, where no piece is read
 start-known : (r : Sequence) (i n : ℕ) (t : Trivia) → (then_end i n r).state.known ≡ Some t → i + n ≡ 0 → r.point.known ≡ Some t
@@ -543,7 +518,7 @@ inner-splice-law k levels front old new rest c i n m past t u among h none none_
     let hand_now : hand_asks_of l o v.state ≡ looked u.gap seen ∷ [] = hand_new ∙ ap (λ a. looked u.gap a ∷ []) same_seen in
     let first_begins = subst (AllBeginIn past rest) first_old h.looks.inside in
     let begins : AllBeginIn past rest last =
-    begins-both past rest (lowered f (looked 0 seen ∷ asks)) (shift left c.after) (begins-lowered past rest f (looked 0 seen ∷ asks) (first_begins.0, first_begins.1, h.looks.inside)) (begins-further past left rest c.after h.looks.behind) in
+    looks-both (in-rest past rest) (lowered f (looked 0 seen ∷ asks)) (shift left c.after) (looks-lowered (in-rest past rest) f (looked 0 seen ∷ asks) (first_begins.0, first_begins.1, h.looks.inside)) (begins-further past left rest c.after h.looks.behind) in
     -- where the pieces and the block end
     let at = c.at + b.taken in
     let at_new = c.at + d.taken in
@@ -584,11 +559,10 @@ inner-splice-law k levels front old new rest c i n m past t u among h none none_
     kept.kept.reading.log ∙ ap (λ a. c.before ++ (lifted c.at f (unit_at c w0).asks ++ shift a c.after)) block_stop
     ∙ ap (λ a. c.before ++ (lifted c.at f a ++ shift (stop + left) c.after)) (ap (λ (a : Outcome (Unit {0})). a.asks) now_by ∙ inner-asks k levels w s i m tail_new close)
     ∙ whole-cut c.at f d.taken j.taken v.taken c.before (asks_before k levels w s) cuts.early (looks_next q ls_new i) (asks_of (then_of i m q)) _ (shift (stop + left) c.after) _ p once.is
-    ∙ ap (λ a. (c.before ++ (lifted c.at f a ++ lifted at_new f cuts.early)) ++ noting (lifted_note at_new f p) ∷ (own_new ++ more_new)) opens_new
-    ∙ ap (λ a. (c.before ++ (lifted c.at f opens ++ lifted a f cuts.early)) ++ noting (lifted_note a f p) ∷ (own_new ++ more_new)) at_same in
+    ∙ (λ v. (c.before ++ (lifted c.at f (opens_new v) ++ lifted (at_same v) f cuts.early)) ++ noting (lifted_note (at_same v) f p) ∷ (own_new ++ more_new)) in
     let early : AllEndBy (length front) first =
-    both-end (length front) c.before _ h.pieces.looks.before (both-end (length front) (lifted c.at f opens) (lifted at f cuts.early) (lifted-ends c.at f (length front) opens h.pieces.looks.opens)
-    (lifted-ends at f (length front) cuts.early (cuts.ends (length front) at h.pieces.looks.before_run))) in
+    looks-both (ending (length front)) c.before _ h.pieces.looks.before (looks-both (ending (length front)) (lifted c.at f opens) (lifted at f cuts.early) (looks-lowered (looks-shifted (ending (length front)) c.at) f opens h.pieces.looks.opens)
+    (looks-lowered (looks-shifted (ending (length front)) at) f cuts.early (cuts.ends (length front) at h.pieces.looks.before_run))) in
     let note_new : lifted_note at_new f (note_at q d.state i) ≡ note = ap (λ a. lifted_note a f (note_at q d.state i)) at_same ∙ ap (lifted_note at f) once.note in
     -- in numbers
     let pieces = asks_of (first_of i r) in

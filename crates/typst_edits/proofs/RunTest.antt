@@ -1,10 +1,10 @@
 -- What the entries say of a run, and what is found of a candidate that is pieces of it: of a text's run and of a content block's.
-use Rattle.std.proofs.Common.{◌≡◌, ℕ, suc, ◌+◌, ◌-◌, ◌<◌, ◌≤◌, List, [], ◌∷◌, ◌++◌, length, take, ap, sym, ◌∙◌, arith, ◌↔◌, zero, ◌^◌, ◌==◌, ne_eqb, Bool, true, false, Some, refl, subst, if◌then◌else◌, drop, length-append, append_assoc}
-use Rattle.typst_edits.proofs.Words.{take-append-le, append_cancel_right, CharClasses, width, position, Note, State, opening_of, max_depth, start_of, rules, level_at, log, tree, entries_in, front_in, rear_in, SaysBlock, entries_alone, Among, text_with, AllBeginIn, path_of, blocks_of_text, listed, number_of, RunNumbersLaw, number_in, InnerNumbersLaw, InnerNumbers, cut_of, RunNumbers, cut_in, notes_in, token_start, entries_from, Spot, unit_at, Place, moved, Tree, bare, is_end, no_log, logged, run, Trivia, gap_of, point_of, peek, sane-at, moved-sum, Entry, Candidate, units_of, entries_by, spliced, candidates, IsPieces, RootPiecesOfLaw, InnerPiecesOfLaw, Run, top, cut_at, is_over, nodes_now, Agrees, Before, After, PassesPieces, Gives, of_block, of_pieces, first_place, InOrderLaw, text_run, asked_past, cut_after, TakesNone, fresh, root_run, end_note, pieces_log, OverAt, notes_by, BeginsAt, IsLast, reading_on, nodes_by, PassesRead, made, AllGo, End, asks_of, start, lead, piece_at, pieces, end_at, pieces_from, end_from, Sequence, turn_of, first_of, first_end, then_of, then_end, take-append_seam, SyntaxMode, start_at, Block, closing_of, first_look, bracket, inner_run, run_at, opened_at, EndsBefore, inner_end, left_past, PassesInnerJoint, block_run, Around, level_in, InnerPart, OpensApartLaw}
+use Rattle.std.proofs.Common.{◌≡◌, ℕ, suc, ◌+◌, ◌-◌, ◌<◌, ◌≤◌, List, [], ◌∷◌, ◌++◌, length, take, ap, sym, ◌∙◌, arith, ◌↔◌, zero, ◌^◌, ◌==◌, ne_eqb, Bool, true, false, Some, refl, subst, if◌then◌else◌, drop, length-append, append_assoc, pos_of_ne-zero}
+use Rattle.typst_edits.proofs.Words.{take-append-le, append_cancel_right, CharClasses, width, position, Note, State, opening_of, max_depth, start_of, level_at, log, tree, entries_in, front_in, rear_in, entries_alone, Among, text_with, AllBeginIn, path_of, blocks_of_text, listed, number_of, RunNumbersLaw, number_in, InnerNumbersLaw, InnerNumbers, cut_of, RunNumbers, cut_in, notes_in, token_start, entries_from, Spot, unit_at, Place, moved, Tree, bare, is_end, no_log, logged, run, Trivia, gap_of, point_of, moved-sum, Entry, Candidate, units_of, entries_by, spliced, candidates, IsPieces, RootPiecesOfLaw, InnerPiecesOfLaw, Run, top, cut_at, is_over, nodes_now, Agrees, Before, After, PassesPieces, Gives, of_block, of_pieces, first_place, InOrderLaw, text_run, asked_past, cut_after, TakesNone, fresh, root_run, end_note, pieces_log, OverAt, notes_by, BeginsAt, IsLast, reading_on, nodes_by, PassesRead, made, AllGo, asks_of, start, lead, pieces, end_at, pieces_from, end_from, Sequence, turn_of, first_of, first_end, then_of, then_end, take-append_seam, start_at, Block, closing_of, first_look, bracket, inner_run, run_at, EndsBefore, inner_end, left_past, PassesInnerJoint, block_run, Around, level_in, InnerPart, OpensApartLaw, true_from_ne_false}
 use Rattle.typst_edits.specs.Frame.{inner}
 use Rattle.typst_edits.specs.RunTest.{RunTestLaw, FoundInner, InnerRunTestLaw}
 use Rattle.typst_edits.specs.InnerPiecesTest.{InnerEntries, GivesInner, read_alone as inner_read_alone}
-use Rattle.typst_edits.proofs.BlockPlaces.{hole-same, split-same, take-same}
+use Rattle.typst_edits.proofs.BlockPlaces.{hole-same, split-same}
 use Rattle.typst_edits.proofs.Bytes.{decision-law}
 use Rattle.typst_edits.proofs.EntryNumbers.{some-number}
 use Rattle.typst_edits.proofs.Walk.{spot-place}
@@ -14,21 +14,21 @@ use Rattle.typst_edits.specs.RunTest.LooksFrom.{nothing, closing as from_closing
 use Rattle.typst_edits.proofs.Content.{tail-none}
 use Rattle.typst_edits.proofs.AnyRun.{entries-listed, AreWithin, found-by, room-by, ReadsFrom, Entered, passes-too, Read, UnitsBy, given-by, begins-now, found, looks_by, Span, Found, one-span, none-last, read-by}
 use Rattle.typst_edits.proofs.Children.{top-known}
-use Rattle.typst_edits.proofs.Cuts.{cuts-law, inner-cuts-law, inner-within}
+use Rattle.typst_edits.proofs.Cuts.{cuts-law, ends-within, inner-cuts-law, inner-within}
 use Rattle.typst_edits.proofs.EmptyRuns.{empty-text-law}
-use Rattle.typst_edits.proofs.NumberedNotes.{turns-within, take-longer}
 use Rattle.typst_edits.proofs.Outcomes.{shift-zero}
 use Rattle.typst_edits.proofs.PiecesLog.{pieces-log-law}
 use Rattle.typst_edits.proofs.Splice.{count-made}
-use Rattle.typst_edits.proofs.PiecesTest.{run-entries-law, run-part-law, no-errors-before, text-rereads as rereads, rereads as inner-rereads, first-part, inner-entries-law, inner-part-law}
+use Rattle.typst_edits.proofs.PiecesTest.{run-entries-law, run-part-law, text-rereads as rereads, rereads as inner-rereads, first-part, inner-entries-law, inner-part-law}
 use Rattle.typst_edits.proofs.ReadAlone.{first-goes, begun, alike, goes-there}
-use Rattle.typst_edits.proofs.Resumed.{count-law, further, block-known, inner-count-law, alone-further}
+use Rattle.typst_edits.proofs.Heads.{lead-empties}
+use Rattle.typst_edits.proofs.Resumed.{block-markup, count-law, further, inner-count-law, alone-further, known-after, then-known}
 use Rattle.typst_edits.proofs.BlockRuns.{within}
 use Rattle.typst_edits.proofs.RunCandidates.{root-candidate-law, no-errors, inner-candidate-law}
-use Rattle.typst_edits.proofs.RunPieces.{behind-zero, cut-is, joint-of, block-taken, inner-joint-of}
-use Rattle.typst_edits.proofs.Widths.{width-append}
+use Rattle.typst_edits.proofs.RunPieces.{behind-zero, cut-is, cut-some, joint-of, block-taken, inner-joint-of}
+use Rattle.typst_edits.proofs.Widths.{width-append, take-same, take-longer}
 use Rattle.typst_edits.proofs.Joint.{text-taking}
-use Rattle.typst_edits.proofs.BlockTest.{Numbers, numbers, byte-at, alone-same, entries-same}
+use Rattle.typst_edits.proofs.BlockTest.{Key, Numbers, numbers, byte-at, alone-same, entries-same, says-same}
 use Rattle.typst_edits.proofs.EmptyBlocks.{end-still, empty-block-law}
 use Rattle.typst_edits.proofs.RunSplice.{around-splice-law, inner-splice-law}
 use Rattle.typst_grammar.specs.declared.part.RunKind.TheVariants as of
@@ -76,13 +76,6 @@ same-home k text s r levels more there too level level_too room room_too v w byt
 
 -- ---- entries and counts
 
--- Pieces end within the text, with their trivia.
-ends-within : (k : CharClasses) (text : List ℕ) (i : ℕ) → (let e = end_at k i (start_of text) in e.taken + gap_of e.state.known ≤ length text)
-unfolding run
-ends-within k text i =
-    let z = start_of text in
-    omega (arith, (sane-at (rules k) k max_depth peek).within z start, turns-within (piece_at k) (within k) i (true, 0) z (lead k z).state)
-
 -- More pieces that are read by themselves end further on.
 pub text-further : (k : CharClasses) (m n : ℕ) (x : Bool × ℕ) (y : Place) → m < n → AllGo (read_alone k x n y) → (let e = end_alone k x m y in let f = end_alone k x n y in e.taken + gap_of e.state.known < f.taken + gap_of f.state.known)
 unfolding run
@@ -124,11 +117,8 @@ module _ (k : CharClasses) (front old new rest : List ℕ) where
       let place = moved-sum (first_end i now).taken b.trivia.gap w ∙ b.place in
       entries-listed (token_start w (end_note k i w)) (pieces_log k i m w).notes
       ∙ ap (λ n. entries_by (position (moved n (first_place i now))) (listed (pieces_log k i m w).notes)) (ap gap_of b.known)
-      ∙ ap (λ v. entries_by (position v) (listed (pieces_log k i m w).notes)) b.place
-      ∙ ap (λ h. entries_by (position cut) (listed h.notes)) (pieces-log-law k w i m b.trivia (omega arith) b.go go b.known b.none)
-      ∙ ap (λ v. entries_by (position cut) (log_at m x (moved b.trivia.gap (first_place i now)) v)) place
-      ∙ ap (λ v. entries_by (position cut) (log_at m x v cut)) b.place
-      ∙ ap (λ v. entries_by (position cut) (log_at m v cut cut)) (ap (λ (e : End (Bool × ℕ)). e.value) b.same)
+      ∙ (λ v. entries_by (position (b.place v)) (listed (pieces-log-law k w i m b.trivia (omega arith) b.go go b.known b.none v).notes))
+      ∙ (λ v. entries_by (position cut) (log_at m (b.same v).value (b.place v) (place v)))
 
 -- ---- what the entries say
 
@@ -159,11 +149,8 @@ module _ (in_order : InOrderLaw) (k : CharClasses) (front old new rest : List �
   within-text m l = let most = ends-within k text m in omega (arith, most)
 
   module _ (c : Candidate) (i n past : ℕ) (t : Trivia) (p : IsPieces k front old rest (root_run k (front ++ (old ++ rest))) c i n past t) where
-    sums : ((end_at k i begin).taken + (end_from k i n begin).taken) + t.gap ≡ (length front + length old) + past
-    sums = behind-zero ((end_at k i begin).taken + (end_from k i n begin).taken) t.gap _ p.ends
-
     pub notes : RunEntries k front old rest i n past t
-    notes = run-entries-law in_order k front old rest i n past t p.go p.go_on p.known sums (omega (arith, width-append front (old ++ rest), width-append old rest, width-append front old, big))
+    notes = run-entries-law in_order k front old rest i n past t p.go p.go_on p.known (behind-zero ((end_at k i begin).taken + (end_from k i n begin).taken) t.gap _ p.ends) (omega (arith, width-append front (old ++ rest), width-append old rest, width-append front old, big))
 
     pub to-is : length notes.ends.earlier ≡ number_of k text (i + n)
     to-is =
@@ -192,10 +179,10 @@ module _ (in_order : InOrderLaw) (k : CharClasses) (front old new rest : List �
     pub reads-from : Before k front old rest top_run i → ReadsFrom k front old new rest top_run of.Text max_depth i
     reads-from looks =
         let again = rereads k front old new rest in
-        let clear = no-errors-before k front old new rest in
+        let clear = lead-empties k (text_with front old rest) in
         record {
           go = λ m h. goes-there k front old new rest top_run again i m p.go clear p.none looks h;
-          known = λ m go. again.then_known i m (first-goes k front old new rest top_run again i looks p.go) go;
+          known = λ m go. then-known (text_run k (text_with front new rest)) again.markup i m (first-goes k front old new rest top_run again i looks p.go) go;
           alike = λ m u go is. (let a = alike k front old new rest top_run again i m u p.go clear p.none looks go is in record { go = a.go; sum = a.sum; value = a.value; nodes = a.nodes });
         }
 
@@ -252,12 +239,11 @@ module _ (in_order : InOrderLaw) (k : CharClasses) (front old new rest : List �
         let over : n ≡ 0 → OverAt k i n was_at = λ none. (let alone = p.empty none in subst (λ j. is_over i j whole ≡ true) (sym none) (subst (λ j. is_over j 0 whole ≡ true) (sym alone.0) alone.1)) in
         let there = reading_on of.Text max_depth (end_at k i was_at).value (moved (cut_at top_run i was_at) (text_with front new rest)) in
         let part = part-is k front old new rest i m p.go p.none g.passes.before g.passes.new_go ∙ ap (λ a. entries_by a (notes_by k there m)) (begins-now k front old new rest top_run of.Text max_depth 0 entered c i n past t p) in
-        run-part-law k front old new rest i n m past t u joint (λ none. over (omega (arith, none))) (λ none. stops (is_over i n whole) refl (omega (arith, none)) _ g.passes.agrees) big big_new e
+        run-part-law k front old new rest i n m past t u joint (λ none. over (omega (arith, none))) (λ none. stops (omega (arith, none)) _ g.passes.agrees) big big_new e
         ∙ (λ a. spliced (e.from a) (to-is c i n past t p a) (part a) (units_of (log k text)))
       where
-        stops : (b : Bool) → is_over i n whole ≡ b → m ≡ 0 → (y : Bool × ℕ) → Agrees top_run (is_over i n whole) m (end_from k i n was_at).value y → OverAt k i n was_at
-        stops true e z y h = e
-        stops false e z y h = let more = (subst (λ b. Agrees top_run b m (end_from k i n was_at).value y) e h).0 in absurd (omega (arith, z, more))
+        stops : m ≡ 0 → (y : Bool × ℕ) → Agrees top_run (is_over i n whole) m (end_from k i n was_at).value y → OverAt k i n was_at
+        stops z y h = true_from_ne_false (is_over i n whole) (λ e. (let more = (subst (λ b. Agrees top_run b m (end_from k i n was_at).value y) e h).0 in omega (arith, z, more)))
 
 -- ---- the law
 
@@ -342,10 +328,7 @@ module _ (ordered : InOrderLaw) (k : CharClasses) (levels : ℕ) (front old new 
   inner-cut-behind : (i : ℕ) → cut_at here i inner_z ≡ cut_after i (inner_end k levels i s inner_z)
   inner-cut-behind zero = omega arith
   inner-cut-behind (suc i) =
-      let e = first_end (suc i) q in
-      let opened = opened_at k levels s inner_z in
-      let cut : cut_at here (suc i) inner_z ≡ opened + (e.taken + gap_of e.state.known) = ap (λ b. opened + (if b then 0 else e.taken + gap_of e.state.known)) (ne_eqb (suc i) 0 (omega arith)) in
-      omega (arith, cut)
+      omega (arith, cut-some here (suc i) inner_z (omega arith))
 
   pub inner-byte-is : (i : ℕ) → width (take (cut_at here i inner_z) inner_text) ≡ cut_in k levels inner_text s i
   inner-byte-is i = ap (λ j. width (take j inner_text)) (inner-cut-behind i)
@@ -411,7 +394,7 @@ module _ (ordered : InOrderLaw) (k : CharClasses) (levels : ℕ) (front old new 
         let again = inner-rereads k levels front old new rest s there name level in
         record {
           go = λ m h. goes-there k front old new rest here again i m is.go clear is.none looks h;
-          known = λ m go. again.then_known i m (first-goes k front old new rest here again i looks is.go) go;
+          known = λ m go. then-known (run_at k levels s inner_w) again.markup i m (first-goes k front old new rest here again i looks is.go) go;
           alike = λ m u go known. (let a = alike k front old new rest here again i m u is.go clear is.none looks go known in record { go = a.go; sum = a.sum; value = a.value; nodes = a.nodes });
         }
 
@@ -443,7 +426,7 @@ module _ (ordered : InOrderLaw) (k : CharClasses) (levels : ℕ) (front old new 
     not_last = v.not_last;
     says = v.says;
     cuts = λ i j l go. (let less = inner-cuts-law k levels inner_text s i j l go in let one = inner-byte-is i in let two = inner-byte-is j in omega (arith, less, one, two));
-    known = λ i go. block-known k levels (moved s.at inner_z) (point_of s.start) i go;
+    known = known-after q (block-markup k levels (moved s.at inner_z) (point_of s.start));
     meets = λ m x y h. h refl;
     met = λ m x y h is. h;
     alone = v.closes;
@@ -489,9 +472,6 @@ module _ (ordered : InOrderLaw) (k : CharClasses) (levels : ℕ) (front old new 
 
 -- ---- a candidate
 
-closes-same : (inner_es : List Entry) (opens other to more levels deep : ℕ) (b d : Block) (m n : SyntaxMode) → SaysBlock inner_es opens to levels b m → SaysBlock inner_es other more deep d n → opens ≡ other → to ≡ more
-closes-same inner_es opens other to more levels deep b d m n h g e = some-number to more (sym h.closes ∙ ap (λ j. closing_of 0 (suc j) (drop (suc j) inner_es)) e ∙ g.closes)
-
 module _ (apart : OpensApartLaw) (ordered : InOrderLaw) (numbered : InnerNumbersLaw) (k : CharClasses) (front old new rest : List ℕ) (root : Tree) (c : Candidate) (same : bare root ≡ bare (tree k (front ++ (old ++ rest))))
     (chosen : Among c (candidates k (front ++ (old ++ rest)) (width front) (width (front ++ old)) root)) (is : c.is_block ≡ false) (big : width (front ++ (old ++ rest)) < 2 ^ 64 - 1)
     (levels : ℕ) (s : Spot (Unit {0})) (there : Among s (blocks_of_text k (front ++ (old ++ rest)))) (name : s.name ≡ block.Content) (level : max_depth - s.fewer ≡ suc levels) (path : c.path ≡ path_of s.hole ++ 1 ∷ [])
@@ -530,7 +510,7 @@ module _ (apart : OpensApartLaw) (ordered : InOrderLaw) (numbered : InnerNumbers
       let pass : Passing k front old new rest c (home_of more q) inner_w.closes i n ts = (m, read.0, here.are ∙ read.1) in
       let own_number = numbers_of.before in
       let number = ap (λ (x : Home). x.number) alike in
-      let closes : inner_w.closes ≡ numbers_of.closes = closes-same (entries_in k whole_text) inner_w.opens numbers_of.opens inner_w.closes numbers_of.closes _ _ _ _ _ _ inner_w.says_block numbers_of.says_block (omega (arith, own_number, inner_w.before, number)) in
+      let closes : inner_w.closes ≡ numbers_of.closes = ap (λ (x : Key). x.to) (says-same (entries_in k whole_text) 0 0 inner_w.opens inner_w.closes _ _ _ numbers_of.opens numbers_of.closes _ _ _ inner_w.says_block numbers_of.says_block (omega (arith, own_number, inner_w.before, number)) refl) in
       subst (λ (x : Home). Passing k front old new rest c x numbers_of.closes i n ts) (sym alike) (subst (λ b. Passing k front old new rest c (home_of more q) b i n ts) closes pass)
 
   passing : (ts : List Tree) → Gives k front old new rest c ts → Passing k front old new rest c (home_of levels s) numbers_of.closes i n ts
@@ -554,9 +534,8 @@ module _ (apart : OpensApartLaw) (ordered : InOrderLaw) (numbered : InnerNumbers
         inner-joint-of k levels front old new rest s there name level i n m past t u around h well.1.goes_on
 
     -- A candidate without a piece begins at the run's last entry.
-    some-piece : (d : ℕ) → n ≡ d → (IsLast (entries_in k (front ++ (old ++ rest))) (entries_of.number i) → ⊥) → 0 < n
-    some-piece zero e more = absurd (more (none-last k front old new rest inner_own of.Block (suc levels) (suc numbers_of.opens) entries_of c i n past t p e))
-    some-piece (suc d) e more = omega (arith, e)
+    some-piece : (IsLast (entries_in k (front ++ (old ++ rest))) (entries_of.number i) → ⊥) → 0 < n
+    some-piece more = pos_of_ne-zero (λ e. more (none-last k front old new rest inner_own of.Block (suc levels) (suc numbers_of.opens) entries_of c i n past t p e))
 
     found-inner : start_at (take (length c.path - 1) c.path) 0 root ≡ width (take s.at (front ++ (old ++ rest))) → FoundInner k front old new rest root c
     found-inner byte =
@@ -573,7 +552,7 @@ module _ (apart : OpensApartLaw) (ordered : InOrderLaw) (numbered : InnerNumbers
           run = found k front old new rest inner_own of.Block (suc levels) (suc numbers_of.opens) entries_of c i n past t p inner-own-pieces is (sym path)
               (λ m h some. (let here = some refl in
               let g = given-by k front old new rest inner_own of.Block (suc levels) (suc numbers_of.opens) entries_of c i n past t p m h in
-              pieces-units ordered k levels front old new rest s there name level around numbers_of big c i n m past t g.behind p (joint m g.behind g.passes) big_new (some-piece n refl here.0) here.1));
+              pieces-units ordered k levels front old new rest s there name level around numbers_of big c i n m past t g.behind p (joint m g.behind g.passes) big_new (some-piece here.0) here.1));
           at = s.at;
           start = byte;
           start_now = byte-at s.at (front ++ (new ++ rest)) ∙ ap width (take-append-le s.at front (new ++ rest) (omega (arith, starts)) ∙ sym (take-append-le s.at front (old ++ rest) (omega (arith, starts)))) ∙ sym byte;

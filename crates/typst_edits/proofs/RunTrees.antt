@@ -1,6 +1,6 @@
 -- A text's tree and log, where pieces of its run are exchanged.
 use Rattle.std.proofs.Common.{◌≡◌, ℕ, ◌+◌, Bool, true, false, List, [], ◌∷◌, ◌++◌, append_assoc, append-nil, refl, ap, sym, ◌∙◌, arith}
-use Rattle.typst_edits.proofs.Words.{map-append, Tree, forest, inner_of, Place, CharClasses, Ask, shift, shift_one, no_log, logged, Outcome, plain, less, standing, joined, run, Level, Point, gap_of, state_of, hinted, less-none, max_depth, start_of, parsed, tree, log, level_at, text_with, onwards_from, text_run, given, run_mark, start, AllGo, End, end_of, asks_of, chain, lead, pieces, end_at, pieces_from, end_from, rest_from, tail, whole_of, peek, marked, run_of, standing-joined}
+use Rattle.typst_edits.proofs.Words.{map-append, Tree, forest, inner_of, Place, CharClasses, Ask, shift, no_log, logged, Outcome, plain, less, standing, joined, run, Level, Point, gap_of, state_of, hinted, less-none, max_depth, start_of, parsed, tree, log, level_at, text_with, onwards_from, text_run, given, run_mark, start, AllGo, End, end_of, asks_of, chain, lead, pieces, end_at, pieces_from, end_from, rest_from, tail, whole_of, peek, marked, run_of, standing-joined}
 use Rattle.typst_edits.specs.RunTrees.{tree_by, RunTreeLaw}
 use Rattle.typst_kinds.specs.declared.kind.SyntaxKind.TheVariants as kind
 pub use Rattle.typst_grammar.proofs.Heads.{standing-none}
@@ -58,17 +58,9 @@ chained-asks ls x v s r os ps q t =
     let a = (end_of x s os).taken in
     let b = (end_of v r ps).taken in
     let first = asks_of os in
-    let second = asks_of ps ++ shift b q.asks in
-    let last = shift (a + (b + q.taken)) t.asks in
-    let asks : c.asks ≡ first ++ shift a second = chain-asks x s os (chain ps q) ∙ ap (λ u. first ++ shift a u) (chain-asks v r ps q) in
+    let asks : c.asks ≡ first ++ shift a (asks_of ps ++ shift b q.asks) = chain-asks x s os (chain ps q) ∙ ap (λ u. first ++ shift a u) (chain-asks v r ps q) in
     let taken : c.taken ≡ a + (b + q.taken) = chain-taken x s os (chain ps q) ∙ ap (λ n. a + n) (chain-taken v r ps q) in
-    let inner : asks_of ps ++ shift b (q.asks ++ shift q.taken t.asks) ≡ second ++ shift (b + q.taken) t.asks =
-    ap (λ u. asks_of ps ++ u) (map-append (shift_one b) q.asks (shift q.taken t.asks) ∙ ap (λ u. shift b q.asks ++ u) (shift-twice b q.taken t.asks))
-    ∙ sym (append_assoc (asks_of ps) (shift b q.asks) (shift (b + q.taken) t.asks)) in
-    let outer : shift a (asks_of ps ++ shift b (q.asks ++ shift q.taken t.asks)) ≡ shift a second ++ last =
-    ap (shift a) inner ∙ map-append (shift_one a) second (shift (b + q.taken) t.asks) ∙ ap (λ u. shift a second ++ u) (shift-twice a (b + q.taken) t.asks) in
-    ap (λ u. (ls ++ u) ++ shift c.taken t.asks) asks ∙ ap (λ n. (ls ++ (first ++ shift a second)) ++ shift n t.asks) taken
-    ∙ ap (λ u. u ++ last) (sym (append_assoc ls first (shift a second))) ∙ append_assoc (ls ++ first) (shift a second) last ∙ ap (λ u. (ls ++ first) ++ u) (sym outer)
+    simp (asks, taken, map-append, shift-twice, append_assoc)
 
 -- the same with no pieces between
 pub chain-last : (ls : List Ask) (x : Bool × ℕ) (s : Point) (os : List (Outcome (Bool × (Bool × ℕ)))) (q : Outcome (Bool × ℕ)) (t : Outcome (Unit {0})) → (let c = chain os q in

@@ -1,7 +1,6 @@
 -- The law of an edit inside some turns of a loop.
 use Rattle.std.proofs.Common.{◌≡◌, ℕ, zero, suc, ◌+◌, ◌<◌, Bool, nat_lt, List, [], ◌∷◌, refl, ap, sym, ◌∙◌, arith, true, ◌++◌}
-use Rattle.typst_edits.proofs.Words.{ltb-true, Place, moved, SameIn, Point, Outcome, Meaning, joined, turns, bound, repeated, Level, run, Framed, Within, same_in-shift, same_in-first, same_in-second, moved-sum, and-second, turns-enough, goes, made, AllGo, end_of, asks_of, chain, End, SyntaxKind, Sequence, turn_of, first_of, first_end, then_of, then_end, rest_of, peek, AtHand, repeat, markup_turn}
-use Rattle.typst_edits.proofs.Spots.{if-true}
+use Rattle.typst_edits.proofs.Words.{ltb-true, Place, moved, SameIn, Point, Outcome, Meaning, joined, turns, bound, repeated, Level, run, Framed, Within, same_in-shift, same_in-first, same_in-second, moved-sum, and-second, turns-enough, goes, made, AllGo, end_of, asks_of, chain, End, SyntaxKind, Sequence, turn_of, first_of, first_end, then_of, then_end, rest_of, peek, AtHand, repeat, markup_turn, if-true}
 
 module _ {A : Type 0} (m : A → Meaning (Bool × A)) where
   -- the first turns, and the rest
@@ -46,6 +45,11 @@ pub moved-three : (a b d : ℕ) (z : Place) → moved ((a + b) + d) z ≡ moved 
 moved-three a b d z = moved-sum (a + b) d z ∙ ap (moved d) (moved-sum a b z)
 
 -- ---- any run
+
+-- Where pieces end depends only on them, if there are some.
+pub end-by-pieces : (i : ℕ) (q p : Sequence) → 0 < i → first_of i q ≡ first_of i p → first_end i q ≡ first_end i p
+end-by-pieces zero q p some e = absurd (omega (arith, some))
+end-by-pieces (suc i) q p some e = ap (end_of (true, 0) p.point) e
 
 module _ (r : Sequence) where
   -- its pieces, and the rest

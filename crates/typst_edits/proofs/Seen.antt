@@ -4,29 +4,17 @@ use Rattle.typst_edits.proofs.Words.{SyntaxMode, Place, moved, CharClasses, look
 use Rattle.typst_language.proofs.Looks.{len-covers}
 use Rattle.typst_edits.proofs.Bytes.{AllMarks, none-hand}
 use Rattle.typst_edits.proofs.Traversal.{Parts, all-run}
-pub use Rattle.typst_edits.proofs.Bytes.{end-first}
+use Rattle.typst_edits.proofs.Looks.{ending, looks-by, looks-first, looks-second, looks-shifted, only-looks}
 
 -- ---- lists of asks
 
-pub end-second : (n : ℕ) (ls ks : List Ask) → AllEndBy n (ls ++ ks) → AllEndBy n ks
-end-second n [] ks h = h
-end-second n (looked at look ∷ ls) ks h = end-second n ls ks h.1
-end-second n (marked at gap fewer m s ∷ ls) ks h = end-second n ls ks h
-
 pub end-shift : (d m n : ℕ) (ls : List Ask) → n ≤ d + m → AllEndBy n (shift d ls) → AllEndBy m ls
-end-shift d m n [] e h = tt
-end-shift d m n (looked at look ∷ ls) e h = (omega (arith, e, h.0), end-shift d m n ls e h.1)
-end-shift d m n (marked at gap fewer mark s ∷ ls) e h = end-shift d m n ls e h
+end-shift d m n ls e h = looks-by (looks-shifted (ending n) d) (ending m) (λ at look p. omega (arith, e, p)) ls h
 
 end-sunk : (n : ℕ) (ls : List Ask) → AllEndBy n (sunk ls) → AllEndBy n ls
 end-sunk n [] h = tt
 end-sunk n (looked at look ∷ ls) h = (h.0, end-sunk n ls h.1)
 end-sunk n (marked at gap fewer mark s ∷ ls) h = end-sunk n ls h
-
-end-only : (n : ℕ) (ls : List Ask) → AllEndBy n (only_looks ls) → AllEndBy n ls
-end-only n [] h = tt
-end-only n (looked at look ∷ ls) h = (h.0, end-only n ls h.1)
-end-only n (marked at gap fewer mark s ∷ ls) h = end-only n ls h
 
 -- The token of each note begins a given number of characters further on, or earlier, if all looks before the note end there, or earlier.
 abbrev pub AllSeen : ℕ → List Ask → Type 0
@@ -82,7 +70,7 @@ ahead-seen k m (suc i) n z h =
 -- What is known of the trivia, and the token, end where the looks at them end, or before.
 hand-seen : (k : CharClasses) (held : Reading) (known : Option Trivia) (z : Place) (n : ℕ) → gap_of known ≤ n → AllEndBy n (hand_asks k held known z) → (hand_at k held known z).gap + (hand_at k held known z).len ≤ n
 unfolding hand_at hand_asks ahead ahead_asks
-hand-seen k held None z n g h = ahead-seen k held.mode (length z.ahead) n z (end-first n (asks_by k held.mode (length z.ahead) z) _ h)
+hand-seen k held None z n g h = ahead-seen k held.mode (length z.ahead) n z (looks-first (ending n) (asks_by k held.mode (length z.ahead) z) _ h)
 hand-seen k held (Some t) z n g h = omega (arith, h.0, len-covers (token k held.mode) (moved t.gap z))
 
 -- ---- whatever the language can say
@@ -101,7 +89,7 @@ sees-plain a z s n g = record { noted = tt; ends = λ e. omega (arith, g) }
 seen-joined : {A B : Type 0} (n : ℕ) (o : Outcome B) (p : Outcome A) → Seen n o → ((m : ℕ) → gap_of o.state.known ≤ m → Seen m p) → Seen n (joined o p)
 seen-joined n o p a k = record {
   noted = seen-append n o.asks (shift o.taken p.asks) a.noted (λ e. (let l = a.ends e in seen-shift o.taken (n - o.taken) n p.asks (omega (arith, l)) (k (n - o.taken) (omega (arith, l))).noted));
-  ends = λ e. (let l = a.ends (end-first n o.asks (shift o.taken p.asks) e) in omega (arith, l, (k (n - o.taken) (omega (arith, l))).ends (end-shift o.taken (n - o.taken) n p.asks (omega arith) (end-second n o.asks (shift o.taken p.asks) e))));
+  ends = λ e. (let l = a.ends (looks-first (ending n) o.asks (shift o.taken p.asks) e) in omega (arith, l, (k (n - o.taken) (omega (arith, l))).ends (end-shift o.taken (n - o.taken) n p.asks (omega arith) (looks-second (ending n) o.asks (shift o.taken p.asks) e))));
 }
 
 abbrev SeenBy : (A : Type 0) → Place → Point → Outcome A → Type 0
@@ -114,7 +102,7 @@ seen = record {
   answer = λ A B z s b o h n g. record { noted = (h n g).noted; ends = (h n g).ends };
   in_shape = λ A z s shape i o h n g. record { noted = (h n g).noted; ends = λ e. omega (arith, (h n g).ends e, ap gap_of (shape-known shape (inside i o) o.state)) };
   in_scope = λ A z s r o h n g. record { noted = (h n g).noted; ends = λ e. (let l = (h n g).ends e in on_both (λ (t : Point). o.taken + gap_of t.known ≤ n) (same_mode o.state.reading.mode s.reading.mode) _ _ l (omega (arith, l))) };
-  instead = λ A z s o p h k n g. record { noted = seen-only n (o.asks ++ p.asks); ends = λ e. (k n g).ends (end-second n o.asks p.asks (end-only n (o.asks ++ p.asks) e)) };
+  instead = λ A z s o p h k n g. record { noted = seen-only n (o.asks ++ p.asks); ends = λ e. (k n g).ends (looks-second (ending n) o.asks p.asks (only-looks (ending n) (o.asks ++ p.asks) e)) };
 }
 
 module _ (l : Level) where
@@ -132,7 +120,7 @@ module _ (l : Level) where
   more-notes z s n at look = seen-append n (hand_asks_of l z s) (looked at look ∷ []) (notes-none z s n) (λ e f. tt)
 
   more-ends : (z : Place) (s : Point) (n at : ℕ) (look : _) → gap_of s.known ≤ n → AllEndBy n (hand_asks_of l z s ++ looked at look ∷ []) → (hand_of l z s).gap ≤ n
-  more-ends z s n at look g e = sees-trivia z s n g (end-first n (hand_asks_of l z s) (looked at look ∷ []) e)
+  more-ends z s n at look g e = sees-trivia z s n g (looks-first (ending n) (hand_asks_of l z s) (looked at look ∷ []) e)
 
   sees-done : {A : Type 0} (o : Op A) → Sees (done l o)
   sees-done hand z s n g = record { noted = notes-none z s n; ends = λ e. omega (arith, sees-trivia z s n g e) }
@@ -141,7 +129,7 @@ module _ (l : Level) where
   sees-done column z s n g = record { noted = more-notes z s n _ _; ends = λ e. omega (arith, more-ends z s n _ _ g e) }
   sees-done erred z s n g = record { noted = tt; ends = λ e. omega (arith, g) }
   sees-done (takes trims making) z s n g = record { noted = notes-none z s n; ends = λ e. omega (arith, sees-hand z s n g e) }
-  sees-done (takes_so way making) z s n g = record { noted = more-notes z s n _ _; ends = λ e. (let h = hand_of l z s in let w = moved h.gap z in omega (arith, (end-second n (hand_asks_of l z s) (looked h.gap (look (reader_so l way) w) ∷ []) e).0, len-covers (reader_so l way) w)) }
+  sees-done (takes_so way making) z s n g = record { noted = more-notes z s n _ _; ends = λ e. (let h = hand_of l z s in let w = moved h.gap z in omega (arith, (looks-second (ending n) (hand_asks_of l z s) (looked h.gap (look (reader_so l way) w) ∷ []) e).0, len-covers (reader_so l way) w)) }
   sees-done flushes z s n g = record { noted = notes-none z s n; ends = λ e. omega (arith, sees-trivia z s n g e) }
   sees-done (complains message) z s n g = record { noted = tt; ends = λ e. omega (arith, g) }
   sees-done (advises hint) z s n g = record { noted = tt; ends = λ e. omega (arith, g) }
@@ -153,7 +141,7 @@ module _ (l : Level) where
     sees-bounded b z s n g =
         let o = l.blocks b z (forgot s) in
         let a = j b z (forgot s) n (omega arith) in
-        record { noted = (omega arith, seen-append n o.asks _ a.noted (λ e. (omega (arith, a.ends e), tt))); ends = λ e. omega (arith, a.ends (end-first n o.asks _ e)) }
+        record { noted = (omega arith, seen-append n o.asks _ a.noted (λ e. (omega (arith, a.ends e), tt))); ends = λ e. omega (arith, a.ends (looks-first (ending n) o.asks _ e)) }
 
     pub sees-run : {A : Type 0} (p : Parser A) → Sees (run l p)
     sees-run p = all-run SeenBy seen l (λ A o. sees-done o) (λ c z s n g. (let o = l.deeper c z s in let a = i c z s n g in record { noted = seen-sunk n o.asks a.noted; ends = λ e. a.ends (end-sunk n o.asks e) })) sees-bounded p

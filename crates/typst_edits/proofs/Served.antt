@@ -1,6 +1,6 @@
 -- A reading that begins with one candidate serves another one, at the top of a text's tree and in a content block; and the law for both.
-use Rattle.std.proofs.Common.{◌≡◌, ℕ, ◌+◌, ◌<◌, ◌≤◌, ◌^◌, ◌-◌, false, List, [], ◌++◌, append_assoc, Some, ap, sym, ◌∙◌, arith, suc, ◌∷◌, length, length-append, take, subst}
-use Rattle.typst_edits.proofs.Words.{Place, moved, CharClasses, Tree, bare, trees, width, Trivia, Candidate, entries_by, units_of, spliced, max_depth, log, tree, candidates, front_in, SaysBlock, entries_in, IsPieces, RootPiecesOfLaw, InnerPiecesOfLaw, Among, text_with, Run, Before, After, PassesPieces, cut_at, InOrderLaw, text_run, PassesJoint, root_run, AllGo, asks_of, end_at, end_from, number_of, RunNumbersLaw, number_in, InnerNumbersLaw, RunNumbers, InnerNumbers, notes_by, FoundRun, Sequence, then_of, then_end, first_end, start_at, SyntaxMode, Block, no_log, logged, Entry, opening_of, RunKind, first_look, run_at, path_of, PassesInnerJoint, block_run, kids_in, markup_from, Around, level_in, read_alone, blocks_of_text, OpensApartLaw, Spot, entries_from, Served}
+use Rattle.std.proofs.Common.{◌≡◌, ℕ, ◌+◌, ◌<◌, ◌≤◌, ◌^◌, ◌-◌, false, List, [], ◌++◌, append_assoc, Some, ap, sym, ◌∙◌, arith, suc, ◌∷◌, length, length-append, take, subst, refl}
+use Rattle.typst_edits.proofs.Words.{Place, moved, CharClasses, Tree, bare, trees, width, Trivia, Candidate, entries_by, units_of, spliced, max_depth, log, tree, candidates, front_in, SaysBlock, entries_in, IsPieces, RootPiecesOfLaw, InnerPiecesOfLaw, Among, text_with, Run, Before, After, PassesPieces, cut_at, InOrderLaw, text_run, PassesJoint, root_run, AllGo, asks_of, end_at, end_from, number_of, RunNumbersLaw, number_in, InnerNumbersLaw, RunNumbers, InnerNumbers, notes_by, FoundRun, Sequence, then_of, then_end, first_end, start_at, SyntaxMode, Block, no_log, logged, opening_of, RunKind, first_look, run_at, path_of, PassesInnerJoint, block_run, kids_in, markup_from, Around, level_in, read_alone, blocks_of_text, OpensApartLaw, Spot, entries_from, Served}
 use Rattle.typst_edits.specs.Served.{RunOf, own as of_text, inner as of_block, ServedLaw}
 use Rattle.typst_grammar.specs.declared.part.RunKind.TheVariants as of
 use Rattle.typst_edits.proofs.AnyRun.{seated, Chosen, read_from, begins-now, same-end, meets-too, served, entries-listed, Entered}
@@ -8,13 +8,12 @@ use Rattle.typst_edits.proofs.PiecesTest.{run-part-law, inner-units-law}
 use Rattle.typst_edits.proofs.RunCandidates.{cuts-of-text, of-the-root, root-candidate-law, of-block, inner-candidate-law}
 use Rattle.typst_edits.proofs.RunPieces.{behind-zero, joint-of, block-taken, inner-joint-of}
 use Rattle.typst_edits.proofs.RootRuns.{kids-bytes}
+use Rattle.typst_edits.proofs.BlockTest.{Key, says-same}
 use Rattle.typst_edits.proofs.RunTest.{notes, to-is, part-is, entered, own-pieces, pieces-too, entries, entry-end, inner-entered, inner-own-pieces, home_of, same-byte, same-home}
 use Rattle.typst_edits.proofs.Widths.{width-append}
-use Rattle.std.specs.List.{slice_get}
 use Rattle.typst_language.specs.declared.calls.Block.TheVariants as block
 use Rattle.typst_edits.proofs.EntryNumbers.{some-number}
 use Rattle.typst_edits.proofs.MarkupCandidates.{of-run}
-use Rattle.typst_edits.proofs.Every.{some_or}
 
 module _ (in_order : InOrderLaw) (k : CharClasses) (front old new rest : List ℕ) (r : RunNumbers k (front ++ (old ++ rest))) (big : width (front ++ (old ++ rest)) < 2 ^ 64 - 1) where
   abbrev text : List ℕ
@@ -171,11 +170,6 @@ module _ (apart : OpensApartLaw) (ordered : InOrderLaw) (numbered : InnerNumbers
 
 -- ---- the block of both
 
-levels-once : (es : List Entry) (from other to last levels more : ℕ) (b d : Block) (m n : SyntaxMode) → SaysBlock es from to levels b m → SaysBlock es other last more d n → from ≡ other → levels ≡ more
-levels-once es from other to last levels more b d m n h g e =
-    let same : h.entry ≡ g.entry = ap (some_or h.entry) (sym h.is ∙ ap (slice_get es) e ∙ g.is) in
-    sym h.count ∙ ap (λ (x : Entry). x.count) same ∙ g.count
-
 inner-served : OpensApartLaw → InOrderLaw → InnerNumbersLaw → InnerPiecesOfLaw → (k : CharClasses) (front old new rest : List ℕ) (root : Tree) (first c : Candidate) → bare root ≡ bare (tree k (front ++ (old ++ rest)))
     → Among first (candidates k (front ++ (old ++ rest)) (width front) (width (front ++ old)) root) → Among c (candidates k (front ++ (old ++ rest)) (width front) (width (front ++ old)) root)
     → first.is_block ≡ false → c.is_block ≡ false → first.path ≡ c.path → (c.path ≡ [] → ⊥) → c.start ≤ first.start
@@ -196,7 +190,7 @@ inner-served apart ordered numbered pieces k front old new rest root first c sam
     let home : home_of two.levels two.s ≡ home_of one.levels one.s = same-home k text two.s one.s two.levels one.levels two.among one.among two.level one.level (omega (arith, starts_too, long)) (omega (arith, starts, long)) u v byte in
     let is = pieces-too k two.levels one.levels front old rest two.s one.s two.among two.name two.level one.among one.name one.level first two.i two.n two.past two.t home two.is in
     let own_opens : opens ≡ v.opens = some-number opens v.opens (sym opening ∙ ap (λ b. opening_of b 0 0 (entries_in k text)) one.byte ∙ v.opening) in
-    let own_levels : levels ≡ suc one.levels = levels-once (entries_in k text) opens v.opens to v.closes levels (suc one.levels) _ _ _ _ says v.says_block own_opens in
+    let own_levels : levels ≡ suc one.levels = ap (λ (x : Key). x.levels) (says-same (entries_in k text) 0 0 opens to levels _ _ v.opens v.closes (suc one.levels) _ _ says v.says_block own_opens refl) in
     let chosen = inner-candidate-of apart ordered numbered k one.levels front old new rest root one.s one.among one.name one.level one.around big big_new same in
     let e = inner-entered ordered k one.levels front old new rest one.s one.among one.name one.level one.around v big in
     subst (λ a. (f : FoundRun k front old new rest first of.Block a (suc opens)) (g : FoundRun k front old new rest c of.Block a (suc opens)) → f.from < front_in k front old rest → Served k front old new rest root of.Block a (suc opens) first c f g) (sym own_levels)

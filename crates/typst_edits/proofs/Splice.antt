@@ -1,15 +1,16 @@
 -- The units of two texts that are asked the same before a stretch and after it.
-use Rattle.std.proofs.Common.{◌≡◌, ℕ, zero, suc, ◌+◌, ◌-◌, ◌<◌, ◌≤◌, ◌^◌, max, min, List, [], ◌∷◌, ◌++◌, length, take, drop, append_assoc, append-nil, refl, ap, sym, ◌∙◌, subst, arith, Bool, true, length-append, Option, Some, None}
+use Rattle.std.proofs.Common.{◌≡◌, ℕ, zero, suc, ◌+◌, ◌-◌, ◌<◌, ◌≤◌, ◌^◌, max, min, List, [], ◌∷◌, ◌++◌, length, take, drop, append_assoc, append-nil, refl, ap, sym, ◌∙◌, subst, arith, Bool, true, length-append, Some, None}
 use Rattle.typst_edits.proofs.Words.{take-append_seam, entry_kind_of, count_of, back_of, entry_of, entries_by, last_start, spliced, units_of, Units, units_by, Entry, EntryKind, Place, moved, moved_from, width, position, stretch, far, near, Mark, Note, State, Ask, shift, looked, marked, moved-sum, text_with, AllEndBy, AllBeginIn, Noting, noting, token_start, notes_in, entries_from, AllNotedBy, Look, no_log, logged, Outcome, start_point, CharClasses, markup_reading, rules, max_depth, whole, parsed, log, made-sum, AllFrom, asks_of, Sequence, turn_of, first_of, then_of}
 use Rattle.std.proofs.Math.Seq.{drop-append_seam}
 use Rattle.typst_language.proofs.Places.{moved-ahead}
 use Rattle.typst_edits.specs.Splice.{SpliceLaw}
 use Rattle.typst_edits.proofs.Edit.{onto, past-is}
-use Rattle.typst_edits.proofs.Bytes.{note_with, note_by, notes_from, least_from, none_yet, fresh_notes, logged-notes, logged-least, least-around, noted-length, AllMarks, both-end, notes-one}
-use Rattle.typst_edits.proofs.Widths.{width-append, width-none, width-onto, stretch-to, moved-width}
+use Rattle.typst_edits.proofs.Bytes.{note_with, note_by, notes_from, least_from, none_yet, fresh_notes, logged-notes, logged-least, least-around, noted-length, AllMarks, notes-one}
+use Rattle.typst_edits.proofs.Widths.{width-append, width-none, width-onto, stretch-to, moved-width, take-width}
 use Rattle.typst_edits.proofs.EmptyRuns.{Never, notes-none}
 use Rattle.typst_edits.proofs.Every.{Every}
 use Rattle.typst_edits.proofs.Seen.{AllSeen, seen-first, sees-level}
+use Rattle.typst_edits.proofs.Looks.{ending, from-byte, looks-both, looks-by}
 
 -- ---- the notes of what is asked
 
@@ -108,12 +109,6 @@ onto-length zero b a h = omega arith
 onto-length (suc d) b [] h = absurd (omega (arith, h))
 onto-length (suc d) b (c ∷ a) h = let i = onto-length d (c ∷ b) a (omega (arith, h)) in omega (arith, i)
 
-pub take-width : (d : ℕ) (a : List ℕ) → width (take d a) ≤ width a
-unfolding width
-take-width zero a = omega arith
-take-width (suc d) [] = omega arith
-take-width (suc d) (c ∷ a) = let i = take-width d a in omega (arith, i)
-
 pub position-behind : (d : ℕ) (early rest : List ℕ) → position (moved d (record { before = early; ahead = rest })) ≡ width early + width (take d rest)
 unfolding position
 position-behind d early rest = omega (arith, moved-width d early rest)
@@ -151,11 +146,32 @@ entry_with t count step gap forth back = record { kind = t; step = step; gap = g
 entry-same : (t : EntryKind) (count a b c d e f g h : ℕ) → a ≡ e → b ≡ f → c ≡ g → d ≡ h → entry_with t count a b c d ≡ entry_with t count e f g h
 entry-same t count a b c d e f g h i j k l = ap (λ n. entry_with t count n b c d) i ∙ ap (λ n. entry_with t count e n c d) j ∙ ap (λ n. entry_with t count e f n d) k ∙ ap (λ n. entry_with t count e f g n) l
 
--- the place a given number of characters further on, after the stretch
-behind-place : (front mid rest : List ℕ) (end past at : ℕ) → end ≡ (length front + length mid) + past → moved (end + at) (text_with front mid rest) ≡ moved (past + at) (record { before = onto mid (onto front []); ahead = rest })
-behind-place front mid rest end past at e =
-    let there : end + at ≡ (length front + length mid) + (past + at) = omega (arith, e) in
-    ap (λ n. moved n (text_with front mid rest)) there ∙ past-is (past + at) front mid rest
+-- a given number of characters further on, after a stretch
+module _ (front mid rest : List ℕ) (past end : ℕ) (e : end ≡ (length front + length mid) + past) where
+  abbrev text_at : ℕ → Place
+  text_at at = moved (end + at) (text_with front mid rest)
+
+  abbrev before : ℕ
+  before = width (onto mid (onto front []))
+
+  behind-place : (at : ℕ) → text_at at ≡ moved (past + at) (record { before = onto mid (onto front []); ahead = rest })
+  behind-place at =
+      let there : end + at ≡ (length front + length mid) + (past + at) = omega (arith, e) in
+      ap (λ n. moved n (text_with front mid rest)) there ∙ past-is (past + at) front mid rest
+
+  position-at : (at : ℕ) → position (text_at at) ≡ before + width (take (past + at) rest)
+  position-at at = ap position (behind-place at) ∙ position-behind (past + at) (onto mid (onto front [])) rest
+
+  start-at : (at gap : ℕ) → position (moved gap (text_at at)) ≡ before + width (take (past + (at + gap)) rest)
+  start-at at gap =
+      let sum : (end + at) + gap ≡ end + (at + gap) = omega arith in
+      ap position (sym (moved-sum (end + at) gap (text_with front mid rest))) ∙ ap (λ n. position (moved n (text_with front mid rest))) sum ∙ position-at (at + gap)
+
+  far-at : (at n : ℕ) → far n (text_at at) ≡ before + (width (take (past + at) rest) + stretch n (drop (past + at) rest))
+  far-at at n = ap (far n) (behind-place at) ∙ far-behind n (past + at) (onto mid (onto front [])) rest
+
+  near-at : (at n : ℕ) → n ≤ past + at → past + at ≤ length rest → near n (text_at at) ≡ before + (suc (width (take (past + at) rest)) - stretch n (onto (take (past + at) rest) []))
+  near-at at n h k = ap (near n) (behind-place at) ∙ near-behind n (past + at) (onto mid (onto front [])) rest h k
 
 -- as far after the one stretch as after the other
 module _ (lv : ℕ) (front old new rest : List ℕ) (past end stop : ℕ) (e : end ≡ (length front + length old) + past) (f : stop ≡ (length front + length new) + past) where
@@ -177,52 +193,24 @@ module _ (lv : ℕ) (front old new rest : List ℕ) (past end stop : ℕ) (e : e
   abbrev wide : ℕ → ℕ
   wide d = width (take d rest)
 
-  pub position-old : (at : ℕ) → position (moved (end + at) z) ≡ b + wide (past + at)
-  position-old at = ap position (behind-place front old rest end past at e) ∙ position-behind (past + at) (onto old (onto front [])) rest
-
-  pub position-new : (at : ℕ) → position (moved (stop + at) w) ≡ c + wide (past + at)
-  position-new at = ap position (behind-place front new rest stop past at f) ∙ position-behind (past + at) (onto new (onto front [])) rest
-
-  start-old : (at gap : ℕ) → position (moved gap (moved (end + at) z)) ≡ b + wide (past + (at + gap))
-  start-old at gap =
-      let sum : (end + at) + gap ≡ end + (at + gap) = omega arith in
-      ap position (sym (moved-sum (end + at) gap z)) ∙ ap (λ n. position (moved n z)) sum ∙ position-old (at + gap)
-
-  start-new : (at gap : ℕ) → position (moved gap (moved (stop + at) w)) ≡ c + wide (past + (at + gap))
-  start-new at gap =
-      let sum : (stop + at) + gap ≡ stop + (at + gap) = omega arith in
-      ap position (sym (moved-sum (stop + at) gap w)) ∙ ap (λ n. position (moved n w)) sum ∙ position-new (at + gap)
-
-  far-old : (at n : ℕ) → far n (moved (end + at) z) ≡ b + (wide (past + at) + stretch n (drop (past + at) rest))
-  far-old at n = ap (far n) (behind-place front old rest end past at e) ∙ far-behind n (past + at) (onto old (onto front [])) rest
-
-  far-new : (at n : ℕ) → far n (moved (stop + at) w) ≡ c + (wide (past + at) + stretch n (drop (past + at) rest))
-  far-new at n = ap (far n) (behind-place front new rest stop past at f) ∙ far-behind n (past + at) (onto new (onto front [])) rest
-
-  near-old : (at n : ℕ) → n ≤ past + at → past + at ≤ length rest → near n (moved (end + at) z) ≡ b + (suc (wide (past + at)) - stretch n (onto (take (past + at) rest) []))
-  near-old at n h k = ap (near n) (behind-place front old rest end past at e) ∙ near-behind n (past + at) (onto old (onto front [])) rest h k
-
-  near-new : (at n : ℕ) → n ≤ past + at → past + at ≤ length rest → near n (moved (stop + at) w) ≡ c + (suc (wide (past + at)) - stretch n (onto (take (past + at) rest) []))
-  near-new at n h k = ap (near n) (behind-place front new rest stop past at f) ∙ near-behind n (past + at) (onto new (onto front [])) rest h k
-
   -- The entries are the same, and so is how far back was looked since the last note.
   pub record Rear (x r l t u : ℕ) (asks : List Ask) : Type 0 where
     pub entries : entries_by (b + x) (notes_from lv z r l (shift end asks)) ≡ entries_by (c + x) (notes_from lv w t u (shift stop asks))
     pub back : back_of (last_start (b + x) (notes_from lv z r l (shift end asks))) (least_from lv z l (shift end asks)) ≡ back_of (last_start (c + x) (notes_from lv w t u (shift stop asks))) (least_from lv w u (shift stop asks))
 
   reach-same : (r t at n : ℕ) → SameReach b c r t → SameReach b c (max r (far n (moved (end + at) z))) (max t (far n (moved (stop + at) w)))
-  reach-same r t at n h x = let o = far-old at n in let m = far-new at n in let i = h x in omega (arith, i, o, m)
+  reach-same r t at n h x = let o = far-at front old rest past end e at n in let m = far-at front new rest past stop f at n in let i = h x in omega (arith, i, o, m)
 
   least-same : (l u at n : ℕ) → n ≤ past + at → past + at ≤ length rest → SameLeast top b c l u → SameLeast top b c (min l (near n (moved (end + at) z))) (min u (near n (moved (stop + at) w)))
-  least-same l u at n h k s x le = let o = near-old at n h k in let m = near-new at n h k in let i = s x le in omega (arith, i, o, m)
+  least-same l u at n h k s x le = let o = near-at front old rest past end e at n h k in let m = near-at front new rest past stop f at n h k in let i = s x le in omega (arith, i, o, m)
 
   note-behind : (x r l t u at gap fewer : ℕ) (m : Mark) (s : State) → x ≤ top → SameReach b c r t → SameLeast top b c l u
       → entry_of (b + x) (note_by lv z r l (end + at) gap fewer m s) ≡ entry_of (c + x) (note_by lv w t u (stop + at) gap fewer m s)
   note-behind x r l t u at gap fewer m s h i j =
-      let start = start-old at gap in
-      let start_new = start-new at gap in
-      let before = position-old at in
-      let before_new = position-new at in
+      let start = start-at front old rest past end e at gap in
+      let start_new = start-at front new rest past stop f at gap in
+      let before = position-at front old rest past end e at in
+      let before_new = position-at front new rest past stop f at in
       let reach = i (wide (past + (at + gap))) in
       entry-same (entry_kind_of m s) (count_of m (lv - fewer)) _ _ _ _ _ _ _ _ (omega (arith, before, before_new)) (omega (arith, before, before_new, start, start_new)) (omega (arith, reach, start, start_new)) (j x h)
 
@@ -237,10 +225,10 @@ module _ (lv : ℕ) (front old new rest : List ℕ) (past end stop : ℕ) (e : e
       let ns = notes_from lv z 0 (2 ^ 64 - 1) (shift end asks) in
       let ms = notes_from lv w 0 (2 ^ 64 - 1) (shift stop asks) in
       let first = note-behind x r l t u at gap fewer m s h i j in
-      let rest_same = ap (λ n. entries_by n ns) (start-old at gap) ∙ o.entries ∙ ap (λ n. entries_by n ms) (sym (start-new at gap)) in
+      let rest_same = ap (λ n. entries_by n ns) (start-at front old rest past end e at gap) ∙ o.entries ∙ ap (λ n. entries_by n ms) (sym (start-at front new rest past stop f at gap)) in
       record {
         entries = ap (λ n. n ∷ entries_by (position (moved gap (moved (end + at) z))) ns) first ∙ ap (λ es. entry_of (c + x) (note_by lv w t u (stop + at) gap fewer m s) ∷ es) rest_same;
-        back = ap (λ n. back_of (last_start n ns) (least_from lv z (2 ^ 64 - 1) (shift end asks))) (start-old at gap) ∙ o.back ∙ ap (λ n. back_of (last_start n ms) (least_from lv w (2 ^ 64 - 1) (shift stop asks))) (sym (start-new at gap));
+        back = ap (λ n. back_of (last_start n ns) (least_from lv z (2 ^ 64 - 1) (shift end asks))) (start-at front old rest past end e at gap) ∙ o.back ∙ ap (λ n. back_of (last_start n ms) (least_from lv w (2 ^ 64 - 1) (shift stop asks))) (sym (start-at front new rest past stop f at gap));
       }
 
 -- ---- parts
@@ -301,9 +289,7 @@ least-over lv b z (looked at look ∷ asks) least h i f = least-over lv b z asks
 least-over lv b z (marked at gap fewer m s ∷ asks) least h i f = least-over lv b z asks none_yet i i f
 
 pub from-zero : (b : ℕ) (z : Place) (asks : List Ask) → AllFrom b z asks → AllFrom 0 z asks
-from-zero b z [] h = tt
-from-zero b z (looked at look ∷ asks) h = (omega (arith, h.0), from-zero b z asks h.1)
-from-zero b z (marked at gap fewer m s ∷ asks) h = from-zero b z asks h
+from-zero b z asks h = looks-by (from-byte b z) (from-byte 0 z) (λ at look p. omega (arith, p)) asks h
 
 pub noted-last : (n : ℕ) (ls : List Ask) (p : Noting) → AllNotedBy n (ls ++ noting p ∷ []) → p.at + p.gap ≤ n
 noted-last n [] p h = h.0
@@ -343,10 +329,7 @@ units-side lv z first p all =
     let ends = last-is lv z first p 0 none_yet 0 in
     let entries : entries_by 0 (ns ++ ms) ≡ entries_by 0 ns ++ entries_by tp ms = entries-append 0 ns ms ∙ ap (λ n. entries_by 0 ns ++ entries_by n ms) ends in
     let ending : last_start 0 (ns ++ ms) ≡ last_start tp ms = last-append 0 ns ms ∙ ap (λ n. last_start n ms) ends in
-    ap (λ (o : Option (List Note)). units_by (elim o as (λ _. List Note) [ None ↦ [] | Some ns ↦ ns ]) h.least) notes
-    ∙ ap (λ l. units_by (ns ++ ms) l) least
-    ∙ ap (λ es. record { entries = es; back = back_of (last_start 0 (ns ++ ms)) (least_from lv z none_yet all) }) entries
-    ∙ ap (λ n. record { entries = entries_by 0 ns ++ entries_by tp ms; back = back_of n (least_from lv z none_yet all) }) ending
+    (λ v. units_by (elim (notes v) as (λ _. List Note) [ None ↦ [] | Some ns ↦ ns ]) (least v)) ∙ (λ v. record { entries = entries v; back = back_of (ending v) (least_from lv z none_yet all) })
 
 -- Where two texts have the same first notes, and the same after their own asks, the units of the one are those of the other with the own ones exchanged.
 pub splice-sides : (lv : ℕ) (front xs ys : List ℕ) (first : List Ask) (p : Noting) (own all own_new all_new : List Ask) (behind : List Entry) (back : ℕ)
@@ -369,15 +352,11 @@ splice-sides lv front xs ys first p own all own_new all_new behind back ends not
     let whole : length (es ++ fs) ≡ suc to = omega (arith, length-append es fs, long, longer) in
     let part_is : entries_from (token_start w p) (logged lv w no_log own_new).notes ≡ ps = ap (entries_from (token_start w p)) (logged-notes lv w own_new) in
     let was : units_of (logged lv z no_log (first ++ noting p ∷ all)) ≡ record { entries = es ++ (fs ++ behind); back = back } =
-    units-side lv z first p all ∙ ap (λ u. record { entries = es ++ u; back = back_of (last_start (token_start z p) (fresh_notes lv z all)) (least_from lv z none_yet all) }) a.entries
-    ∙ ap (λ n. record { entries = es ++ (fs ++ behind); back = n }) a.ends in
+    units-side lv z first p all ∙ (λ v. record { entries = es ++ a.entries v; back = a.ends v }) in
     units-side lv w first p all_new
-    ∙ ap (λ u. record { entries = u ++ entries_by (token_start w p) (fresh_notes lv w all_new); back = back_of (last_start (token_start w p) (fresh_notes lv w all_new)) (least_from lv w none_yet all_new) }) front_is
-    ∙ ap (λ u. record { entries = es ++ u; back = back_of (last_start (token_start w p) (fresh_notes lv w all_new)) (least_from lv w none_yet all_new) }) b.entries
-    ∙ ap (λ n. record { entries = es ++ (ps ++ behind); back = n }) b.ends
+    ∙ (λ v. record { entries = front_is v ++ b.entries v; back = b.ends v })
     ∙ sym (spliced-is from to es fs behind ps back long whole)
-    ∙ ap (λ part. spliced from to part (record { entries = es ++ (fs ++ behind); back = back })) (sym part_is)
-    ∙ ap (spliced from to (entries_from (token_start w p) (logged lv w no_log own_new).notes)) (sym was)
+    ∙ (λ v. spliced from to (sym part_is v) (sym was v))
 
 -- Two texts are read alike up to a note, and from a later one on: the units of the second are those of the first with the entries between these two notes exchanged for its own.
 pub splice-texts : (k : CharClasses) (front old new rest : List ℕ) (first : List Ask) (p q : Noting) (own all own_new all_new : List Ask) (behind : List Entry) (back from count : ℕ)
@@ -391,16 +370,13 @@ splice-texts k front old new rest first p q own all own_new all_new behind back 
     let n = length front in
     let upto = first ++ noting p ∷ [] in
     let all_seen = (sees-level (rules k) k max_depth whole z (start_point markup_reading) n (omega arith)).noted in
-    let noted_all = seen-first n upto all (subst (AllSeen n) (was ∙ sym (append_assoc first (noting p ∷ []) all)) all_seen) (both-end n first (noting p ∷ []) early tt) in
+    let noted_all = seen-first n upto all (subst (AllSeen n) (was ∙ sym (append_assoc first (noting p ∷ []) all)) all_seen) (looks-both (ending n) first (noting p ∷ []) early tt) in
     let law = splice-sides max_depth front (old ++ rest) (new ++ rest) first p own all own_new all_new behind back early
     (noted-first n first (noting p ∷ []) noted_all) (noted-last n first p noted_all) one (subst (λ a. Side max_depth w a own_new all_new behind back) same two) in
     let part = λ (a : Noting). entries_from (token_start w a) (logged max_depth w no_log own_new).notes in
     let units = λ (asks : List Ask). units_of (logged max_depth z no_log asks) in
     ap (λ ls. units_of (logged max_depth w no_log ls)) now ∙ law
-    ∙ ap (λ a. spliced a (a + notes_in own) (part p) (units (first ++ noting p ∷ all))) from_is
-    ∙ ap (λ a. spliced from (from + a) (part p) (units (first ++ noting p ∷ all))) count_is
-    ∙ ap (λ a. spliced from (from + count) (part a) (units (first ++ noting p ∷ all))) (sym same)
-    ∙ ap (λ ls. spliced from (from + count) (part q) (units ls)) (sym was)
+    ∙ (λ v. spliced (from_is v) (from_is v + count_is v) (part (sym same v)) (units (sym was v)))
 
 -- ---- after a token
 
@@ -460,15 +436,16 @@ side-none lv z p own all bare none begun begins =
       ends = ap (λ u. back_of (last_start tp u) (least_from lv z none_yet all)) all_notes ∙ ap (λ n. back_of n (least_from lv z none_yet all)) begins ∙ back;
     }
 
--- the same after two stretches, where the tokens begin a given number of characters after them
-record SameAfter (lv : ℕ) (z w : Place) (end stop gap : ℕ) (last : List Ask) : Type 0 where
-  entries : entries_by (position (moved (stop + gap) w)) (fresh_notes lv w (shift stop last)) ≡ entries_by (position (moved (end + gap) z)) (fresh_notes lv z (shift end last))
-  back : back_of (last_start (position (moved (stop + gap) w)) (fresh_notes lv w (shift stop last))) (least_from lv w none_yet (shift stop last))
-      ≡ back_of (last_start (position (moved (end + gap) z)) (fresh_notes lv z (shift end last))) (least_from lv z none_yet (shift end last))
+-- the same after two stretches, where the tokens begin at two places, as many characters after them
+pub record SameAfter (lv : ℕ) (z w : Place) (end stop at at_new : ℕ) (last : List Ask) : Type 0 where
+  pub entries : entries_by (position (moved at_new w)) (fresh_notes lv w (shift stop last)) ≡ entries_by (position (moved at z)) (fresh_notes lv z (shift end last))
+  pub back : back_of (last_start (position (moved at_new w)) (fresh_notes lv w (shift stop last))) (least_from lv w none_yet (shift stop last))
+      ≡ back_of (last_start (position (moved at z)) (fresh_notes lv z (shift end last))) (least_from lv z none_yet (shift end last))
 
-same-after : (lv : ℕ) (front old new rest : List ℕ) (past gap : ℕ) (last : List Ask) → width (front ++ (old ++ rest)) < 2 ^ 64 - 1 → width (front ++ (new ++ rest)) < 2 ^ 64 - 1 → AllBeginIn past rest last
-    → SameAfter lv (text_with front old rest) (text_with front new rest) ((length front + length old) + past) ((length front + length new) + past) gap last
-same-after lv front old new rest past gap last big big_new begins =
+same-after : (lv : ℕ) (front old new rest : List ℕ) (past gap at at_new : ℕ) (last : List Ask) → at ≡ ((length front + length old) + past) + gap → at_new ≡ ((length front + length new) + past) + gap
+    → width (front ++ (old ++ rest)) < 2 ^ 64 - 1 → width (front ++ (new ++ rest)) < 2 ^ 64 - 1 → AllBeginIn past rest last
+    → SameAfter lv (text_with front old rest) (text_with front new rest) ((length front + length old) + past) ((length front + length new) + past) at at_new last
+same-after lv front old new rest past gap at at_new last at_is new_is big big_new begins =
     let z = text_with front old rest in
     let w = text_with front new rest in
     let end = (length front + length old) + past in
@@ -479,8 +456,8 @@ same-after lv front old new rest past gap last big big_new begins =
     let fits : b + width rest < none_yet = subst (λ n. n < none_yet) (sym (whole-width front old rest)) big in
     let fits_new : c + width rest < none_yet = subst (λ n. n < none_yet) (sym (whole-width front new rest)) big_new in
     let behind = rear lv front old new rest past end stop refl refl last x 0 none_yet 0 none_yet (take-width (past + gap) rest) fits fits_new (reach-none b c) (least-none (width rest) b c none_yet fits fits_new) begins in
-    let q_is : position (moved (end + gap) z) ≡ b + x = position-old lv front old new rest past end stop refl refl gap in
-    let r_is : position (moved (stop + gap) w) ≡ c + x = position-new lv front old new rest past end stop refl refl gap in
+    let q_is : position (moved at z) ≡ b + x = ap (λ n. position (moved n z)) at_is ∙ position-at front old rest past end refl gap in
+    let r_is : position (moved at_new w) ≡ c + x = ap (λ n. position (moved n w)) new_is ∙ position-at front new rest past stop refl gap in
     let ns = fresh_notes lv z (shift end last) in
     let ms = fresh_notes lv w (shift stop last) in
     record {
@@ -489,27 +466,9 @@ same-after lv front old new rest past gap last big big_new begins =
     }
 
 -- directly after them
-pub record SameAt (lv : ℕ) (z w : Place) (end stop : ℕ) (last : List Ask) : Type 0 where
-  pub entries : entries_at lv w stop last ≡ entries_at lv z end last
-  pub back : back_at lv w stop last ≡ back_at lv z end last
-
 pub same-at : (lv : ℕ) (front old new rest : List ℕ) (past : ℕ) (last : List Ask) → width (front ++ (old ++ rest)) < 2 ^ 64 - 1 → width (front ++ (new ++ rest)) < 2 ^ 64 - 1 → AllBeginIn past rest last
-    → SameAt lv (text_with front old rest) (text_with front new rest) ((length front + length old) + past) ((length front + length new) + past) last
-same-at lv front old new rest past last big big_new begins =
-    let z = text_with front old rest in
-    let w = text_with front new rest in
-    let end = (length front + length old) + past in
-    let stop = (length front + length new) + past in
-    let same : end + 0 ≡ end = omega arith in
-    let same_new : stop + 0 ≡ stop = omega arith in
-    let s = same-after lv front old new rest past 0 last big big_new begins in
-    let ns = fresh_notes lv z (shift end last) in
-    let ms = fresh_notes lv w (shift stop last) in
-    record {
-      entries = ap (λ n. entries_by (position (moved n w)) ms) (sym same_new) ∙ s.entries ∙ ap (λ n. entries_by (position (moved n z)) ns) same;
-      back = ap (λ n. back_of (last_start (position (moved n w)) ms) (least_from lv w none_yet (shift stop last))) (sym same_new) ∙ s.back
-          ∙ ap (λ n. back_of (last_start (position (moved n z)) ns) (least_from lv z none_yet (shift end last))) same;
-    }
+    → (let end = (length front + length old) + past in let stop = (length front + length new) + past in SameAfter lv (text_with front old rest) (text_with front new rest) end stop end stop last)
+same-at lv front old new rest past last = same-after lv front old new rest past 0 _ _ last (omega arith) (omega arith)
 
 -- ---- the law
 
@@ -523,7 +482,7 @@ splice-law lv front old new rest past gap first second third last p q r big big_
     let own_new = third ++ noting r ∷ [] in
     let all = second ++ noting q ∷ shift end last in
     let all_new = third ++ noting r ∷ shift stop last in
-    let s = same-after lv front old new rest past gap last big big_new begins in
+    let s = same-after lv front old new rest past gap (end + gap) (stop + gap) last refl refl big big_new begins in
     let ns = fresh_notes lv z (shift end last) in
     let ms = fresh_notes lv w (shift stop last) in
     let q_is = token-at z q (end + gap) at_end in

@@ -1,6 +1,6 @@
 -- The law of an edit inside a block, for whatever the language can say.
 use Rattle.std.proofs.Common.{◌≡◌, ℕ, suc, ◌+◌, ◌-◌, ◌≤◌, inl, inr, Bool, true, false, ◌&&◌, if◌then◌else◌, nat_le, List, [], ◌∷◌, ◌++◌, length, take, drop, length-append, length-take, length-drop, append_assoc, refl, ap, sym, ◌∙◌, subst, arith, ◌<◌, zero, max, nat_lt, map, Option, Some, None}
-use Rattle.typst_edits.proofs.Words.{take-append-le, drop-map, drop-append-le, SyntaxKind, is_error, Head, inner_head, Tree, forest, trees, inner_of, error_of, with_kind, text_of, topped, trees_forest, Point, point_of, gap_of, NodeChange, first_changed, without_parens, is_delimited, in_parens, Shape, shaped, after_node, after_shape, hinted, seen, is_sign, ends_with, renamed_last, parens_renamed, after_change, stays, turns_wrong, is_not, renamed, unparened, keeps, holds, lacks, warns, fails, under, Deep, fill, Hole, plug, stub, between_parens, changed_deep, first_hole, change_hole, in_node, in_nodes, after_nodes, lack_hole, warned_head, wrap_in, wrap_past, wrap_hole, Place, moved, Ask, SameIn, Outcome, Meaning, less, joined, followed, answered, turns, as_last, bound, repeated, before, reshaped, wrapped, nestings, nesting, grown, is_more, growths, growing, Framed, Backs, Within, same_in-shift, same_in-first, same_in-second, moved-sum, length-less, Spot, around, Fits, unit_at, block_head, then_spot, after_spot, valued, rehole, flat_map, ltb-true, Begin, and-second, grew, turns-enough, Spots, joined_spots, goes, last_spot, turns_spots, repeated_spots, reshaped_spot, wrapped_spot, nestings_spots, nesting_spots, grown_spot, growths_spots, growing_spots, drop-append-add, length-hinted}
+use Rattle.typst_edits.proofs.Words.{take-append-le, drop-map, drop-append-le, SyntaxKind, is_error, Head, inner_head, Tree, forest, trees, inner_of, error_of, with_kind, text_of, topped, trees_forest, Point, point_of, gap_of, NodeChange, first_changed, without_parens, is_delimited, in_parens, Shape, shaped, after_node, after_shape, hinted, seen, is_sign, ends_with, renamed_last, parens_renamed, after_change, stays, turns_wrong, is_not, renamed, unparened, keeps, holds, lacks, warns, fails, under, Deep, fill, Hole, plug, stub, between_parens, changed_deep, first_hole, change_hole, in_node, in_nodes, after_nodes, lack_hole, warned_head, wrap_in, wrap_past, wrap_hole, Place, moved, Ask, SameIn, Outcome, Meaning, less, joined, followed, answered, turns, as_last, bound, repeated, before, reshaped, wrapped, nestings, nesting, grown, is_more, growths, growing, Framed, Backs, Within, same_in-shift, same_in-first, same_in-second, moved-sum, length-less, Spot, around, Fits, unit_at, block_head, then_spot, after_spot, valued, rehole, flat_map, ltb-true, Begin, and-second, grew, turns-enough, Spots, joined_spots, goes, last_spot, turns_spots, repeated_spots, reshaped_spot, wrapped_spot, nestings_spots, nesting_spots, grown_spot, growths_spots, growing_spots, drop-append-add, length-hinted, if-true, if-false}
 use Rattle.typst_language.specs.Shape.{changed, Seen}
 use Rattle.typst_edits.specs.Hole.Deep.{bare}
 use Rattle.typst_edits.specs.Hole.{top}
@@ -417,14 +417,6 @@ lawful-after z w o n f c frames l =
 abbrev pub Inside : {A : Type 0} → Meaning A → Spots A → Type 0
 Inside m sp = (z w : Place) (s : Point) → Every (Lawful z w (m z s) (m w s)) (sp z s)
 
-pub if-true : {A : Type 0} (b : Bool) (x y : A) → b ≡ true → (if b then x else y) ≡ x
-if-true true x y h = refl
-if-true false x y h = cc
-
-pub if-false : {A : Type 0} (b : Bool) (x y : A) → b ≡ false → (if b then x else y) ≡ y
-if-false true x y h = cc
-if-false false x y h = refl
-
 pub lawful-same : {A : Type 0} (z w : Place) (o p n k : Outcome A) (c : Spot A) → p ≡ o → Lawful z w o n c → ((x : Tree) → Edits z w c x → k ≡ n) → Lawful z w p k c
 lawful-same z w o p n k c e l f = record { old = e ∙ l.old; fits = l.fits; few = l.few; solid = l.solid; swaps = λ x d. f x d ∙ l.swaps x d }
 
@@ -565,9 +557,6 @@ every-reshaped shape other n z w o p c l f =
 abbrev wrapped_value : {A : Type 0} → ℕ → Spot A → A × List Seen
 wrapped_value n c = (c.value, map seen (drop (n + c.back) (plug c.hole c.node)))
 
-pub edits-valued : {A B : Type 0} (z w : Place) (v : B) (c : Spot A) (x : Tree) → Edits z w (valued v c) x → Edits z w c x
-edits-valued z w v c x e = edits-as z w v c.state c.hole c x e
-
 around-wrapped : {A : Type 0} (f : A → Shape) (n : ℕ) (c : Spot A) (g : Hole) (b : Outcome (Unit {0})) (x : Tree) → x.head ≡ block_head c.name → c.node.head ≡ block_head c.name → Wraps (f c.value) (n + c.back) c.hole (block_head c.name) g
     → wrapped f n (around c b x) ≡ around (valued (wrapped_value n c) (rehole (wrap_state (f c.value) (n + c.back) c) c g)) b x
 around-wrapped f n c g b x e h i =
@@ -577,7 +566,7 @@ lawful-wrapped : {A : Type 0} (f : A → Shape) (n : ℕ) (z w : Place) (o p : O
     → Lawful z w o p c → Lawful z w (wrapped f n o) (wrapped f n p) (valued (wrapped_value n c) (rehole (wrap_state (f c.value) (n + c.back) c) c g))
 lawful-wrapped f n z w o p c g h l =
     lawful-by (wrapped f n) z w o p c (valued (wrapped_value n c) (rehole (wrap_state (f c.value) (n + c.back) c) c g)) l (λ b x e. around-wrapped f n c g b x e l.fits.head h) (λ y. refl) refl
-    (record { state = l.fits.state; back = l.fits.back; hints = l.fits.hints; nodes = l.fits.nodes; head = l.fits.head }) (h.few c.node c.state l.fits.head l.few) h.solid (λ x e. edits-rehole z w _ c g x (edits-valued z w _ _ x e))
+    (record { state = l.fits.state; back = l.fits.back; hints = l.fits.hints; nodes = l.fits.nodes; head = l.fits.head }) (h.few c.node c.state l.fits.head l.few) h.solid (λ x e. edits-as z w (wrapped_value n c) (wrap_state (f c.value) (n + c.back) c) g c x e)
 
 map-both : {X Y Z : Type 0} (f : Y → Z) (g : X → Y) (xs : List X) → map f (map g xs) ≡ map (λ x. f (g x)) xs
 map-both f g [] = refl
@@ -637,8 +626,6 @@ inside-nesting f begin m sp within framed backs inner x z w s =
     let k = suc (max (bound z s) (bound w s)) in
     every-same z w _ _ _ _ _ _ (nestings-enough f begin m within (suc (bound z s)) k x z s (omega arith) (omega arith)) (nestings-enough f begin m within (suc (bound w s)) k x w s (omega arith) (omega arith))
     (nestings_spots-enough f begin m sp within (suc (bound z s)) k x z s (omega arith) (omega arith)) (inside-nestings f begin m sp framed backs inner k x z w s)
-
--- ---- a block in what grows
 
 -- ---- one turn
 

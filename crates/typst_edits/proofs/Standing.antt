@@ -1,12 +1,13 @@
 -- Each node of a block's kind stands where a spot of the reading is, or where one of a second reading is.
-use Rattle.std.proofs.Common.{◌≡◌, ◌⊎◌, inl, inr, ℕ, zero, suc, ◌+◌, ◌-◌, ◌<◌, Bool, true, false, ◌&&◌, if◌then◌else◌, nat_lt, List, [], ◌∷◌, ◌++◌, length, map, take, drop, Option, Some, None, refl, ap, sym, ◌∙◌, subst, arith, length-append, append-nil}
-use Rattle.typst_edits.proofs.Words.{flat_map, Tree, forest, token_node, Place, moved, Block, Reading, Call, Answer, Outcome, Meaning, Level, less, joined, answered, followed, turns, as_last, bound, repeated, before, inside, reshaped, wrapped, grown, is_more, growths, growing, nestings, nesting, bounded, given_up, plain, same_mode, entered, left, left_to, deeper_by_one, taken_node, hand_of, hand_asks_of, done, run, blockless, start_point, closed, reader_so, gave, Point, Trivia, pending, forgot, Shape, hinted, after_shape, seen, shaped, Op, Begin, Parser, hand, so, further, column, erred, takes, takes_so, flushes, complains, advises, marks, is_deepest, gives, does, next, pick, repeat, wraps, grows, nests, scoped, either, calls, block, length-less, less-none, on_both, is_ordinary, shape_by, plug, path_in, Spots, joined_spots, goes, last_spot, turns_spots, repeated_spots, reshaped_spot, wrapped_spot, grown_spot, growths_spots, growing_spots, nestings_spots, nesting_spots, scoped_spot, bounded_spots, spots, call_spots, block_spots, level_spots, Spot, valued, then_spot, after_spot, sunk_spot, closed_spot, kind_of, seconds, call_seconds, block_seconds, level_seconds, seconds_of_text, IsOf, Stems, is_error, CharClasses, blocks_of, meaning_of, level_of, stays, turns_wrong, peek, node, at_token, rules, max_depth, start_of, whole, parsed, production, markup_reading, content_block, code_block, blocks_of_text, op_by, PlainBy, ordinary-whole, ordinary-production, ordinary-content, ordinary-code, inside_content, inside_code}
+use Rattle.std.proofs.Common.{◌≡◌, ◌⊎◌, inl, inr, ℕ, suc, ◌+◌, ◌-◌, ◌<◌, Bool, true, false, List, [], ◌∷◌, ◌++◌, length, map, take, drop, Option, Some, None, refl, ap, sym, ◌∙◌, subst, arith, length-append, append-nil}
+use Rattle.typst_edits.proofs.Words.{flat_map, Tree, forest, token_node, Place, moved, Block, Reading, Outcome, Meaning, Level, less, joined, answered, before, inside, reshaped, wrapped, grown, bounded, given_up, plain, same_mode, left, left_to, deeper_by_one, taken_node, hand_of, hand_asks_of, done, run, blockless, start_point, closed, reader_so, gave, Point, Trivia, pending, forgot, Shape, hinted, after_shape, seen, shaped, Op, Parser, hand, so, further, column, erred, takes, takes_so, flushes, complains, advises, marks, is_deepest, block, length-less, less-none, on_both, is_ordinary, shape_by, plug, path_in, Spots, joined_spots, last_spot, reshaped_spot, wrapped_spot, grown_spot, scoped_spot, bounded_spots, spots, call_spots, block_spots, level_spots, Spot, valued, then_spot, after_spot, sunk_spot, closed_spot, kind_of, seconds, call_seconds, block_seconds, level_seconds, seconds_of_text, IsOf, Stems, is_error, CharClasses, blocks_of, meaning_of, level_of, stays, turns_wrong, peek, node, at_token, rules, max_depth, start_of, whole, parsed, markup_reading, content_block, code_block, blocks_of_text, op_by, PlainBy, ordinary-whole, ordinary-production, ordinary-content, ordinary-code, inside_content, inside_code}
 use Rattle.typst_language.specs.Meaning.{node_by}
 use Rattle.typst_edits.specs.Standing.{StandingLaw}
-use Rattle.typst_grammar.proofs.FineRuns.{if_by, gives-run, after-shape-known}
+use Rattle.typst_grammar.proofs.FineRuns.{if_by, after-shape-known}
 use Rattle.typst_language.specs.Hand.{token_by, len_by}
 use Rattle.typst_edits.proofs.Positions.{CleanTree, clean-token, clean-made, clean-hand, Nowhere, Clean, Each, each-by, each-clean, each-move, each-append, each-hinted, each-less, each-plug}
 use Rattle.typst_edits.proofs.Complete.{Any, any-left, any-right, any-map, chosen}
+use Rattle.typst_edits.proofs.Gathering.{Parts, Given, AllHold, CallsHold, all-run, all-level}
 use Rattle.typst_edits.proofs.Law.{Ends}
 use Rattle.typst_edits.proofs.Seats.{Sits, Stood, then-sits, after-sits, last-sits, reshape-sits, each-reshaped, Goes, stood-flat, Lift, each-enclosed}
 use Rattle.typst_edits.specs.Standing.Stems.{from_unit, from_second}
@@ -19,19 +20,9 @@ pub record Stand {A : Type 0} (o : Outcome A) (cs ds : List (Spot A)) : Type 0 w
   pub nodes : Each (Stood o cs ds) 0 (forest o.nodes)
   pub known : Clean (pending o.state.known)
 
-abbrev pub Standing : {A : Type 0} → Meaning A → Spots A → Spots A → Type 0
-Standing m sp se = (z : Place) (s : Point) → Clean (pending s.known) → Stand (m z s) (sp z s) (se z s)
-
 stood-map : {A B : Type 0} (P : Spot A → Type 0) (Q : Spot B → Type 0) (f : Spot A → Spot B) → ((c : Spot A) → P c → Q (f c)) → (cs ds : List (Spot A)) → Any P cs ⊎ Any P ds → Any Q (map f cs) ⊎ Any Q (map f ds)
 stood-map P Q f g cs ds (inl h) = inl (any-map P Q f g cs h)
 stood-map P Q f g cs ds (inr h) = inr (any-map P Q f g ds h)
-
-pub stand-plain : {A : Type 0} (a : A) (s : Point) → Clean (pending s.known) → Stand (plain a s) [] []
-stand-plain a s h = record { nodes = tt; known = h }
-
-stand-if : {A : Type 0} (b : Bool) (x y : Outcome A) (cs es ds fs : List (Spot A)) → (b ≡ true → Stand x cs ds) → (b ≡ false → Stand y es fs) → Stand (if b then x else y) (if b then cs else es) (if b then ds else fs)
-stand-if true x y cs es ds fs h k = h refl
-stand-if false x y cs es ds fs h k = k refl
 
 -- ---- one after the other
 
@@ -100,65 +91,17 @@ stand-grown n None o cs ds a h = record {
   nodes = each-by (Stood o cs ds) _ 0 (forest o.nodes) (λ i q x. stood-flat (Sits o i q) (Sits (answered o.value.1 o) i q) (λ c. last_spot c ∷ []) (λ c s. inl (last-sits o i q c s)) cs ds x) h.nodes;
   known = h.known;
 }
-stand-grown {A} n (Some shape) o cs ds a h = record {
-  nodes = each-reshaped n p _ (map last_spot cs) (map last_spot ds) shape a lift (stand-last o cs ds h).nodes;
-  known = clean-shaped shape (inside n p) p.state h.known;
-}
-  where
-    p : Outcome A
-    p = answered o.value.1 o
+stand-grown {A} n (Some shape) o cs ds a h =
+    let p : Outcome A = answered o.value.1 o in
+    record {
+      nodes = each-reshaped n o _ cs ds shape a
+          (λ i j q r g x. stood-flat (Sits o i q) (Sits (reshaped shape n p) j r) (λ c. reshaped_spot shape n (last_spot c)) (λ c s. reshape-sits shape n p i j q r (last_spot c) (last-sits o i q c s) (g c s)) cs ds x) h.nodes;
+      known = clean-shaped shape (inside n o) o.state h.known;
+    }
 
-    pull : (Q : Spot A → Type 0) (es : List (Spot (Option Shape × A))) → Any Q (flat_map (λ c. reshaped_spot shape n c) (map last_spot es)) → Any Q (flat_map (λ c. reshaped_spot shape n (last_spot c)) es)
-    pull Q es x = subst (λ us. Any Q us) (maps es) x
-      where
-        maps : (es : List (Spot (Option Shape × A))) → flat_map (λ c. reshaped_spot shape n c) (map last_spot es) ≡ flat_map (λ c. reshaped_spot shape n (last_spot c)) es
-        maps [] = refl
-        maps (c ∷ es) = ap (λ us. reshaped_spot shape n (last_spot c) ++ us) (maps es)
-
-    both : (Q : Spot A → Type 0) → Any Q (flat_map (λ c. reshaped_spot shape n c) (map last_spot cs)) ⊎ Any Q (flat_map (λ c. reshaped_spot shape n c) (map last_spot ds))
-        → Any Q (flat_map (λ c. reshaped_spot shape n (last_spot c)) cs) ⊎ Any Q (flat_map (λ c. reshaped_spot shape n (last_spot c)) ds)
-    both Q (inl x) = inl (pull Q cs x)
-    both Q (inr x) = inr (pull Q ds x)
-
-    lift : (i j : ℕ) (q r : List ℕ) → Goes shape n p i j q r → Stood p (map last_spot cs) (map last_spot ds) i q
-        → Stood (reshaped shape n p) (flat_map (λ c. reshaped_spot shape n (last_spot c)) cs) (flat_map (λ c. reshaped_spot shape n (last_spot c)) ds) j r
-    lift i j q r g x = both (Sits (reshaped shape n p) j r) (stood-flat (Sits p i q) (Sits (reshaped shape n p) j r) (λ c. reshaped_spot shape n c) (λ c s. reshape-sits shape n p i j q r c s (g c s)) (map last_spot cs) (map last_spot ds) x)
-
--- ---- loops
-
-module _ {A : Type 0} (m : A → Meaning (Bool × A)) (sp se : A → Spots (Bool × A)) (h : (x : A) → Standing (m x) (sp x) (se x)) where
-  stand-turns : (n : ℕ) (x : A) → Standing (turns m n x) (turns_spots m sp n x) (turns_spots m se n x)
-  stand-turns zero x z s k = stand-plain x s k
-  stand-turns (suc n) x z s k =
-      let o = m x z s in
-      let w = moved o.taken z in
-      let first = h x z s k in
-      stand-if (goes o) (followed o (λ v. turns m n v.1) z) (as_last o) _ _ _ _
-      (λ _. stand-joined o (turns m n o.value.1 w o.state) (sp x z s) (se x z s) (turns_spots m sp n o.value.1 w o.state) (turns_spots m se n o.value.1 w o.state) first (stand-turns n o.value.1 w o.state first.known))
-      (λ _. stand-last o (sp x z s) (se x z s) first)
-
-  stand-nestings : (f : A → Shape) → ((a : A) → shape_by is_ordinary (f a) ≡ true) → (begin : Begin) (n : ℕ) (x : A) → Standing (nestings f begin m n x) (nestings_spots f begin m sp n x) (nestings_spots f begin m se n x)
-  stand-nestings f e begin zero x z s k = stand-plain x s k
-  stand-nestings f e begin (suc n) x z s k =
-      let o = m x z s in
-      let w = moved o.taken z in
-      let first = h x z s k in
-      let q = if goes o then followed o (λ v. nestings f begin m n v.1) z else as_last o in
-      stand-nest f (before begin s) q _ _ (e q.value)
-      (stand-if (goes o) (followed o (λ v. nestings f begin m n v.1) z) (as_last o) _ _ _ _
-      (λ _. stand-joined o (nestings f begin m n o.value.1 w o.state) (sp x z s) (se x z s) (nestings_spots f begin m sp n o.value.1 w o.state) (nestings_spots f begin m se n o.value.1 w o.state) first (stand-nestings f e begin n o.value.1 w o.state first.known))
-      (λ _. stand-last o (sp x z s) (se x z s) first))
-
-module _ {A : Type 0} (m : A → Meaning (Option Shape × A)) (sp se : A → Spots (Option Shape × A)) (h : (x : A) → Standing (m x) (sp x) (se x)) (e : (x : A) (z : Place) (s : Point) → if_by is_ordinary (m x z s).value.0 ≡ true) (n : ℕ) where
-  stand-growths : (k : ℕ) (o : Outcome A) (cs ds : List (Spot A)) (z : Place) → Stand o cs ds → Stand (growths m n k o z) (growths_spots m sp n k o cs z) (growths_spots m se n k o ds z)
-  stand-growths zero o cs ds z i = i
-  stand-growths (suc k) o cs ds z i =
-      let w = moved o.taken z in
-      let p = m o.value w o.state in
-      let all = grown n p.value.0 (answered p.value.1 (joined o p)) in
-      let j = stand-grown n p.value.0 (joined o p) (joined_spots o cs p (sp o.value w o.state)) (joined_spots o ds p (se o.value w o.state)) (e o.value w o.state)
-      (stand-joined o p cs ds (sp o.value w o.state) (se o.value w o.state) i (h o.value w o.state i.known)) in
-      stand-if (is_more p.value.0 && nat_lt 0 p.taken) (growths m n k all z) all _ _ _ _ (λ _. stand-growths k all _ _ z j) (λ _. j)
+clean-grown : {A : Type 0} (n : ℕ) (shape : Option Shape) (o : Outcome A) → Clean (pending o.state.known) → Clean (pending (grown n shape o).state.known)
+clean-grown n None o h = h
+clean-grown n (Some shape) o h = clean-shaped shape (inside n o) o.state h
 
 -- ---- a block
 
@@ -249,49 +192,6 @@ module _ (l : Level) where
   stand-done (marks mark) e z s h = record { nodes = tt; known = h }
   stand-done is_deepest e z s h = record { nodes = tt; known = h }
 
-  module _ (deep : (c : Call) → Spots (Answer c)) (in_block : Block → Spots (Unit {0})) (deep_seconds : (c : Call) → Spots (Answer c)) (seconds_inside : Block → Spots (Unit {0})) where
-    module _ (d : (c : Call) → Standing (l.deeper c) (deep c) (deep_seconds c))
-        (ends : (b : Block) (z : Place) (s : Point) → l.has b ≡ true → Ends b (l.blocks b z s))
-        (e : (b : Block) (z : Place) (s : Point) → l.has b ≡ true → Clean (pending s.known) → Mostly (l.blocks b z s) (in_block b z s) (seconds_inside b z s)) where
-      abbrev firsts : {A : Type 0} → Parser A → Spots A
-      firsts p = spots l deep in_block p
-
-      abbrev others : {A : Type 0} → Parser A → Spots A
-      others p = seconds l deep in_block deep_seconds seconds_inside p
-
-      pub stand-run : {A : Type 0} (p : Parser A) → PlainBy is_ordinary p → Standing (run l p) (firsts p) (others p)
-      unfolding run spots seconds repeated growing nesting repeated_spots growing_spots nesting_spots
-      stand-run (gives a) w z s h = stand-plain a s h
-      stand-run (does o) w z s h = stand-done o w z s h
-      stand-run (next p f) w z s h =
-          let o = run l p z s in
-          let v = moved o.taken z in
-          let k = stand-run p w.0 z s h in
-          stand-joined o (run l (f o.value) v o.state) (firsts p z s) (others p z s) (firsts (f o.value) v o.state) (others (f o.value) v o.state) k (stand-run (f o.value) (w.1 o.value) v o.state k.known)
-      stand-run (pick true p q) w z s h = stand-run p w.0 z s h
-      stand-run (pick false p q) w z s h = stand-run q w.1 z s h
-      stand-run (repeat p x) w z s h = stand-turns (λ y. run l (p y)) (λ y. firsts (p y)) (λ y. others (p y)) (λ y. stand-run (p y) (w y)) (suc (bound z s)) x z s h
-      stand-run (wraps f begin p) w z s h = stand-wrapped f (before begin s) (run l p z s) (firsts p z s) (others p z s) (gives-run l (λ a. shape_by is_ordinary (f a) ≡ true) p w.0 z s) (stand-run p w.1 z s h)
-      stand-run (grows begin p f) w z s h =
-          stand-growths (λ y. run l (f y)) (λ y. firsts (f y)) (λ y. others (f y)) (λ y. stand-run (f y) (w.1 y).1) (λ y. gives-run l (λ v. if_by is_ordinary v.0 ≡ true) (f y) (w.1 y).0) (before begin s) (suc (bound z s)) (run l p z s) (firsts p z s) (others p z s) z
-          (stand-run p w.0 z s h)
-      stand-run (nests f begin p x) w z s h = stand-nestings (λ y. run l (p y)) (λ y. firsts (p y)) (λ y. others (p y)) (λ y. stand-run (p y) (w.1 y)) f w.0 begin (suc (bound z s)) x z s h
-      stand-run (scoped f p) w z s h =
-          let t = entered (f s.reading) s in
-          stand-scoped s.reading (run l p z t) (firsts p z t) (others p z t) (stand-run p w z t h)
-      stand-run (either p is_wrong q) w z s h =
-          let o = run l p z s in
-          stand-if (is_wrong o.value) (given_up o (run l q z s)) o [] (firsts p z s) (firsts q z s ++ others q z s) (others p z s) (λ _. stand-given o (run l q z s) (firsts q z s) (others q z s) (stand-run q w.1 z s h)) (λ _. stand-run p w.0 z s h)
-      stand-run (calls c) w z s h = stand-sunk (l.deeper c z s) (deep c z s) (deep_seconds c z s) (d c z s h)
-      stand-run (block b) w z s h =
-          let o = done l flushes z s in
-          let v = moved o.taken z in
-          let m = bounded b (l.blocks b) in
-          stand-if (l.has b) (followed o (λ _. m) z) (plain tt s) _ [] _ []
-          (λ t. stand-joined o (m v o.state) [] [] (bounded_spots b (l.blocks b) (in_block b) v o.state) (map (closed_spot b o.state) (seconds_inside b v (forgot o.state))) (stand-done flushes refl z s h)
-          (stand-bounded b (l.blocks b) (in_block b) (seconds_inside b) v o.state (ends b v (forgot o.state) t) (e b v (forgot o.state) t tt)))
-          (λ _. stand-plain tt s h)
-
 -- ---- each node of a block's kind in the tree of a text is that of a spot, or of a second reading
 
 -- ---- a block's node around what stands in it
@@ -335,7 +235,32 @@ mostly-enclosed b n o cs ds h = record { nodes = by-end o.value (inr (own o.valu
 
 -- ---- blocks, by what is read one level deeper
 
-module _ (k : CharClasses) (levels : ℕ) (d : (c : Call) → Standing (meaning_of (rules k) k levels c) (call_spots (rules k) k levels c) (call_seconds (rules k) k levels c)) where
+abbrev CleanAt : Place → Point → Type 0
+CleanAt z s = Clean (pending s.known)
+
+abbrev LeavesClean : (A : Type 0) → Place → Point → Outcome A → Type 0
+LeavesClean A z s o = Clean (pending o.state.known)
+
+abbrev StandFor : (A : Type 0) → ℕ → Place → Point → Outcome A → List (Spot A) → List (Spot A) → Type 0
+StandFor A n z s o cs ds = Stand o cs ds
+
+stand-parts : Parts CleanAt LeavesClean StandFor (Unit {0}) is_ordinary
+stand-parts = record {
+  at_entered = λ z s r a. a;
+  at_end = λ A z s o g. g;
+  gone_grew = λ A z s i o p g h. clean-grown i p.value.0 (answered p.value.1 (joined o p)) h;
+  nothing = λ A n z s a m h. record { nodes = tt; known = h };
+  both = λ A B n z s o p cs ds es fs g h k. stand-joined o p cs ds es fs h k;
+  last_turn = λ A B n z s o cs ds h. stand-last o cs ds h;
+  in_wrap = λ A n z s f i o cs ds e h. stand-wrapped f i o cs ds (e tt) h;
+  in_growth = λ A n z s i shape o cs ds e h. stand-grown i shape o cs ds (e tt) h;
+  in_nest = λ A n z s f i o cs ds e h. stand-nest f i o cs ds (e tt) h;
+  in_scope = λ A n z s r o cs ds h. stand-scoped s.reading o cs ds h;
+  instead = λ A n z s o p cs ds h. stand-given o p cs ds h;
+  deeper = λ A n z s o cs ds h. stand-sunk o cs ds h;
+}
+
+module _ (k : CharClasses) (levels : ℕ) (d : CallsHold CleanAt LeavesClean StandFor (Unit {0}) is_ordinary (rules k) k levels) where
   abbrev inner : Level
   inner = blockless k levels (meaning_of (rules k) k levels)
 
@@ -344,6 +269,11 @@ module _ (k : CharClasses) (levels : ℕ) (d : (c : Call) → Standing (meaning_
 
   abbrev inner_others : {A : Type 0} → Parser A → Spots A
   inner_others p = seconds inner (call_spots (rules k) k levels) (λ c y t. []) (call_seconds (rules k) k levels) (λ c y t. []) p
+
+  stand-inner : {A : Type 0} (p : Parser A) → PlainBy is_ordinary p → AllHold CleanAt LeavesClean StandFor (Unit {0}) is_ordinary levels (run inner p) (inner_firsts p) (inner_others p)
+  stand-inner p w =
+      all-run CleanAt LeavesClean StandFor (Unit {0}) is_ordinary stand-parts inner (call_spots (rules k) k levels) (call_seconds (rules k) k levels) (λ c y t. []) (λ c y t. [])
+      (record { reads = λ A q z s a h. h.known; step = λ A o e. stand-done inner o (e tt); held = λ b t. absurd (cc) }) d p (λ u. w)
 
   mostly-node : (b : Block) (p : Parser Bool) → PlainBy is_ordinary p → (z : Place) (s : Point) → Clean (pending s.known) → Mostly (run inner (node (enclosing b) p) z s) (inner_firsts (node (enclosing b) p) z s) (inner_others (node (enclosing b) p) z s)
   unfolding run node spots seconds
@@ -354,7 +284,7 @@ module _ (k : CharClasses) (levels : ℕ) (d : (c : Call) → Standing (meaning_
       let q = run inner p v o.state in
       let n = before at_token o.state in
       mostly-after o _ [] [] _ _ first
-      (mostly-plain q.value (wrapped (enclosing b) n q) _ _ (mostly-enclosed b n q (inner_firsts p v o.state) (inner_others p v o.state) (stand-run inner (call_spots (rules k) k levels) (λ c y t. []) (call_seconds (rules k) k levels) (λ c y t. []) d (λ b z s t. absurd (cc)) (λ b z s t h. absurd (cc)) p w v o.state first.known)))
+      (mostly-plain q.value (wrapped (enclosing b) n q) _ _ (mostly-enclosed b n q (inner_firsts p v o.state) (inner_others p v o.state) (stand-inner p w v o.state first.known)))
 
   mostly-block : (b : Block) (z : Place) (s : Point) → Clean (pending s.known) → Mostly (blocks_of (rules k) k levels (meaning_of (rules k) k levels) b z s) (block_spots (rules k) k levels b z s) (block_seconds (rules k) k levels b z s)
   unfolding run spots seconds content_block code_block
@@ -369,22 +299,26 @@ module _ (k : CharClasses) (levels : ℕ) (d : (c : Call) → Standing (meaning_
       let first = stand-done inner hand refl z s h in
       mostly-after o _ [] [] _ _ first (mostly-plain tt (run inner (node (enclosing block.Code) inside_code) v o.state) _ _ (mostly-node block.Code inside_code ordinary-code v o.state first.known))
 
-  stand-level : {A : Type 0} (p : Parser A) → PlainBy is_ordinary p → Standing (run (level_of (rules k) k levels) p) (level_spots (rules k) k levels p) (level_seconds (rules k) k levels p)
-  stand-level p w =
-      stand-run (level_of (rules k) k levels) (call_spots (rules k) k levels) (block_spots (rules k) k levels) (call_seconds (rules k) k levels) (block_seconds (rules k) k levels) d
-      (λ b z s t. ends k levels b t z s) (λ b z s t h. mostly-block b z s h) p w
+  stand-given_by : Given CleanAt LeavesClean StandFor (Unit {0}) is_ordinary (level_of (rules k) k levels) (call_spots (rules k) k levels) (call_seconds (rules k) k levels) (block_spots (rules k) k levels) (block_seconds (rules k) k levels)
+  stand-given_by = record {
+    reads = λ A p z s a h. h.known;
+    step = λ A o e. stand-done (level_of (rules k) k levels) o (e tt);
+    held = λ b t z s a.
+        (let o = done (level_of (rules k) k levels) flushes z s in
+        let v = moved o.taken z in
+        let m = blocks_of (rules k) k levels (meaning_of (rules k) k levels) b in
+        stand-joined o (bounded b m v o.state) [] [] (bounded_spots b m (block_spots (rules k) k levels b) v o.state) (map (closed_spot b o.state) (block_seconds (rules k) k levels b v (forgot o.state)))
+        (stand-done (level_of (rules k) k levels) flushes refl z s a) (stand-bounded b m (block_spots (rules k) k levels b) (block_seconds (rules k) k levels b) v o.state (ends k levels b t v (forgot o.state)) (mostly-block b v (forgot o.state) tt)));
+  }
 
-module _ (k : CharClasses) where
-  stand-call : (levels : ℕ) (c : Call) → Standing (meaning_of (rules k) k levels c) (call_spots (rules k) k levels c) (call_seconds (rules k) k levels c)
-  unfolding meaning_of call_spots call_seconds
-  stand-call zero c z s h = record { nodes = tt; known = h }
-  stand-call (suc levels) c z s h = stand-level k levels (stand-call levels) (production k c) (ordinary-production k c) z s h
+stand-whole : (k : CharClasses) (z : Place) (s : Point) → Clean (pending s.known) → Stand (run (level_of (rules k) k max_depth) whole z s) (level_spots (rules k) k max_depth whole z s) (level_seconds (rules k) k max_depth whole z s)
+stand-whole k = all-level CleanAt LeavesClean StandFor (Unit {0}) is_ordinary stand-parts (rules k) k (λ c u. ordinary-production k c) (stand-given_by k) max_depth whole (λ u. ordinary-whole)
 
 -- ---- of a text
 
 pub standing-law : StandingLaw
 unfolding blocks_of_text seconds_of_text
-standing-law k text hole x e b = said (each-plug (Stood o cs ds) hole x b (subst (λ ts. Each (Stood o cs ds) 0 (forest ts)) e (stand-level k max_depth (stand-call k max_depth) whole ordinary-whole z s tt).nodes))
+standing-law k text hole x e b = said (each-plug (Stood o cs ds) hole x b (subst (λ ts. Each (Stood o cs ds) 0 (forest ts)) e (stand-whole k z s tt).nodes))
   where
     z : Place
     z = start_of text

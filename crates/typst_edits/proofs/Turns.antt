@@ -1,17 +1,17 @@
 -- Each expression of markup begins by taking the token at hand, so everything after some pieces is the same, except for the trivia before it.
-use Rattle.std.proofs.Common.{◌≡◌, ℕ, zero, suc, ◌+◌, ◌-◌, ◌<◌, ◌≤◌, Bool, true, false, ◌||◌, if◌then◌else◌, nat_lt, List, [], ◌∷◌, ◌++◌, length, take, drop, map, length-append, append_assoc, Some, refl, ap, sym, ◌∙◌, subst, arith, ◌&&◌, ◌==◌, Option}
-use Rattle.typst_edits.proofs.Words.{map-append, SyntaxKind, is_error, Place, moved, Tree, text_of, Look, Call, Reading, Ask, shift, shift_one, sunk, SameIn, looked, as_at_hand, len_at, hand_at, hand_asks, asks_column, column_look, AtHand, column_at, Trivia, Point, Making, hinted, Shape, shaped, after_shape, after_node, seen, encloses, peek, eat_making, eat, flush_trivia, node, unexpected, within, Parser, ◌>>=◌, ◌>>◌, at_token, column, takes, does, next, wraps, scoped, calls, gives, pick, repeat, Outcome, Meaning, Level, plain, less, standing, joined, followed, inside, wrapped, renewed, left, taken_node, run, answered, as_last, repeated, hand_of, hand_asks_of, asked, flushed_state, Tidy, Backs, Within, moved-sum, less-none, length-less, less-append, lt-ltb, Block, MarkupExpr, Newlines, anywhere, too_deep, deeper, is_end, itself, surprise, of_kind, hand-takes, Sane, sane-run, same_in-first, ends, note_piece, markup_turn, markup_head, markup_by, markup_expr, minds, goes, left-empties, length-hinted, hinted-append, MarkupHead}
+use Rattle.std.proofs.Common.{◌≡◌, ℕ, ◌+◌, ◌-◌, ◌<◌, ◌≤◌, Bool, true, false, ◌||◌, if◌then◌else◌, nat_lt, List, [], ◌∷◌, ◌++◌, length, take, drop, map, length-append, append_assoc, Some, refl, ap, sym, ◌∙◌, subst, arith, ◌&&◌, ◌==◌, Option}
+use Rattle.std.proofs.Math.Seq.{drop-append_seam}
+use Rattle.typst_edits.proofs.Words.{take-append_seam, map-append, SyntaxKind, is_error, Place, moved, Tree, text_of, Look, Call, Reading, Ask, shift, shift_one, sunk, SameIn, looked, as_at_hand, len_at, hand_at, hand_asks, asks_column, column_look, AtHand, column_at, Trivia, Point, Making, hinted, Shape, shaped, after_shape, after_node, seen, peek, eat_making, eat, flush_trivia, node, unexpected, within, Parser, ◌>>=◌, ◌>>◌, at_token, column, takes, does, next, wraps, scoped, calls, gives, pick, repeat, Outcome, Meaning, Level, plain, less, standing, joined, followed, inside, wrapped, renewed, left, taken_node, run, answered, as_last, repeated, hand_of, hand_asks_of, asked, flushed_state, Tidy, Backs, Within, moved-sum, less-none, length-less, less-append, lt-ltb, Block, MarkupExpr, Newlines, anywhere, too_deep, deeper, is_end, itself, surprise, of_kind, hand-takes, Sane, sane-run, same_in-first, ends, note_piece, markup_turn, markup_head, markup_by, markup_expr, minds, goes, left-empties, length-hinted, hinted-append, MarkupHead, if-true, if-false}
 use Rattle.typst_language.specs.Hand.{judged}
 use Rattle.typst_language.specs.Steps.{convert_and_eat}
 use Rattle.typst_language.proofs.Places.{take-all}
-use Rattle.typst_grammar.specs.Markup.{delimited, emphasized, heading, item, term_item, reference, strong, emph}
+use Rattle.typst_grammar.specs.Markup.{delimited, heading, item, term_item, reference}
 use Rattle.typst_edits.proofs.Fronts.{Full, full-append, full-less, full-hinted, full-shaped, few-node, few-shaped, full-taken}
 use Rattle.typst_edits.proofs.Outcomes.{shift-zero, shift-twice, sunk-shift, hints-first}
 use Rattle.typst_grammar.specs.Embedded.{embedded}
 use Rattle.typst_grammar.specs.Equations.{between_dollars, equation}
 use Rattle.typst_edits.proofs.Runs.{repeated-chain}
 use Rattle.typst_edits.proofs.Known.{flushed-held}
-use Rattle.typst_edits.proofs.Spots.{if-true, if-false}
 use Rattle.typst_kinds.specs.declared.kind.SyntaxKind.TheVariants as kind
 use Rattle.typst_grammar.specs.head.MarkupHead.TheVariants as head
 
@@ -45,14 +45,10 @@ less-behind n xs ys h =
     less-append n xs ys ∙ ap (λ j. less j xs ++ less n ys) e ∙ ap (λ u. u ++ less n ys) (less-none xs)
 
 pub drop-front : {A : Type 0} (xs ys : List A) (n : ℕ) → n ≡ length xs → drop n (xs ++ ys) ≡ ys
-drop-front [] ys n e = ap (λ j. drop j ys) e
-drop-front (x ∷ xs) ys zero e = absurd (omega (arith, e))
-drop-front (x ∷ xs) ys (suc n) e = drop-front xs ys n (omega (arith, e))
+drop-front xs ys n e = ap (λ j. drop j (xs ++ ys)) e ∙ drop-append_seam xs ys
 
 pub take-front : {A : Type 0} (xs ys : List A) (n : ℕ) → n ≡ length xs → take n (xs ++ ys) ≡ xs
-take-front [] ys n e = ap (λ j. take j ys) e
-take-front (x ∷ xs) ys zero e = absurd (omega (arith, e))
-take-front (x ∷ xs) ys (suc n) e = ap (λ u. x ∷ u) (take-front xs ys n (omega (arith, e)))
+take-front xs ys n e = ap (λ j. take j (xs ++ ys)) e ∙ take-append_seam xs ys
 
 pub none-of : (b c : Bool) (hs js : List (List ℕ)) → hs ≡ [] → js ≡ [] → (if b then hs else (if c then js else hs ++ js)) ≡ []
 none-of true c hs js e f = e
@@ -107,8 +103,7 @@ led-joined t us trims o c q h tidy =
         rest = hinted q.hints (less q.back h.front.rest) ++ q.nodes;
         nodes = standing-led t.nodes h.front.rest o q h.front.nodes short;
         nodes_too = standing-led us h.front.rest c q h.front.nodes_too short;
-        asks = ap (λ ls. ls ++ shift o.taken q.asks) h.front.asks ∙ ap (λ n. shift t.gap c.asks ++ shift n q.asks) h.front.taken
-            ∙ ap (λ ls. shift t.gap c.asks ++ ls) (sym (shift-twice t.gap c.taken q.asks)) ∙ sym (map-append (shift_one t.gap) c.asks (shift c.taken q.asks));
+        asks = simp (h.front.asks, h.front.taken, map-append, shift-twice);
         met = ap (λ b. b || q.met) h.front.met;
       };
       some = omega (arith, h.some);
@@ -122,8 +117,7 @@ pub led-then : {A B : Type 0} (t : Trivia) (us : List Tree) (trims : Bool) (z : 
 led-then t us trims z o c f tidy h =
     let w = moved t.gap z in
     let there : moved o.taken z ≡ moved c.taken w = ap (λ n. moved n z) h.front.taken ∙ moved-sum t.gap c.taken z in
-    let same : f o.value (moved o.taken z) o.state ≡ f c.value (moved c.taken w) c.state =
-    ap (λ v. f v (moved o.taken z) o.state) h.front.value ∙ ap (λ y. f c.value y o.state) there ∙ ap (f c.value (moved c.taken w)) h.state in
+    let same : f o.value (moved o.taken z) o.state ≡ f c.value (moved c.taken w) c.state = (λ v. f (h.front.value v) (there v) (h.state v)) in
     subst (λ q. Led t us trims (joined o q) (joined c (f c.value (moved c.taken w) c.state))) (sym same) (led-joined t us trims o c _ h (tidy c.value (moved c.taken w) c.state))
 
 -- after a question
@@ -353,51 +347,12 @@ module _ (l : Level) (sd : (c : Call) → Sane (l.deeper c)) (sb : (b : Block) �
     unfolding unexpected
     takes-unexpected hints = takes-making true (surprise hints)
 
-    takes-delimited : (k : SyntaxKind) (stops : SyntaxKind → Bool) (d : SyntaxKind) (warning hint : List ℕ) → Takes h z t u false (run l (delimited k stops d warning hint))
-    unfolding delimited
-    takes-delimited k stops d warning hint =
-        takes-within _ _ (goes-on false (node (emphasized k warning hint) _) _ (takes-node (emphasized k warning hint) _ (goes-on false eat _ takes-eat)))
-
-    takes-heading : Takes h z t u false (run l heading)
-    unfolding heading
-    takes-heading = takes-within _ _ (takes-node _ _ (goes-on false eat _ takes-eat))
-
-    takes-item : (k : SyntaxKind) → Takes h z t u false (run l (item k))
-    unfolding item
-    takes-item k = takes-column l h z t u alike false _ (λ here. takes-within _ _ (takes-node _ _ (goes-on false eat _ takes-eat)))
-
-    takes-term : Takes h z t u false (run l term_item)
-    unfolding term_item
-    takes-term = takes-column l h z t u alike false _ (λ here. takes-within _ _ (takes-node _ _ (goes-on false _ _ (takes-within _ _ (goes-on false eat _ takes-eat)))))
-
-    takes-reference : Takes h z t u false (run l reference)
-    unfolding reference
-    takes-reference = takes-node _ _ (goes-on false eat _ takes-eat)
-
-    takes-embedded : Takes h z t u false (run l embedded)
-    unfolding embedded
-    takes-embedded = takes-within _ _ (goes-on false eat _ takes-eat)
-
-    takes-equation : Takes h z t u false (run l equation)
-    unfolding equation between_dollars
-    takes-equation = goes-on false (node (encloses kind.Equation) _) _ (takes-node (encloses kind.Equation) _ (takes-within _ _ (goes-on false eat _ takes-eat)))
-
+    -- a production is opened here
     takes-by : (nesting : ℕ) (x : MarkupHead) → Takes h z t u (minds x) (run l (markup_by nesting x))
-    takes-by nesting head.Itself = goes-on false eat _ takes-eat
-    takes-by nesting head.Opening = goes-on false _ _ (takes-convert kind.Text)
-    takes-by nesting head.Closing = goes-on false _ _ (takes-convert kind.Text)
+    unfolding delimited heading item term_item reference embedded between_dollars equation
     takes-by nesting head.Stray = goes-on true _ _ (takes-unexpected _)
-    takes-by nesting head.Strong = goes-on false strong _ (takes-delimited _ _ _ _ _)
-    takes-by nesting head.Emph = goes-on false emph _ (takes-delimited _ _ _ _ _)
-    takes-by nesting head.Heading = goes-on false _ _ takes-heading
-    takes-by nesting head.ListItem = goes-on false _ _ (takes-item kind.ListItem)
-    takes-by nesting head.EnumItem = goes-on false _ _ (takes-item kind.EnumItem)
-    takes-by nesting head.TermItem = goes-on false _ _ takes-term
-    takes-by nesting head.Reference = goes-on false _ _ takes-reference
-    takes-by nesting head.Embedded = goes-on false embedded _ takes-embedded
-    takes-by nesting head.Equation = goes-on false equation _ takes-equation
-    takes-by nesting head.Plain = goes-on false _ _ (takes-convert kind.Text)
-    takes-by nesting head.Unexpected = goes-on true _ _ (takes-unexpected [])
+    takes-by nesting head.Unexpected = goes-on true _ _ (takes-unexpected _)
+    takes-by nesting _ = search (goes-on, takes-node, takes-within, takes-column l h z t u alike, takes-eat, takes-convert) depth 40 fits 4000
 
     -- one expression
     pub takes-expr : (at_start : Bool) (nesting : ℕ) → Takes h z t u (minds (markup_head at_start nesting (hand_at l.classes h (Some t) z).kind)) (run l (markup_expr at_start nesting))
@@ -549,10 +504,8 @@ module _ (l : Level) (stops : SyntaxKind → Bool) (taking : Taking l stops) whe
           rest = [];
           nodes = ap (λ ts. ts ++ []) (less-none t.nodes);
           nodes_too = ap (λ ts. ts ++ []) (less-none u.nodes);
-          asks = ap (λ ls. ls ++ shift t.gap (hand_asks l.classes (flushed_state old s).held (none t) w ++ [])) (asks-behind l h z t u alike)
-              ∙ ap (λ g. shift t.gap (hand_asks_of l w y) ++ shift t.gap (hand_asks l.classes g (none t) w ++ [])) held
-              ∙ ap (λ ls. shift t.gap (hand_asks_of l w y) ++ shift t.gap (ls ++ [])) last_is
-              ∙ ap (λ g. shift t.gap (hand_asks_of l w y) ++ shift t.gap (hand_asks l.classes g (none u) w ++ [])) (sym held_now)
+          asks = (λ v. asks-behind l h z t u alike v ++ shift t.gap (hand_asks l.classes (held v) (none t) w ++ []))
+              ∙ (λ v. shift t.gap (hand_asks_of l w y) ++ shift t.gap ((last_is ∙ ap (λ g. hand_asks l.classes g (none u) w) (sym held_now)) v ++ []))
               ∙ ap (λ ls. shift t.gap (hand_asks_of l w y) ++ shift t.gap ls) (sym (shift-zero (hand_asks l.classes (flushed_state new y).held (none u) w ++ [])))
               ∙ sym (map-append (shift_one t.gap) (hand_asks_of l w y) (shift 0 (hand_asks l.classes (flushed_state new y).held (none u) w ++ [])));
           met = refl;

@@ -2,7 +2,6 @@
 use Rattle.std.proofs.Common.{◌≡◌, ℕ, zero, suc, List, [], ◌∷◌, ◌++◌, drop, take, Some, ap, sym, ◌∙◌, subst, arith}
 use Rattle.typst_edits.proofs.Words.{slice_get, CharClasses, Tree, forest, trees, At, Reaches, replaced_at, trees_forest, width, Candidate, tree, with_children, alter, Every, Gives, OpensApartLaw, append_cancel_left, append_cancel_right, part}
 use Rattle.typst_edits.specs.Answer.IsAnswer.{whole}
-use Rattle.std.specs.declared.ops.Range.{Range}
 use Rattle.typst_edits.specs.Answer.{Refused}
 use Rattle.typst_edits.specs.Unique.{UniqueLaw, OneAnswerLaw}
 use Rattle.typst_edits.proofs.AnswerTree.{chosen-of, gives-tree-law, some-is}
@@ -10,8 +9,6 @@ use Rattle.typst_edits.proofs.CandidateWorth.{in-order, reached}
 use Rattle.typst_edits.proofs.Edit.{among}
 use Rattle.typst_edits.proofs.Replaced.{put-law}
 use Rattle.typst_edits.proofs.Every.{first_or}
-
--- ---- lists
 
 -- ---- the same tree by nodes in the same place
 
@@ -50,9 +47,6 @@ module _ (apart : OpensApartLaw) (k : CharClasses) (front old new rest : List �
   not-refused : (c : Candidate) (ts : List Tree) (now : Tree) → Gives k front old new rest c ts → replaced_at c.path c.from c.to ts root ≡ Some now → Refused k front old new rest root c → ⊥
   not-refused c ts now gives is refused = absurd (let no = sym is ∙ refused ts gives in cc)
 
-  range-is : (range another : Range ℕ) → range.start ≡ another.start → range.end ≡ another.end → range ≡ another
-  range-is range another start end = λ i. record { start = start i; end = end i }
-
 pub one-answer-law : OpensApartLaw → OneAnswerLaw
 one-answer-law apart k front old new rest root now other range another same (part es c ls ts split refused gives is start end) (part fs d ms us split_other refused_other gives_other is_other start_other end_other) =
     let one : c ≡ d = first-one (Refused k front old new rest root) es c ls fs d ms (sym split ∙ split_other) refused refused_other (not-refused apart k front old new rest root c ts now gives is) (not-refused apart k front old new rest root d us other gives_other is_other) in
@@ -60,7 +54,9 @@ one-answer-law apart k front old new rest root now other range another same (par
     let placed : replaced_at c.path c.from c.to ts root ≡ replaced_at d.path d.from d.to us root = λ i. replaced_at (one i).path (one i).from (one i).to (nodes i) root in
     let from = ap (λ (b : Candidate). b.start) one in
     let to = ap (λ (b : Candidate). b.end) one in
-    (some-is now other (sym is ∙ placed ∙ is_other), range-is apart k front old new rest root range another (start ∙ from ∙ sym start_other) (omega (arith, to, end, end_other)))
+    let starts : range.start ≡ another.start = start ∙ from ∙ sym start_other in
+    let ends : range.end ≡ another.end = omega (arith, to, end, end_other) in
+    (some-is now other (sym is ∙ placed ∙ is_other), (λ i. record { start = starts i; end = ends i }))
 one-answer-law apart k front old new rest root now other range another same (part es c ls ts split refused gives is start end) (whole refused_other is_other bytes_other) =
     absurd (not-refused apart k front old new rest root c ts now gives is (among (Refused k front old new rest root) c _ (chosen-of _ es c ls split) refused_other))
 one-answer-law apart k front old new rest root now other range another same (whole refused is bytes) (part fs d ms us split_other refused_other gives_other is_other start_other end_other) =

@@ -1,11 +1,12 @@
 -- Where the blocks of a second reading begin, no block is noted.
-use Rattle.std.proofs.Common.{◌≡◌, ◌⊎◌, inl, inr, ℕ, zero, suc, ◌+◌, ◌<◌, ◌≤◌, Bool, true, false, ◌&&◌, if◌then◌else◌, nat_lt, List, [], ◌∷◌, ◌++◌, length, map, drop, append-nil, Option, Some, None, refl, ap, sym, ◌∙◌, subst, arith}
-use Rattle.typst_edits.proofs.Words.{flat_map, Place, moved, Block, Ask, shift, shift_one, sunk, sink_one, only_looks, looked, marked, Call, Answer, Outcome, Meaning, Level, joined, answered, followed, turns, as_last, bound, repeated, before, grown, is_more, growths, growing, nestings, nesting, bounded, given_up, entered, plain, hand_asks_of, done, run, blockless, asked, hand_of, start_point, Point, state_of, forgot, SyntaxKind, Shape, after_shape, seen, NodeChange, Op, Begin, Parser, ◌>>◌, hand, so, further, column, erred, takes, takes_so, flushes, complains, advises, marks, is_deepest, gives, does, next, pick, repeat, wraps, grows, nests, scoped, either, calls, block, ahead-left, Hole, plug, wrap_hole, opened, Spots, joined_spots, goes, last_spot, turns_spots, repeated_spots, reshaped_spot, wrapped_spot, grown_spot, growths_spots, growing_spots, nestings_spots, nesting_spots, scoped_spot, bounded_spots, spots, call_spots, block_spots, level_spots, Spot, block_head, valued, then_spot, after_spot, rehole, sunk_spot, closed_spot, seconds, call_seconds, block_seconds, level_seconds, seconds_of_text, place_of, CharClasses, Reading, AtHand, as_at_hand, meaning_of, level_of, keeps, holds, lacks, warns, fails, itself, stays, turns_wrong, is_not, renamed, unparened, peek, eat, eat_making, node, at_token, rules, max_depth, start_of, whole, production, block_production, markup_reading, content_block, code_block, change_by, shape_by, is_ordinary, block_at, op_by, PlainBy, ordinary-whole, ordinary-production, ordinary-content, ordinary-code, inside_content, inside_code}
+use Rattle.std.proofs.Common.{◌≡◌, ◌⊎◌, inl, inr, ℕ, ◌+◌, ◌<◌, ◌≤◌, Bool, true, false, ◌&&◌, List, [], ◌∷◌, ◌++◌, length, map, drop, append-nil, Option, Some, None, refl, ap, sym, ◌∙◌, subst, arith}
+use Rattle.typst_edits.proofs.Words.{flat_map, Place, moved, Block, Ask, shift, shift_one, sunk, sink_one, only_looks, looked, marked, Call, Answer, Outcome, Meaning, Level, joined, answered, before, grown, bounded, given_up, entered, hand_asks_of, done, run, blockless, asked, hand_of, start_point, Point, state_of, forgot, SyntaxKind, Shape, after_shape, seen, NodeChange, Op, Begin, Parser, ◌>>◌, hand, so, further, column, erred, takes, takes_so, flushes, complains, advises, marks, is_deepest, does, next, wraps, scoped, block, ahead-left, Hole, plug, wrap_hole, opened, Spots, joined_spots, last_spot, reshaped_spot, wrapped_spot, grown_spot, scoped_spot, bounded_spots, call_spots, block_spots, level_spots, Spot, block_head, valued, then_spot, after_spot, rehole, sunk_spot, closed_spot, seconds, call_seconds, block_seconds, level_seconds, seconds_of_text, place_of, CharClasses, Reading, AtHand, as_at_hand, meaning_of, level_of, keeps, holds, lacks, warns, fails, itself, stays, turns_wrong, is_not, renamed, unparened, peek, eat, eat_making, node, at_token, rules, max_depth, start_of, whole, production, block_production, markup_reading, content_block, code_block, change_by, shape_by, is_ordinary, block_at, op_by, PlainBy, ordinary-whole, ordinary-production, ordinary-content, ordinary-code, inside_content, inside_code, cases_lt}
 use Rattle.typst_edits.specs.Standing.{UnnotedLaw}
 use Rattle.typst_grammar.proofs.FineRuns.{gives-all, plain-weaker}
+use Rattle.typst_edits.proofs.Gathering.{Parts, Given, CallsHold, all-run, all-level}
 use Rattle.typst_edits.proofs.Complete.{opened-append, opened-by, opens-shift, opens-sink, opened-looks, opened-hand}
 use Rattle.typst_edits.proofs.Every.{Every, every-append, every-by, every-map, every-flat, every-any}
-use Rattle.typst_grammar.proofs.CodeMoves.{moves-inside}
+use Rattle.typst_grammar.proofs.Firsts.{moves-inside}
 use Rattle.typst_grammar.proofs.Moves.{Moves, left-again, moves-next, moves-takes, moves-eat, moves-scoped, moves-wraps, moves-node}
 use Rattle.typst_edits.proofs.Blocks.{enclosing}
 use Rattle.typst_edits.proofs.Rising.{hand-some as some-hand}
@@ -34,15 +35,8 @@ pub record Splits {A : Type 0} (z : Place) (taken : ℕ) (asks : List Ask) (cs d
 abbrev pub Split : {A : Type 0} → Place → Outcome A → List (Spot A) → List (Spot A) → Type 0
 Split z o cs ds = Splits z o.taken o.asks cs ds
 
-abbrev pub AllSplit : {A : Type 0} → Meaning A → Spots A → Spots A → Type 0
-AllSplit m sp se = (z : Place) (s : Point) → Split z (m z s) (sp z s) (se z s)
-
 pub split-none : {A : Type 0} (z : Place) (n : ℕ) (asks : List Ask) → opened asks ≡ [] → Splits {A = A} z n asks [] []
 split-none z n asks e = record { firsts = tt; others = tt; notes = subst (λ u. Every (λ ask. Early z n (place_of ask)) u) (sym e) tt; differ = tt }
-
-split-if : {A : Type 0} (z : Place) (b : Bool) (x y : Outcome A) (cs es ds fs : List (Spot A)) → (b ≡ true → Split z x cs ds) → (b ≡ false → Split z y es fs) → Split z (if b then x else y) (if b then cs else es) (if b then ds else fs)
-split-if z true x y cs es ds fs h k = h refl
-split-if z false x y cs es ds fs h k = k refl
 
 -- spots that begin where others do
 split-flat : {A B : Type 0} (z : Place) (n : ℕ) (asks : List Ask) (f : Spot A → List (Spot B)) → ((P : ℕ → Type 0) (c : Spot A) → P c.at → EveryAt P (f c)) → (cs ds : List (Spot A)) → Splits z n asks cs ds → Splits z n asks (flat_map f cs) (flat_map f ds)
@@ -152,40 +146,6 @@ split-grown : {A : Type 0} (z : Place) (n : ℕ) (shape : Option Shape) (o : Out
 split-grown z n None o cs ds h = split-flat z o.taken o.asks (λ c. last_spot c ∷ []) (λ P c p. (p, tt)) cs ds h
 split-grown z n (Some shape) o cs ds h = split-flat z o.taken o.asks (λ c. reshaped_spot shape n (last_spot c)) (λ P c p. reshaped-at shape n P (last_spot c) p) cs ds h
 
--- ---- loops
-
-module _ {A : Type 0} (m : A → Meaning (Bool × A)) (sp se : A → Spots (Bool × A)) (h : (x : A) → AllSplit (m x) (sp x) (se x)) where
-  split-turns : (n : ℕ) (x : A) → AllSplit (turns m n x) (turns_spots m sp n x) (turns_spots m se n x)
-  split-turns zero x z s = split-none z 0 [] refl
-  split-turns (suc n) x z s =
-      let o = m x z s in
-      let w = moved o.taken z in
-      split-if z (goes o) (followed o (λ v. turns m n v.1) z) (as_last o) _ _ _ _
-      (λ _. split-joined z o (turns m n o.value.1 w o.state) (sp x z s) (se x z s) (turns_spots m sp n o.value.1 w o.state) (turns_spots m se n o.value.1 w o.state) (h x z s) (split-turns n o.value.1 w o.state))
-      (λ _. split-map z o.taken o.asks last_spot (λ P c p. p) (sp x z s) (se x z s) (h x z s))
-
-  split-nestings : (f : A → Shape) (begin : Begin) (n : ℕ) (x : A) → AllSplit (nestings f begin m n x) (nestings_spots f begin m sp n x) (nestings_spots f begin m se n x)
-  split-nestings f begin zero x z s = split-none z 0 [] refl
-  split-nestings f begin (suc n) x z s =
-      let o = m x z s in
-      let w = moved o.taken z in
-      let q = if goes o then followed o (λ v. nestings f begin m n v.1) z else as_last o in
-      split-flat z q.taken q.asks (λ c. reshaped_spot (f c.value) (before begin s) c) (λ P c p. reshaped-at (f c.value) (before begin s) P c p) _ _
-      (split-if z (goes o) (followed o (λ v. nestings f begin m n v.1) z) (as_last o) _ _ _ _
-      (λ _. split-joined z o (nestings f begin m n o.value.1 w o.state) (sp x z s) (se x z s) (nestings_spots f begin m sp n o.value.1 w o.state) (nestings_spots f begin m se n o.value.1 w o.state) (h x z s) (split-nestings f begin n o.value.1 w o.state))
-      (λ _. split-map z o.taken o.asks last_spot (λ P c p. p) (sp x z s) (se x z s) (h x z s)))
-
-module _ {A : Type 0} (m : A → Meaning (Option Shape × A)) (sp se : A → Spots (Option Shape × A)) (h : (x : A) → AllSplit (m x) (sp x) (se x)) (n : ℕ) where
-  split-growths : (k : ℕ) (o : Outcome A) (cs ds : List (Spot A)) (z : Place) → Split z o cs ds → Split z (growths m n k o z) (growths_spots m sp n k o cs z) (growths_spots m se n k o ds z)
-  split-growths zero o cs ds z i = i
-  split-growths (suc k) o cs ds z i =
-      let w = moved o.taken z in
-      let p = m o.value w o.state in
-      let all = grown n p.value.0 (answered p.value.1 (joined o p)) in
-      let j = split-grown z n p.value.0 (joined o p) (joined_spots o cs p (sp o.value w o.state)) (joined_spots o ds p (se o.value w o.state))
-      (split-joined z o p cs ds (sp o.value w o.state) (se o.value w o.state) i (h o.value w o.state)) in
-      split-if z (is_more p.value.0 && nat_lt 0 p.taken) (growths m n k all z) all _ _ _ _ (λ _. split-growths k all _ _ z j) (λ _. j)
-
 -- ---- a reading that was given up, a level, a block
 
 split-given : {A : Type 0} (z : Place) (o p : Outcome A) (cs ds : List (Spot A)) → Split z p cs ds → Split z (given_up o p) [] (cs ++ ds)
@@ -268,52 +228,6 @@ module _ (l : Level) where
   opened-done (marks (mark.Opens b)) e z s = absurd (cc)
   opened-done (marks mark.Closes) e z s = refl
   opened-done is_deepest e z s = refl
-
-  module _ (deep : (c : Call) → Spots (Answer c)) (in_block : Block → Spots (Unit {0})) (deep_seconds : (c : Call) → Spots (Answer c)) (seconds_inside : Block → Spots (Unit {0})) where
-    module _ (d : (c : Call) → AllSplit (l.deeper c) (deep c) (deep_seconds c)) (e : (b : Block) (z : Place) (s : Point) → l.has b ≡ true → Begins z (l.blocks b z (forgot s)) (in_block b z (forgot s)) (seconds_inside b z (forgot s))) where
-      abbrev firsts_of : {A : Type 0} → Parser A → Spots A
-      firsts_of p = spots l deep in_block p
-
-      abbrev others_of : {A : Type 0} → Parser A → Spots A
-      others_of p = seconds l deep in_block deep_seconds seconds_inside p
-
-      pub split-run : {A : Type 0} (p : Parser A) → PlainBy anything p → AllSplit (run l p) (firsts_of p) (others_of p)
-      unfolding run spots seconds repeated growing nesting repeated_spots growing_spots nesting_spots
-      split-run (gives a) w z s = split-none z 0 [] refl
-      split-run (does o) w z s = split-none z (done l o z s).taken (done l o z s).asks (opened-done o w z s)
-      split-run (next p f) w z s =
-          let o = run l p z s in
-          let v = moved o.taken z in
-          split-joined z o (run l (f o.value) v o.state) (firsts_of p z s) (others_of p z s) (firsts_of (f o.value) v o.state) (others_of (f o.value) v o.state) (split-run p w.0 z s) (split-run (f o.value) (w.1 o.value) v o.state)
-      split-run (pick true p q) w z s = split-run p w.0 z s
-      split-run (pick false p q) w z s = split-run q w.1 z s
-      split-run (repeat p x) w z s = split-turns (λ y. run l (p y)) (λ y. firsts_of (p y)) (λ y. others_of (p y)) (λ y. split-run (p y) (w y)) (suc (bound z s)) x z s
-      split-run (wraps f begin p) w z s =
-          let o = run l p z s in
-          split-flat z o.taken o.asks (wrapped_spot f (before begin s)) (λ P c q. wrapped-at f (before begin s) P c q) (firsts_of p z s) (others_of p z s) (split-run p w.1 z s)
-      split-run (grows begin p f) w z s =
-          split-growths (λ y. run l (f y)) (λ y. firsts_of (f y)) (λ y. others_of (f y)) (λ y. split-run (f y) (w.1 y).1) (before begin s) (suc (bound z s)) (run l p z s) (firsts_of p z s) (others_of p z s) z (split-run p w.0 z s)
-      split-run (nests f begin p x) w z s = split-nestings (λ y. run l (p y)) (λ y. firsts_of (p y)) (λ y. others_of (p y)) (λ y. split-run (p y) (w.1 y)) f begin (suc (bound z s)) x z s
-      split-run (scoped f p) w z s =
-          let t = entered (f s.reading) s in
-          let o = run l p z t in
-          split-map z o.taken o.asks (scoped_spot s.reading) (λ P c q. q) (firsts_of p z t) (others_of p z t) (split-run p w z t)
-      split-run (either p is_wrong q) w z s =
-          let o = run l p z s in
-          split-if z (is_wrong o.value) (given_up o (run l q z s)) o [] (firsts_of p z s) (firsts_of q z s ++ others_of q z s) (others_of p z s) (λ _. split-given z o (run l q z s) (firsts_of q z s) (others_of q z s) (split-run q w.1 z s)) (λ _. split-run p w.0 z s)
-      split-run (calls c) w z s = split-sunk z (l.deeper c z s).taken (l.deeper c z s).asks (deep c z s) (deep_seconds c z s) (d c z s)
-      split-run (block b) w z s =
-          let o = done l flushes z s in
-          let v = moved o.taken z in
-          let m = bounded b (l.blocks b) in
-          split-if z (l.has b) (followed o (λ _. m) z) (plain tt s) _ [] _ []
-          (λ t. split-joined z o (m v o.state) [] [] (bounded_spots b (l.blocks b) (in_block b) v o.state) (map (closed_spot b o.state) (seconds_inside b v (forgot o.state))) (split-none z o.taken o.asks (opened-done flushes refl z s))
-          (split-bounded b (l.blocks b) (in_block b) (seconds_inside b) v o.state (e b v o.state t)))
-          (λ _. split-none z 0 [] refl)
-
--- ---- where the blocks of a text's second readings begin, no block is noted
-
--- ---- a token takes something, if something is left
 
 -- ---- what begins after the first token
 
@@ -403,37 +317,61 @@ any-block block.Code = (refl, λ _. (any-node block.Code inside_code ordinary-co
 
 -- ---- each level
 
-module _ (k : CharClasses) (levels : ℕ) (d : (c : Call) → AllSplit (meaning_of (rules k) k levels c) (call_spots (rules k) k levels c) (call_seconds (rules k) k levels c)) where
+abbrev Everywhere : Place → Point → Type 0
+Everywhere z s = Unit {0}
+
+abbrev AfterAll : (A : Type 0) → Place → Point → Outcome A → Type 0
+AfterAll A z s o = Unit {0}
+
+abbrev SplitFor : (A : Type 0) → ℕ → Place → Point → Outcome A → List (Spot A) → List (Spot A) → Type 0
+SplitFor A n z s o cs ds = Split z o cs ds
+
+split-parts : Parts Everywhere AfterAll SplitFor (Unit {0}) anything
+split-parts = record {
+  at_entered = λ z s r a. tt;
+  at_end = λ A z s o g. tt;
+  gone_grew = λ A z s i o p g h. tt;
+  nothing = λ A n z s a m h. split-none z 0 [] refl;
+  both = λ A B n z s o p cs ds es fs g h k. split-joined z o p cs ds es fs h k;
+  last_turn = λ A B n z s o cs ds h. split-map z o.taken o.asks last_spot (λ P c p. p) cs ds h;
+  in_wrap = λ A n z s f i o cs ds e h. split-flat z o.taken o.asks (wrapped_spot f i) (λ P c p. wrapped-at f i P c p) cs ds h;
+  in_growth = λ A n z s i shape o cs ds e h. split-grown z i shape o cs ds h;
+  in_nest = λ A n z s f i o cs ds e h. split-flat z o.taken o.asks (λ c. reshaped_spot (f c.value) i c) (λ P c p. reshaped-at (f c.value) i P c p) cs ds h;
+  in_scope = λ A n z s r o cs ds h. split-map z o.taken o.asks (scoped_spot s.reading) (λ P c p. p) cs ds h;
+  instead = λ A n z s o p cs ds h. split-given z o p cs ds h;
+  deeper = λ A n z s o cs ds h. split-sunk z o.taken o.asks cs ds h;
+}
+
+module _ (k : CharClasses) (levels : ℕ) (d : CallsHold Everywhere AfterAll SplitFor (Unit {0}) anything (rules k) k levels) where
   abbrev within : Level
   within = blockless k levels (meaning_of (rules k) k levels)
 
   begins-block : (b : Block) (z : Place) (s : Point) → Begins z (block_at k levels b z (forgot s)) (block_spots (rules k) k levels b z (forgot s)) (block_seconds (rules k) k levels b z (forgot s))
   begins-block b z s = record {
-    split = split-run within (call_spots (rules k) k levels) (λ c y t. []) (call_seconds (rules k) k levels) (λ c y t. []) d (λ c y t h. absurd (cc)) (peek >> block_production b) (any-block b) z (forgot s);
-    takes = takes-by (length z.ahead) refl;
-    behind = behind-by (length z.ahead) refl;
+    split = all-run Everywhere AfterAll SplitFor (Unit {0}) anything split-parts within (call_spots (rules k) k levels) (call_seconds (rules k) k levels) (λ c y t. []) (λ c y t. [])
+        (record { reads = λ A p y t u h. tt; step = λ A o e y t u. split-none y (done within o y t).taken (done within o y t).asks (opened-done within o (e tt) y t); held = λ c e. absurd (cc) }) d (peek >> block_production b) (λ u. any-block b) z (forgot s) tt;
+    takes = elim (cases_lt 0 (length z.ahead)) [ inl some ↦ inl (moves-inside k levels b z s (some-hand k s.held z some)) | inr none ↦ inr none ];
+    behind = elim (cases_lt 0 (length z.ahead)) [
+      | inl some ↦ every-by (λ c x. inl x) (block_seconds (rules k) k levels b z (forgot s))
+          (later-block within (call_spots (rules k) k levels) (λ c y t. []) (call_seconds (rules k) k levels) (λ c y t. []) b z (forgot s) (some-hand k s.held z some))
+      | inr none ↦ every-by (λ c x. inr none) (block_seconds (rules k) k levels b z (forgot s)) (every-any (block_seconds (rules k) k levels b z (forgot s)))
+    ];
   }
-    where
-      takes-by : (n : ℕ) → length z.ahead ≡ n → Early z (block_at k levels b z (forgot s)).taken 0
-      takes-by zero e = inr (omega (arith, e))
-      takes-by (suc n) e = inl (moves-inside k levels b z s (some-hand k s.held z (omega (arith, e))))
 
-      behind-by : (n : ℕ) → length z.ahead ≡ n → EveryAt (λ i. (0 < i) ⊎ (length z.ahead ≤ 0)) (block_seconds (rules k) k levels b z (forgot s))
-      behind-by zero e = every-by (λ c x. inr (omega (arith, e))) (block_seconds (rules k) k levels b z (forgot s)) (every-any (block_seconds (rules k) k levels b z (forgot s)))
-      behind-by (suc n) e =
-          every-by (λ c x. inl x) (block_seconds (rules k) k levels b z (forgot s))
-          (later-block within (call_spots (rules k) k levels) (λ c y t. []) (call_seconds (rules k) k levels) (λ c y t. []) b z (forgot s) (some-hand k s.held z (omega (arith, e))))
+  split-given_by : Given Everywhere AfterAll SplitFor (Unit {0}) anything (level_of (rules k) k levels) (call_spots (rules k) k levels) (call_seconds (rules k) k levels) (block_spots (rules k) k levels) (block_seconds (rules k) k levels)
+  split-given_by = record {
+    reads = λ A p z s a h. tt;
+    step = λ A o e z s a. (let p = done (level_of (rules k) k levels) o z s in split-none z p.taken p.asks (opened-done (level_of (rules k) k levels) o (e tt) z s));
+    held = λ b t z s a.
+        (let o = done (level_of (rules k) k levels) flushes z s in
+        let v = moved o.taken z in
+        let m = block_at k levels b in
+        split-joined z o (bounded b m v o.state) [] [] (bounded_spots b m (block_spots (rules k) k levels b) v o.state) (map (closed_spot b o.state) (block_seconds (rules k) k levels b v (forgot o.state)))
+        (split-none z o.taken o.asks (opened-done (level_of (rules k) k levels) flushes refl z s)) (split-bounded b m (block_spots (rules k) k levels b) (block_seconds (rules k) k levels b) v o.state (begins-block b v o.state)));
+  }
 
-  split-level : {A : Type 0} (p : Parser A) → PlainBy is_ordinary p → AllSplit (run (level_of (rules k) k levels) p) (level_spots (rules k) k levels p) (level_seconds (rules k) k levels p)
-  split-level p w =
-      split-run (level_of (rules k) k levels) (call_spots (rules k) k levels) (block_spots (rules k) k levels) (call_seconds (rules k) k levels) (block_seconds (rules k) k levels) d
-      (λ b z s t. begins-block b z s) p (any-plain p w)
-
-module _ (k : CharClasses) where
-  split-call : (levels : ℕ) (c : Call) → AllSplit (meaning_of (rules k) k levels c) (call_spots (rules k) k levels c) (call_seconds (rules k) k levels c)
-  unfolding meaning_of call_spots call_seconds
-  split-call zero c z s = split-none z 0 [] refl
-  split-call (suc levels) c z s = split-level k levels (split-call levels) (production k c) (ordinary-production k c) z s
+split-whole : (k : CharClasses) (z : Place) (s : Point) → Split z (run (level_of (rules k) k max_depth) whole z s) (level_spots (rules k) k max_depth whole z s) (level_seconds (rules k) k max_depth whole z s)
+split-whole k z s = all-level Everywhere AfterAll SplitFor (Unit {0}) anything split-parts (rules k) k (λ c u. any-plain (production k c) (ordinary-production k c)) (split-given_by k) max_depth whole (λ u. any-plain whole ordinary-whole) z s tt
 
 pub unnoted-law : UnnotedLaw
 unfolding seconds_of_text
@@ -441,4 +379,4 @@ unnoted-law k text c ask i j =
     let z = start_of text in
     let s = start_point markup_reading in
     let ds = level_seconds (rules k) k max_depth whole z s in
-    among (Differs z c.at) ask _ j (among (λ d. Every (Differs z d.at) _) c ds i (split-level k max_depth (split-call k max_depth) whole ordinary-whole z s).differ)
+    among (Differs z c.at) ask _ j (among (λ d. Every (Differs z d.at) _) c ds i (split-whole k z s).differ)

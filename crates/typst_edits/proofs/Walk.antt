@@ -1,6 +1,6 @@
 -- Where a block of a text stands, and that the steps by places lead to each block that covers the stretch strictly.
 use Rattle.std.proofs.Common.{◌≡◌, ℕ, suc, ◌+◌, ◌-◌, ◌≤◌, Bool, true, false, ◌&&◌, if◌then◌else◌, nat_le, List, [], ◌∷◌, ◌++◌, length, take, drop, append_assoc, append-nil, refl, ap, sym, ◌∙◌, subst, arith, zero, ◌<◌, max, length-append, encode_utf8, encode_utf8_all, nat_lt, map, length-take, option_map, Some, None}
-use Rattle.typst_edits.proofs.Words.{is_error, Head, inner_head, Place, moved, Tree, error_of, text_of, trees, CharClasses, Block, Call, utf8_ahead, Point, forgot, point_of, NodeChange, Shape, hinted, is_delimited, in_parens, stays, turns_wrong, is_not, renamed, unparened, keeps, holds, lacks, warns, fails, Parser, flushes, does, Rules, meaning_of, level_of, Outcome, Level, blockless, answered, joined, less, done, run, start_point, Tidy, Stands, Sane, sane-run, sane-meaning, sane-block, sane-plain, texts, texts-append, text-shaped, texts-one, texts-first, text-add, same-hinted, kept-joined, Holds, Deep, Hole, stub, between_parens, changed_deep, first_hole, change_hole, in_node, in_nodes, after_nodes, lack_hole, warned_head, wrap_in, wrap_past, wrap_hole, plug, fill, path_in, path_of, under, Spot, block_head, after_spot, rehole, ended, unit_at, here_spot, Spots, level_spots, level_seconds, width, ahead-left, markup_reading, rules, max_depth, start_of, whole, parsed, Among, text_with, blocks_of_text, block_at, Named, width-positive, and_right, take-append-drop, lawful-block}
+use Rattle.typst_edits.proofs.Words.{is_error, Head, inner_head, Place, moved, Tree, error_of, text_of, trees, CharClasses, Block, Call, utf8_ahead, Point, forgot, point_of, NodeChange, Shape, hinted, is_delimited, in_parens, stays, turns_wrong, is_not, renamed, unparened, keeps, holds, lacks, warns, fails, Parser, flushes, does, Rules, meaning_of, level_of, Outcome, Level, blockless, answered, joined, less, done, run, start_point, Tidy, Stands, Sane, sane-run, sane-meaning, sane-block, sane-plain, texts, texts-append, text-shaped, texts-one, texts-first, text-add, same-hinted, kept-joined, Holds, Deep, Hole, stub, between_parens, changed_deep, first_hole, change_hole, in_node, in_nodes, after_nodes, lack_hole, warned_head, wrap_in, wrap_past, wrap_hole, plug, fill, path_in, path_of, under, Spot, block_head, after_spot, rehole, ended, unit_at, here_spot, Spots, level_spots, level_seconds, width, ahead-left, markup_reading, rules, max_depth, start_of, whole, parsed, Among, text_with, blocks_of_text, block_at, Named, width-positive, and_right, take-append-drop, lawful-block, if-true, if-false}
 use Rattle.typst_lines.specs.Place.{char_width}
 use Rattle.typst_language.proofs.Leaves.{texts-same, kept-grown}
 use Rattle.typst_edits.specs.Hole.Deep.{bare}
@@ -12,10 +12,10 @@ use Rattle.std.proofs.lemmas.Str.{length-encode}
 use Rattle.typst_edits.proofs.Blocks.{ends}
 use Rattle.typst_edits.proofs.Content.{Clear, clear-level, no-front}
 use Rattle.typst_edits.proofs.Edit.{among, trees-of}
-use Rattle.typst_edits.proofs.Spots.{Lawful, if-true, if-false}
+use Rattle.typst_edits.proofs.Spots.{Lawful}
 use Rattle.typst_edits.proofs.Law.{inside-level}
 use Rattle.typst_edits.specs.Walk.{Step, over, walk, walk_to, WalkLaw}
-use Rattle.typst_edits.proofs.Widths.{width-append}
+use Rattle.typst_edits.proofs.Widths.{width-append, width-before, width-over}
 use Rattle.typst_kinds.specs.declared.kind.SyntaxKind.TheVariants as kind
 
 -- ---- where a block of a reading stands: what the nodes before its own hold are the characters before it
@@ -342,24 +342,6 @@ pub width-some : (xs : List ℕ) → 0 < length xs → 0 < width xs
 unfolding width
 width-some [] h = absurd (omega arith)
 width-some (c ∷ xs) h = omega (arith, width-positive c)
-
--- What ends before a stretch does so in bytes.
-pub width-before : (n : ℕ) (front more : List ℕ) → n < length front → width (take n (front ++ more)) < width front
-unfolding width
-width-before n [] more h = absurd (omega arith)
-width-before zero (c ∷ front) more h = omega (arith, width-positive c)
-width-before (suc n) (c ∷ front) more h = let i = width-before n front more (omega (arith, h)) in omega (arith, i)
-
-pub width-over : (front : List ℕ) (past : ℕ) (more : List ℕ) → width (take (length front + past) (front ++ more)) ≡ width front + width (take past more)
-unfolding width
-width-over [] past more =
-    let none : List ℕ = [] in
-    let e : length none + past ≡ past = omega arith in
-    omega (arith, ap (λ n. width (take n more)) e)
-width-over (c ∷ front) past more =
-    let i = width-over front past more in
-    let e : length (c ∷ front) + past ≡ suc (length front + past) = omega arith in
-    ap (λ n. width (take n (c ∷ (front ++ more)))) e ∙ (let f : char_width c + width (take (length front + past) (front ++ more)) ≡ (char_width c + width front) + width (take past more) = omega (arith, i) in f)
 
 pub walk-law : WalkLaw
 walk-law k front old rest c past among_them starts ends_at goes_on =

@@ -1,7 +1,9 @@
 -- Places in characters and in bytes.
-use Rattle.std.proofs.Common.{◌≡◌, ℕ, zero, suc, ◌+◌, ◌<◌, ◌≤◌, List, [], ◌∷◌, ◌++◌, length, take, length-append, append_assoc, refl, sym, ◌∙◌, subst, arith}
-use Rattle.typst_edits.proofs.Words.{moved, moved_from, width-positive, width, position, stretch, far, near}
+use Rattle.std.proofs.Common.{◌≡◌, ℕ, zero, suc, ◌+◌, ◌<◌, ◌≤◌, List, [], ◌∷◌, ◌++◌, length, take, length-append, append_assoc, refl, sym, ◌∙◌, subst, ap, ◌-◌, drop, length-take, length-drop, lt_of_not-le, arith}
+use Rattle.typst_edits.proofs.Words.{take-append_seam, take-append-drop, moved, moved_from, width-positive, width, position, stretch, far, near}
+use Rattle.std.proofs.Math.Seq.{take-add, take-append-add}
 use Rattle.typst_edits.proofs.Edit.{onto}
+use Rattle.typst_edits.proofs.Every.{neither, not-less}
 
 pub width-append : (xs ys : List ℕ) → width (xs ++ ys) ≡ width xs + width ys
 unfolding width
@@ -11,6 +13,59 @@ width-append (c ∷ xs) ys = let e = width-append xs ys in omega (arith, e)
 pub width-none : width [] ≡ 0
 unfolding width
 width-none = refl
+
+-- ---- the first characters of a text
+
+width-least : (xs : List ℕ) → length xs ≤ width xs
+unfolding width
+width-least [] = omega arith
+width-least (c ∷ xs) = omega (arith, width-least xs, width-positive c)
+
+taken-both : (a b : ℕ) (xs : List ℕ) → a ≤ b → width (take b xs) ≡ width (take a xs) + width (take (b - a) (drop a xs))
+taken-both a b xs e =
+    let sum : b ≡ a + (b - a) = omega (arith, e) in
+    ap (λ n. width (take n xs)) sum ∙ ap width (take-add a (b - a) xs) ∙ width-append (take a xs) (take (b - a) (drop a xs))
+
+pub take-more : (a b : ℕ) (xs : List ℕ) → a ≤ b → width (take a xs) ≤ width (take b xs)
+take-more a b xs e = omega (arith, taken-both a b xs e)
+
+-- Each character takes at least a byte.
+pub take-behind : (a b : ℕ) (xs : List ℕ) → a ≤ b → b ≤ length xs → width (take a xs) + (b - a) ≤ width (take b xs)
+take-behind a b xs e h =
+    omega (arith, e, h, taken-both a b xs e, width-least (take (b - a) (drop a xs)), length-take (b - a) (drop a xs), length-drop a xs)
+
+pub take-longer : (a b : ℕ) (xs : List ℕ) → a < b → b ≤ length xs → width (take a xs) < width (take b xs)
+take-longer a b xs l e = let least = take-behind a b xs (omega (arith, l)) e in omega (arith, l, least)
+
+pub take-same : (m n : ℕ) (xs : List ℕ) → m ≤ length xs → n ≤ length xs → width (take m xs) ≡ width (take n xs) → m ≡ n
+take-same m n xs h k e = neither m n (λ l. (let less = take-longer m n xs l k in omega (arith, less, e))) (λ l. (let less = take-longer n m xs l h in omega (arith, less, e)))
+
+pub take-width : (d : ℕ) (a : List ℕ) → width (take d a) ≤ width a
+take-width d a = omega (arith, width-append (take d a) (drop d a), ap width (take-append-drop d a))
+
+pub width-over : (front : List ℕ) (past : ℕ) (more : List ℕ) → width (take (length front + past) (front ++ more)) ≡ width front + width (take past more)
+width-over front past more = ap width (take-append-add front more past) ∙ width-append front (take past more)
+
+-- What ends before a stretch does so in bytes, and in characters where it does in bytes.
+pub width-before : (n : ℕ) (front more : List ℕ) → n < length front → width (take n (front ++ more)) < width front
+width-before n front more h =
+    let less = take-longer n (length front) (front ++ more) h (omega (arith, length-append front more)) in
+    omega (arith, less, ap width (take-append_seam front more))
+
+pub early-by : (n : ℕ) (front more : List ℕ) → width (take n (front ++ more)) < width front → n < length front
+early-by n front more h = lt_of_not-le (λ l. (let most = take-more (length front) n (front ++ more) l in omega (arith, h, most, ap width (take-append_seam front more))))
+
+pub late-by : (n : ℕ) (front more : List ℕ) → width front < width (take n (front ++ more)) → length front < n
+late-by n front more h = lt_of_not-le (λ l. (let most = take-more n (length front) (front ++ more) l in omega (arith, h, most, ap width (take-append_seam front more))))
+
+-- What ends after a stretch in bytes, or with it, does so in characters.
+pub as-far : (n : ℕ) (xs ys : List ℕ) → width xs ≤ width (take n (xs ++ ys)) → length xs ≤ n
+as-far n xs ys h = not-less (length xs) n (λ l. (let less = width-before n xs ys l in omega (arith, h, less)))
+
+pub short : (n : ℕ) (xs ys : List ℕ) → n ≤ length xs → width (take n (xs ++ ys)) ≤ width xs
+short n xs ys l = omega (arith, take-more n (length xs) (xs ++ ys) l, ap width (take-append_seam xs ys))
+
+-- ---- places
 
 -- A stretch that ends before a place in bytes, or at it, does so in characters.
 stretch-by : (n : ℕ) (front more : List ℕ) → stretch n (front ++ more) ≤ width front → n ≤ length front

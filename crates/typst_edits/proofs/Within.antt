@@ -1,7 +1,8 @@
 -- Each look is at a place of the text, or at its end.
 use Rattle.std.proofs.Common.{ℕ, zero, suc, ◌+◌, ◌≤◌, max, false, List, [], ◌∷◌, ◌++◌, length, Option, Some, None, ap, arith}
-use Rattle.typst_edits.proofs.Words.{SyntaxMode, Place, moved, CharClasses, look, Block, Call, Reading, Ask, shift, sunk, only_looks, looked, marked, len_at, at_trivia, asks_by, ahead_asks, ahead_of, ahead_asks_of, asks_column, column_look, hand_at, hand_asks, Rules, meaning_of, level_of, blocks_of, Trivia, Point, gap_of, forgot, itself, peek, Op, Parser, ◌>>◌, hand, so, further, column, erred, takes, takes_so, flushes, complains, advises, marks, is_deepest, does, Outcome, Meaning, Level, bound, inside, bounded, blockless, same_mode, hand_of, hand_asks_of, done, run, Within, Sane, sane-run, sane-meaning, sane-block, sane-plain, ahead-left, moved-sum, shape-known, on_both}
+use Rattle.typst_edits.proofs.Words.{SyntaxMode, Place, moved, CharClasses, look, Block, Call, Reading, Ask, shift, sunk, looked, marked, len_at, at_trivia, asks_by, ahead_asks, ahead_of, ahead_asks_of, asks_column, column_look, hand_at, hand_asks, Rules, meaning_of, level_of, blocks_of, Trivia, Point, gap_of, forgot, itself, peek, Op, Parser, ◌>>◌, hand, so, further, column, erred, takes, takes_so, flushes, complains, advises, marks, is_deepest, does, Outcome, Meaning, Level, bound, inside, bounded, blockless, same_mode, hand_of, hand_asks_of, done, run, Within, Sane, sane-run, sane-meaning, sane-block, sane-plain, ahead-left, moved-sum, shape-known, on_both}
 use Rattle.typst_edits.proofs.Traversal.{Parts, all-run}
+use Rattle.typst_edits.proofs.Looks.{OfLooks, looks-both, looks-by, looks-only, looks-shifted}
 
 -- Each look is at most a given number of characters further on.
 abbrev pub AllAt : ℕ → List Ask → Type 0
@@ -9,40 +10,19 @@ AllAt n [] = Unit {0}
 AllAt n (looked at look ∷ asks) = (at ≤ n) × AllAt n asks
 AllAt n (marked at gap fewer mark s ∷ asks) = AllAt n asks
 
-at-append : (n : ℕ) (ls ks : List Ask) → AllAt n ls → AllAt n ks → AllAt n (ls ++ ks)
-at-append n [] ks h k = k
-at-append n (looked at look ∷ ls) ks h k = (h.0, at-append n ls ks h.1 k)
-at-append n (marked at gap fewer mark s ∷ ls) ks h k = at-append n ls ks h k
+abbrev pub at-most : (n : ℕ) → OfLooks (AllAt n)
+at-most n = record { P = λ at look. at ≤ n; none = tt; put = λ at look ls p h. (p, h); own = λ at look ls h. h.0; rest = λ at look ls h. h.1; note = λ at gap fewer m s ls h. h; past = λ at gap fewer m s ls h. h }
 
 pub at-shift : (d m n : ℕ) (ls : List Ask) → d + m ≤ n → AllAt m ls → AllAt n (shift d ls)
-at-shift d m n [] e h = tt
-at-shift d m n (looked at look ∷ ls) e h = (omega (arith, h.0), at-shift d m n ls e h.1)
-at-shift d m n (marked at gap fewer mark s ∷ ls) e h = at-shift d m n ls e h
+at-shift d m n ls e h = looks-by (at-most m) (looks-shifted (at-most n) d) (λ at look p. omega (arith, e, p)) ls h
 
 at-more : (m n : ℕ) (ls : List Ask) → m ≤ n → AllAt m ls → AllAt n ls
-at-more m n [] e h = tt
-at-more m n (looked at look ∷ ls) e h = (omega (arith, h.0), at-more m n ls e h.1)
-at-more m n (marked at gap fewer mark s ∷ ls) e h = at-more m n ls e h
+at-more m n ls e h = looks-by (at-most m) (at-most n) (λ at look p. omega (arith, e, p)) ls h
 
 at-sunk : (n : ℕ) (ls : List Ask) → AllAt n ls → AllAt n (sunk ls)
 at-sunk n [] h = tt
 at-sunk n (looked at look ∷ ls) h = (h.0, at-sunk n ls h.1)
 at-sunk n (marked at gap fewer mark s ∷ ls) h = at-sunk n ls h
-
-at-only : (n : ℕ) (ls : List Ask) → AllAt n ls → AllAt n (only_looks ls)
-at-only n [] h = tt
-at-only n (looked at look ∷ ls) h = (h.0, at-only n ls h.1)
-at-only n (marked at gap fewer mark s ∷ ls) h = at-only n ls h
-
-pub at-second : (n : ℕ) (ls ks : List Ask) → AllAt n (ls ++ ks) → AllAt n ks
-at-second n [] ks h = h
-at-second n (looked at look ∷ ls) ks h = at-second n ls ks h.1
-at-second n (marked at gap fewer mark s ∷ ls) ks h = at-second n ls ks h
-
-pub at-first : (n : ℕ) (ls ks : List Ask) → AllAt n (ls ++ ks) → AllAt n ls
-at-first n [] ks h = tt
-at-first n (looked at look ∷ ls) ks h = (h.0, at-first n ls ks h.1)
-at-first n (marked at gap fewer mark s ∷ ls) ks h = at-first n ls ks h
 
 -- ---- the token at hand
 
@@ -62,7 +42,7 @@ hand-within : (k : CharClasses) (held : Reading) (known : Option Trivia) (z : Pl
 unfolding hand_at hand_asks
 hand-within k held known z h =
     let a = ahead_of k held.mode known z in
-    at-append _ (ahead_asks_of k held.mode known z) _ (ahead-within k held.mode known z) (on_both (λ (us : List Ask). AllAt (max (gap_of known) (length z.ahead)) us) (asks_column held a.newlines) (looked a.gap (column_look (moved a.gap z)) ∷ []) [] (h, tt) tt)
+    looks-both (at-most _) (ahead_asks_of k held.mode known z) _ (ahead-within k held.mode known z) (on_both (λ (us : List Ask). AllAt (max (gap_of known) (length z.ahead)) us) (asks_column held a.newlines) (looked a.gap (column_look (moved a.gap z)) ∷ []) [] (h, tt) tt)
 
 -- ---- whatever the language can say
 
@@ -77,11 +57,11 @@ Inside A z s o = (o.taken + bound (moved o.taken z) o.state ≤ bound z s) × Al
 inside-parts : Parts Inside
 inside-parts = record {
   nothing = λ A z s a. (omega arith, tt);
-  both = λ A B z s o p h k. (omega (arith, h.0, k.0, ap (λ (w : Place). length w.ahead) (moved-sum o.taken p.taken z)), at-append (bound z s) o.asks _ h.1 (at-shift o.taken (bound (moved o.taken z) o.state) (bound z s) p.asks h.0 k.1));
+  both = λ A B z s o p h k. (omega (arith, h.0, k.0, ap (λ (w : Place). length w.ahead) (moved-sum o.taken p.taken z)), looks-both (at-most (bound z s)) o.asks _ h.1 (at-shift o.taken (bound (moved o.taken z) o.state) (bound z s) p.asks h.0 k.1));
   answer = λ A B z s b o h. h;
   in_shape = λ A z s shape n o h. (omega (arith, h.0, ap gap_of (shape-known shape (inside n o) o.state)), h.1);
   in_scope = λ A z s r o h. (let l = h.0 in on_both (λ (t : Point). o.taken + bound (moved o.taken z) t ≤ bound z s) (same_mode o.state.reading.mode s.reading.mode) _ _ l (omega (arith, l)), h.1);
-  instead = λ A z s o p h k. (k.0, at-only (bound z s) (o.asks ++ p.asks) (at-append (bound z s) o.asks p.asks h.1 k.1));
+  instead = λ A z s o p h k. (k.0, looks-only (at-most (bound z s)) (o.asks ++ p.asks) (looks-both (at-most (bound z s)) o.asks p.asks h.1 k.1));
 }
 
 module _ (l : Level) (d : (c : Call) → Sane (l.deeper c)) (e : (b : Block) → Sane (l.blocks b)) where
@@ -101,12 +81,12 @@ module _ (l : Level) (d : (c : Call) → Sane (l.deeper c)) (e : (b : Block) →
 
   in-done : {A : Type 0} (o : Op A) → Inbound (done l o)
   in-done hand z s = in-hand z s
-  in-done (so way) z s = at-append _ (hand_asks_of l z s) _ (in-hand z s) (gap-within z s, tt)
-  in-done further z s = at-append _ (hand_asks_of l z s) _ (in-hand z s) (len-within z s, tt)
-  in-done column z s = at-append _ (hand_asks_of l z s) _ (in-hand z s) (gap-within z s, tt)
+  in-done (so way) z s = looks-both (at-most _) (hand_asks_of l z s) _ (in-hand z s) (gap-within z s, tt)
+  in-done further z s = looks-both (at-most _) (hand_asks_of l z s) _ (in-hand z s) (len-within z s, tt)
+  in-done column z s = looks-both (at-most _) (hand_asks_of l z s) _ (in-hand z s) (gap-within z s, tt)
   in-done erred z s = tt
   in-done (takes trims making) z s = in-hand z s
-  in-done (takes_so way making) z s = at-append _ (hand_asks_of l z s) _ (in-hand z s) (gap-within z s, tt)
+  in-done (takes_so way making) z s = looks-both (at-most _) (hand_asks_of l z s) _ (in-hand z s) (gap-within z s, tt)
   in-done flushes z s = in-hand z s
   in-done (complains message) z s = tt
   in-done (advises hint) z s = tt
@@ -115,7 +95,7 @@ module _ (l : Level) (d : (c : Call) → Sane (l.deeper c)) (e : (b : Block) →
 
   module _ (i : (c : Call) → Inbound (l.deeper c)) (j : (b : Block) → Inbound (l.blocks b)) where
     in-bounded : (b : Block) → Inbound (bounded b (l.blocks b))
-    in-bounded b z s = at-append _ (l.blocks b z (forgot s)).asks _ (at-more (bound z (forgot s)) (bound z s) (l.blocks b z (forgot s)).asks (omega arith) (j b z (forgot s))) tt
+    in-bounded b z s = looks-both (at-most _) (l.blocks b z (forgot s)).asks _ (at-more (bound z (forgot s)) (bound z s) (l.blocks b z (forgot s)).asks (omega arith) (j b z (forgot s))) tt
 
     pub in-run : {A : Type 0} (p : Parser A) → Inbound (run l p)
     unfolding run

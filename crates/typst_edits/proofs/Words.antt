@@ -1,6 +1,7 @@
 -- The names that many of these proofs cite, passed on from one place. Declares nothing.
 pub use Rattle.std.proofs.Math.Seq.{drop-append-add, take-append_seam}
-pub use Rattle.std.proofs.lemmas.Bool.{and_left, and_parts, and_right, both_ways, eqb-false, eqb-true, ltb-false, or_left}
+pub use Rattle.std.proofs.lemmas.Bool.{and_left, and_parts, and_right, both_ways, cases_Bool, cases_eq, cases_lt, eqb-false, eqb-true, false_from_ne_true, ltb-false, or_left, true_from_ne_false}
+pub use Rattle.std.proofs.lemmas.Bool.{cond-true as if-true, cond-false as if-false}
 pub use Rattle.std.proofs.lemmas.Bool.Decides.{nat_tests}
 pub use Rattle.std.proofs.lemmas.List.{append_cancel_left, append_cancel_right, drop-append-le, drop-map, length-map, map-append, nil_from_length, take-append-drop, take-append-le, take-map}
 pub use Rattle.std.proofs.lemmas.Option.{none-some}
@@ -85,8 +86,7 @@ pub use Rattle.typst_candidates.specs.declared.entry.Entry.{Entry}
 pub use Rattle.typst_candidates.specs.declared.entry.EntryKind.{EntryKind}
 pub use Rattle.typst_grammar.proofs.Fine.{change_by, is_ordinary, shape_by}
 pub use Rattle.typst_grammar.proofs.FineRuns.{PlainBy, op_by}
-pub use Rattle.typst_grammar.proofs.Guarded.{Guarded, guarded-deep, op_notes}
-pub use Rattle.typst_grammar.proofs.GuardedCode.{guarded-inside-code, guarded-production}
+pub use Rattle.typst_grammar.proofs.Guarded.{Guarded, guarded-deep, guarded-inside-code, guarded-production, op_notes}
 pub use Rattle.typst_grammar.proofs.InRuns.{lawful-block}
 pub use Rattle.typst_grammar.proofs.Knot.{ordinary-code, ordinary-content, ordinary-production, ordinary-whole}
 pub use Rattle.typst_grammar.proofs.Pieces.{made-sum}

@@ -9,6 +9,7 @@ use Rattle.typst_kinds.specs.declared.operator.BinOp.{BinOp}
 use Rattle.typst_kinds.specs.declared.operator.BinOp.TheVariants as binary
 use Rattle.typst_tree.specs.Tree.{Tree, forest, inner_of}
 use Rattle.typst_tree.proofs.SpansAside.{trees_forest}
+use Rattle.typst_language.proofs.Within.{on_if}
 use Rattle.typst_code.specs.declared.heads.CodeTail.{CodeTail}
 use Rattle.typst_code.specs.declared.heads.CodeTail.TheVariants as tail
 use Rattle.typst_code.specs.Arguments.{calls_directly}
@@ -114,130 +115,30 @@ tight-binds k op t e h = by-operator (operator_of t) h
     by-operator None l = refl
     by-operator (Some x) l = by-sign (binary_precedence x) (sign_of k) e l
 
-module _ (least : ℕ) where
-  -- no tail: what comes binds less tightly
-  nothing-by : (a b c : Bool) (o : Option BinOp)
-      → (if a then tail.Call else (if b then tail.Field else (if c then (if nat_lt (binary_precedence binary.NotIn) least then tail.Nothing else tail.NotIn) else binary_tail least o))) ≡ tail.Nothing
-      → (elim (if c then Some binary.NotIn else o) as (λ _. Bool) [ None ↦ true | Some op ↦ nat_lt (binary_precedence op) least ]) ≡ true
-  nothing-by true b c o h = absurd (cc)
-  nothing-by false true c o h = absurd (cc)
-  nothing-by false false true o h = by-less (nat_lt (binary_precedence binary.NotIn) least) h
-    where
-      by-less : (x : Bool) → (if x then tail.Nothing else tail.NotIn) ≡ tail.Nothing → x ≡ true
-      by-less true i = refl
-      by-less false i = absurd (cc)
-  nothing-by false false false None h = refl
-  nothing-by false false false (Some op) h = by-less (nat_lt (binary_precedence op) least) h
-    where
-      by-less : (x : Bool) → (if x then tail.Nothing else tail.Binary op) ≡ tail.Nothing → x ≡ true
-      by-less true i = refl
-      by-less false i = absurd (cc)
-
-  pub nothing-below : (k : SyntaxKind) (has_trivia : Bool) → code_tail false least k has_trivia ≡ tail.Nothing → below least k ≡ true
-  nothing-below k has_trivia h = nothing-by (calls_directly k has_trivia) (same kind.Dot k) (same kind.Not k) (binary_of k) h
-
 -- ---- which tail comes
 
 module _ (least : ℕ) where
   abbrev tail_of : Bool → Bool → Bool → Option BinOp → CodeTail
   tail_of a b c o = if a then tail.Call else (if b then tail.Field else (if c then (if nat_lt (binary_precedence binary.NotIn) least then tail.Nothing else tail.NotIn) else binary_tail least o))
 
-  calls-by : (a b c : Bool) (o : Option BinOp) → tail_of a b c o ≡ tail.Call → a ≡ true
-  calls-by true b c o h = refl
-  calls-by false true c o h = absurd (cc)
-  calls-by false false true o h = absurd (by-less (nat_lt (binary_precedence binary.NotIn) least) h)
-    where
-      by-less : (x : Bool) → (if x then tail.Nothing else tail.NotIn) ≡ tail.Call → ⊥
-      by-less true i = cc
-      by-less false i = cc
-  calls-by false false false None h = absurd (cc)
-  calls-by false false false (Some op) h = absurd (by-less (nat_lt (binary_precedence op) least) h)
-    where
-      by-less : (x : Bool) → (if x then tail.Nothing else tail.Binary op) ≡ tail.Call → ⊥
-      by-less true i = cc
-      by-less false i = cc
-
-  fields-by : (a b c : Bool) (o : Option BinOp) → tail_of a b c o ≡ tail.Field → b ≡ true
-  fields-by true b c o h = absurd (cc)
-  fields-by false true c o h = refl
-  fields-by false false true o h = absurd (by-less (nat_lt (binary_precedence binary.NotIn) least) h)
-    where
-      by-less : (x : Bool) → (if x then tail.Nothing else tail.NotIn) ≡ tail.Field → ⊥
-      by-less true i = cc
-      by-less false i = cc
-  fields-by false false false None h = absurd (cc)
-  fields-by false false false (Some op) h = absurd (by-less (nat_lt (binary_precedence op) least) h)
-    where
-      by-less : (x : Bool) → (if x then tail.Nothing else tail.Binary op) ≡ tail.Field → ⊥
-      by-less true i = cc
-      by-less false i = cc
-
-  direct-by : (a b c : Bool) (o : Option BinOp) → tail_of a b c o ≡ tail.DirectField → ⊥
-  direct-by true b c o h = cc
-  direct-by false true c o h = cc
-  direct-by false false true o h = by-less (nat_lt (binary_precedence binary.NotIn) least) h
-    where
-      by-less : (x : Bool) → (if x then tail.Nothing else tail.NotIn) ≡ tail.DirectField → ⊥
-      by-less true i = cc
-      by-less false i = cc
-  direct-by false false false None h = cc
-  direct-by false false false (Some op) h = by-less (nat_lt (binary_precedence op) least) h
-    where
-      by-less : (x : Bool) → (if x then tail.Nothing else tail.Binary op) ≡ tail.DirectField → ⊥
-      by-less true i = cc
-      by-less false i = cc
+  -- what the tests before a tail gave: whether arguments, a dot or `not` come, and which operator. Where there is no tail, what comes binds less tightly
+  abbrev Tests : Bool → Bool → Bool → Option BinOp → CodeTail → Type 0
+  Tests a b c o tail.Call = a ≡ true
+  Tests a b c o tail.Field = b ≡ true
+  Tests a b c o tail.DirectField = ⊥
+  Tests a b c o tail.NotIn = (c ≡ true) × (nat_le least (binary_precedence binary.NotIn) ≡ true)
+  Tests a b c o (tail.Binary op) = ((if c then Some binary.NotIn else o) ≡ Some op) × ((o ≡ Some op) × (nat_le least (binary_precedence op) ≡ true))
+  Tests a b c o tail.Nothing = (elim (if c then Some binary.NotIn else o) as (λ _. Bool) [ None ↦ true | Some op ↦ nat_lt (binary_precedence op) least ]) ≡ true
 
   enough : (b : ℕ) → nat_lt b least ≡ false → nat_le least b ≡ true
   enough b l = grind (arith, nat_tests)
 
-  not-by : (a b c : Bool) (o : Option BinOp) → tail_of a b c o ≡ tail.NotIn → (c ≡ true) × (nat_le least (binary_precedence binary.NotIn) ≡ true)
-  not-by true b c o h = absurd (cc)
-  not-by false true c o h = absurd (cc)
-  not-by false false true o h = (refl, enough (binary_precedence binary.NotIn) (by-less (nat_lt (binary_precedence binary.NotIn) least) h))
-    where
-      by-less : (x : Bool) → (if x then tail.Nothing else tail.NotIn) ≡ tail.NotIn → x ≡ false
-      by-less true i = absurd (cc)
-      by-less false i = refl
-  not-by false false false None h = absurd (cc)
-  not-by false false false (Some op) h = absurd (by-less (nat_lt (binary_precedence op) least) h)
-    where
-      by-less : (x : Bool) → (if x then tail.Nothing else tail.Binary op) ≡ tail.NotIn → ⊥
-      by-less true i = cc
-      by-less false i = cc
+  tests : (a b c : Bool) (o : Option BinOp) → Tests a b c o (tail_of a b c o)
+  tests true b c o = refl
+  tests false true c o = refl
+  tests false false true o = on_if (Tests false false true o) (nat_lt (binary_precedence binary.NotIn) least) tail.Nothing tail.NotIn (λ e. e) (λ e. (refl, enough (binary_precedence binary.NotIn) e))
+  tests false false false None = refl
+  tests false false false (Some op) = on_if (Tests false false false (Some op)) (nat_lt (binary_precedence op) least) tail.Nothing (tail.Binary op) (λ e. e) (λ e. (refl, (refl, enough (binary_precedence op) e)))
 
-  abbrev operator_in : CodeTail → BinOp
-  operator_in (tail.Binary op) = op
-  operator_in _ = binary.NotIn
-
-  signs-by : (op : BinOp) (a b c : Bool) (o : Option BinOp) → tail_of a b c o ≡ tail.Binary op → ((if c then Some binary.NotIn else o) ≡ Some op) × ((o ≡ Some op) × (nat_le least (binary_precedence op) ≡ true))
-  signs-by op true b c o h = absurd (cc)
-  signs-by op false true c o h = absurd (cc)
-  signs-by op false false true o h = absurd (by-less (nat_lt (binary_precedence binary.NotIn) least) h)
-    where
-      by-less : (x : Bool) → (if x then tail.Nothing else tail.NotIn) ≡ tail.Binary op → ⊥
-      by-less true i = cc
-      by-less false i = cc
-  signs-by op false false false None h = absurd (cc)
-  signs-by op false false false (Some found) h = by-less (nat_lt (binary_precedence found) least) refl h
-    where
-      by-less : (x : Bool) → nat_lt (binary_precedence found) least ≡ x → (if x then tail.Nothing else tail.Binary found) ≡ tail.Binary op → (Some found ≡ Some op) × ((Some found ≡ Some op) × (nat_le least (binary_precedence op) ≡ true))
-      by-less true e i = absurd (cc)
-      by-less false e i =
-          let same : found ≡ op = ap operator_in i in
-          (ap (λ x. Some x) same, (ap (λ x. Some x) same, subst (λ (x : BinOp). nat_le least (binary_precedence x) ≡ true) same (enough (binary_precedence found) e)))
-
-  module _ (k : SyntaxKind) (has_trivia : Bool) where
-    pub call-comes : code_tail false least k has_trivia ≡ tail.Call → calls_directly k has_trivia ≡ true
-    call-comes h = calls-by (calls_directly k has_trivia) (same kind.Dot k) (same kind.Not k) (binary_of k) h
-
-    pub dot-comes : code_tail false least k has_trivia ≡ tail.Field → same kind.Dot k ≡ true
-    dot-comes h = fields-by (calls_directly k has_trivia) (same kind.Dot k) (same kind.Not k) (binary_of k) h
-
-    pub no-direct : code_tail false least k has_trivia ≡ tail.DirectField → ⊥
-    no-direct h = direct-by (calls_directly k has_trivia) (same kind.Dot k) (same kind.Not k) (binary_of k) h
-
-    pub not-comes : code_tail false least k has_trivia ≡ tail.NotIn → (same kind.Not k ≡ true) × (nat_le least (binary_precedence binary.NotIn) ≡ true)
-    not-comes h = not-by (calls_directly k has_trivia) (same kind.Dot k) (same kind.Not k) (binary_of k) h
-
-    pub sign-comes : (op : BinOp) → code_tail false least k has_trivia ≡ tail.Binary op → (sign_of k ≡ Some op) × ((binary_of k ≡ Some op) × (nat_le least (binary_precedence op) ≡ true))
-    sign-comes op h = signs-by op (calls_directly k has_trivia) (same kind.Dot k) (same kind.Not k) (binary_of k) h
+  pub tail-comes : (k : SyntaxKind) (has_trivia : Bool) (t : CodeTail) → code_tail false least k has_trivia ≡ t → Tests (calls_directly k has_trivia) (same kind.Dot k) (same kind.Not k) (binary_of k) t
+  tail-comes k has_trivia t e = subst (λ (x : CodeTail). Tests (calls_directly k has_trivia) (same kind.Dot k) (same kind.Not k) (binary_of k) x) e (tests (calls_directly k has_trivia) (same kind.Dot k) (same kind.Not k) (binary_of k))

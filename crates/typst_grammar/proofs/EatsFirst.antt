@@ -1,43 +1,40 @@
 -- What takes the token at hand before all else.
-use Rattle.std.proofs.Common.{◌≡◌, Bool, true, false, ◌&&◌, ◌||◌, List, [], ◌∷◌, refl, ap, subst, ◌∙◌}
-use Rattle.std.specs.Prelude.{not}
+use Rattle.std.proofs.Common.{◌≡◌, ℕ, Bool, true, false, ◌&&◌, ◌||◌, List, [], ◌∷◌, refl, ap, subst, ◌∙◌}
 use Rattle.std.proofs.lemmas.Bool.{and_parts}
 use Rattle.typst_kinds.proofs.Sameness.{same-is}
 use Rattle.typst_kinds.specs.Kinds.{among, same}
 use Rattle.typst_kinds.specs.declared.kind.SyntaxKind.{SyntaxKind}
-use Rattle.typst_language.specs.Syntax.{Begin, Op, Parser}
+use Rattle.typst_language.specs.Hand.{AtHand}
+use Rattle.typst_language.specs.Syntax.{Begin, Parser}
 use Rattle.typst_language.specs.Syntax.Begin.{at_token}
 use Rattle.typst_language.specs.Syntax.Op.{hand, column, takes}
 use Rattle.typst_language.specs.Syntax.Parser.{gives, does, next, pick, repeat, wraps, grows, nests, scoped, either, calls, block}
-
--- it asks about the token at hand, and takes nothing
-abbrev pub looks : {A : Type 0} → Parser A → Bool
-looks (does hand) = true
-looks (does column) = true
-looks _ = false
-
-abbrev pub op_eats : {A : Type 0} → Op A → Bool
-op_eats (takes trims making) = not trims
-op_eats _ = false
 
 abbrev pub is_at_token : Begin → Bool
 is_at_token at_token = true
 is_at_token _ = false
 
--- after questions about it, the token at hand is taken before all else, or a block is read if that is allowed, in either of two readings. Whether it was asked for before, so that a node can begin there
-abbrev pub EatsFirst : {A : Type 0} → Bool → Bool → Parser A → Type 0
-EatsFirst blocks looked (gives a) = ⊥
-EatsFirst blocks looked (does o) = op_eats o ≡ true
-EatsFirst blocks looked (next p f) = elim (looks p) as (λ _. Type 0) [ true ↦ (b : _) → EatsFirst blocks true (f b) | false ↦ EatsFirst blocks looked p ]
-EatsFirst blocks looked (pick b p q) = EatsFirst blocks looked p × EatsFirst blocks looked q
-EatsFirst blocks looked (repeat p x) = ⊥
-EatsFirst blocks looked (wraps f begin p) = ((looked && is_at_token begin) ≡ true) × EatsFirst blocks looked p
-EatsFirst blocks looked (grows begin p f) = ⊥
-EatsFirst blocks looked (nests f begin p x) = ((looked && is_at_token begin) ≡ true) × EatsFirst blocks looked (p x)
-EatsFirst blocks looked (scoped f p) = EatsFirst blocks looked p
-EatsFirst blocks looked (either p is_wrong q) = EatsFirst blocks looked p × EatsFirst blocks looked q
-EatsFirst blocks looked (calls c) = ⊥
-EatsFirst blocks looked (block b) = blocks ≡ true
+-- A parser takes this token before all else, or it only looks at it, and then this holds of whether it was looked at and of the answer. A block may be read if that is allowed, and a node begins only where the token was looked at.
+abbrev pub Begins : {A : Type 0} → AtHand → Bool → Bool → (Bool → A → Type 0) → Parser A → Type 0
+Begins a blocks looked rest (gives x) = rest looked x
+Begins a blocks looked rest (does hand) = rest true a
+Begins a blocks looked rest (does column) = (n : ℕ) → rest true n
+Begins a blocks looked rest (does (takes trims making)) = trims ≡ false
+Begins a blocks looked rest (does _) = ⊥
+Begins a blocks looked rest (next p f) = Begins a blocks looked (λ seen b. Begins a blocks seen rest (f b)) p
+Begins a blocks looked rest (pick b p q) = (b ≡ true → Begins a blocks looked rest p) × (b ≡ false → Begins a blocks looked rest q)
+Begins a blocks looked rest (repeat p x) = Begins a blocks looked (λ _ _. ⊥) (p x)
+Begins a blocks looked rest (wraps f begin p) = ((looked && is_at_token begin) ≡ true) × Begins a blocks looked (λ _ _. ⊥) p
+Begins a blocks looked rest (grows begin p f) = ((looked && is_at_token begin) ≡ true) × Begins a blocks looked (λ _ _. ⊥) p
+Begins a blocks looked rest (nests f begin p x) = ((looked && is_at_token begin) ≡ true) × Begins a blocks looked (λ _ _. ⊥) (p x)
+Begins a blocks looked rest (scoped f p) = Begins a blocks looked (λ _ _. ⊥) p
+Begins a blocks looked rest (either p is_wrong q) = Begins a blocks looked (λ _ _. ⊥) p × Begins a blocks looked (λ _ _. ⊥) q
+Begins a blocks looked rest (calls c) = ⊥
+Begins a blocks looked rest (block b) = blocks ≡ true
+
+-- it takes this token before all else
+abbrev pub EatsFirst : {A : Type 0} → AtHand → Bool → Bool → Parser A → Type 0
+EatsFirst a blocks looked p = Begins a blocks looked (λ _ _. ⊥) p
 
 -- ---- tables of kinds
 

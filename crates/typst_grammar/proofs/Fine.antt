@@ -37,6 +37,11 @@ and-both false b h i = absurd (cc)
 
 -- ---- several trees
 
+-- hints change no kind
+pub kind-advised : (hints : List (List ℕ)) (t : Tree) → (all_advised hints t).head.kind ≡ t.head.kind
+kind-advised [] t = refl
+kind-advised (hint ∷ hints) t = kind-advised hints (advised (hint_with None hint) t)
+
 -- what holds of a tree with hints too
 abbrev pub Steady : (Tree → Type 0) → Type 0
 Steady P = (hints : List (List ℕ)) (t : Tree) → P t → P (all_advised hints t)
@@ -102,10 +107,6 @@ fines-take zero ts h = tt
 fines-take (suc n) [] h = tt
 fines-take (suc n) (t ∷ ts) (f, inl e) = (f, inl e)
 fines-take (suc n) (t ∷ ts) (f, inr h) = (f, inr (fines-take n ts h))
-
-hinted-error : (hints : List (List ℕ)) (t : Tree) → is_error t.head.kind ≡ true → is_error (all_advised hints t).head.kind ≡ true
-hinted-error [] t e = e
-hinted-error (hint ∷ hints) t e = hinted-error hints (advised (hint_with None hint) t) e
 
 fines-last : (hints : List (List ℕ)) (ts : List Tree) → Fines ts → Fines (hinted_last hints ts)
 fines-last hints [] h = tt
@@ -281,11 +282,8 @@ is-unbinary k h = by-test (same kind.Binary k) h
 -- what allows more
 module _ (f g : SyntaxKind → Bool) (more : (k : SyntaxKind) → f k ≡ true → g k ≡ true) where
   change-weaker : (change : NodeChange) → change_by f change ≡ true → change_by g change ≡ true
-  change-weaker stays h = refl
-  change-weaker (turns_wrong message) h = refl
-  change-weaker (is_not thing) h = refl
   change-weaker (renamed k) h = more k h
-  change-weaker unparened h = refl
+  change-weaker _ h = refl
 
   pub shape-weaker : (shape : Shape) → shape_by f shape ≡ true → shape_by g shape ≡ true
   shape-weaker (keeps change) h = change-weaker change h
@@ -295,10 +293,8 @@ module _ (f g : SyntaxKind → Bool) (more : (k : SyntaxKind) → f k ≡ true �
   shape-weaker (fails message) h = refl
 
   pub making-weaker : (making : Making) → making_by f making ≡ true → making_by g making ≡ true
-  making-weaker itself h = refl
   making-weaker (of_kind k) h = more k h
-  making-weaker (surprise hints) h = refl
-  making-weaker (wanted thing) h = refl
+  making-weaker _ h = refl
 
 -- an error stays one
 abbrev Wrong : Tree → Type 0

@@ -26,15 +26,15 @@ use Rattle.typst_language.specs.declared.reading.Reading.{Reading}
 use Rattle.typst_language.specs.Point.{Point, Trivia, pending}
 use Rattle.typst_language.specs.Hand.{Ahead, ahead, ahead_by, after_trivia, direct, hand_at, token_at, len_at, at_trivia, token_by, len_by}
 use Rattle.typst_language.specs.Shape.{changed, Shape, hinted, after_node, after_shape}
-use Rattle.typst_language.specs.Shape.Shape.{keeps, holds, lacks, warns, fails}
+use Rattle.typst_language.specs.Shape.Shape.{keeps, holds}
 use Rattle.typst_language.specs.Syntax.{Op, Begin, Parser}
-use Rattle.typst_language.specs.Syntax.Op.{hand, so, further, column, erred, takes, takes_so, flushes, complains, advises, marks, is_deepest}
+use Rattle.typst_language.specs.Syntax.Op.{so, erred, takes, takes_so, flushes, complains, advises, marks, is_deepest}
 use Rattle.typst_language.specs.Syntax.Parser.{gives, does, next, pick, repeat, wraps, grows, nests, scoped, either, calls, block}
 use Rattle.typst_language.specs.Meaning.{Outcome, Meaning, Level, less, joined, answered, turns, as_last, bound, repeated, before, reshaped, grown, is_more, growths, growing, nestings, nesting, bounded, given_up, plain, same_mode, entered, left, taken_node, node_by, reader_so, gave, hand_of, hand_asks_of, done, run}
 use Rattle.typst_language.proofs.Within.{on_both, on_if}
 use Rattle.typst_grammar.specs.Binding.{has_errors, operator_of}
 use Rattle.typst_grammar.proofs.Signs.{sign_of}
-use Rattle.typst_grammar.proofs.Fine.{All, Fine, Fines, fines-all, fines-append, fines-take, fines-hinted, fines-reshaped, all-append, fine-inner, fine-error, fine-leaf, fine-made, no-operator, shape_by, making_by, unbinary, tame_kind, shape-weaker, making-weaker}
+use Rattle.typst_grammar.proofs.Fine.{All, kind-advised, Fine, Fines, fines-all, fines-append, fines-take, fines-hinted, fines-reshaped, all-append, fine-inner, fine-error, fine-leaf, fine-made, no-operator, shape_by, making_by, unbinary, tame_kind, shape-weaker, making-weaker}
 
 -- ---- nodes of tokens
 
@@ -135,10 +135,6 @@ pub record Still (t : Tree) : Type 0 where
   pub no_sign : sign_of t.head.kind ≡ None
   pub no_operator : operator_of t ≡ None
 
-still-hints : (hints : List (List ℕ)) (t : Tree) → t.head.kind ≡ kind.Error → (all_advised hints t).head.kind ≡ kind.Error
-still-hints [] t h = h
-still-hints (hint ∷ hints) t h = still-hints hints (advised (hint_with None hint) t) h
-
 still-error : (t : Tree) → Fine t → t.head.kind ≡ kind.Error → Still t
 still-error t f e = record { fine = f; no_sign = ap sign_of e; no_operator = no-operator t (ap (same kind.Binary) e) }
 
@@ -153,7 +149,7 @@ still-plain k _ taken h = absurd (cc)
 still-token : (k : CharClasses) (t : Token) (taken : List ℕ) → is_trivia t.kind ≡ true → Still (token_node k t taken)
 still-token k t taken h = elim t.fault as (λ o. Still (elim o as (λ _. Tree) [ None ↦ plain_node k t taken | Some f ↦ fault_node f taken ])) [
   | None ↦ still-plain k t.kind taken h
-  | Some f ↦ still-error (fault_node f taken) (fine-fault f taken) (still-hints (hints f taken) (error_of (message f taken) (encode_utf8_all taken)) refl)
+  | Some f ↦ still-error (fault_node f taken) (fine-fault f taken) (kind-advised (hints f taken) (error_of (message f taken) (encode_utf8_all taken)))
 ]
 
 still-ahead : (k : CharClasses) (m : SyntaxMode) (n : ℕ) (z : Place) → All Still (ahead_by k m n z).trivia
@@ -217,14 +213,9 @@ after-node-known true text s = refl
 after-node-known false text s = refl
 
 pub after-shape-known : (shape : Shape) (ts : List Tree) (s : Point) → (after_shape shape ts s).known ≡ s.known
-after-shape-known (keeps change) [] s = refl
 after-shape-known (keeps change) (t ∷ []) s =
     on_both (λ (u : Point). u.known ≡ s.known) (is_error t.head.kind) s (after_node (is_error (changed change t).head.kind) _ s) refl (after-node-known (is_error (changed change t).head.kind) _ s)
-after-shape-known (keeps change) (t ∷ u ∷ ts) s = refl
-after-shape-known (holds change k) ts s = refl
-after-shape-known (lacks count message k) ts s = refl
-after-shape-known (warns k message hint) ts s = refl
-after-shape-known (fails message) ts s = refl
+after-shape-known _ ts s = refl
 
 pub still-shaped : (shape : Shape) (ts : List Tree) (s : Point) → All Still (pending s.known) → All Still (pending (after_shape shape ts s).known)
 still-shaped shape ts s h = subst (λ (x : Option Trivia). All Still (pending x)) (sym (after-shape-known shape ts s)) h
@@ -277,31 +268,19 @@ binds-nestings f e begin m g (suc n) x z s h =
 -- this holds of all that it answers
 abbrev pub Gives : {A : Type 0} → (A → Type 0) → Parser A → Type 0
 Gives Q (gives a) = Q a
-Gives {A} Q (does o) = (a : A) → Q a
 Gives Q (next p f) = Gives (λ b. Gives Q (f b)) p
 Gives Q (pick b p q) = Gives Q p × Gives Q q
-Gives {A} Q (repeat p x) = (a : A) → Q a
-Gives {A} Q (wraps f begin p) = (a : A) → Q a
-Gives {A} Q (grows begin p f) = (a : A) → Q a
-Gives {A} Q (nests f begin p x) = (a : A) → Q a
 Gives Q (scoped f p) = Gives Q p
 Gives Q (either p is_wrong q) = Gives Q p × Gives Q q
-Gives {A} Q (calls c) = (a : A) → Q a
-Gives {A} Q (block b) = (a : A) → Q a
+Gives {A} Q _ = (a : A) → Q a
 
 pub gives-all : {A : Type 0} (Q : A → Type 0) → ((a : A) → Q a) → (p : Parser A) → Gives Q p
 gives-all Q h (gives a) = h a
-gives-all Q h (does o) = h
 gives-all Q h (next p f) = gives-all (λ b. Gives Q (f b)) (λ b. gives-all Q h (f b)) p
 gives-all Q h (pick b p q) = (gives-all Q h p, gives-all Q h q)
-gives-all Q h (repeat p x) = h
-gives-all Q h (wraps f begin p) = h
-gives-all Q h (grows begin p f) = h
-gives-all Q h (nests f begin p x) = h
 gives-all Q h (scoped f p) = gives-all Q h p
 gives-all Q h (either p is_wrong q) = (gives-all Q h p, gives-all Q h q)
-gives-all Q h (calls c) = h
-gives-all Q h (block b) = h
+gives-all Q h _ = h
 
 -- it notes no block's begin
 abbrev pub begins_none : Mark → Bool
@@ -317,7 +296,6 @@ op_by allows _ = true
 
 -- it makes nodes of the kinds of this alone, but where it reads a block
 abbrev pub PlainBy : {A : Type 0} → (SyntaxKind → Bool) → Parser A → Type 0
-PlainBy allows (gives a) = Unit {0}
 PlainBy allows (does o) = op_by allows o ≡ true
 PlainBy allows (next p f) = PlainBy allows p × ((b : _) → PlainBy allows (f b))
 PlainBy allows (pick b p q) = PlainBy allows p × PlainBy allows q
@@ -327,8 +305,7 @@ PlainBy allows (grows begin p f) = PlainBy allows p × ((x : _) → Gives (λ v.
 PlainBy allows (nests f begin p x) = ((a : _) → shape_by allows (f a) ≡ true) × ((y : _) → PlainBy allows (p y))
 PlainBy allows (scoped f p) = PlainBy allows p
 PlainBy allows (either p is_wrong q) = PlainBy allows p × PlainBy allows q
-PlainBy allows (calls c) = Unit {0}
-PlainBy allows (block b) = Unit {0}
+PlainBy allows _ = Unit {0}
 
 -- it makes no binary node and no block's, but where it reads a block
 abbrev pub Plain : {A : Type 0} → Parser A → Type 0
@@ -336,40 +313,25 @@ Plain p = PlainBy tame_kind p
 
 gives-by : {A : Type 0} (Q R : A → Type 0) → ((a : A) → Q a → R a) → (p : Parser A) → Gives Q p → Gives R p
 gives-by Q R g (gives a) h = g a h
-gives-by Q R g (does o) h = λ a. g a (h a)
 gives-by Q R g (next p f) h = gives-by (λ b. Gives Q (f b)) (λ b. Gives R (f b)) (λ b. gives-by Q R g (f b)) p h
 gives-by Q R g (pick b p q) h = (gives-by Q R g p h.0, gives-by Q R g q h.1)
-gives-by Q R g (repeat p x) h = λ a. g a (h a)
-gives-by Q R g (wraps f begin p) h = λ a. g a (h a)
-gives-by Q R g (grows begin p f) h = λ a. g a (h a)
-gives-by Q R g (nests f begin p x) h = λ a. g a (h a)
 gives-by Q R g (scoped f p) h = gives-by Q R g p h
 gives-by Q R g (either p is_wrong q) h = (gives-by Q R g p h.0, gives-by Q R g q h.1)
-gives-by Q R g (calls c) h = λ a. g a (h a)
-gives-by Q R g (block b) h = λ a. g a (h a)
+gives-by Q R g _ h = λ a. g a (h a)
 
 -- by what allows more it is the same
 module _ (f g : SyntaxKind → Bool) (more : (k : SyntaxKind) → f k ≡ true → g k ≡ true) where
   op-weaker : {A : Type 0} (o : Op A) → op_by f o ≡ true → op_by g o ≡ true
-  op-weaker hand h = refl
-  op-weaker (so way) h = refl
-  op-weaker further h = refl
-  op-weaker column h = refl
-  op-weaker erred h = refl
   op-weaker (takes trims making) h = making-weaker f g more making h
   op-weaker (takes_so way making) h = making-weaker f g more making h
-  op-weaker flushes h = refl
-  op-weaker (complains message) h = refl
-  op-weaker (advises hint) h = refl
   op-weaker (marks m) h = h
-  op-weaker is_deepest h = refl
+  op-weaker _ h = refl
 
   if-weaker : (shape : Option Shape) → if_by f shape ≡ true → if_by g shape ≡ true
   if-weaker None h = refl
   if-weaker (Some shape) h = shape-weaker f g more shape h
 
   pub plain-weaker : {A : Type 0} (p : Parser A) → PlainBy f p → PlainBy g p
-  plain-weaker (gives a) h = tt
   plain-weaker (does o) h = op-weaker o h
   plain-weaker (next p r) h = (plain-weaker p h.0, λ b. plain-weaker (r b) (h.1 b))
   plain-weaker (pick b p q) h = (plain-weaker p h.0, plain-weaker q h.1)
@@ -379,38 +341,27 @@ module _ (f g : SyntaxKind → Bool) (more : (k : SyntaxKind) → f k ≡ true �
   plain-weaker (nests r begin p x) h = (λ a. shape-weaker f g more (r a) (h.0 a), λ y. plain-weaker (p y) (h.1 y))
   plain-weaker (scoped r p) h = plain-weaker p h
   plain-weaker (either p is_wrong q) h = (plain-weaker p h.0, plain-weaker q h.1)
-  plain-weaker (calls c) h = tt
-  plain-weaker (block b) h = tt
+  plain-weaker _ h = tt
 
 module _ (l : Level) where
   -- what may be answered is answered
   pub gives-run : {A : Type 0} (Q : A → Type 0) (p : Parser A) → Gives Q p → (z : Place) (s : Point) → Q (run l p z s).value
   unfolding run
   gives-run Q (gives a) h z s = h
-  gives-run Q (does o) h z s = h _
   gives-run Q (next p f) h z s =
       let o = run l p z s in
       gives-run Q (f o.value) (gives-run (λ b. Gives Q (f b)) p h z s) (moved o.taken z) o.state
   gives-run Q (pick true p q) h z s = gives-run Q p h.0 z s
   gives-run Q (pick false p q) h z s = gives-run Q q h.1 z s
-  gives-run Q (repeat p x) h z s = h _
-  gives-run Q (wraps f begin p) h z s = h _
-  gives-run Q (grows begin p f) h z s = h _
-  gives-run Q (nests f begin p x) h z s = h _
   gives-run Q (scoped f p) h z s = gives-run Q p h z (entered (f s.reading) s)
   gives-run Q (either p is_wrong q) h z s =
       on_both (λ o. Q o.value) (is_wrong (run l p z s).value) (given_up (run l p z s) (run l q z s)) (run l p z s) (gives-run Q q h.1 z s) (gives-run Q p h.0 z s)
-  gives-run Q (calls c) h z s = h _
-  gives-run Q (block b) h z s = h _
+  gives-run Q _ h z s = h _
 
   binds-gave : (z : Place) (s : Point) (trims : Bool) (len : ℕ) (node : Tree) (asks : List _) → All Still (pending s.known) → Fine node → Binds (gave (hand_of l z s) trims len node asks s)
   binds-gave z s trims len node asks k f = let h = hand_of l z s in record { nodes = fines-append h.trivia (node ∷ []) (fines-all h.trivia (fine-still h.trivia (still-hand l z s k))) (f, inr tt); known = tt }
 
   binds-done : {A : Type 0} (o : Op A) → op_by unbinary o ≡ true → AllBind (done l o)
-  binds-done hand e z s h = record { nodes = tt; known = still-hand l z s h }
-  binds-done (so way) e z s h = record { nodes = tt; known = still-hand l z s h }
-  binds-done further e z s h = record { nodes = tt; known = still-hand l z s h }
-  binds-done column e z s h = record { nodes = tt; known = still-hand l z s h }
   binds-done erred e z s h = record { nodes = tt; known = h }
   binds-done (takes trims making) e z s h =
       let x = hand_of l z s in
@@ -428,6 +379,7 @@ module _ (l : Level) where
   binds-done (advises hint) e z s h = record { nodes = tt; known = h }
   binds-done (marks m) e z s h = record { nodes = tt; known = h }
   binds-done is_deepest e z s h = record { nodes = tt; known = h }
+  binds-done _ e z s h = record { nodes = tt; known = still-hand l z s h }
 
   module _ (d : (c : Call) → AllBind (l.deeper c)) (e : (x : Block) → AllBind (l.blocks x)) where
     -- what makes no binary node gives trees that bind where all that it calls does

@@ -1,16 +1,28 @@
--- Parsers that read a block only where a token is at hand, and note only what they are allowed to: steps, and what a content block reads.
+-- Parsers that read a block only where a token is at hand, and note only what they are allowed to: all that calls and blocks read.
 use Rattle.std.proofs.Common.{◌≡◌, ℕ, Bool, true, false, refl}
-use Rattle.typst_kinds.specs.declared.kind.SyntaxKind.{SyntaxKind}
+use Rattle.typst_lines.specs.Classes.{CharClasses}
+use Rattle.typst_language.specs.declared.calls.Block.{Block}
+use Rattle.typst_language.specs.declared.calls.Block.TheVariants as block
 use Rattle.typst_language.specs.declared.calls.Mark.{Mark}
 use Rattle.typst_language.specs.declared.calls.Mark.TheVariants as mark
+use Rattle.typst_kinds.specs.declared.kind.SyntaxKind.{SyntaxKind}
 use Rattle.typst_language.specs.Calls.{Call, Answer}
+use Rattle.typst_language.specs.Calls.Call.{MarkupExpr, CodeExpr, MathExpr, Pattern}
 use Rattle.typst_language.specs.Depth.{too_deep, deeper}
 use Rattle.typst_language.specs.Shape.{Shape}
-use Rattle.typst_language.specs.Steps.{close_if, node}
-use Rattle.typst_language.specs.Syntax.{Parser}
+use Rattle.typst_language.specs.Steps.{close_if, peek, grow, node}
+use Rattle.typst_language.specs.Syntax.{Parser, ◌>>◌}
+use Rattle.typst_code.specs.Expressions.{code_primary, code_tail_turn, code_expr}
+use Rattle.typst_code.specs.Markup.{content_block, markup_expr}
+use Rattle.typst_code.specs.MathExpressions.{math_expr}
+use Rattle.typst_code.specs.Patterns.{pattern}
+use Rattle.typst_code.specs.Sequences.{code_block}
+use Rattle.typst_grammar.specs.Grammar.{production, block_production, whole}
 pub use Rattle.typst_grammar.proofs.Proper.{sees, op_notes, Guarded}
-use Rattle.typst_grammar.proofs.Proper.{Scope, Proper, proper-guarded, proper-close, proper-deep, proper-deeper}
-use Rattle.typst_grammar.proofs.PlainParts.{inside_content, proper-inside-content}
+use Rattle.typst_grammar.proofs.Proper.{Scope, Proper, proper-guarded, proper-close, proper-flush, proper-deep, proper-deeper}
+use Rattle.typst_grammar.proofs.PlainParts.{inside_content, proper-inside-content, proper-run, proper-markup-expr, proper-pattern}
+use Rattle.typst_grammar.proofs.PlainCode.{inside_code, proper-inside-code, proper-primary, proper-tail-turn}
+use Rattle.typst_grammar.proofs.PlainMath.{proper-math-expr}
 
 module _ (notes : Mark → Bool) where
   -- where these marks may be noted
@@ -18,7 +30,7 @@ module _ (notes : Mark → Bool) where
   marking seen = record { notes = notes; given = Unit {0}; seen = seen }
 
   -- what is proper there
-  pub guarded : {A : Type 0} (seen : Bool) (p : Parser A) → Proper (marking seen) p → Guarded notes seen p
+  guarded : {A : Type 0} (seen : Bool) (p : Parser A) → Proper (marking seen) p → Guarded notes seen p
   guarded seen p w = proper-guarded (marking seen) p w tt
 
   pub guarded-close : (seen : Bool) (is : SyntaxKind → Bool) → Guarded notes seen (close_if is)
@@ -36,3 +48,25 @@ module _ (notes : Mark → Bool) where
 
   pub guarded-inside-content : (seen : Bool) → ((at_start : Bool) (nesting : ℕ) → notes (mark.Piece at_start nesting) ≡ true) → Guarded notes seen inside_content
   guarded-inside-content seen h = guarded seen inside_content (proper-inside-content (marking seen) h)
+
+  pub guarded-inside-code : (seen : Bool) → Guarded notes seen inside_code
+  guarded-inside-code seen = guarded seen inside_code (proper-inside-code (marking seen))
+
+  pub guarded-blocks : (seen : Bool) (b : Block) → ((at_start : Bool) (nesting : ℕ) → notes (mark.Piece at_start nesting) ≡ true) → Guarded notes seen (peek >> block_production b)
+  unfolding content_block code_block
+  guarded-blocks seen block.Content h = (refl, λ _. (guarded-node _ _ _ (guarded-inside-content false h), λ _. tt))
+  guarded-blocks seen block.Code h = (refl, λ _. (guarded-node _ _ _ (guarded-inside-code false), λ _. tt))
+
+  pub guarded-whole : (seen : Bool) → ((at_start : Bool) (nesting : ℕ) → notes (mark.Piece at_start nesting) ≡ true) → Guarded notes seen whole
+  unfolding whole
+  guarded-whole seen h = guarded seen whole (proper-run (marking seen) _ h, λ _. proper-flush _)
+
+  guarded-expr : (seen atomic : Bool) (least : ℕ) → Guarded notes seen (code_expr atomic least)
+  unfolding code_expr grow
+  guarded-expr seen atomic least = (refl, λ _. (guarded false (code_primary atomic) (proper-primary _ atomic), λ x. guarded false (code_tail_turn atomic least x) (proper-tail-turn _ atomic least x)))
+
+  pub guarded-production : (seen : Bool) (k : CharClasses) (c : Call) → Guarded notes seen (production k c)
+  guarded-production seen k (MarkupExpr at_start nesting) = guarded seen (markup_expr at_start nesting) (proper-markup-expr _ at_start nesting)
+  guarded-production seen k (CodeExpr atomic least) = guarded-expr seen atomic least
+  guarded-production seen k (MathExpr least stops) = guarded seen (math_expr k least stops) (proper-math-expr _ k least stops)
+  guarded-production seen k (Pattern role names) = guarded seen (pattern role names) (proper-pattern _ role names)

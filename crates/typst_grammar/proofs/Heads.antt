@@ -1,12 +1,14 @@
 -- What stands to the left of an operator: no operator stands there, and no binary node.
-use Rattle.std.proofs.Common.{◌≡◌, ℕ, zero, suc, ◌+◌, ◌-◌, ◌<◌, Bool, true, false, ◌&&◌, ◌||◌, if◌then◌else◌, nat_lt, List, [], ◌∷◌, ◌++◌, length, take, drop, Option, Some, None, refl, ap, sym, ◌∙◌, ◌⊎◌, inl, inr, subst, arith, encode_utf8_all}
+use Rattle.std.proofs.Common.{◌≡◌, ℕ, zero, suc, ◌<◌, Bool, true, false, not, ◌&&◌, ◌||◌, if◌then◌else◌, nat_lt, List, [], ◌∷◌, ◌++◌, length, take, drop, Option, Some, None, refl, ap, sym, ◌∙◌, ◌⊎◌, inl, inr, subst, arith, encode_utf8_all}
+use Rattle.std.proofs.lemmas.Bool.{and_parts}
 use Rattle.typst_lines.specs.Classes.{CharClasses}
 use Rattle.typst_kinds.specs.Kinds.{same, is_error}
 use Rattle.typst_kinds.specs.declared.kind.SyntaxKind.{SyntaxKind}
 use Rattle.typst_kinds.specs.declared.kind.SyntaxKind.TheVariants as kind
+use Rattle.typst_kinds.specs.declared.operator.BinOp.{BinOp}
 use Rattle.typst_lines.specs.Place.{Place, moved}
 use Rattle.typst_tree.specs.Diagnostic.{hint_with}
-use Rattle.typst_tree.specs.Tree.{Tree, leaf_of, error_of, advised, all_advised}
+use Rattle.typst_tree.specs.Tree.{Tree, leaf_of, error_of, advised}
 use Rattle.typst_language.specs.Faults.{hints, message}
 use Rattle.typst_language.specs.Raw.{raw_node, delimited_node, closed_node, block_node, inline_node, delimited, two_delimiters, is_pair, before_ticks, ticks}
 use Rattle.typst_language.specs.RawTag.{tag, warned, is_whole, only_tag}
@@ -14,29 +16,22 @@ use Rattle.typst_language.specs.Fields.{access_node}
 use Rattle.typst_language.specs.Nodes.{token_node, plain_node, fault_node, is_raw, has_fields}
 use Rattle.typst_tokens.specs.declared.token.Token.{Token}
 use Rattle.typst_tokens.specs.declared.token.Fault.{Fault}
-use Rattle.typst_language.specs.Point.{Point, Trivia, pending}
-use Rattle.typst_language.specs.Ask.{Ask}
+use Rattle.typst_language.specs.Point.{Point, Trivia}
 use Rattle.typst_language.specs.declared.reading.Reading.{Reading}
-use Rattle.typst_language.specs.Hand.{Hand, AtHand, as_at_hand, hand_at}
-use Rattle.typst_language.specs.Shape.{Making, Shape, shaped, hinted}
-use Rattle.typst_language.specs.Shape.NodeChange.{stays}
+use Rattle.typst_language.specs.Hand.{hand_at}
+use Rattle.typst_language.specs.Shape.{Making}
 use Rattle.typst_language.specs.Shape.Making.{itself}
-use Rattle.typst_language.specs.Shape.Shape.{keeps}
-use Rattle.std.proofs.lemmas.List.{take-append-drop}
-use Rattle.typst_language.specs.Syntax.{Parser}
-use Rattle.typst_language.specs.Syntax.Begin.{at_token}
-use Rattle.typst_language.specs.Syntax.Op.{hand, takes}
+use Rattle.typst_language.specs.Syntax.Op.{takes}
 use Rattle.typst_language.specs.Syntax.Parser.{gives, does, next}
-use Rattle.typst_language.specs.Steps.{peek, eat_making, eat, node, nest}
+use Rattle.typst_language.specs.Steps.{peek, eat_making, eat}
 use Rattle.typst_language.specs.Depth.{is_end}
-use Rattle.typst_language.specs.Meaning.{Outcome, Level, plain, less, standing, joined, followed, as_last, bound, inside, reshaped, wrapped, nestings, nesting, taken_node, hand_of, hand_asks_of, asked, run}
-use Rattle.typst_language.proofs.Ends.{hand-again}
+use Rattle.typst_language.specs.Meaning.{Outcome, Level, plain, standing, joined, taken_node, hand_of, run}
 use Rattle.typst_language.proofs.Places.{no-end}
 use Rattle.typst_language.proofs.Within.{on_both}
 use Rattle.typst_grammar.specs.Binding.{operator_of}
 use Rattle.typst_grammar.proofs.Signs.{sign_of}
-use Rattle.typst_grammar.proofs.Fine.{All, Steady, all-drop, no-operator}
-use Rattle.typst_grammar.proofs.FineRuns.{Still, still-hand}
+use Rattle.typst_grammar.proofs.Fine.{All, Steady, kind-advised, all-drop, no-operator, or-left, or-right, unbinary, is-unbinary}
+pub use Rattle.typst_grammar.proofs.Parts.{standing-nil as standing-none}
 
 -- ---- nodes
 
@@ -73,139 +68,22 @@ after-take P zero ts us h = h
 after-take P (suc m) [] us h = all-drop P (suc m) us h
 after-take P (suc m) (t ∷ ts) us h = after-take P m ts us h
 
-pub after-front : (P : Tree → Type 0) (ts us : List Tree) → All P us → All P (drop (length ts) (ts ++ us))
-after-front P [] us h = h
-after-front P (t ∷ ts) us h = after-front P ts us h
-
--- one node
-abbrev pub Single : List Tree → Type 0
-Single [] = ⊥
-Single (t ∷ []) = Bare t
-Single (t ∷ u ∷ ts) = ⊥
-
-single-all : (ts : List Tree) → Single ts → All Bare ts
-single-all [] h = absurd h
-single-all (t ∷ []) h = (h, tt)
-single-all (t ∷ u ∷ ts) h = absurd h
-
-single-last : (E : Type 0) (ts us : List Tree) → Single us → LastIs E Unary (ts ++ us)
-single-last E ts [] h = absurd h
-single-last E ts (t ∷ []) h = last-one E Unary ts t h.1
-single-last E ts (t ∷ u ∷ us) h = absurd h
-
--- what stands before some of them
-pub last-after : (E F : Type 0) (P : Tree → Type 0) → (F → ⊥) → (ts us : List Tree) → LastIs F P us → LastIs E P (ts ++ us)
-last-after E F P f [] [] h = absurd (f h)
-last-after E F P f [] (u ∷ us) h = last-map F E P P (λ x. absurd (f x)) (λ t x. x) (u ∷ us) h
-last-after E F P f (t ∷ []) [] h = absurd (f h)
-last-after E F P f (t ∷ []) (u ∷ us) h = last-after E F P f [] (u ∷ us) h
-last-after E F P f (t ∷ u ∷ ts) us h = last-after E F P f (u ∷ ts) us h
-
 -- several nodes of which each is no operator and has none
 pub last-all : (E : Type 0) (ts : List Tree) → All Bare ts → 0 < length ts → LastIs E Unary ts
 last-all E [] h l = absurd (omega arith)
 last-all E (t ∷ []) h l = h.0.1
 last-all E (t ∷ u ∷ ts) h l = last-all E (u ∷ ts) h.1 (omega arith)
 
--- ---- nodes that stand
+-- a kind of no operator, and of no binary node
+abbrev pub is_quiet : SyntaxKind → Bool
+is_quiet k = elim (sign_of k) as (λ _. Bool) [ None ↦ unbinary k | Some op ↦ false ]
 
-less-nil : (n : ℕ) → less {A = Tree} n [] ≡ []
-unfolding less
-less-nil n = let e : 0 - n ≡ 0 = omega arith in rw e refl
-
-hinted-nil : (hints : List (List ℕ)) → hinted hints [] ≡ []
-hinted-nil [] = refl
-hinted-nil (hint ∷ hints) = refl
-
--- after what gave none
-pub standing-none : {A : Type 0} (o : Outcome A) → standing o [] ≡ o.nodes
-standing-none o = ap (λ ts. hinted o.hints ts ++ o.nodes) (less-nil o.back) ∙ ap (λ ts. ts ++ o.nodes) (hinted-nil o.hints)
-
--- ---- what an expression begins with
-
--- after the trivia nothing is an operator or has one, and the last node has none
-pub record Head {A : Type 0} (n : ℕ) (s : Point) (o : Outcome A) : Type 0 where
-  pub inside : All Bare (drop (n + o.back) o.nodes)
-  pub last : LastIs (s.is_after_error ≡ true) Unary o.nodes
-
-pub head-same : {A B : Type 0} (n : ℕ) (s : Point) (o : Outcome A) (p : Outcome B) → p.nodes ≡ o.nodes → p.back ≡ o.back → Head n s o → Head n s p
-head-same n s o p e b h = record {
-  inside = subst (λ x. All Bare (drop (n + x) p.nodes)) (sym b) (subst (λ (ts : List Tree). All Bare (drop (n + o.back) ts)) (sym e) h.inside);
-  last = subst (λ (ts : List Tree). LastIs (s.is_after_error ≡ true) Unary ts) (sym e) h.last;
-}
-
--- an answer after it
-pub head-gives : {A B : Type 0} (n : ℕ) (s : Point) (o : Outcome A) (b : B) → Head n s o → Head n s (joined o (plain b o.state))
-head-gives n s o b h = head-same n s o (joined o (plain b o.state)) (sym (no-end o.nodes)) (omega arith) h
-
--- a look before it
-pub head-after : {A B : Type 0} (n : ℕ) (s t : Point) (b : B) (asks : List Ask) (p : Outcome A) → Head n s p → Head n s (joined (record (plain b t) { asks = asks }) p)
-head-after n s t b asks p h = head-same n s p (joined (record (plain b t) { asks = asks }) p) (standing-none p) (omega arith) h
-
-pub head-reshaped : {A : Type 0} (n : ℕ) (s : Point) (shape : Shape) (o : Outcome A) → Single (shaped shape (inside n o)) → Head n s (reshaped shape n o)
-head-reshaped n s shape o h = record {
-  inside = after-take Bare (n + o.back) o.nodes (shaped shape (inside n o)) (single-all (shaped shape (inside n o)) h);
-  last = single-last (s.is_after_error ≡ true) (take (n + o.back) o.nodes) (shaped shape (inside n o)) h;
-}
-
--- a shape of nodes of which none is an operator or has one
-pub head-shaped : {A : Type 0} (n : ℕ) (s : Point) (shape : Shape) (o : Outcome A) → All Bare (shaped shape (inside n o)) → 0 < length (shaped shape (inside n o)) → Head n s (reshaped shape n o)
-head-shaped n s shape o h l = record {
-  inside = after-take Bare (n + o.back) o.nodes (shaped shape (inside n o)) h;
-  last = last-after (s.is_after_error ≡ true) ⊥ Unary (λ x. x) (take (n + o.back) o.nodes) (shaped shape (inside n o)) (last-all ⊥ (shaped shape (inside n o)) h l);
-}
-
--- the same nodes
-pub head-stays : {A : Type 0} (n : ℕ) (s : Point) (shape : Shape) (o : Outcome A) → shape ≡ keeps stays → Head n s o → Head n s (reshaped shape n o)
-head-stays n s shape o e h = head-same n s o (reshaped shape n o) (ap (λ (x : Shape). take (n + o.back) o.nodes ++ shaped x (inside n o)) e ∙ take-append-drop (n + o.back) o.nodes) refl h
-
-module _ (l : Level) where
-  abbrev pub trivia_at : Place → Point → ℕ
-  trivia_at z s = length (hand_of l z s).trivia
-
-  -- where a token of this kind is at hand
-  abbrev pub Heads : {A : Type 0} → SyntaxKind → Parser A → Type 0
-  Heads i p = (z : Place) (s : Point) → All Still (pending s.known) → (hand_of l z s).kind ≡ i → Head (trivia_at z s) s (run l p z s)
-
-  pub head-peek : {A : Type 0} (i : SyntaxKind) (f : AtHand → Parser A) → ((a : AtHand) → a.kind ≡ i → Heads i (f a)) → Heads i (next (does hand) f)
-  unfolding run
-  head-peek i f h z s k e =
-      let t = asked (hand_of l z s) s in
-      let again = hand-again l.classes s.held s.known z in
-      let a = as_at_hand (hand_of l z s) in
-      let first = h a e z t (still-hand l z s k) (ap (λ (x : Hand). x.kind) again ∙ e) in
-      head-after (trivia_at z s) s t a (hand_asks_of l z s) (run l (f a) z t)
-      (let same = subst (λ (x : Hand). Head (length x.trivia) t (run l (f a) z t)) again first in record { inside = same.inside; last = same.last })
-
-  pub head-next : {A B : Type 0} (i : SyntaxKind) (p : Parser A) (f : A → B) → Heads i p → Heads i (next p (λ a. gives (f a)))
-  unfolding run
-  head-next i p f h z s k e = let o = run l p z s in head-gives (trivia_at z s) s o (f o.value) (h z s k e)
-
-  -- one node, after what stands at any point
-  pub head-wrapped : {A : Type 0} (r : Point) (shape : A → Shape) (p : Parser A) (z : Place) (s : Point) → (let o = run l p z (asked (hand_of l z s) s) in Head (trivia_at z s) r (reshaped (shape o.value) (trivia_at z s) o)) → Head (trivia_at z s) r (run l (node shape p) z s)
-  unfolding run node
-  head-wrapped r shape p z s h =
-      let t = asked (hand_of l z s) s in
-      let n = trivia_at z s in
-      let o = run l p z t in
-      let w = wrapped shape n o in
-      head-after n r t (as_at_hand (hand_of l z s)) (hand_asks_of l z s) (joined w (plain w.value.0 w.state)) (head-gives n r w w.value.0 (record { inside = h.inside; last = h.last }))
-
-  pub head-node-at : {A : Type 0} (r : Point) (shape : A → Shape) (p : Parser A) → ((a : A) (ts : List Tree) → Single (shaped (shape a) ts)) → (z : Place) (s : Point) → Head (trivia_at z s) r (run l (node shape p) z s)
-  head-node-at r shape p h z s = let o = run l p z (asked (hand_of l z s) s) in let n = trivia_at z s in head-wrapped r shape p z s (head-reshaped n r (shape o.value) o (h o.value (inside n o)))
-
-  -- one node
-  pub head-node : {A : Type 0} (i : SyntaxKind) (shape : A → Shape) (p : Parser A) → ((a : A) (ts : List Tree) → Single (shaped (shape a) ts)) → Heads i (node shape p)
-  head-node i shape p h z s k e = head-node-at s shape p h z s
-
-  pub head-nest : {A : Type 0} (i : SyntaxKind) (shape : A → Shape) (turn : A → Parser (Bool × A)) (x : A) → ((a : A) (ts : List Tree) → Single (shaped (shape a) ts)) → Heads i (nest shape turn x)
-  unfolding run nest nesting
-  head-nest i shape turn x h z s k e =
-      let t = asked (hand_of l z s) s in
-      let n = trivia_at z s in
-      let o = run l (turn x) z t in
-      let p = if o.value.0 && nat_lt 0 o.taken then followed o (λ v. nestings shape at_token (λ y. run l (turn y)) (bound z t) v.1) z else as_last o in
-      head-after n s t (as_at_hand (hand_of l z s)) (hand_asks_of l z s) (reshaped (shape p.value) n p) (head-reshaped n s (shape p.value) p (h p.value (inside n p)))
+pub quiet-sign : (k : SyntaxKind) → is_quiet k ≡ true → (sign_of k ≡ None) × (same kind.Binary k ≡ false)
+quiet-sign k e = by-sign (sign_of k) e
+  where
+    by-sign : (o : Option BinOp) → (elim o as (λ _. Bool) [ None ↦ unbinary k | Some op ↦ false ]) ≡ true → (o ≡ None) × (same kind.Binary k ≡ false)
+    by-sign None h = (refl, is-unbinary k h)
+    by-sign (Some op) h = absurd (cc)
 
 -- ---- what adds no node
 
@@ -224,27 +102,32 @@ silent-joined o p h k = record {
   hints = rw (h.nodes, h.hints, k.back, k.hints) refl;
 }
 
-pub head-silent : {A B : Type 0} (n : ℕ) (s : Point) (o : Outcome A) (p : Outcome B) → Silent p → Head n s o → Head n s (joined o p)
-head-silent n s o p q h = head-same n s o (joined o p) (standing-silent p q o.nodes) (let b = q.back in omega arith) h
-
 pub silent-plain : {A : Type 0} (a : A) (s : Point) → Silent (plain a s)
 silent-plain a s = record { nodes = refl; back = refl; hints = refl }
 
 -- ---- tokens
 
-hints-kind : (hints : List (List ℕ)) (t : Tree) → t.head.kind ≡ kind.Error → (all_advised hints t).head.kind ≡ kind.Error
-hints-kind [] t h = h
-hints-kind (hint ∷ hints) t h = hints-kind hints (advised (hint_with None hint) t) h
-
 pub bare-error : (t : Tree) → t.head.kind ≡ kind.Error → Bare t
 bare-error t e = (ap sign_of e, no-operator t (ap (same kind.Binary) e))
 
 pub fault-error : (f : Fault) (taken : List ℕ) → (fault_node f taken).head.kind ≡ kind.Error
-fault-error f taken = hints-kind (hints f taken) (error_of (message f taken) (encode_utf8_all taken)) refl
+fault-error f taken = kind-advised (hints f taken) (error_of (message f taken) (encode_utf8_all taken))
 
 -- a token that becomes a leaf of its kind, where it has no fault
 abbrev pub is_plain : SyntaxKind → Bool
 is_plain k = is_error k || (is_raw k || has_fields k)
+
+-- it becomes a leaf of a quiet kind, or a raw text
+abbrev pub is_calm : SyntaxKind → Bool
+is_calm k = is_raw k || (is_quiet k && not (is_end k || is_plain k))
+
+raw-is : (i : SyntaxKind) → is_raw i ≡ true → i ≡ kind.Raw
+raw-is kind.Raw h = refl
+raw-is _ h = absurd (cc)
+
+not-true : (b : Bool) → not b ≡ true → b ≡ false
+not-true true h = absurd (cc)
+not-true false h = refl
 
 leafy-by : (i : SyntaxKind) (text : List ℕ) (x y w : Tree) → is_plain i ≡ false → (if is_error i then x else (if is_raw i then y else (if has_fields i then w else leaf_of i text))) ≡ leaf_of i text
 leafy-by i text x y w e = by-tests (is_error i) (is_raw i) (has_fields i) e
@@ -327,26 +210,18 @@ module _ (l : Level) where
   unfolding run eat eat_making
   back-eat z s = omega arith
 
-  -- its node, alone after the trivia
-  head-taken : (z : Place) (s : Point) → Bare (taken_node l.classes itself (hand_of l z s) z) → Head (length (hand_of l z s).trivia) s (run l eat z s)
-  unfolding eat
-  head-taken z s b =
-      let h = hand_of l z s in
-      let node = taken_node l.classes itself h z in
-      let t = takes-making false itself z s in
-      let none = back-eat z s in
-      let same : length h.trivia + (run l eat z s).back ≡ length h.trivia = omega (arith, none) in
-      record {
-        inside = subst (λ (ts : List Tree). All Bare (drop (length h.trivia + (run l eat z s).back) ts)) (sym t.nodes)
-            (subst (λ n. All Bare (drop n (h.trivia ++ node ∷ []))) (sym same) (after-front Bare h.trivia (node ∷ []) (b, tt)));
-        last = subst (λ (ts : List Tree). LastIs (s.is_after_error ≡ true) Unary ts) (sym t.nodes) (last-one (s.is_after_error ≡ true) Unary h.trivia node b.1);
-      }
+  -- what a calm token becomes
+  pub bare-taken : (z : Place) (s : Point) → is_calm (hand_of l z s).kind ≡ true → Bare (taken_node l.classes itself (hand_of l z s) z)
+  bare-taken z s e = by-kind (is_raw i) refl e
+    where
+      i : SyntaxKind
+      i = (hand_of l z s).kind
 
-  -- a token that is no operator
-  pub head-eat : (i : SyntaxKind) → is_end i ≡ false → is_plain i ≡ false → sign_of i ≡ None → same kind.Binary i ≡ false → Heads l i eat
-  head-eat i e p a b z s k h =
-      let x = hand_of l z s in
-      head-taken z s (leafy-bare i _ (taken_node l.classes itself x z) a b (leafy-token l.classes x.token _ i (hand-kind l.classes s.held s.known z i e h) p))
-
-  pub head-raw : Heads l kind.Raw eat
-  head-raw z s k h = head-taken z s (bare-raw-token l.classes (hand_of l z s).token _ (hand-kind l.classes s.held s.known z kind.Raw refl h))
+      by-kind : (b : Bool) → is_raw i ≡ b → (b || (is_quiet i && not (is_end i || is_plain i))) ≡ true → Bare (taken_node l.classes itself (hand_of l z s) z)
+      by-kind true r c = bare-raw-token l.classes (hand_of l z s).token _ (hand-kind l.classes s.held s.known z kind.Raw refl (raw-is i r))
+      by-kind false r c =
+          let both = and_parts (is_quiet i) (not (is_end i || is_plain i)) c in
+          let leaf = not-true (is_end i || is_plain i) both.1 in
+          let q = quiet-sign i both.0 in
+          leafy-bare i _ (taken_node l.classes itself (hand_of l z s) z) q.0 q.1
+          (leafy-token l.classes (hand_of l z s).token _ i (hand-kind l.classes s.held s.known z i (or-left (is_end i) (is_plain i) leaf) refl) (or-right (is_end i) (is_plain i) leaf))

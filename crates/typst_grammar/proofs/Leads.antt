@@ -1,5 +1,5 @@
--- What takes the token at hand first: the trivia before it come first, and stay there.
-use Rattle.std.proofs.Common.{◌≡◌, ℕ, zero, suc, ◌+◌, ◌-◌, ◌≤◌, Bool, true, false, ◌&&◌, if◌then◌else◌, nat_lt, List, [], ◌∷◌, ◌++◌, length, take, length-append, length-take, length-drop, refl, ap, sym, subst, inl, inr, arith}
+-- What takes the token at hand first: the trivia before it come first and stay there, and something is taken.
+use Rattle.std.proofs.Common.{◌≡◌, ℕ, zero, suc, ◌+◌, ◌-◌, ◌<◌, ◌≤◌, Bool, true, false, ◌&&◌, if◌then◌else◌, nat_lt, List, [], ◌∷◌, ◌++◌, length, take, length-append, length-take, length-drop, Option, Some, None, refl, ap, sym, ◌∙◌, ◌⊎◌, inl, inr, subst, arith}
 use Rattle.typst_kinds.specs.Kinds.{is_error}
 use Rattle.typst_lines.specs.Place.{Place, moved}
 use Rattle.typst_tree.specs.Tree.{Tree, text_of}
@@ -9,18 +9,18 @@ use Rattle.typst_language.specs.Hand.{Hand, as_at_hand}
 use Rattle.typst_language.specs.Point.{Point, pending}
 use Rattle.typst_language.specs.Shape.{Making, hinted_last, hinted, Shape, shaped, count_empty, after_node}
 use Rattle.typst_language.specs.Sound.{Tidy, Backs}
-use Rattle.typst_language.specs.Syntax.{Begin, Op, Parser}
+use Rattle.typst_language.specs.Syntax.{Begin, Parser}
 use Rattle.typst_language.specs.Syntax.Begin.{at_token, at_trivia}
 use Rattle.typst_language.specs.Syntax.Op.{hand, column, takes}
 use Rattle.typst_language.specs.Syntax.Parser.{gives, does, next, pick, repeat, wraps, grows, nests, scoped, either, calls, block}
-use Rattle.typst_language.specs.Meaning.{Outcome, Level, plain, less, joined, as_last, before, bound, entered, inside, reshaped, wrapped, nestings, nesting, given_up, taken_node, hand_of, hand_asks_of, asked, run}
-use Rattle.typst_language.proofs.Backs.{backs-run, shape-counts, tidy-nestings, left-empties}
+use Rattle.typst_language.specs.Meaning.{Outcome, Meaning, Level, less, joined, answered, turns, as_last, before, bound, repeated, entered, inside, reshaped, wrapped, grown, is_more, growths, growing, nestings, nesting, given_up, taken_node, hand_of, asked, run}
+use Rattle.typst_language.proofs.Backs.{backs-run, backs-turns, shape-counts, tidy-nestings, left-empties}
 use Rattle.typst_language.proofs.Ends.{hand-again}
 use Rattle.typst_language.proofs.HintedNodes.{length-hinted}
 use Rattle.typst_language.proofs.Places.{length-less}
-use Rattle.typst_language.proofs.Within.{on_both}
+use Rattle.typst_language.proofs.Within.{on_both, on_if}
 use Rattle.std.proofs.lemmas.Bool.{and_parts}
-use Rattle.typst_grammar.proofs.EatsFirst.{EatsFirst, op_eats, is_at_token}
+use Rattle.typst_grammar.proofs.EatsFirst.{Begins, EatsFirst, is_at_token}
 use Rattle.typst_grammar.proofs.Fine.{All, Steady}
 use Rattle.typst_grammar.proofs.FineRuns.{Still, still-hand}
 use Rattle.typst_grammar.proofs.Heads.{Bare, bare-advised, standing-none}
@@ -62,13 +62,17 @@ all-bare (t ∷ ts) h = ((h.0.no_sign, h.0.no_operator), all-bare ts h.1)
 
 -- ---- what is given
 
--- nothing is taken back, and neither are the first nodes by what follows
-pub record Leads {A : Type 0} (n : ℕ) (o : Outcome A) : Type 0 where
+-- Nothing is taken back, and neither are the first nodes by what follows. These are no operators where the trivia are known, and something is taken where something is left.
+pub record Leads {A : Type 0} (K L : Type 0) (n : ℕ) (o : Outcome A) : Type 0 where
   pub none : o.back ≡ 0
   pub room : n + o.state.empties ≤ length o.nodes
-  pub first : All Bare (take n o.nodes)
+  pub first : K → All Bare (take n o.nodes)
+  pub taken : L → 0 < o.taken
 
-pub leads-joined : {A B : Type 0} (n : ℕ) (o : Outcome B) (q : Outcome A) → Leads n o → Tidy o.state q → Leads n (joined o q)
+leads-answered : {A B K L : Type 0} {n : ℕ} {o : Outcome A} (b : B) → Leads K L n o → Leads K L n (answered b o)
+leads-answered b h = record { none = h.none; room = h.room; first = h.first; taken = h.taken }
+
+pub leads-joined : {A B K L : Type 0} (n : ℕ) (o : Outcome B) (q : Outcome A) → Leads K L n o → Tidy o.state q → Leads K L n (joined o q)
 leads-joined n o q h t =
     let a = h.none in let b = h.room in let c = t.back in let d = t.left in
     let one = length-append (hinted q.hints (less q.back o.nodes)) q.nodes in
@@ -77,10 +81,24 @@ leads-joined n o q h t =
     record {
       none = omega arith;
       room = omega arith;
-      first = all-take-front Bare n (hinted q.hints (less q.back o.nodes)) q.nodes (omega arith) (all-take-hinted Bare bare-advised q.hints n (less q.back o.nodes) (all-take-less Bare n q.back o.nodes h.first));
+      first = λ k. all-take-front Bare n (hinted q.hints (less q.back o.nodes)) q.nodes (omega arith) (all-take-hinted Bare bare-advised q.hints n (less q.back o.nodes) (all-take-less Bare n q.back o.nodes (h.first k)));
+      taken = λ i. (let some = h.taken i in omega (arith, some));
     }
 
-pub leads-reshaped : {A : Type 0} (n : ℕ) (shape : Shape) (o : Outcome A) → Leads n o → Leads n (reshaped shape n o)
+-- after what gives nothing
+leads-after : {A B K L : Type 0} (n : ℕ) (o : Outcome B) (q : Outcome A) → o.nodes ≡ [] → o.back ≡ 0 → Leads K L n q → Leads K L n (joined o q)
+leads-after n o q e f h =
+    let same = ap (λ ts. hinted q.hints (less q.back ts) ++ q.nodes) e ∙ standing-none q in
+    let long = ap length same in
+    let a = h.none in let b = h.room in
+    record {
+      none = omega (arith, a, f);
+      room = omega (arith, b, long);
+      first = λ k. subst (λ (ts : List Tree). All Bare (take n ts)) (sym same) (h.first k);
+      taken = λ i. (let some = h.taken i in omega (arith, some));
+    }
+
+leads-reshaped : {A K L : Type 0} (n : ℕ) (shape : Shape) (o : Outcome A) → Leads K L n o → Leads K L n (reshaped shape n o)
 leads-reshaped n shape o h =
     let m = n + o.back in
     let ts = inside n o in
@@ -94,8 +112,21 @@ leads-reshaped n shape o h =
         | inl c ↦ omega (arith, a, b, c, one, two, three)
         | inr c ↦ omega (arith, a, b, c.0, c.1, one, two)
       ]);
-      first = all-take-front Bare n (take m o.nodes) (shaped shape ts) (omega arith) (all-take-both Bare n m o.nodes h.first);
+      first = λ k. all-take-front Bare n (take m o.nodes) (shaped shape ts) (omega arith) (all-take-both Bare n m o.nodes (h.first k));
+      taken = h.taken;
     }
+
+leads-grown : {A K L : Type 0} (n : ℕ) (shape : Option Shape) (o : Outcome A) → Leads K L n o → Leads K L n (grown n shape o)
+leads-grown n None o h = h
+leads-grown n (Some shape) o h = leads-reshaped n shape o h
+
+leads-growths : {A K L : Type 0} (m : A → Meaning (Option Shape × A)) → ((x : A) → Backs (m x)) → (n fuel : ℕ) (o : Outcome A) (z : Place) → Leads K L n o → Leads K L n (growths m n fuel o z)
+leads-growths {K = K} {L = L} m tidy n zero o z h = h
+leads-growths {K = K} {L = L} m tidy n (suc fuel) o z h =
+    let p = m o.value (moved o.taken z) o.state in
+    let more = grown n p.value.0 (answered p.value.1 (joined o p)) in
+    let g = leads-grown n p.value.0 (answered p.value.1 (joined o p)) (leads-answered p.value.1 (leads-joined n o p h (tidy o.value (moved o.taken z) o.state))) in
+    on_both (λ u. Leads K L n u) (is_more p.value.0 && nat_lt 0 p.taken) (growths m n fuel more z) more (leads-growths m tidy n fuel more z g) g
 
 count-one : (text : List ℕ) → count_empty text ≤ 1
 count-one [] = omega arith
@@ -105,16 +136,16 @@ after-one : (b : Bool) (text : List ℕ) (s : Point) → (after_node b text s).e
 after-one true text s = count-one text
 after-one false text s = omega arith
 
--- ---- words
+-- ---- where it is read
 
 module _ (l : Level) where
-  -- where the trivia at hand are known, what is read so leads
-  abbrev pub Fills : {A : Type 0} → Parser A → Type 0
-  Fills p = (z : Place) (s : Point) → All Still (pending s.known) → Leads (length (hand_of l z s).trivia) (run l p z s)
+  -- by what is known at a point, and left there
+  abbrev pub Eaten : {A : Type 0} → Place → Point → Outcome A → Type 0
+  Eaten z s o = Leads (All Still (pending s.known)) (0 < (hand_of l z s).gap + (hand_of l z s).len) (length (hand_of l z s).trivia) o
 
-  pub fills-takes : (making : Making) → Fills (does (takes false making))
+  eaten-takes : (making : Making) (z : Place) (s : Point) → Eaten z s (run l (does (takes false making)) z s)
   unfolding run
-  fills-takes making z s h =
+  eaten-takes making z s =
       let x = hand_of l z s in
       let t = taken_node l.classes making x z in
       let one = length-append x.trivia (t ∷ []) in
@@ -122,88 +153,133 @@ module _ (l : Level) where
       record {
         none = refl;
         room = omega (arith, one, few);
-        first = all-front Bare x.trivia (t ∷ []) (all-bare x.trivia (still-hand l z s h));
+        first = λ k. all-front Bare x.trivia (t ∷ []) (all-bare x.trivia (still-hand l z s k));
+        taken = λ i. i;
       }
-
-  op-fills : {A : Type 0} (o : Op A) → op_eats o ≡ true → Fills (does o)
-  op-fills (takes false making) e = fills-takes making
-  op-fills (takes true making) e = absurd (cc)
-  op-fills _ e = absurd (cc)
-
-  -- if the token was looked at, the trivia before it are known
-  abbrev Known : Bool → Place → Point → Type 0
-  Known looked z s = looked ≡ true → length (pending s.known) ≡ length (hand_of l z s).trivia
-
-  abbrev FillsBy : {A : Type 0} → Bool → Parser A → Type 0
-  FillsBy looked p = (z : Place) (s : Point) → All Still (pending s.known) → Known looked z s → Leads (length (hand_of l z s).trivia) (run l p z s)
-
-  -- after a look
-  leads-after : {A B : Type 0} (n : ℕ) (b : B) (t : Point) (asks : List _) (q : Outcome A) → Leads n q → Leads n (joined (record (plain b t) { asks = asks }) q)
-  leads-after n b t asks q h =
-      let e = standing-none q in
-      let long = ap length e in
-      let a = h.none in let r = h.room in
-      record {
-        none = omega (arith, a);
-        room = omega (arith, r, long);
-        first = subst (λ (ts : List Tree). All Bare (take n ts)) (sym e) h.first;
-      }
-
-  fills-look : {A B : Type 0} (b : B) (asks : List _) (f : B → Parser A) → FillsBy true (f b) → (z : Place) (s : Point) → All Still (pending s.known)
-      → Leads (length (hand_of l z s).trivia) (joined (record (plain b (asked (hand_of l z s) s)) { asks = asks }) (run l (f b) z (asked (hand_of l z s) s)))
-  fills-look b asks f h z s still =
-      let t = asked (hand_of l z s) s in
-      let again = hand-again l.classes s.held s.known z in
-      let first = h z t (still-hand l z s still) (λ _. sym (ap (λ (x : Hand). length x.trivia) again)) in
-      leads-after (length (hand_of l z s).trivia) b t asks (run l (f b) z t) (subst (λ (x : Hand). Leads (length x.trivia) (run l (f b) z t)) again first)
 
   -- the trivia that are known come before a node that begins here
-  begins-at : (looked : Bool) (begin : Begin) (n : ℕ) (s : Point) → (looked && is_at_token begin) ≡ true → (looked ≡ true → length (pending s.known) ≡ n) → before begin s ≡ n
+  pub begins-at : (looked : Bool) (begin : Begin) (n : ℕ) (s : Point) → (looked && is_at_token begin) ≡ true → (looked ≡ true → length (pending s.known) ≡ n) → before begin s ≡ n
   begins-at looked at_token n s e known = known (and_parts looked true e).0
   begins-at looked at_trivia n s e known = let x = (and_parts looked false e).1 in absurd (cc)
 
-  module _ (d : (c : Call) → Backs (l.deeper c)) (e : (b : Block) → Backs (l.blocks b)) where
-    then-fills : {A B : Type 0} (blocks looked : Bool) (p : Parser B) (f : B → Parser A) → (EatsFirst blocks looked p → FillsBy looked p) → ((b : B) → EatsFirst blocks true (f b) → FillsBy true (f b)) → EatsFirst blocks looked (next p f) → FillsBy looked (next p f)
-    unfolding run
-    then-fills blocks looked (does hand) f first rest w z s still known = let a = as_at_hand (hand_of l z s) in fills-look a (hand_asks_of l z s) f (rest a (w a)) z s still
-    then-fills blocks looked (does column) f first rest w z s still known = let o = run l (does column) z s in fills-look o.value o.asks f (rest o.value (w o.value)) z s still
-    then-fills blocks looked p f first rest w z s still known =
-        let o = run l p z s in
-        leads-joined (length (hand_of l z s).trivia) o (run l (f o.value) (moved o.taken z) o.state) (first w z s still known) (backs-run l d e (f o.value) (moved o.taken z) o.state)
+  -- a turn with all that comes after it
+  abbrev pub nested : {A : Type 0} → (A → Shape) → Begin → (A → Parser (Bool × A)) → A → Place → Point → Outcome A
+  nested f begin p x z s =
+      let o = run l (p x) z s in
+      if o.value.0 && nat_lt 0 o.taken then joined o (nestings f begin (λ y. run l (p y)) (bound z s) o.value.1 (moved o.taken z) o.state) else as_last o
 
-    -- what takes the token at hand first leads, where blocks do
-    pub eats-leads : {A : Type 0} (blocks looked : Bool) (p : Parser A) → (blocks ≡ true → (b : Block) → Fills (block b)) → EatsFirst blocks looked p → FillsBy looked p
-    unfolding run nesting
-    eats-leads blocks looked (gives a) i w z s still known = absurd w
-    eats-leads blocks looked (does o) i w z s still known = op-fills o w z s still
-    eats-leads blocks looked (next p f) i w z s still known = then-fills blocks looked p f (eats-leads blocks looked p i) (λ b. eats-leads blocks true (f b) i) w z s still known
-    eats-leads blocks looked (pick b p q) i w z s still known =
-        on_both (Leads (length (hand_of l z s).trivia)) b (run l p z s) (run l q z s) (eats-leads blocks looked p i w.0 z s still known) (eats-leads blocks looked q i w.1 z s still known)
-    eats-leads blocks looked (repeat p x) i w z s still known = absurd w
-    eats-leads blocks looked (wraps f begin p) i w z s still known =
-        let n = length (hand_of l z s).trivia in
-        let o = run l p z s in
-        let r = leads-reshaped n (f o.value) o (eats-leads blocks looked p i w.1 z s still known) in
-        subst (λ (m : ℕ). Leads n (wrapped f m o)) (sym (begins-at looked begin n s w.0 known)) (record { none = r.none; room = r.room; first = r.first })
-    eats-leads blocks looked (grows begin p f) i w z s still known = absurd w
-    eats-leads blocks looked (nests f begin p x) i w z s still known =
-        let n = length (hand_of l z s).trivia in
-        let o = run l (p x) z s in
-        let first = eats-leads blocks looked (p x) i w.1 z s still known in
-        let more = nestings f begin (λ y. run l (p y)) (bound z s) o.value.1 (moved o.taken z) o.state in
-        let b = o.value.0 && nat_lt 0 o.taken in
-        let q = if b then joined o more else as_last o in
-        let last : Leads n (as_last o) = record { none = first.none; room = first.room; first = first.first } in
-        let inner = on_both (Leads n) b (joined o more) (as_last o) (leads-joined n o more first (tidy-nestings f begin (λ y. run l (p y)) (λ y. backs-run l d e (p y)) (bound z s) o.value.1 (moved o.taken z) o.state)) last in
-        subst (λ (j : ℕ). Leads n (reshaped (f q.value) j q)) (sym (begins-at looked begin n s w.0 known)) (leads-reshaped n (f q.value) q inner)
-    eats-leads blocks looked (scoped f p) i w z s still known =
-        let o = run l p z (entered (f s.reading) s) in
-        let x = eats-leads blocks looked p i w z (entered (f s.reading) s) still known in
-        let few = left-empties s.reading o.state in
-        let r = x.room in
-        record { none = x.none; room = omega (arith, few, r); first = x.first }
-    eats-leads blocks looked (either p is_wrong q) i w z s still known =
-        let x = eats-leads blocks looked q i w.1 z s still known in
-        on_both (Leads (length (hand_of l z s).trivia)) (is_wrong (run l p z s).value) (given_up (run l p z s) (run l q z s)) (run l p z s) (record { none = x.none; room = x.room; first = x.first }) (eats-leads blocks looked p i w.0 z s still known)
-    eats-leads blocks looked (calls c) i w z s still known = absurd w
-    eats-leads blocks looked (block b) i w z s still known = i w b z s still
+  -- of a token at a place, where this is known of its trivia
+  module _ (z : Place) (h : Hand) (K : Type 0) where
+    abbrev pub Here : {A : Type 0} → Outcome A → Type 0
+    Here o = Leads K (0 < h.gap + h.len) (length h.trivia) o
+
+    -- it is at hand, and was looked at if this says so
+    pub record At (looked : Bool) (s : Point) : Type 0 where
+      pub same : hand_of l z s ≡ h
+      pub known : looked ≡ true → length (pending s.known) ≡ length h.trivia
+      pub still : K → All Still (pending s.known)
+
+    pub looked-at : (looked : Bool) (s : Point) → At looked s → At true (asked (hand_of l z s) s)
+    looked-at looked s a = record {
+      same = hand-again l.classes s.held s.known z ∙ a.same;
+      known = λ _. ap (λ (v : Hand). length v.trivia) a.same;
+      still = λ k. still-hand l z s (a.still k);
+    }
+
+    -- there were only looks at it
+    pub record Looked {A : Type 0} (rest : Bool → A → Type 0) (o : Outcome A) : Type 0 where
+      pub nodes : o.nodes ≡ []
+      pub back : o.back ≡ 0
+      pub taken : o.taken ≡ 0
+      pub looked : Bool
+      pub holds : rest looked o.value
+      pub there : At looked o.state
+
+    eaten-at : {A : Type 0} (looked : Bool) (s : Point) (o : Outcome A) → At looked s → Eaten z s o → Here o
+    eaten-at looked s o a x =
+        let y = subst (λ (v : Hand). Leads (All Still (pending s.known)) (0 < v.gap + v.len) (length v.trivia) o) a.same x in
+        record { none = y.none; room = y.room; first = λ k. y.first (a.still k); taken = y.taken }
+
+    pub eaten-of : {A : Type 0} (o : Outcome A) → Here o ⊎ Looked (λ _ _. ⊥) o → Here o
+    eaten-of o (inl x) = x
+    eaten-of o (inr u) = absurd u.holds
+
+    looked-then : {A B : Type 0} (rest : Bool → A → Type 0) (o : Outcome B) (q : Outcome A) → o.nodes ≡ [] → o.back ≡ 0 → o.taken ≡ 0 → Here q ⊎ Looked rest q → Here (joined o q) ⊎ Looked rest (joined o q)
+    looked-then rest o q e f g (inl x) = inl (leads-after (length h.trivia) o q e f x)
+    looked-then rest o q e f g (inr u) =
+        let a = u.back in let b = u.taken in
+        inr (record {
+          nodes = ap (λ ts. hinted q.hints (less q.back ts) ++ q.nodes) e ∙ standing-none q ∙ u.nodes;
+          back = omega (arith, a, f);
+          taken = omega (arith, b, g);
+          looked = u.looked;
+          holds = u.holds;
+          there = u.there;
+        })
+
+    module _ (d : (c : Call) → Backs (l.deeper c)) (e : (b : Block) → Backs (l.blocks b)) (blocks : Bool) (i : blocks ≡ true → (b : Block) (s : Point) → Eaten z s (run l (block b) z s)) where
+      pub leads-nested : {A : Type 0} (f : A → Shape) (begin : Begin) (p : A → Parser (Bool × A)) (x : A) (s : Point) → Here (run l (p x) z s) → Here (nested f begin p x z s)
+      leads-nested f begin p x s first =
+          let o = run l (p x) z s in
+          let more = nestings f begin (λ y. run l (p y)) (bound z s) o.value.1 (moved o.taken z) o.state in
+          on_both (λ u. Here u) (o.value.0 && nat_lt 0 o.taken) (joined o more) (as_last o)
+          (leads-joined (length h.trivia) o more first (tidy-nestings f begin (λ y. run l (p y)) (λ y. backs-run l d e (p y)) (bound z s) o.value.1 (moved o.taken z) o.state)) (leads-answered o.value.1 first)
+
+      -- what begins so leads, where blocks do, or there are only looks
+      pub begins-run : {A : Type 0} (looked : Bool) (rest : Bool → A → Type 0) (p : Parser A) → Begins (as_at_hand h) blocks looked rest p → (s : Point) → At looked s → Here (run l p z s) ⊎ Looked rest (run l p z s)
+      unfolding run repeated growing nesting
+      begins-run looked rest (gives x) w s a = inr (record { nodes = refl; back = refl; taken = refl; looked = looked; holds = w; there = a })
+      begins-run looked rest (does hand) w s a =
+          inr (record { nodes = refl; back = refl; taken = refl; looked = true; holds = subst (λ (v : Hand). rest true (as_at_hand v)) (sym a.same) w; there = looked-at looked s a })
+      begins-run looked rest (does column) w s a = inr (record { nodes = refl; back = refl; taken = refl; looked = true; holds = w _; there = looked-at looked s a })
+      begins-run looked rest (does (takes false making)) w s a = inl (eaten-at looked s (run l (does (takes false making)) z s) a (eaten-takes making z s))
+      begins-run looked rest (does (takes true making)) w s a = absurd (cc)
+      begins-run looked rest (does _) w s a = absurd w
+      begins-run looked rest (next p f) w s a =
+          let o = run l p z s in
+          elim (begins-run looked (λ seen b. Begins (as_at_hand h) blocks seen rest (f b)) p w s a) [
+            | inl x ↦ inl (leads-joined (length h.trivia) o (run l (f o.value) (moved o.taken z) o.state) x (backs-run l d e (f o.value) (moved o.taken z) o.state))
+            | inr u ↦ subst (λ (v : Place). Here (joined o (run l (f o.value) v o.state)) ⊎ Looked rest (joined o (run l (f o.value) v o.state))) (sym (ap (λ (n : ℕ). moved n z) u.taken))
+                (looked-then rest o (run l (f o.value) z o.state) u.nodes u.back u.taken (begins-run u.looked rest (f o.value) u.holds o.state u.there))
+          ]
+      begins-run looked rest (pick b p q) w s a =
+          on_if (λ u. Here u ⊎ Looked rest u) b (run l p z s) (run l q z s) (λ t. begins-run looked rest p (w.0 t) s a) (λ t. begins-run looked rest q (w.1 t) s a)
+      begins-run looked rest (repeat p x) w s a =
+          let o = run l (p x) z s in
+          let more = turns (λ y. run l (p y)) (bound z s) o.value.1 (moved o.taken z) o.state in
+          let first = eaten-of o (begins-run looked (λ _ _. ⊥) (p x) w s a) in
+          inl (on_both (λ u. Here u) (o.value.0 && nat_lt 0 o.taken) (joined o more) (as_last o)
+          (leads-joined (length h.trivia) o more first (backs-turns (λ y. run l (p y)) (λ y. backs-run l d e (p y)) (bound z s) o.value.1 (moved o.taken z) o.state)) (leads-answered o.value.1 first))
+      begins-run looked rest (wraps f begin p) w s a =
+          let o = run l p z s in
+          let r = leads-reshaped (length h.trivia) (f o.value) o (eaten-of o (begins-run looked (λ _ _. ⊥) p w.1 s a)) in
+          inl (subst (λ (m : ℕ). Here (wrapped f m o)) (sym (begins-at looked begin (length h.trivia) s w.0 a.known)) (record { none = r.none; room = r.room; first = r.first; taken = r.taken }))
+      begins-run looked rest (grows begin p f) w s a =
+          let o = run l p z s in
+          inl (subst (λ (m : ℕ). Here (growths (λ y. run l (f y)) m (suc (bound z s)) o z)) (sym (begins-at looked begin (length h.trivia) s w.0 a.known))
+          (leads-growths (λ y. run l (f y)) (λ y. backs-run l d e (f y)) (length h.trivia) (suc (bound z s)) o z (eaten-of o (begins-run looked (λ _ _. ⊥) p w.1 s a))))
+      begins-run looked rest (nests f begin p x) w s a =
+          let q = nested f begin p x z s in
+          inl (subst (λ (m : ℕ). Here (reshaped (f q.value) m q)) (sym (begins-at looked begin (length h.trivia) s w.0 a.known))
+          (leads-reshaped (length h.trivia) (f q.value) q (leads-nested f begin p x s (eaten-of (run l (p x) z s) (begins-run looked (λ _ _. ⊥) (p x) w.1 s a)))))
+      begins-run looked rest (scoped f p) w s a =
+          let t = entered (f s.reading) s in
+          let o = run l p z t in
+          let x = eaten-of o (begins-run looked (λ _ _. ⊥) p w t (record { same = a.same; known = a.known; still = a.still })) in
+          let few = left-empties s.reading o.state in
+          let r = x.room in
+          inl (record { none = x.none; room = omega (arith, few, r); first = x.first; taken = x.taken })
+      begins-run looked rest (either p is_wrong q) w s a =
+          let x = eaten-of (run l q z s) (begins-run looked (λ _ _. ⊥) q w.1 s a) in
+          inl (on_both (λ u. Here u) (is_wrong (run l p z s).value) (given_up (run l p z s) (run l q z s)) (run l p z s) (record { none = x.none; room = x.room; first = x.first; taken = x.taken })
+          (eaten-of (run l p z s) (begins-run looked (λ _ _. ⊥) p w.0 s a)))
+      begins-run looked rest (calls c) w s a = absurd w
+      begins-run looked rest (block b) w s a = inl (eaten-at looked s (run l (block b) z s) a (i w b s))
+
+  -- what takes the token at hand first
+  pub eats-leads : {A : Type 0} → ((c : Call) → Backs (l.deeper c)) → ((b : Block) → Backs (l.blocks b)) → (blocks : Bool) → (blocks ≡ true → (b : Block) (z : Place) (s : Point) → Eaten z s (run l (block b) z s)) → (p : Parser A) (z : Place) (s : Point)
+      → EatsFirst (as_at_hand (hand_of l z s)) blocks false p → Eaten z s (run l p z s)
+  eats-leads d e blocks i p z s w =
+      let h = hand_of l z s in
+      let K : Type 0 = All Still (pending s.known) in
+      eaten-of z h K (run l p z s) (begins-run z h K d e blocks (λ t b u. i t b z u) false (λ _ _. ⊥) p w s (record { same = refl; known = λ t. absurd (cc); still = λ k. k }))

@@ -3,18 +3,17 @@ use Rattle.std.proofs.Common.{◌≡◌, ℕ, zero, suc, ◌+◌, true, false, �
 use Rattle.std.proofs.lemmas.Bool.{and_parts}
 use Rattle.typst_kinds.specs.Kinds.{is_error}
 use Rattle.typst_lines.specs.Place.{Place, moved}
-use Rattle.typst_tree.specs.Diagnostic.{hint_with}
-use Rattle.typst_tree.specs.Tree.{Tree, forest, advised, all_advised}
+use Rattle.typst_tree.specs.Tree.{Tree, forest, all_advised}
 use Rattle.typst_lines.specs.Classes.{CharClasses}
 use Rattle.typst_language.specs.Point.{Point}
 use Rattle.typst_language.specs.Shape.{Shape, hinted_last, hinted, shaped}
-use Rattle.typst_language.specs.Shape.Shape.{keeps, holds, lacks, warns, fails}
+use Rattle.typst_language.specs.Shape.Shape.{holds}
 use Rattle.typst_language.specs.Sound.{Backs}
 use Rattle.typst_language.specs.Meaning.{Outcome, Meaning, less, joined, answered, inside, grown, is_more, growths}
 use Rattle.typst_language.proofs.Places.{less-none}
 use Rattle.typst_language.proofs.Within.{on_both, on_if}
 use Rattle.typst_grammar.specs.Binding.{any_errors}
-use Rattle.typst_grammar.proofs.Fine.{Fines, or-left, or-right}
+use Rattle.typst_grammar.proofs.Fine.{kind-advised, Fines, or-left, or-right}
 use Rattle.typst_grammar.proofs.FineRuns.{AllBind, Binds, binds-joined, still-shaped}
 use Rattle.typst_grammar.proofs.Grown.{Operand}
 
@@ -36,14 +35,10 @@ stuck-take (suc m) [] us h = absurd h
 stuck-take (suc m) (t ∷ ts) us (inl e) = inl e
 stuck-take (suc m) (t ∷ ts) us (inr h) = inr (stuck-take m ts us h)
 
-advised-error : (hints : List (List ℕ)) (t : Tree) → is_error t.head.kind ≡ true → is_error (all_advised hints t).head.kind ≡ true
-advised-error [] t e = e
-advised-error (hint ∷ hints) t e = advised-error hints (advised (hint_with None hint) t) e
-
 stuck-last : (hints : List (List ℕ)) (m : ℕ) (ts : List Tree) → Stuck m ts → Stuck m (hinted_last hints ts)
 stuck-last hints zero ts h = absurd h
 stuck-last hints (suc m) [] h = absurd h
-stuck-last hints (suc m) (t ∷ []) (inl e) = inl (on_both (λ (u : Tree). is_error u.head.kind ≡ true) (is_error t.head.kind) (all_advised hints t) t (advised-error hints t e) e)
+stuck-last hints (suc m) (t ∷ []) (inl e) = inl (on_both (λ (u : Tree). is_error u.head.kind ≡ true) (is_error t.head.kind) (all_advised hints t) t (ap is_error (kind-advised hints t) ∙ e) e)
 stuck-last hints (suc m) (t ∷ []) (inr h) = inr h
 stuck-last hints (suc m) (t ∷ u ∷ ts) (inl e) = inl e
 stuck-last hints (suc m) (t ∷ u ∷ ts) (inr h) = inr (stuck-last hints m (u ∷ ts) h)
@@ -94,18 +89,12 @@ module _ (k : CharClasses) (least : ℕ) {A : Type 0} (n : ℕ) (z : Place) (s :
       record { nodes = fines-stuck (n + o.back) o.nodes (shaped (holds change i) (inside n o)) h b.nodes; known = still-shaped (holds change i) (inside n o) o.state b.known },
       stuck-take (n + o.back) o.nodes (shaped (holds change i) (inside n o)) h,
     )
-    next-lost (Some (keeps change)) e o b h = absurd e
-    next-lost (Some (lacks count message i)) e o b h = absurd e
-    next-lost (Some (warns i message hint)) e o b h = absurd e
-    next-lost (Some (fails message)) e o b h = absurd e
+    next-lost (Some _) e o b h = absurd e
 
     few-more : (v : Option Shape) → Holds v → (o : Outcome A) → is_more v ≡ true → (grown n v o).state.empties ≡ 0
     few-more None e o f = absurd (cc)
     few-more (Some (holds change i)) e o f = refl
-    few-more (Some (keeps change)) e o f = absurd e
-    few-more (Some (lacks count message i)) e o f = absurd e
-    few-more (Some (warns i message hint)) e o f = absurd e
-    few-more (Some (fails message)) e o f = absurd e
+    few-more (Some _) e o f = absurd e
 
     pub operand-lost : (fuel : ℕ) (o : Outcome A) → Lost o → Operand k least z s (growths m n fuel o z)
     operand-lost zero o h = operand-stuck (n + o.back) o h.binds h.stuck

@@ -1,138 +1,81 @@
--- What each token that begins an expression gives.
-use Rattle.std.proofs.Common.{length-append, length-drop, None, ◌≡◌, ℕ, zero, suc, ◌+◌, ◌-◌, ◌<◌, Bool, true, false, List, [], ◌∷◌, ◌++◌, length, take, drop, refl, ap, sym, ◌∙◌, ◌⊎◌, inl, inr, subst, arith, codes}
-use Rattle.typst_kinds.specs.declared.kind.SyntaxKind.{SyntaxKind}
-use Rattle.typst_kinds.specs.declared.kind.SyntaxKind.TheVariants as kind
-use Rattle.typst_lines.specs.Place.{Place, moved}
-use Rattle.typst_tree.specs.Tree.{Tree, text_of, error_of, advised}
-use Rattle.typst_language.specs.declared.calls.AfterName.{AfterName}
-use Rattle.typst_language.specs.declared.calls.AfterName.TheVariants as after
-use Rattle.typst_language.specs.Hand.{Hand, as_at_hand}
-use Rattle.typst_language.specs.Point.{Point, forgot}
-use Rattle.typst_language.specs.declared.calls.Block.{Block}
-use Rattle.typst_language.specs.declared.calls.Block.TheVariants as block
-use Rattle.typst_lines.specs.Classes.{CharClasses}
-use Rattle.typst_kinds.specs.Kinds.{same, is_error}
+-- What an expression begins with: some nodes, of which none is an operator or has one.
+use Rattle.std.proofs.Common.{◌≡◌, ℕ, ◌+◌, ◌-◌, ◌<◌, Bool, true, false, ◌&&◌, ◌||◌, List, [], ◌∷◌, ◌++◌, length, take, drop, length-append, length-take, length-drop, None, refl, ap, sym, ◌⊎◌, inl, inr, subst, arith}
+use Rattle.typst_kinds.specs.Kinds.{is_error}
 use Rattle.typst_kinds.specs.Names.{name_of}
+use Rattle.typst_lines.specs.Place.{Place, moved}
 use Rattle.typst_tree.specs.Diagnostic.{hint_with}
 use Rattle.typst_tree.specs.Messages.{made_expected, expected_error, expected_message, is_lost_name, keyword_hint}
-use Rattle.typst_grammar.specs.Grammar.{block_production, level_at}
-use Rattle.typst_grammar.proofs.Signs.{sign_of}
-use Rattle.typst_language.specs.Shape.{Shape, becomes, hinted, on_first, shaped, encloses}
+use Rattle.typst_tree.specs.Tree.{Tree, text_of, forest, inner_of, error_of, advised}
+use Rattle.typst_language.specs.declared.calls.Block.{Block}
+use Rattle.typst_language.specs.Calls.{Call}
+use Rattle.typst_language.specs.Hand.{Hand, AtHand, as_at_hand}
+use Rattle.typst_language.specs.Point.{Point, pending}
+use Rattle.typst_language.specs.Shape.{Shape, hinted, first_changed, shaped}
+use Rattle.typst_language.specs.Shape.Making.{itself}
 use Rattle.typst_language.specs.Shape.NodeChange.{stays, is_not}
-use Rattle.typst_language.specs.Shape.Shape.{keeps}
-use Rattle.typst_language.specs.Depth.{is_end}
-use Rattle.typst_language.specs.Syntax.{Parser, ◌>>=◌}
-use Rattle.typst_language.specs.Syntax.Parser.{gives, block}
-use Rattle.typst_language.specs.Steps.{peek, eat, node, read_block}
-use Rattle.typst_code.specs.Markup.{content_block}
-use Rattle.typst_code.specs.Sequences.{code_block}
-use Rattle.typst_code.specs.Closures.{after_name, after_underscore, name_shape, underscore_shape, named, placeholder, headed, closure_shape, right_side}
+use Rattle.typst_language.specs.Shape.Shape.{keeps, holds, lacks}
+use Rattle.typst_language.specs.Sound.{Backs}
+use Rattle.typst_language.specs.Syntax.{Parser}
+use Rattle.typst_language.specs.Syntax.Op.{hand, takes}
+use Rattle.typst_language.specs.Syntax.Parser.{gives, does, next, pick, wraps, nests, scoped, either, block}
+use Rattle.typst_language.specs.Meaning.{Outcome, Level, plain, less, joined, inside, reshaped, wrapped, nesting, entered, given_up, taken_node, hand_of, hand_asks_of, asked, run}
 use Rattle.typst_language.proofs.Within.{on_both}
-use Rattle.typst_code.specs.Equations.{equation}
-use Rattle.typst_code.specs.Statements.{show_rule, show_shape, conditional}
-use Rattle.typst_language.specs.Meaning.{Outcome, Level, plain, less, closed, flushed_state, joined, inside, reshaped, hand_of, hand_asks_of, asked, run}
-use Rattle.typst_language.proofs.Ends.{hand-again}
-use Rattle.typst_grammar.proofs.Fine.{All, all-append, all-drop, all-take, all-hinted}
-use Rattle.typst_grammar.proofs.FineRuns.{still-hand}
-use Rattle.typst_grammar.proofs.Heads.{Bare, bare-advised, Unary, last-after, Single, Head, Heads, head-after, head-gives, head-next, head-wrapped, head-reshaped, head-shaped, head-stays, head-node-at, head-node, head-nest, head-silent, standing-silent, silent-joined, silent-plain, is_plain, head-eat}
-use Rattle.typst_grammar.proofs.Operands.{exact-eat, taken_sign}
-use Rattle.typst_grammar.proofs.Leads.{Leads, all-bare}
-use Rattle.typst_grammar.proofs.Firsts.{within_blocks, fills-inside}
+use Rattle.typst_grammar.proofs.EatsFirst.{EatsFirst, is_at_token}
+use Rattle.typst_grammar.proofs.Fine.{All, all-append, all-take, all-drop, all-hinted, no-operator}
+use Rattle.typst_grammar.proofs.FineRuns.{Gives, gives-run, Still, still-hand}
+use Rattle.typst_grammar.proofs.Heads.{Bare, bare-advised, is_quiet, quiet-sign, Silent, silent-plain, silent-joined, standing-silent, standing-none}
+use Rattle.typst_grammar.proofs.Leads.{At, Eaten, all-bare, looked-at, eaten-of, begins-at, nested, leads-nested, begins-run}
+use Rattle.typst_grammar.proofs.Proper.{free, Proper}
 
-module _ (l : Level) (i : SyntaxKind) where
-  single-show : (colon : Bool) (ts : List Tree) → Single (shaped (show_shape colon) ts)
-  single-show true ts = (refl, refl)
-  single-show false ts = (refl, refl)
+-- ---- what is given
 
-  pub head-show : Heads l i show_rule
-  unfolding show_rule
-  head-show = head-next l i (node show_shape _) _ (head-node l i show_shape _ single-show)
+-- some nodes, of which none is an operator or has one
+pub record AllBare {A : Type 0} (o : Outcome A) : Type 0 where
+  pub all : All Bare o.nodes
+  pub some : 0 < length o.nodes
 
-  pub head-conditional : Heads l i conditional
-  unfolding conditional
-  head-conditional = head-nest l i _ _ tt (λ a ts. (refl, refl))
-
-  single-dollars : (closed : Bool) (ts : List Tree) → Single (shaped (encloses kind.Equation closed) ts)
-  single-dollars true ts = (refl, refl)
-  single-dollars false ts = (refl, refl)
-
-  pub head-equation : Heads l i equation
-  unfolding equation
-  head-equation = head-next l i (node (encloses kind.Equation) _) _ (head-node l i (encloses kind.Equation) _ single-dollars)
-
--- ---- blocks
-
-all-both : (P : Tree → Type 0) (n : ℕ) (ts : List Tree) → All P (take n ts) → All P (drop n ts) → All P ts
-all-both P zero ts a b = b
-all-both P (suc n) [] a b = tt
-all-both P (suc n) (t ∷ ts) a b = (a.0, all-both P n ts a.1 b)
+-- the same nodes
+pub bare-same : {A B : Type 0} (o : Outcome A) (p : Outcome B) → p.nodes ≡ o.nodes → AllBare o → AllBare p
+bare-same o p e h = let long = ap length e in let some = h.some in record { all = subst (All Bare) (sym e) h.all; some = omega (arith, long, some) }
 
 all-less : (P : Tree → Type 0) (n : ℕ) (ts : List Tree) → All P ts → All P (less n ts)
 unfolding less
 all-less P n ts h = all-take P (length ts - n) ts h
 
-module _ (k : CharClasses) (levels : ℕ) where
-  abbrev here : Level
-  here = level_at k levels
+-- such nodes after others
+pub bare-more : {A B : Type 0} (o : Outcome B) (q : Outcome A) → All Bare o.nodes → All Bare q.nodes → 0 < length q.nodes → AllBare (joined o q)
+bare-more o q h k some =
+    let front = hinted q.hints (less q.back o.nodes) in
+    let long = length-append front q.nodes in
+    record { all = all-append Bare front q.nodes (all-hinted Bare bare-advised q.hints (less q.back o.nodes) (all-less Bare q.back o.nodes h)) k; some = omega (arith, long, some) }
 
-  abbrev within_it : Level
-  within_it = within_blocks k levels
+-- nothing is given, or such nodes
+abbrev pub Unmet : {A : Type 0} → Outcome A → Type 0
+Unmet o = Silent o ⊎ (All Bare o.nodes × (0 < length o.nodes))
 
-  single-bracketed : (closed : Bool) (ts : List Tree) → Single (shaped (encloses kind.ContentBlock closed) ts)
-  single-bracketed true ts = (refl, refl)
-  single-bracketed false ts = (refl, refl)
+bare-then : {A B : Type 0} (over : A → Type 0) (o : Outcome B) (q : Outcome A) → AllBare o → over q.value ⊎ Unmet q → over q.value ⊎ AllBare (joined o q)
+bare-then over o q h (inl x) = inl x
+bare-then over o q h (inr (inl u)) = inr (bare-same o (joined o q) (standing-silent q u o.nodes) h)
+bare-then over o q h (inr (inr u)) = inr (bare-more o q h.all u.0 u.1)
 
-  single-braced : (closed : Bool) (ts : List Tree) → Single (shaped (encloses kind.CodeBlock closed) ts)
-  single-braced true ts = (refl, refl)
-  single-braced false ts = (refl, refl)
+-- ---- shapes
 
-  head-block : (b : Block) (r : Point) (z : Place) (s : Point) → Head (length (hand_of within_it z s).trivia) r (run within_it (block_production b) z s)
-  unfolding run content_block code_block
-  head-block block.Content r z s = let x = run within_it (node (encloses kind.ContentBlock) _) z s in head-gives _ r x (tt {0}) (head-node-at within_it r (encloses kind.ContentBlock) _ single-bracketed z s)
-  head-block block.Code r z s = let x = run within_it (node (encloses kind.CodeBlock) _) z s in head-gives _ r x (tt {0}) (head-node-at within_it r (encloses kind.CodeBlock) _ single-braced z s)
+-- it makes a node of a quiet kind
+abbrev pub makes : Shape → Bool
+makes (holds change k) = is_quiet k
+makes (lacks count message k) = is_quiet k
+makes _ = false
 
-  head-inside : (b : Block) (r : Point) (z : Place) (s : Point) → Head (length (hand_of within_it z (forgot s)).trivia) r (here.blocks b z (forgot s))
-  unfolding run
-  head-inside b r z s =
-      let y = forgot s in
-      let t = asked (hand_of within_it z y) y in
-      let q = run within_it (block_production b) z t in
-      let first = subst (λ (v : Hand). Head (length v.trivia) r q) (hand-again k y.held y.known z) (head-block b r z t) in
-      head-after (length (hand_of within_it z y).trivia) r t (as_at_hand (hand_of within_it z y)) (hand_asks_of within_it z y) q first
+-- it keeps the nodes, or says that the first was not expected
+abbrev pub keeps_bare : Shape → Bool
+keeps_bare (keeps stays) = true
+keeps_bare (keeps (is_not thing)) = true
+keeps_bare _ = false
 
-  head-flushed : (s : Point) (n m : ℕ) (ts : List Tree) (o : Outcome (Unit {0})) (q : Outcome (Unit {0})) → o.nodes ≡ ts → All Bare ts → Leads m q → Head m (record s { is_after_error = false }) q → Head n s (joined o q)
-  head-flushed s n m ts o q e h lead hd =
-      let none = lead.none in
-      let at : m + q.back ≡ m = omega (arith, none) in
-      let rest = all-both Bare m q.nodes lead.first (subst (λ (i : ℕ). All Bare (drop i q.nodes)) at hd.inside) in
-      let before : All Bare (hinted q.hints (less q.back o.nodes)) = all-hinted Bare bare-advised q.hints (less q.back o.nodes) (all-less Bare q.back o.nodes (subst (All Bare) (sym e) h)) in
-      record {
-        inside = all-drop Bare (n + (joined o q).back) (joined o q).nodes (all-append Bare (hinted q.hints (less q.back o.nodes)) q.nodes before rest);
-        last = last-after (s.is_after_error ≡ true) (false ≡ true) Unary (λ x. absurd (cc)) (hinted q.hints (less q.back o.nodes)) q.nodes hd.last;
-      }
-
-  pub head-read : (i : SyntaxKind) (b : Block) → Heads here i (read_block b)
-  unfolding run read_block
-  head-read i b z s still e =
-      let x = hand_of here z s in
-      let w = moved x.gap z in
-      let y = flushed_state x s in
-      let r = record s { is_after_error = false } in
-      let blk = here.blocks b w (forgot y) in
-      let n = length (hand_of within_it w (forgot y)).trivia in
-      let lead = fills-inside k levels b w y in
-      let hd = head-inside b r w y in
-      let o = run here (block b) z s in
-      let first = head-flushed s (length x.trivia) n x.trivia (record (plain tt y) { taken = x.gap; nodes = x.trivia; asks = hand_asks_of here z s }) (closed b y blk) refl (all-bare x.trivia (still-hand here z s still))
-      (record { none = lead.none; room = lead.room; first = lead.first }) (record { inside = hd.inside; last = hd.last }) in
-      let p = run here peek (moved o.taken z) o.state in
-      head-silent (length x.trivia) s o (joined p (plain (tt {0}) p.state)) (silent-joined p (plain (tt {0}) p.state) (record { nodes = refl; back = refl; hints = refl }) (silent-plain (tt {0}) p.state)) first
-
--- ---- names and underscores
-
--- what is kept may become an error
-abbrev Kept : Shape → Type 0
-Kept shape = ((ts : List Tree) → Single (shaped shape ts)) ⊎ ((shape ≡ keeps stays) ⊎ (shape ≡ keeps (is_not (codes "expression"))))
+bare-makes : (shape : Shape) (ts : List Tree) → makes shape ≡ true → All Bare (shaped shape ts) × (0 < length (shaped shape ts))
+bare-makes (holds change k) ts e = let q = quiet-sign k e in (((q.0, no-operator (inner_of k (forest (first_changed change ts))) q.1), tt), omega arith)
+bare-makes (lacks count message k) ts e = let q = quiet-sign k e in (((q.0, no-operator (inner_of k (forest (take count ts ++ error_of message [] ∷ drop count ts))) q.1), tt), omega arith)
+bare-makes _ ts e = absurd (cc)
 
 bare-wanted : (thing : List ℕ) (t : Tree) → Bare t → Bare (made_expected thing t)
 bare-wanted thing t b =
@@ -140,94 +83,147 @@ bare-wanted thing t b =
     (on_both Bare (is_lost_name t.head.kind thing) (advised (hint_with None (keyword_hint (text_of t))) (error_of (expected_message thing (name_of t.head.kind)) (text_of t)))
     (error_of (expected_message thing (name_of t.head.kind)) (text_of t)) (refl, refl) (refl, refl))
 
-bare-first : (thing : List ℕ) (ts : List Tree) → All Bare ts → All Bare (on_first (made_expected thing) ts)
-bare-first thing [] h = tt
-bare-first thing (t ∷ ts) h = (bare-wanted thing t h.0, h.1)
+bare-keeps : (shape : Shape) (ts : List Tree) → keeps_bare shape ≡ true → All Bare ts → All Bare (shaped shape ts) × (length (shaped shape ts) ≡ length ts)
+bare-keeps (keeps stays) ts e h = (h, refl)
+bare-keeps (keeps (is_not thing)) [] e h = (tt, refl)
+bare-keeps (keeps (is_not thing)) (t ∷ ts) e h = ((bare-wanted thing t h.0, h.1), refl)
+bare-keeps _ ts e h = absurd (cc)
 
-as-long : (thing : List ℕ) (ts : List Tree) → length (on_first (made_expected thing) ts) ≡ length ts
-as-long thing [] = refl
-as-long thing (t ∷ ts) = refl
+bare-reshaped : {A : Type 0} (n : ℕ) (shape : Shape) (o : Outcome A) → All Bare (take n o.nodes) → o.back ≡ 0 → (makes shape ≡ true) ⊎ ((keeps_bare shape ≡ true) × AllBare o) → AllBare (reshaped shape n o)
+bare-reshaped n shape o front none h =
+    let m = n + o.back in
+    let ts = inside n o in
+    let same : m ≡ n = omega (arith, none) in
+    let before : All Bare (take m o.nodes) = subst (λ (i : ℕ). All Bare (take i o.nodes)) (sym same) front in
+    let long = length-append (take m o.nodes) (shaped shape ts) in
+    elim h [
+      | inl e ↦ (let x = bare-makes shape ts e in let some = x.1 in record { all = all-append Bare (take m o.nodes) (shaped shape ts) before x.0; some = omega (arith, long, some) })
+      | inr e ↦ (let x = bare-keeps shape ts e.0 (all-drop Bare m o.nodes e.1.all) in
+          let as_long = x.1 in let some = e.1.some in let one = length-take m o.nodes in let two = length-drop m o.nodes in
+          record { all = all-append Bare (take m o.nodes) (shaped shape ts) before x.0; some = omega (arith, long, as_long, some, one, two) })
+    ]
 
-head-kept : {A : Type 0} (n : ℕ) (s : Point) (o : Outcome A) → Head n s o → 0 < length (inside n o) → (shape : Shape) → Kept shape → Head n s (reshaped shape n o)
-head-kept n s o h l shape (inl f) = head-reshaped n s shape o (f (inside n o))
-head-kept n s o h l shape (inr (inl e)) = head-stays n s shape o e h
-head-kept n s o h l shape (inr (inr e)) =
-    let long = as-long (codes "expression") (inside n o) in
-    head-shaped n s shape o (subst (λ (x : Shape). All Bare (shaped x (inside n o))) (sym e) (bare-first (codes "expression") (inside n o) h.inside))
-    (subst (λ (x : Shape). 0 < length (shaped x (inside n o))) (sym e) (omega (arith, long, l)))
+-- ---- parsers
 
--- what comes after a name
-after-name : (l : Level) (n : ℕ) (s : Point) (z : Place) (o : Outcome AfterName) → Head n s o → (b : AfterName)
-    → (let q = joined o (run l (right_side b >>= λ rest. gives b) (moved o.taken z) o.state) in Head n s (reshaped (closure_shape q.value) n q))
-unfolding run
-after-name l n s z o h after.Arrow = let q = joined o (run l (right_side after.Arrow >>= λ rest. gives after.Arrow) (moved o.taken z) o.state) in head-reshaped n s (becomes kind.Closure) q (refl, refl)
-after-name l n s z o h after.Eq = let q = joined o (run l (right_side after.Eq >>= λ rest. gives after.Eq) (moved o.taken z) o.state) in head-reshaped n s (becomes kind.DestructAssignment) q (refl, refl)
-after-name l n s z o h after.Nothing =
-    let p = plain (tt {0}) o.state in
-    let q = joined p (plain after.Nothing o.state) in
-    head-stays n s (keeps stays) (joined o q) refl (head-silent n s o q (silent-joined p (plain after.Nothing o.state) (silent-plain (tt {0}) o.state) (silent-plain after.Nothing o.state)) h)
+abbrev looks : {A : Type 0} → Parser A → Bool
+looks (does hand) = true
+looks _ = false
 
-module _ (l : Level) (i : SyntaxKind) (goes : is_end i ≡ false) (plain_kind : is_plain i ≡ false) (no_sign : sign_of i ≡ None) (no_binary : same kind.Binary i ≡ false) where
-  module _ (what : SyntaxKind → AfterName) (shape : AfterName → Shape) (kept : (b : AfterName) → Kept (shape b)) where
-    abbrev token : Parser AfterName
-    token = eat >>= λ taken. peek >>= λ ahead. gives (what ahead.kind)
+-- it only looks at the token at hand
+abbrev pub OnlyLooks : {A : Type 0} → Parser A → Type 0
+OnlyLooks (gives x) = Unit {0}
+OnlyLooks (does o) = looks (does o) ≡ true
+OnlyLooks (next p f) = OnlyLooks p × ((b : _) → OnlyLooks (f b))
+OnlyLooks _ = ⊥
 
-    head-token : Heads l i (node shape token)
-    unfolding run
-    head-token z s still e =
-        let t = asked (hand_of l z s) s in
-        let h = hand_of l z s in
-        let n = length h.trivia in
-        let again = hand-again l.classes s.held s.known z in
-        let o = run l eat z t in
-        let p = run l peek (moved o.taken z) o.state in
-        let v = what p.value.kind in
-        let q = joined p (plain v p.state) in
-        let silent = silent-joined p (plain v p.state) (record { nodes = refl; back = refl; hints = refl }) (silent-plain v p.state) in
-        let x = subst (λ (y : Hand). Head (length y.trivia) t o) again (head-eat l i goes plain_kind no_sign no_binary z t (still-hand l z s still) (ap (λ (y : Hand). y.kind) again ∙ e)) in
-        let hd = head-silent n s o q silent (record { inside = x.inside; last = x.last }) in
-        let exact = exact-eat l z t in
-        let same : (joined o q).nodes ≡ (hand_of l z t).trivia ++ taken_sign l z t ∷ [] = standing-silent q silent o.nodes ∙ exact.nodes in
-        let long = ap length same in
-        let one = length-append (hand_of l z t).trivia (taken_sign l z t ∷ []) in
-        let trivia = ap (λ (y : Hand). length y.trivia) again in
-        let a = exact.back in
-        let b = silent.back in
-        let dropped = length-drop (n + (joined o q).back) (joined o q).nodes in
-        head-wrapped l s shape token z s (head-kept n s (joined o q) hd (omega (arith, long, one, trivia, a, b, dropped)) (shape v) (kept v))
+-- it gives nothing or such nodes, unless this holds of its answer
+abbrev pub Adds : {A : Type 0} → (A → Type 0) → Parser A → Type 0
+Adds over p = (l : Level) (z : Place) (s : Point) → All Still (pending s.known) → over (run l p z s).value ⊎ Unmet (run l p z s)
 
-    head-closure : Heads l i (node closure_shape (node shape token >>= λ follows. right_side follows >>= λ rest. gives follows))
-    unfolding run
-    head-closure z s still e =
-        let t = asked (hand_of l z s) s in
-        let h = hand_of l z s in
-        let known = still-hand l z s still in
-        let again = hand-again l.classes s.held s.known z in
-        let n = length h.trivia in
-        let o = run l (node shape token) z t in
-        let x = head-token z t known (ap (λ (v : Hand). v.kind) again ∙ e) in
-        let y = subst (λ (v : Hand). Head (length v.trivia) t o) again x in
-        head-wrapped l s closure_shape (node shape token >>= λ follows. right_side follows >>= λ rest. gives follows) z s (after-name l n s z o (record { inside = y.inside; last = y.last }) o.value)
+-- what comes after such nodes leaves them: it only looks, or it adds nothing else. Or this holds of its answer
+abbrev pub Follows : {A B : Type 0} → Bool → (A → Type 0) → Parser B → (B → Parser A) → Type 0
+Follows blocks over p f = ((b : _) → Gives over (f b) ⊎ OnlyLooks (f b)) ⊎ ((blocks ≡ true) × (Proper free p × ((b : _) → Adds over (f b))))
 
-    pub head-headed : Heads l i (headed what shape)
-    head-headed = head-next l i (node closure_shape _) _ head-closure
+-- all that is given becomes a node of a quiet kind, whatever is answered; or the nodes are such ones themselves where they are kept
+abbrev pub Encloses : {A : Type 0} → (A → Shape) → Parser A → Type 0 → Type 0
+Encloses f p such = ((x : _) → makes (f x) ≡ true) ⊎ (Gives (λ x. makes (f x) ≡ true) p ⊎ (((x : _) → (makes (f x) || keeps_bare (f x)) ≡ true) × such))
 
--- where a name is at hand
-kept-name : (b : AfterName) → Kept (name_shape b)
-kept-name after.Arrow = inl (λ ts. (refl, refl))
-kept-name after.Eq = inr (inl refl)
-kept-name after.Nothing = inr (inl refl)
-
-kept-underscore : (b : AfterName) → Kept (underscore_shape b)
-kept-underscore after.Arrow = inl (λ ts. (refl, refl))
-kept-underscore after.Eq = inr (inl refl)
-kept-underscore after.Nothing = inr (inr refl)
+-- From this token on it gives such nodes, or this holds of its answer; where it gives the token itself, the first type says that this is such a node.
+abbrev pub Bares : {A : Type 0} → Type 0 → AtHand → Bool → Bool → (A → Type 0) → Parser A → Type 0
+Bares token a blocks looked over (does (takes false itself)) = token
+Bares token a blocks looked over (next p f) = elim (looks p) as (λ _. Type 0) [ true ↦ (b : _) → Bares token a blocks true over (f b) | false ↦ Bares token a blocks looked (λ b. Gives over (f b)) p × Follows blocks over p f ]
+Bares token a blocks looked over (pick b p q) = Bares token a blocks looked over p × Bares token a blocks looked over q
+Bares token a blocks looked over (wraps f begin p) = ((looked && is_at_token begin) ≡ true) × (EatsFirst a blocks looked p × Encloses f p (Bares token a blocks looked (λ x. makes (f x) ≡ true) p))
+Bares token a blocks looked over (nests f begin p x) = ((looked && is_at_token begin) ≡ true) × (EatsFirst a blocks looked (p x) × ((y : _) → makes (f y) ≡ true))
+Bares token a blocks looked over (scoped f p) = Bares token a blocks looked over p
+Bares token a blocks looked over (either p is_wrong q) = Bares token a blocks looked over p × Bares token a blocks looked over q
+Bares token a blocks looked over (block b) = blocks ≡ true
+Bares token a blocks looked over _ = ⊥
 
 module _ (l : Level) where
-  pub head-named : Heads l kind.Ident named
-  unfolding named
-  head-named = head-headed l kind.Ident refl refl refl refl after_name name_shape kept-name
+  looks-silent : {A : Type 0} (p : Parser A) → OnlyLooks p → (z : Place) (s : Point) → Silent (run l p z s)
+  unfolding run
+  looks-silent (gives x) u z s = silent-plain x s
+  looks-silent (does hand) u z s = record { nodes = refl; back = refl; hints = refl }
+  looks-silent (does _) u z s = absurd (cc)
+  looks-silent (next p f) u z s =
+      let o = run l p z s in
+      silent-joined o (run l (f o.value) (moved o.taken z) o.state) (looks-silent p u.0 z s) (looks-silent (f o.value) (u.1 o.value) (moved o.taken z) o.state)
+  looks-silent _ u z s = absurd u
 
-  pub head-placeholder : Heads l kind.Underscore placeholder
-  unfolding placeholder
-  head-placeholder = head-headed l kind.Underscore refl refl refl refl after_underscore underscore_shape kept-underscore
+  by-shape : {A : Type 0} (m c : Bool) (o : Outcome A) → (m || c) ≡ true → (m ≡ true) ⊎ AllBare o → (m ≡ true) ⊎ ((c ≡ true) × AllBare o)
+  by-shape true c o e b = inl refl
+  by-shape false c o e (inl x) = absurd (cc)
+  by-shape false c o e (inr b) = inr (e, b)
+
+  module _ (d : (c : Call) → Backs (l.deeper c)) (e : (b : Block) → Backs (l.blocks b)) (blocks : Bool) (z : Place) (h : Hand) (token : Type 0) (t : token → Bare (taken_node l.classes itself h z)) (i : blocks ≡ true → (b : Block) (s : Point) → Eaten l z s (run l (block b) z s))
+      (bares : blocks ≡ true → (b : Block) (s : Point) → All Still (pending s.known) → AllBare (run l (block b) z s)) (known : blocks ≡ true → (B : Type 0) (p : Parser B) → Proper free p → (s : Point) → All Still (pending s.known) → All Still (pending (run l p z s).state.known)) where
+    abbrev K : Type 0
+    K = Unit {0}
+
+    abbrev BareOver : {A : Type 0} → (A → Type 0) → Outcome A → Type 0
+    BareOver over o = over o.value ⊎ AllBare o
+
+    after-bares : {A B : Type 0} (over : A → Type 0) (p : Parser B) (f : B → Parser A) → Follows blocks over p f → (s : Point) → All Still (pending s.known) → (let o = run l p z s in let q = run l (f o.value) (moved o.taken z) o.state in over q.value ⊎ Unmet q)
+    after-bares over p f (inl g) s still =
+        let o = run l p z s in
+        elim (g o.value) [ inl x ↦ inl (gives-run l over (f o.value) x (moved o.taken z) o.state) | inr u ↦ inr (inl (looks-silent (f o.value) u (moved o.taken z) o.state)) ]
+    after-bares over p f (inr g) s still = let o = run l p z s in g.1.1 o.value l (moved o.taken z) o.state (known g.0 _ p g.1.0 s still)
+
+    then-bares : {A B : Type 0} (looked : Bool) (over : A → Type 0) (p : Parser B) (f : B → Parser A)
+        → (Bares token (as_at_hand h) blocks looked (λ b. Gives over (f b)) p → (s : Point) → At l z h K looked s → BareOver (λ b. Gives over (f b)) (run l p z s))
+        → ((b : B) → Bares token (as_at_hand h) blocks true over (f b) → (s : Point) → At l z h K true s → BareOver over (run l (f b) z s))
+        → Bares token (as_at_hand h) blocks looked over (next p f) → (s : Point) → At l z h K looked s → BareOver over (run l (next p f) z s)
+    unfolding run
+    then-bares looked over (does hand) f first rest w s a =
+        let x = as_at_hand (hand_of l z s) in
+        let u = asked (hand_of l z s) s in
+        let q = run l (f x) z u in
+        elim (rest x (w x) u (looked-at l z h K looked s a)) [ inl v ↦ inl v | inr v ↦ inr (bare-same q (joined (record (plain x u) { asks = hand_asks_of l z s }) q) (standing-none q) v) ]
+    then-bares looked over p f first rest w s a =
+        let o = run l p z s in
+        let q = run l (f o.value) (moved o.taken z) o.state in
+        elim (first w.0 s a) [ inl g ↦ inl (gives-run l over (f o.value) g (moved o.taken z) o.state) | inr b ↦ bare-then over o q b (after-bares over p f w.1 s (a.still tt)) ]
+
+    -- what becomes of such nodes, or of all
+    over-shape : {A Y : Type 0} (f : A → Shape) (p : Parser A) (s : Point) → (Y → BareOver (λ x. makes (f x) ≡ true) (run l p z s)) → Encloses f p Y → (let o = run l p z s in (makes (f o.value) ≡ true) ⊎ ((keeps_bare (f o.value) ≡ true) × AllBare o))
+    over-shape f p s inner (inl g) = inl (g (run l p z s).value)
+    over-shape f p s inner (inr (inl g)) = inl (gives-run l (λ x. makes (f x) ≡ true) p g z s)
+    over-shape f p s inner (inr (inr g)) = let o = run l p z s in by-shape (makes (f o.value)) (keeps_bare (f o.value)) o (g.0 o.value) (inner g.1)
+
+    pub bares-run : {A : Type 0} (looked : Bool) (over : A → Type 0) (p : Parser A) → Bares token (as_at_hand h) blocks looked over p → (s : Point) → At l z h K looked s → BareOver over (run l p z s)
+    unfolding run nesting
+    bares-run looked over (does (takes false itself)) w s a =
+        let x = hand_of l z s in
+        let node = taken_node l.classes itself x z in
+        let b : Bare node = subst (λ (v : Hand). Bare (taken_node l.classes itself v z)) (sym a.same) (t w) in
+        let long = length-append x.trivia (node ∷ []) in
+        inr (record { all = all-append Bare x.trivia (node ∷ []) (all-bare x.trivia (still-hand l z s (a.still tt))) (b, tt); some = omega (arith, long) })
+    bares-run looked over (next p f) w s a = then-bares looked over p f (bares-run looked (λ b. Gives over (f b)) p) (λ b. bares-run true over (f b)) w s a
+    bares-run looked over (pick b p q) w s a = on_both (λ u. BareOver over u) b (run l p z s) (run l q z s) (bares-run looked over p w.0 s a) (bares-run looked over q w.1 s a)
+    bares-run looked over (wraps f begin p) w s a =
+        let o = run l p z s in
+        let n = length h.trivia in
+        let lead = eaten-of l z h K o (begins-run l z h K d e blocks i looked (λ _ _. ⊥) p w.1.0 s a) in
+        let shape = over-shape f p s (λ g. bares-run looked (λ x. makes (f x) ≡ true) p g s a) w.1.1 in
+        let r = bare-reshaped n (f o.value) o (lead.first tt) lead.none shape in
+        inr (subst (λ (m : ℕ). AllBare (wrapped f m o)) (sym (begins-at l looked begin n s w.0 a.known)) (record { all = r.all; some = r.some }))
+    bares-run looked over (nests f begin p x) w s a =
+        let n = length h.trivia in
+        let q = nested l f begin p x z s in
+        let lead = leads-nested l z h K d e blocks i f begin p x s (eaten-of l z h K (run l (p x) z s) (begins-run l z h K d e blocks i looked (λ _ _. ⊥) (p x) w.1.0 s a)) in
+        inr (subst (λ (m : ℕ). AllBare (reshaped (f q.value) m q)) (sym (begins-at l looked begin n s w.0 a.known)) (bare-reshaped n (f q.value) q (lead.first tt) lead.none (inl (w.1.1 q.value))))
+    bares-run looked over (scoped f p) w s a =
+        elim (bares-run looked over p w (entered (f s.reading) s) (record { same = a.same; known = a.known; still = a.still })) [ inl x ↦ inl x | inr x ↦ inr (record { all = x.all; some = x.some }) ]
+    bares-run looked over (either p is_wrong q) w s a =
+        on_both (λ u. BareOver over u) (is_wrong (run l p z s).value) (given_up (run l p z s) (run l q z s)) (run l p z s)
+        (elim (bares-run looked over q w.1 s a) [ inl x ↦ inl x | inr x ↦ inr (record { all = x.all; some = x.some }) ]) (bares-run looked over p w.0 s a)
+    bares-run looked over (block b) w s a = inr (bares w b s (a.still tt))
+    bares-run looked over _ w s a = absurd w
+
+  -- what gives such nodes from the token at hand on
+  pub all-bare-run : {A : Type 0} (d : (c : Call) → Backs (l.deeper c)) (e : (b : Block) → Backs (l.blocks b)) (blocks : Bool) (z : Place) (s : Point) (token : Type 0) → (token → Bare (taken_node l.classes itself (hand_of l z s) z)) → (blocks ≡ true → (b : Block) (s : Point) → Eaten l z s (run l (block b) z s))
+      → (blocks ≡ true → (b : Block) (s : Point) → All Still (pending s.known) → AllBare (run l (block b) z s)) → (blocks ≡ true → (B : Type 0) (p : Parser B) → Proper free p → (s : Point) → All Still (pending s.known) → All Still (pending (run l p z s).state.known))
+      → (p : Parser A) → Bares token (as_at_hand (hand_of l z s)) blocks false (λ _. ⊥) p → All Still (pending s.known) → AllBare (run l p z s)
+  all-bare-run d e blocks z s token t i bares known p w still =
+      elim (bares-run d e blocks z (hand_of l z s) token t i bares known false (λ _. ⊥) p w s (record { same = refl; known = λ x. absurd (cc); still = λ _. still })) [ inl x ↦ absurd x | inr x ↦ x ]

@@ -1,13 +1,12 @@
 -- An operator and what is read after it.
-use Rattle.std.proofs.Common.{◌≡◌, ℕ, zero, suc, ◌<◌, ◌≤◌, Bool, true, false, if◌then◌else◌, nat_lt, List, [], ◌∷◌, ◌++◌, length, length-append, length-take, append_assoc, append-nil, None, refl, ap, sym, ◌∙◌, inl, inr, arith}
+use Rattle.std.proofs.Common.{◌≡◌, ℕ, zero, suc, ◌<◌, ◌≤◌, Bool, true, false, if◌then◌else◌, nat_lt, List, [], ◌∷◌, ◌++◌, length, length-append, length-take, append_assoc, append-nil, refl, ap, sym, ◌∙◌, inl, inr, arith}
 use Rattle.std.proofs.lemmas.Str.{length-le-encodes}
 use borrow.Author.Tests.{lt-ltb, le-ltb}
 use Rattle.typst_kinds.specs.Kinds.{is_error}
 use Rattle.typst_kinds.specs.declared.kind.SyntaxKind.{SyntaxKind}
 use Rattle.typst_kinds.specs.declared.kind.SyntaxKind.TheVariants as kind
 use Rattle.typst_lines.specs.Place.{Place, moved}
-use Rattle.typst_tree.specs.Diagnostic.{hint_with}
-use Rattle.typst_tree.specs.Tree.{Tree, text_of, leaf_of, advised, all_advised}
+use Rattle.typst_tree.specs.Tree.{Tree, text_of, leaf_of, all_advised}
 use Rattle.typst_language.specs.Nodes.{token_node}
 use Rattle.typst_language.specs.Ask.{Ask}
 use Rattle.typst_language.specs.Hand.{Hand, hand_at, len_at, text_ahead}
@@ -22,15 +21,12 @@ use Rattle.typst_language.proofs.Leaves.{text-made}
 use Rattle.typst_language.proofs.Places.{less-none, no-end}
 use Rattle.typst_language.proofs.TokenTexts.{text-token}
 use Rattle.typst_language.proofs.Within.{on_both}
+use Rattle.typst_grammar.proofs.Fine.{kind-advised}
 use Rattle.typst_grammar.proofs.Heads.{Leafy, takes-making, back-eat}
-
-advised-kind : (hints : List (List ℕ)) (t : Tree) → t.head.kind ≡ kind.Error → (all_advised hints t).head.kind ≡ kind.Error
-advised-kind [] t e = e
-advised-kind (hint ∷ hints) t e = advised-kind hints (advised (hint_with None hint) t) e
 
 -- with hints it is an error, or a leaf, as before
 pub leafy-hinted : (hints : List (List ℕ)) (i : SyntaxKind) (text : List ℕ) (t : Tree) → is_error i ≡ false → Leafy i text t → Leafy i text (hinted_error hints t)
-leafy-hinted hints i text t e (inl w) = inl (on_both (λ (u : Tree). u.head.kind ≡ kind.Error) (is_error t.head.kind) (all_advised hints t) t (advised-kind hints t w) w)
+leafy-hinted hints i text t e (inl w) = inl (on_both (λ (u : Tree). u.head.kind ≡ kind.Error) (is_error t.head.kind) (all_advised hints t) t (kind-advised hints t ∙ w) w)
 leafy-hinted hints i text t e (inr is) = inr (by-test (is_error t.head.kind) (ap (λ (u : Tree). is_error u.head.kind) is ∙ e))
   where
     by-test : (b : Bool) → b ≡ false → (if b then all_advised hints t else t) ≡ leaf_of i text
@@ -129,11 +125,7 @@ module _ (l : Level) (z : Place) (s : Point) where
 
 pub last-kind : (hints : List (List ℕ)) (t : Tree) → is_error t.head.kind ≡ true → is_error (last_hinted hints t).head.kind ≡ true
 last-kind [] t e = e
-last-kind (hint ∷ hints) t e = on_both (λ (u : Tree). is_error u.head.kind ≡ true) (is_error t.head.kind) (all_advised (hint ∷ hints) t) t (ap is_error (all-kind (hint ∷ hints) t) ∙ e) e
-  where
-    all-kind : (hints : List (List ℕ)) (t : Tree) → (all_advised hints t).head.kind ≡ t.head.kind
-    all-kind [] t = refl
-    all-kind (hint ∷ hints) t = all-kind hints (advised (hint_with None hint) t)
+last-kind (hint ∷ hints) t e = on_both (λ (u : Tree). is_error u.head.kind ≡ true) (is_error t.head.kind) (all_advised (hint ∷ hints) t) t (ap is_error (kind-advised (hint ∷ hints) t) ∙ e) e
 
 -- the token of an operator, what is read after it, and an answer
 module _ (l : Level) {A B : Type 0} (z : Place) (s : Point) (d : Outcome A) (b : B) (none : d.back ≡ 0) where

@@ -172,7 +172,7 @@ module _ (k : CharClasses) (n : ℕ) (which : RunKind) where
 
   rest-takes : (x : Bool × ℕ) (z : Place) (s : Point) → 0 < (hand_of at_level z s).len → 0 < (run at_level (rest x) z s).taken
   unfolding run deeper meaning_of
-  rest-takes x z s h = rw (not-none n) (let inside : 0 < (run (level_at k n) (markup_expr x.0 x.1) (moved 0 z) s).taken = eats-expr (level_at k n) x.0 x.1 z s h in omega (arith, inside))
+  rest-takes x z s h = rw (not-none n) (let inside : 0 < (run (level_at k n) (markup_expr x.0 x.1) (moved 0 z) s).taken = eats-expr k n x.0 x.1 z s h in omega (arith, inside))
 
   -- a piece that says that another comes took something
   turn-takes : (x : Bool × ℕ) (z : Place) (s : Point) → (run at_level (markup_turn true (stops_of which) x) z s).value.0 ≡ true → 0 < (run at_level (markup_turn true (stops_of which) x) z s).taken

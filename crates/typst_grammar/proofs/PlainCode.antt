@@ -21,30 +21,19 @@ use Rattle.typst_language.specs.Hand.{AtHand}
 use Rattle.typst_code.specs.Groups.{spread, pair, when_seen, item_shape, misfit, item, group_turn, list_kind, group_kind, group_shape, group_rest, group}
 use Rattle.typst_code.specs.Imports.{path_turn, import_name, import_path, renaming, import_shape, import_turn, import_items, parens_shape, import_parens, imported, module_import}
 use Rattle.typst_code.specs.Parens.{as_group, readings, sign, parens}
-use Rattle.typst_code.specs.Sequences.{missing_break, statement_end, statement, code_turn, code_exprs, code, code_reading, ends_code, code_block}
+use Rattle.typst_code.specs.Sequences.{missing_break, statement_end, statement, code_turn, code_exprs, code, code_reading, ends_code}
 use Rattle.typst_code.specs.Statements.{any_block, field, target_turn, target, set_rule, show_shape, show_rule, contextual, other_branch, conditional_turn, conditional, while_loop, second_pattern, loop_names, for_loop, module_include, jump, func_return}
 use Rattle.typst_language.specs.Shape.{Shape, becomes}
 use Rattle.typst_language.specs.Shape.NodeChange.{stays, turns_wrong}
 use Rattle.typst_language.specs.Shape.Shape.{keeps, holds}
-use Rattle.typst_language.specs.Steps.{within, eat, eat_if, close_if, eat_making, expected, node, nest, read_block}
+use Rattle.typst_language.specs.Steps.{within, eat, eat_if, close_if, expected, node}
 use Rattle.typst_language.specs.Syntax.{Parser, ◌>>=◌}
 use Rattle.typst_language.specs.Syntax.Parser.{scoped}
 use Rattle.typst_language.proofs.Within.{on_both}
 use Rattle.std.proofs.lemmas.Bool.{and_parts}
-use Rattle.typst_kinds.specs.declared.operator.BinOp.{BinOp}
 use Rattle.typst_language.specs.Depth.{deeper, is_end}
-use Rattle.typst_kinds.specs.Sets.{code_expr as code_kinds}
-use Rattle.typst_language.specs.declared.calls.Block.{Block}
-use Rattle.typst_language.specs.declared.calls.Block.TheVariants as block
 use Rattle.typst_code.specs.Bindings.{bound_name as bound_function, bound_part, binding, let_binding}
 use Rattle.typst_code.specs.Closures.{closure_shape, name_shape, underscore_shape, named, placeholder}
-use Rattle.typst_code.specs.Equations.{between_dollars, equation}
-use Rattle.typst_code.specs.Markup.{content_block}
-use Rattle.typst_code.specs.Params.{params}
-use Rattle.typst_code.specs.Patterns.{destructuring}
-use Rattle.typst_code.specs.Starts.{begins_code}
-use Rattle.typst_grammar.specs.Grammar.{block_production}
-use Rattle.typst_grammar.proofs.EatsFirst.{EatsFirst, every-among}
 use Rattle.typst_grammar.proofs.Fine.{tame, tame_kind}
 use Rattle.typst_grammar.proofs.FineRuns.{tame_if, Gives, gives-all}
 use Rattle.typst_grammar.proofs.Proper.{proper_steps, Scope, Proper, bracket-there, brace-there, proper-eat, proper-if, proper-close, proper-expected, proper-within, proper-shaped, proper-node, proper-grow, proper-read, proper-identifier, tame-closed, tame-both}
@@ -72,26 +61,26 @@ proper-item : (c : Scope) (items : ParenItems) → Proper c (item items)
 unfolding item pair spread
 proper-item c items = search (proper_steps, tame-misfit, tame-item) depth 40 fits 4000
 
-tame-list : (pairs : Option Bool) → tame_kind (list_kind pairs) ≡ true
-tame-list None = refl
-tame-list (Some true) = refl
-tame-list (Some false) = refl
-
-tame-group : (items : ParenItems) (closed : Bool) → tame (group_shape (closed, group_kind items)) ≡ true
-tame-group items closed =
-    tame-closed (group_kind items) (on_both (λ k. tame_kind k ≡ true) (items.any && items.is_plain) kind.Parenthesized (list_kind items.are_pairs) refl (tame-list items.are_pairs)) closed
-
 proper-rest : (c : Scope) → Proper c group_rest
 unfolding group_rest group_turn
 proper-rest c = search (proper_steps, proper-separator, proper-item) depth 40 fits 4000
 
-gives-rest : Gives (λ x. (h : AtHand) → tame (group_shape x) ≡ true) group_rest
+-- what holds of each kind that a group may have
+of-group : (Q : SyntaxKind → Type 0) → Q kind.Parenthesized → Q kind.Array → Q kind.Dict → (items : ParenItems) → Q (group_kind items)
+of-group Q one array dict items = on_both Q (items.any && items.is_plain) kind.Parenthesized (list_kind items.are_pairs) one (of-list items.are_pairs)
+  where
+    of-list : (pairs : Option Bool) → Q (list_kind pairs)
+    of-list None = array
+    of-list (Some true) = dict
+    of-list (Some false) = array
+
+pub gives-rest : (Q : Bool × SyntaxKind → Type 0) → ((closed : Bool) → Q (closed, kind.Parenthesized)) → ((closed : Bool) → Q (closed, kind.Array)) → ((closed : Bool) → Q (closed, kind.Dict)) → Gives (λ x. (h : AtHand) → Q x) group_rest
 unfolding group_rest
-gives-rest = gives-all _ (λ _ items. gives-all _ (λ closed h. tame-group items closed) (eat_if _)) (eat_if _)
+gives-rest Q one array dict = gives-all _ (λ _ items. gives-all _ (λ closed h. of-group (λ k. Q (closed, k)) (one closed) (array closed) (dict closed) items) (eat_if _)) (eat_if _)
 
 pub proper-group : (c : Scope) → Proper c group
 unfolding group within
-proper-group c = (proper-shaped _ _ _ (gives-all _ (λ _. gives-rest) eat) ((proper-eat _, λ _. proper-rest _), λ _. (refl, λ _. tt)), λ _. tt)
+proper-group c = (proper-shaped _ _ _ (gives-all _ (λ _. gives-rest (λ x. tame (group_shape x) ≡ true) (tame-closed kind.Parenthesized refl) (tame-closed kind.Array refl) (tame-closed kind.Dict refl)) eat) ((proper-eat _, λ _. proper-rest _), λ _. (refl, λ _. tt)), λ _. tt)
 
 -- ---- parens
 
@@ -210,56 +199,6 @@ proper-by c atomic _ e = search (proper_steps, code_parts) depth 40 fits 4000
 pub proper-primary : (c : Scope) (atomic : Bool) → Proper c (code_primary atomic)
 unfolding code_primary
 proper-primary c atomic = (refl, λ a. proper-by _ atomic (code_head atomic a.kind) (head-there atomic a.kind))
-
--- ---- and that it takes the token first
-
-pub first-block : (b : Block) → EatsFirst false true (block_production b)
-unfolding eat eat_making node content_block code_block
-first-block block.Content = λ _. (refl, refl)
-first-block block.Code = λ _. (refl, refl)
-
-pub first-readings : (blocks looked : Bool) → EatsFirst blocks looked readings
-unfolding eat eat_making node within readings as_group group params destructuring
-first-readings blocks looked = λ _. (((λ _. (refl, refl), λ _. (refl, refl)), λ _. (refl, refl)), λ _. (refl, refl))
-
-pub first-read : (looked : Bool) (b : Block) → EatsFirst true looked (read_block b)
-unfolding read_block
-first-read looked b = refl
-
-pub first-list : (blocks looked : Bool) → EatsFirst blocks looked argument_list
-unfolding eat eat_making within argument_list
-first-list blocks looked = refl
-
-pub first-field : (blocks looked : Bool) → EatsFirst blocks looked field
-unfolding eat eat_making field
-first-field blocks looked = refl
-
-pub first-binary : (blocks looked : Bool) (op : BinOp) → EatsFirst blocks looked (binary_expr op)
-unfolding eat eat_making binary_expr
-first-binary blocks looked op = refl
-
--- a token begins it
-abbrev pub opens : CodeHead → Bool
-opens head.StrayOperator = false
-opens head.Unexpected = false
-opens head.Missing = false
-opens _ = true
-
-pub first-code : (h : CodeHead) → opens h ≡ true → EatsFirst true true (code_by false h)
-unfolding eat eat_making node nest within read_block unary_expr named placeholder between_dollars equation group parens readings let_binding set_rule show_rule contextual conditional conditional_turn while_loop for_loop module_import module_include jump func_return
-first-code head.StrayOperator e = absurd (cc)
-first-code head.Unexpected e = absurd (cc)
-first-code head.Missing e = absurd (cc)
-first-code head.Itself e = refl
-first-code head.CodeBlock e = refl
-first-code head.ContentBlock e = refl
-first-code head.Named e = λ _. (refl, λ _. (refl, refl))
-first-code head.Placeholder e = λ _. (refl, λ _. (refl, refl))
-first-code head.Parens e = λ _. (refl, first-readings true true)
-first-code _ e = λ _. (refl, refl)
-
-pub begun-opens : (i : SyntaxKind) → begins_code i ≡ true → opens (code_head false i) ≡ true
-begun-opens i e = every-among (λ j. opens (code_head false j)) code_kinds refl i e
 
 -- ---- what comes after it
 

@@ -1,5 +1,5 @@
 -- The facts of formulas: each part is proper, and what a token begins takes it first.
-use Rattle.std.proofs.Common.{◌≡◌, ℕ, Bool, true, false, ◌||◌, ◌==◌, List, [], ◌∷◌, ◌++◌, refl}
+use Rattle.std.proofs.Common.{◌≡◌, ℕ, Bool, true, ◌||◌, ◌==◌, List, [], ◌∷◌, ◌++◌, refl}
 use Rattle.std.specs.Prelude.{codes}
 use Rattle.std.specs.Str.{bytes_eq}
 use Rattle.typst_lines.specs.Classes.{CharClasses}
@@ -16,7 +16,7 @@ use Rattle.typst_language.specs.Shape.NodeChange.{stays, turns_wrong}
 use Rattle.typst_language.specs.Shape.Making.{itself, wanted}
 use Rattle.typst_language.specs.Shape.Seen.{leaf_seen, inner_seen}
 use Rattle.typst_language.specs.Shape.Shape.{keeps, holds}
-use Rattle.typst_language.specs.Steps.{within, eat, convert_and_eat, eat_making, node}
+use Rattle.typst_language.specs.Steps.{eat, convert_and_eat}
 use Rattle.typst_language.proofs.Within.{on_both}
 use Rattle.typst_code.specs.Attachments.{operand, attachment_turn, attachments, primes}
 use Rattle.typst_code.specs.Delimited.{sign_kind, delimiter_kind, delimiter_sign, delimiter, body_shape, delimited_body, delimiter_if, delimited_shape, delimited}
@@ -26,9 +26,6 @@ use Rattle.typst_code.specs.math_heads.MathHead.{MathHead}
 use Rattle.typst_code.specs.math_heads.MathHead.TheVariants as math_heads
 use Rattle.typst_code.specs.math_heads.MathTail.{MathTail}
 use Rattle.typst_code.specs.math_heads.MathTail.TheVariants as math_tails
-use Rattle.typst_kinds.specs.Sets.{math_expr as math_kinds}
-use Rattle.typst_code.specs.Embedded.{embedded}
-use Rattle.typst_grammar.proofs.EatsFirst.{EatsFirst, every-among}
 use Rattle.typst_grammar.proofs.Fine.{tame, tame_kind, tame_making}
 use Rattle.typst_grammar.proofs.FineRuns.{tame_if, Gives, gives-all}
 use Rattle.typst_grammar.proofs.Proper.{proper_steps, Scope, Proper, proper-eat, proper-expected, proper-shaped, proper-node, proper-grow, proper-seeing, tame-both}
@@ -107,20 +104,3 @@ proper-math-expr c k least stops = (
       (λ callee. (λ a. gives-math-tail stops (math_tail callee least stops a.kind a.has_trivia), (refl, λ a. proper-math-tail _ stops (math_tail callee least stops a.kind a.has_trivia)))),
   λ _. tt,
 )
-
--- a token begins it
-abbrev pub opens_math : MathHead → Bool
-opens_math math_heads.Missing = false
-opens_math _ = true
-
-pub first-math : (k : CharClasses) (h : MathHead) → opens_math h ≡ true → EatsFirst false true (math_by k h)
-unfolding eat eat_making convert_and_eat node within seeing embedded delimiter_sign delimiter delimited math_text root
-first-math k math_heads.Missing e = absurd (cc)
-first-math k math_heads.Delimited e = λ _. (refl, λ _. (refl, λ _. (refl, refl)))
-first-math k math_heads.Closer e = λ _. (refl, λ _. (refl, refl))
-first-math k math_heads.Text e = λ _. (refl, refl)
-first-math k math_heads.Root e = λ _. (refl, refl)
-first-math k _ e = refl
-
-pub math-opens : (i : SyntaxKind) → among math_kinds i ≡ true → opens_math (math_head i) ≡ true
-math-opens i e = every-among (λ j. opens_math (math_head j)) math_kinds refl i e

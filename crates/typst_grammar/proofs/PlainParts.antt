@@ -22,7 +22,7 @@ use Rattle.typst_code.specs.Patterns.{duplicate, bound_change, bound_name, patte
 use Rattle.typst_language.specs.Shape.{Shape, encloses}
 use Rattle.typst_language.specs.Shape.NodeChange.{stays, turns_wrong}
 use Rattle.typst_language.specs.Shape.Making.{itself}
-use Rattle.typst_language.specs.Steps.{eat_making, eat, convert_and_eat, close_if, within, node, note}
+use Rattle.typst_language.specs.Steps.{close_if, node, note}
 use Rattle.typst_language.specs.Syntax.{Parser, ◌>>=◌}
 use Rattle.typst_language.specs.Syntax.Op.{takes}
 use Rattle.typst_language.specs.Syntax.Parser.{does, scoped}
@@ -30,7 +30,6 @@ use Rattle.typst_language.proofs.Within.{on_both}
 use Rattle.std.proofs.lemmas.Bool.{and_parts}
 use Rattle.typst_language.specs.declared.calls.Mark.TheVariants as mark
 use Rattle.typst_grammar.proofs.Fine.{tame, tame_change, tame_kind}
-use Rattle.typst_grammar.proofs.EatsFirst.{EatsFirst}
 use Rattle.typst_grammar.proofs.Proper.{proper_steps, Scope, unseen, Proper, bracket-there, proper-eat, proper-if, proper-close, proper-within, proper-node, proper-trivia, proper-read, proper-expects, tame-closed, proper-deep, proper-deeper}
 
 -- ---- embedded code and formulas
@@ -103,26 +102,6 @@ proper-by c nesting _ = search (proper_steps, markup_parts) depth 40 fits 4000
 pub proper-markup-expr : (c : Scope) (at_start : Bool) (nesting : ℕ) → Proper c (markup_expr at_start nesting)
 unfolding markup_expr
 proper-markup-expr c at_start nesting = (refl, λ a. proper-by _ nesting (markup_head at_start nesting a.kind))
-
--- a token that is unexpected takes back the empty errors before it
-abbrev pub is_stray : MarkupHead → Bool
-is_stray head.Stray = true
-is_stray head.Unexpected = true
-is_stray _ = false
-
-pub first-markup : (nesting : ℕ) (h : MarkupHead) → is_stray h ≡ false → EatsFirst false true (markup_by nesting h)
-unfolding eat eat_making convert_and_eat node within delimited heading item term_item reference embedded between_dollars equation
-first-markup nesting head.Stray e = absurd (cc)
-first-markup nesting head.Unexpected e = absurd (cc)
-first-markup nesting head.Itself e = refl
-first-markup nesting head.Opening e = refl
-first-markup nesting head.Closing e = refl
-first-markup nesting head.Plain e = refl
-first-markup nesting head.Embedded e = refl
-first-markup nesting head.ListItem e = λ _ _. (refl, refl)
-first-markup nesting head.EnumItem e = λ _ _. (refl, refl)
-first-markup nesting head.TermItem e = λ _ _. (refl, refl)
-first-markup nesting _ e = λ _. (refl, refl)
 
 -- ---- patterns
 

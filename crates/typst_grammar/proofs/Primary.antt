@@ -1,92 +1,80 @@
 -- What an expression begins with.
-use Rattle.std.proofs.Common.{◌≡◌, ℕ, zero, suc, ◌+◌, ◌<◌, ◌≤◌, true, false, List, [], ◌∷◌, ◌++◌, length, drop, codes, refl, ap, sym, ◌∙◌, ◌⊎◌, inl, inr, subst, arith, length-append}
+use Rattle.std.proofs.Common.{◌≡◌, ℕ, zero, suc, ◌+◌, ◌<◌, ◌≤◌, Bool, true, false, not, ◌||◌, List, [], ◌∷◌, ◌++◌, length, drop, codes, refl, ap, sym, ◌∙◌, ◌⊎◌, inl, inr, subst, arith, length-append}
 use Rattle.typst_kinds.specs.Kinds.{is_error}
 use Rattle.typst_kinds.specs.declared.kind.SyntaxKind.{SyntaxKind}
 use Rattle.typst_kinds.specs.declared.kind.SyntaxKind.TheVariants as kind
 use Rattle.typst_lines.specs.Place.{Place, moved}
 use Rattle.typst_tree.specs.Tree.{Tree}
 use Rattle.typst_lines.specs.Classes.{CharClasses}
-use Rattle.typst_language.specs.declared.calls.Block.TheVariants as block
+use Rattle.typst_language.specs.declared.calls.Block.{Block}
 use Rattle.typst_code.specs.declared.heads.CodeHead.{CodeHead}
 use Rattle.typst_code.specs.declared.heads.CodeHead.TheVariants as head
-use Rattle.typst_code.specs.Bindings.{let_binding}
-use Rattle.typst_code.specs.Imports.{module_import}
-use Rattle.typst_code.specs.Statements.{set_rule, contextual, while_loop, for_loop, module_include, jump, func_return}
-use Rattle.typst_code.specs.Expressions.{code_by, code_head, code_primary, unary_expr}
+use Rattle.typst_code.specs.Expressions.{code_by, code_head, code_primary}
 use Rattle.typst_language.specs.Hand.{Hand, AtHand, as_at_hand}
-use Rattle.typst_code.specs.Parens.{readings}
-use Rattle.typst_language.specs.Point.{Point, pending}
+use Rattle.typst_language.specs.Point.{Point, pending, forgot}
 use Rattle.typst_language.specs.Steps.{peek, expected}
-use Rattle.typst_language.specs.Syntax.Parser.{next}
-use Rattle.typst_language.specs.Meaning.{Outcome, Level, plain, hand_of, hand_asks_of, asked, run}
+use Rattle.typst_language.specs.Syntax.Parser.{next, block}
+use Rattle.typst_language.specs.Meaning.{Outcome, Level, plain, closed, flushed_state, hand_of, hand_asks_of, asked, run}
 use Rattle.typst_language.proofs.Ends.{hand-again}
-use Rattle.typst_grammar.specs.Grammar.{level_at}
+use Rattle.typst_grammar.specs.Grammar.{block_production, level_at}
+use Rattle.typst_grammar.proofs.Begun.{opens, keeps_token, first-code, bare-block, bare-code}
 use Rattle.typst_grammar.proofs.Fine.{All, all-append, all-drop, all-map}
 use Rattle.typst_grammar.proofs.FineRuns.{Binds, Still, still-hand}
 use Rattle.typst_grammar.proofs.Proper.{free}
-use Rattle.typst_grammar.proofs.PlainCode.{proper-primary, proper-readings, opens, first-code}
-use Rattle.typst_grammar.proofs.Heads.{Bare, Unary, LastIs, last-map, last-one, bare-error, Head, Heads, head-peek, head-node, head-eat, head-raw, standing-none}
+use Rattle.typst_grammar.proofs.PlainCode.{proper-primary}
+use Rattle.typst_grammar.proofs.Heads.{Bare, Unary, LastIs, last-map, last-one, last-all, is_calm, bare-error, bare-taken, standing-none}
 use Rattle.typst_grammar.proofs.BindingTurns.{Sane, BindsBy, bare-binds}
-use Rattle.typst_grammar.proofs.Leads.{Leads, all-bare}
-use Rattle.typst_grammar.proofs.Firsts.{calls-back, blocks-back, fills-first}
+use Rattle.typst_grammar.proofs.Leads.{all-bare}
+use Rattle.typst_grammar.proofs.Firsts.{calls-back, blocks-back, none-back, within_blocks, eaten-block, eaten-first}
 use Rattle.typst_grammar.proofs.Grown.{kind_at, Grown, Leftward, tight-none}
 use Rattle.typst_grammar.proofs.BindingLevels.{CallsBind, level-binds}
 use Rattle.typst_grammar.proofs.Lost.{Lost, Stuck}
 use Rattle.typst_grammar.proofs.Missing.{Missed, missed}
-use Rattle.typst_grammar.proofs.Openers.{head-show, head-conditional, head-equation, head-read, head-named, head-placeholder}
-use Rattle.typst_grammar.proofs.Parens.{head-parens}
+use Rattle.typst_grammar.proofs.Openers.{AllBare, bare-more, all-bare-run}
 
 stuck-after : (m : ℕ) (ts : List Tree) (t : Tree) → is_error t.head.kind ≡ true → length ts < m → Stuck m (ts ++ t ∷ [])
 stuck-after zero ts t e h = absurd (omega arith)
 stuck-after (suc m) [] t e h = inl e
 stuck-after (suc m) (u ∷ ts) t e h = inr (stuck-after m ts t e (omega arith))
 
+or-after : (a b : Bool) → a ≡ true → (not a || b) ≡ true → b ≡ true
+or-after true b e h = h
+or-after false b e h = absurd (cc)
+
+-- what a token begins where an expression needn't be atomic, or what stands for it where it is missing
+abbrev is_primary : CodeHead → Bool
+is_primary head.Missing = true
+is_primary c = opens c
+
+head-primary : (i : SyntaxKind) → is_primary (code_head false i) ≡ true
+head-primary kind.Plus = refl
+head-primary _ = refl
+
+-- a token that is given itself is no operator
+head-calm : (i : SyntaxKind) → (not (keeps_token (code_head false i)) || is_calm i) ≡ true
+head-calm kind.Ident = refl
+head-calm _ = refl
+
 module _ (k : CharClasses) (levels : ℕ) (d : CallsBind k levels) (least : ℕ) where
   abbrev l : Level
   l = level_at k levels
 
-  -- ---- by the token at hand
+  -- ---- blocks
 
-  -- where a token of this kind is at hand, this takes it first, and is no operator and has none, after the trivia
-  abbrev Opens : SyntaxKind → CodeHead → Type 0
-  Opens i h = Heads l i (code_by false h) × (opens h ≡ true)
+  bare-inside : (b : Block) (z : Place) (s : Point) → AllBare (l.blocks b z (forgot s))
+  unfolding run
+  bare-inside b z s =
+      let a = as_at_hand (hand_of (within_blocks k levels) z (forgot s)) in
+      all-bare-run (within_blocks k levels) (calls-back k levels) (none-back k levels) false z (forgot s) ⊥ (λ x. absurd x) (λ x. absurd (cc)) (λ x. absurd (cc)) (λ x. absurd (cc)) (next peek (λ _. block_production b)) (λ _. bare-block ⊥ a b) tt
 
-  abbrev Table : SyntaxKind → Type 0
-  Table i = Opens i (code_head false i) ⊎ (code_head false i ≡ head.Missing)
-
-  table : (i : SyntaxKind) → Table i
-  unfolding unary_expr let_binding set_rule contextual while_loop for_loop module_import module_include jump func_return
-  table kind.Plus = inl (head-node l kind.Plus _ _ (λ a ts. (refl, refl)), refl)
-  table kind.Minus = inl (head-node l kind.Minus _ _ (λ a ts. (refl, refl)), refl)
-  table kind.Not = inl (head-node l kind.Not _ _ (λ a ts. (refl, refl)), refl)
-  table kind.Ident = inl (head-named l, refl)
-  table kind.Raw = inl (head-raw l, refl)
-  table kind.None = inl (head-eat l kind.None refl refl refl refl, refl)
-  table kind.Auto = inl (head-eat l kind.Auto refl refl refl refl, refl)
-  table kind.Int = inl (head-eat l kind.Int refl refl refl refl, refl)
-  table kind.Float = inl (head-eat l kind.Float refl refl refl refl, refl)
-  table kind.Bool = inl (head-eat l kind.Bool refl refl refl refl, refl)
-  table kind.Numeric = inl (head-eat l kind.Numeric refl refl refl refl, refl)
-  table kind.Str = inl (head-eat l kind.Str refl refl refl refl, refl)
-  table kind.Label = inl (head-eat l kind.Label refl refl refl refl, refl)
-  table kind.LeftBrace = inl (head-read k levels kind.LeftBrace block.Code, refl)
-  table kind.LeftBracket = inl (head-read k levels kind.LeftBracket block.Content, refl)
-  table kind.Dollar = inl (head-equation l kind.Dollar, refl)
-  table kind.LeftParen = inl (head-parens l (calls-back k levels) (blocks-back k levels) (λ z s still. (level-binds k levels d readings (proper-readings _) z s still).known) kind.LeftParen, refl)
-  table kind.Let = inl (head-node l kind.Let _ _ (λ a ts. (refl, refl)), refl)
-  table kind.Set = inl (head-node l kind.Set _ _ (λ a ts. (refl, refl)), refl)
-  table kind.Show = inl (head-show l kind.Show, refl)
-  table kind.Context = inl (head-node l kind.Context _ _ (λ a ts. (refl, refl)), refl)
-  table kind.If = inl (head-conditional l kind.If, refl)
-  table kind.While = inl (head-node l kind.While _ _ (λ a ts. (refl, refl)), refl)
-  table kind.For = inl (head-node l kind.For _ _ (λ a ts. (refl, refl)), refl)
-  table kind.Import = inl (head-node l kind.Import _ _ (λ a ts. (refl, refl)), refl)
-  table kind.Include = inl (head-node l kind.Include _ _ (λ a ts. (refl, refl)), refl)
-  table kind.Break = inl (head-node l kind.Break _ _ (λ a ts. (refl, refl)), refl)
-  table kind.Continue = inl (head-node l kind.Continue _ _ (λ a ts. (refl, refl)), refl)
-  table kind.Return = inl (head-node l kind.Return _ _ (λ a ts. (refl, refl)), refl)
-  table kind.Underscore = inl (head-placeholder l, refl)
-  table _ = inr refl
+  bare-read : (b : Block) (z : Place) (s : Point) → All Still (pending s.known) → AllBare (run l (block b) z s)
+  unfolding run
+  bare-read b z s still =
+      let x = hand_of l z s in
+      let w = moved x.gap z in
+      let t = flushed_state x s in
+      let inner = bare-inside b w t in
+      bare-more (record (plain (tt {0}) t) { taken = x.gap; nodes = x.trivia; asks = hand_asks_of l z s }) (closed b t (l.blocks b w (forgot t))) (all-bare x.trivia (still-hand l z s still)) inner.all inner.some
 
   -- ---- what is given
 
@@ -109,24 +97,6 @@ module _ (k : CharClasses) (levels : ℕ) (d : CallsBind k levels) (least : ℕ)
     abbrev by_head : CodeHead → Outcome (Unit {0})
     by_head c = run l (next peek (λ _. code_by false c)) z s
 
-    -- a token that begins an expression
-    grown-head : (o : Outcome (Unit {0})) → Binds o → Head n s o → Leads n o → Grown k least n z s o
-    grown-head o b x lead =
-        let none = lead.none in
-        let room = lead.room in
-        let j = kind_at k least (moved o.taken z) o.state in
-        record {
-          binds = b;
-          inside = all-map Bare (Leftward k least j) (λ u c. (c.0, λ y. tight-none k least j u c.1)) (drop (n + o.back) o.nodes) x.inside;
-          last = last-map (s.is_after_error ≡ true) (s.is_after_error ≡ true) Unary (λ u. Sane u → BindsBy least u) (λ y. y) (λ u c y. bare-binds least u c) o.nodes x.last;
-          enough = omega (arith, none, room);
-        }
-
-    opened : (i : SyntaxKind) → h.kind ≡ i → (c : CodeHead) → Opens i c → Binds (by_head c) → Grown k least n z s (by_head c)
-    opened i e c x b =
-        grown-head (by_head c) b (head-peek l i (λ _. code_by false c) (λ a f. x.0) z s still e) (fills-first k levels (next peek (λ _. code_by false c)) (λ _. first-code c x.1) z s still)
-
-    -- none begins there
     grown-bare : (o : Outcome (Unit {0})) → Binds o → All Bare o.nodes → LastIs (s.is_after_error ≡ true) Unary o.nodes → n + o.back ≤ length o.nodes + length (hand_of l (moved o.taken z) o.state).trivia → Grown k least n z s o
     grown-bare o b all x m =
         let j = kind_at k least (moved o.taken z) o.state in
@@ -136,6 +106,16 @@ module _ (k : CharClasses) (levels : ℕ) (d : CallsBind k levels) (least : ℕ)
           last = last-map (s.is_after_error ≡ true) (s.is_after_error ≡ true) Unary (λ u. Sane u → BindsBy least u) (λ y. y) (λ u c y. bare-binds least u c) o.nodes x;
           enough = m;
         }
+
+    -- a token that begins an expression
+    opened : (c : CodeHead) → opens c ≡ true → (keeps_token c ≡ true → is_calm h.kind ≡ true) → Binds (by_head c) → Grown k least n z s (by_head c)
+    opened c e calm b =
+        let lead = eaten-first k levels (next peek (λ _. code_by false c)) z s (first-code (as_at_hand h) c e) in
+        let x = all-bare-run l (calls-back k levels) (blocks-back k levels) true z s (is_calm h.kind ≡ true) (bare-taken l z s) (λ _ d u. eaten-block k levels d z u) (λ _ d u. bare-read d z u)
+        (λ _ B p w u y. (level-binds k levels d p w z u y).known) (next peek (λ _. code_by false c)) (λ _. bare-code (is_calm h.kind ≡ true) (as_at_hand h) c e calm) still in
+        let none = lead.none in
+        let room = lead.room in
+        grown-bare (by_head c) b x.all (last-all (s.is_after_error ≡ true) (by_head c).nodes x.all x.some) (omega (arith, none, room))
 
     same-trivia : (run l (expected (codes "expression")) z t).taken ≡ 0 → hand_of l z (run l (expected (codes "expression")) z t).state ≡ hand_of l z t → length (hand_of l (moved (by_head head.Missing).taken z) (by_head head.Missing).state).trivia ≡ n
     unfolding run
@@ -187,12 +167,15 @@ module _ (k : CharClasses) (levels : ℕ) (d : CallsBind k levels) (least : ℕ)
         let after = same-trivia x.taken x.same in
         inl (grown-bare p b (subst (All Bare) (sym nodes) tt) (subst (LastIs (s.is_after_error ≡ true) Unary) (sym nodes) x.after) (omega (arith, back, after)))
 
-    by-table : Table h.kind → Binds (by_head (code_head false h.kind)) → Grown k least n z s (by_head (code_head false h.kind)) ⊎ Lost k least n z s (by_head (code_head false h.kind))
-    by-table (inl x) b = inl (opened h.kind refl (code_head false h.kind) x b)
-    by-table (inr e) b =
-        subst (λ (c : CodeHead). Grown k least n z s (by_head c) ⊎ Lost k least n z s (by_head c)) (sym e)
-        (missing (missed l (codes "expression") z t) (subst (λ (c : CodeHead). Binds (by_head c)) e b))
+    begins : (c : CodeHead) → is_primary c ≡ true → (not (keeps_token c) || is_calm h.kind) ≡ true → Binds (by_head c) → Grown k least n z s (by_head c) ⊎ Lost k least n z s (by_head c)
+    begins head.StrayOperator e calm b = absurd (cc)
+    begins head.Unexpected e calm b = absurd (cc)
+    begins head.Group e calm b = absurd (cc)
+    begins head.Missing e calm b = missing (missed l (codes "expression") z t) b
+    begins c e calm b = inl (opened c refl (λ x. or-after (keeps_token c) (is_calm h.kind) x calm) b)
 
   pub primary-begins : (z : Place) (s : Point) → All Still (pending s.known) → let n = length (hand_of (level_at k levels) z s).trivia in let o = run (level_at k levels) (code_primary false) z s in Grown k least n z s o ⊎ Lost k least n z s o
   unfolding run code_primary
-  primary-begins z s still = by-table z s still (table (hand_of (level_at k levels) z s).kind) (level-binds k levels d (code_primary false) (proper-primary free false) z s still)
+  primary-begins z s still =
+      let i = (hand_of (level_at k levels) z s).kind in
+      begins z s still (code_head false i) (head-primary i) (head-calm i) (level-binds k levels d (code_primary false) (proper-primary free false) z s still)

@@ -36,7 +36,6 @@ op_notes notes _ = true
 
 -- it notes these marks alone, and reads a block only where it saw that a token is at hand
 abbrev pub Guarded : {A : Type 0} → (Mark → Bool) → Bool → Parser A → Type 0
-Guarded notes seen (gives a) = Unit {0}
 Guarded notes seen (does o) = op_notes notes o ≡ true
 Guarded notes seen (next p f) = Guarded notes seen p × ((b : _) → Guarded notes (sees p b) (f b))
 Guarded notes seen (pick b p q) = (b ≡ true → Guarded notes seen p) × (b ≡ false → Guarded notes seen q)
@@ -46,8 +45,8 @@ Guarded notes seen (grows begin p f) = Guarded notes false p × ((x : _) → Gua
 Guarded notes seen (nests f begin p x) = (y : _) → Guarded notes false (p y)
 Guarded notes seen (scoped f p) = Guarded notes false p
 Guarded notes seen (either p is_wrong q) = Guarded notes false p × Guarded notes false q
-Guarded notes seen (calls c) = Unit {0}
 Guarded notes seen (block b) = seen ≡ true
+Guarded notes seen _ = Unit {0}
 
 pub bracket-there : (k : SyntaxKind) → same kind.LeftBracket k ≡ true → not (is_end k) ≡ true
 bracket-there kind.End e = absurd (cc)
@@ -111,7 +110,6 @@ op-noted c (marks m) w g = w.1 g
 op-noted c _ w g = refl
 
 pub proper-plain : {A : Type 0} (c : Scope) (p : Parser A) → Proper c p → Plain p
-proper-plain c (gives a) w = tt
 proper-plain c (does o) w = op-plain c o w
 proper-plain c (next p f) w = (proper-plain c p w.0, λ b. proper-plain (seeing_so c (sees p b)) (f b) (w.1 b))
 proper-plain c (pick b p q) w = (proper-plain (given_too c (b ≡ true)) p w.0, proper-plain (given_too c (b ≡ false)) q w.1)
@@ -121,11 +119,9 @@ proper-plain c (grows begin p f) w = (proper-plain (unseen c) p w.0, λ x. ((w.1
 proper-plain c (nests f begin p x) w = (w.0, λ y. proper-plain (unseen c) (p y) (w.1 y))
 proper-plain c (scoped f p) w = proper-plain (unseen c) p w
 proper-plain c (either p is_wrong q) w = (proper-plain (unseen c) p w.0, proper-plain (unseen c) q w.1)
-proper-plain c (calls x) w = tt
-proper-plain c (block b) w = tt
+proper-plain c _ w = tt
 
 pub proper-guarded : {A : Type 0} (c : Scope) (p : Parser A) → Proper c p → c.given → Guarded c.notes c.seen p
-proper-guarded c (gives a) w g = tt
 proper-guarded c (does o) w g = op-noted c o w g
 proper-guarded c (next p f) w g = (proper-guarded c p w.0 g, λ b. proper-guarded (seeing_so c (sees p b)) (f b) (w.1 b) g)
 proper-guarded c (pick b p q) w g = (λ e. proper-guarded (given_too c (b ≡ true)) p w.0 (g, e), λ e. proper-guarded (given_too c (b ≡ false)) q w.1 (g, e))
@@ -135,8 +131,8 @@ proper-guarded c (grows begin p f) w g = (proper-guarded (unseen c) p w.0 g, λ 
 proper-guarded c (nests f begin p x) w g = λ y. proper-guarded (unseen c) (p y) (w.1 y) g
 proper-guarded c (scoped f p) w g = proper-guarded (unseen c) p w g
 proper-guarded c (either p is_wrong q) w g = (proper-guarded (unseen c) p w.0 g, proper-guarded (unseen c) q w.1 g)
-proper-guarded c (calls x) w g = tt
 proper-guarded c (block b) w g = w g
+proper-guarded c _ w g = tt
 
 -- no block's node but where a block is read
 pub ordinary : {A : Type 0} (p : Parser A) → Proper free p → PlainBy is_ordinary p

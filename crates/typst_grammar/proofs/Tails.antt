@@ -5,11 +5,12 @@ use Rattle.typst_kinds.specs.declared.kind.SyntaxKind.{SyntaxKind}
 use Rattle.typst_kinds.specs.declared.kind.SyntaxKind.TheVariants as kind
 use Rattle.typst_kinds.specs.declared.operator.BinOp.{BinOp}
 use Rattle.typst_kinds.specs.declared.operator.BinOp.TheVariants as binary
+use Rattle.typst_lines.proofs.Bools.{and-first}
 use Rattle.typst_lines.specs.Place.{Place, moved}
 use Rattle.typst_tree.specs.Tree.{Tree, forest}
 use Rattle.typst_lines.specs.Classes.{CharClasses}
 use Rattle.typst_language.specs.Calls.Call.{CodeExpr}
-use Rattle.typst_code.specs.Arguments.{calls_directly}
+use Rattle.typst_code.specs.Arguments.{calls_directly, opens_arguments}
 use Rattle.typst_code.specs.Statements.{field}
 use Rattle.typst_code.specs.declared.heads.CodeTail.{CodeTail}
 use Rattle.typst_code.specs.declared.heads.CodeTail.TheVariants as tail
@@ -27,19 +28,18 @@ use Rattle.typst_language.proofs.Knot.{sane-at}
 use Rattle.typst_language.proofs.Places.{moved-sum, no-end}
 use Rattle.typst_grammar.specs.Grammar.{rules, level_at}
 use Rattle.typst_grammar.proofs.Moves.{moves-eat}
-use Rattle.typst_grammar.proofs.CodeMoves.{moves-first}
 use Rattle.typst_grammar.specs.Binding.{any_errors, has_errors, first_sign, right_least}
 use Rattle.typst_grammar.proofs.Signs.{sign_of, NoSign, reads-sign, reads-not}
-use Rattle.typst_grammar.proofs.Fine.{All, all-map, or-left}
+use Rattle.typst_grammar.proofs.Fine.{All, all-map, or-left, or-right}
 use Rattle.typst_grammar.proofs.FineRuns.{Binds, binds-joined, Still, still-hand, after-shape-known}
 use Rattle.typst_grammar.proofs.Proper.{free, Proper, proper-eat}
 use Rattle.typst_grammar.proofs.Heads.{standing-none, silent-joined, silent-plain, Leafy, LastIs, last-map, is_plain, leafy-token, hand-kind}
-use Rattle.typst_grammar.proofs.BindingTurns.{Sane, all-sane, below, nothing-below, sign-comes, not-comes, call-comes, dot-comes, no-direct}
+use Rattle.typst_grammar.proofs.BindingTurns.{Sane, all-sane, below, tail-comes}
 use Rattle.typst_grammar.proofs.Operands.{Exact, exact-plain, exact-gives, exact-joined, taken_sign, exact-eat, eat-empties, eat-error, last_hinted, leafy-last, last-kind, operation-exact}
 use Rattle.typst_grammar.proofs.Grown.{grown-other, errors-second, errors-after, kind_at, Grown, Ended, Stopped, WentOn, turned, grown-binary, stopped-silent}
-use Rattle.typst_grammar.proofs.PlainCode.{proper-tail, first-field, first-binary}
-use Rattle.typst_grammar.proofs.Firsts.{fills-first}
-use Rattle.typst_grammar.proofs.Called.{called-back}
+use Rattle.typst_grammar.proofs.PlainCode.{proper-tail}
+use Rattle.typst_grammar.proofs.Begun.{first-tail}
+use Rattle.typst_grammar.proofs.Firsts.{eaten-first}
 use Rattle.typst_grammar.proofs.Missing.{Missed, missed, error-kind}
 use Rattle.typst_grammar.proofs.BindingLevels.{CallsBind, DeeperOperands, level-binds}
 
@@ -52,14 +52,6 @@ sign-leaf kind.Error op h = absurd (cc)
 sign-leaf kind.Raw op h = absurd (cc)
 sign-leaf kind.MathFieldAccess op h = absurd (cc)
 sign-leaf _ op h = refl
-
-first-false : (a b : Bool) → (a || b) ≡ false → a ≡ false
-first-false true b h = absurd (cc)
-first-false false b h = refl
-
-second-false : (a b : Bool) → (a || b) ≡ false → b ≡ false
-second-false true b h = absurd (cc)
-second-false false b h = h
 
 no-error : (t : Tree) → t.head.kind ≡ kind.Error → any_errors (forest (t ∷ [])) ≡ false → ⊥
 no-error t e n = let x = or-left (is_error t.head.kind) (any_errors t.kids || false) n in let y = ap is_error e in cc
@@ -86,7 +78,7 @@ module _ (k : CharClasses) (levels : ℕ) (d : CallsBind k levels) (ops : Deeper
     i = (hand_of l v y).kind
 
     no_end : is_end i ≡ false
-    no_end = first-false (is_end i) (is_plain i) e
+    no_end = or-left (is_end i) (is_plain i) e
 
     some : 0 < (hand_of l v y).len
     some = hand-takes k y.held y.known v no_end
@@ -121,8 +113,8 @@ module _ (k : CharClasses) (levels : ℕ) (d : CallsBind k levels) (ops : Deeper
 
     pub whole-leafy : Leafy i text sgn
     whole-leafy =
-        leafy-last operand.hints i text (taken_sign l v y) (first-false (is_error i) _ (second-false (is_end i) (is_plain i) e))
-        (leafy-token k (hand_of l v y).token (text_ahead (hand_of l v y).len (moved (hand_of l v y).gap v)) i (hand-kind k y.held y.known v i no_end refl) (second-false (is_end i) (is_plain i) e))
+        leafy-last operand.hints i text (taken_sign l v y) (or-left (is_error i) _ (or-right (is_end i) (is_plain i) e))
+        (leafy-token k (hand_of l v y).token (text_ahead (hand_of l v y).len (moved (hand_of l v y).gap v)) i (hand-kind k y.held y.known v i no_end refl) (or-right (is_end i) (is_plain i) e))
 
     wrong-sign : eaten.state.is_after_error ≡ true → has_errors sgn ≡ true
     wrong-sign a = or-true (is_error sgn.head.kind) (any_errors sgn.kids) (last-kind operand.hints (taken_sign l v y) (sym (eat-error l v y) ∙ a))
@@ -203,7 +195,7 @@ module _ (k : CharClasses) (levels : ℕ) (d : CallsBind k levels) (ops : Deeper
           let p = p_of tail.Nothing in
           let first = record (plain (as_at_hand h) t) { asks = hand_asks_of l w o.state } in
           inl (stopped-silent k least n z s o p g (silent-joined first (plain nothing t) (record { nodes = refl; back = refl; hints = refl }) (silent-plain nothing t)) refl
-          (level-binds k levels d (turn_by tail.Nothing) (proper-turn tail.Nothing) w o.state g.binds.known) (ap (λ (x : Hand). x.kind) again) (nothing-below least h.kind has_trivia e))
+          (level-binds k levels d (turn_by tail.Nothing) (proper-turn tail.Nothing) w o.state g.binds.known) (ap (λ (x : Hand). x.kind) again) (tail-comes least h.kind has_trivia tail.Nothing e))
 
       -- the token at hand takes something
       comes : is_end h.kind ≡ false → 0 < h.gap + h.len
@@ -212,7 +204,7 @@ module _ (k : CharClasses) (levels : ℕ) (d : CallsBind k levels) (ops : Deeper
       turn-binary : (op : BinOp) (has_trivia : Bool) → code_tail false least h.kind has_trivia ≡ tail.Binary op → Turned (p_of (tail.Binary op))
       unfolding run binary_expr
       turn-binary op has_trivia e =
-          let c = sign-comes least h.kind has_trivia op e in
+          let c = tail-comes least h.kind has_trivia (tail.Binary op) e in
           let p = p_of (tail.Binary op) in
           let first = record (plain (as_at_hand h) t) { asks = hand_asks_of l w o.state } in
           let there : (is_end (hand_of l w t).kind || is_plain (hand_of l w t).kind) ≡ false = ap (λ (x : Hand). is_end x.kind || is_plain x.kind) again ∙ sign-leaf h.kind op c.0 in
@@ -220,7 +212,7 @@ module _ (k : CharClasses) (levels : ℕ) (d : CallsBind k levels) (ops : Deeper
           let x = exact-joined first q [] ((hand_of l w t).trivia ++ sgn op w t still there ∷ operands op w t still there) (exact-plain (as_at_hand h) t (hand_asks_of l w o.state)) (whole-exact op w t still there) in
           let same_taken : 0 + q.taken ≡ q.taken = omega arith in
           let same_kind : kind_at k 0 (moved p.taken w) p.state ≡ kind_at k 0 (moved q.taken w) q.state = ap (λ (m : ℕ). kind_at k 0 (moved m w) q.state) same_taken in
-          went p (fits (tail.Binary op)) refl (moves-first k levels (turn_by (tail.Binary op)) (λ _. first-binary true true op) w o.state (comes (first-false (is_end h.kind) (is_plain h.kind) (sign-leaf h.kind op c.0))))
+          went p (fits (tail.Binary op)) refl ((eaten-first k levels (turn_by (tail.Binary op)) w o.state (first-tail (as_at_hand h) (tail.Binary op) (λ x. absurd (cc)) refl)).taken (comes (or-left (is_end h.kind) (is_plain h.kind) (sign-leaf h.kind op c.0))))
           (grown-binary k least n z s o p (tt {0}) g op (text op w t still there) (sgn op w t still there) (operands op w t still there) c.0
           (λ sane is ls no_signs. ap (λ (u : Tree). first_sign false (ls ++ u ∷ operands op w t still there)) is ∙ reads-sign op h.kind c.1.0 (text op w t still there) ls no_signs (operands op w t still there)) c.1.1
           (subst (λ (v : SyntaxKind). Leafy v (text op w t still there) (sgn op w t still there)) (ap (λ (v : Hand). v.kind) again) (whole-leafy op w t still there)) still
@@ -232,13 +224,13 @@ module _ (k : CharClasses) (levels : ℕ) (d : CallsBind k levels) (ops : Deeper
 
       module _ (has_trivia : Bool) (e : code_tail false least h.kind has_trivia ≡ tail.NotIn) where
         sign_not : sign_of h.kind ≡ Some binary.NotIn
-        sign_not = let x = (not-comes least h.kind has_trivia e).0 in rw x refl
+        sign_not = let x = (tail-comes least h.kind has_trivia tail.NotIn e).0 in rw x refl
 
         leaf_not : (is_end (hand_of l w t).kind || is_plain (hand_of l w t).kind) ≡ false
         leaf_not = ap (λ (x : Hand). is_end x.kind || is_plain x.kind) again ∙ sign-leaf h.kind binary.NotIn sign_not
 
         no_end_not : is_end (hand_of l w t).kind ≡ false
-        no_end_not = first-false (is_end (hand_of l w t).kind) (is_plain (hand_of l w t).kind) leaf_not
+        no_end_not = or-left (is_end (hand_of l w t).kind) (is_plain (hand_of l w t).kind) leaf_not
 
         some_not : 0 < (hand_of l w t).len
         some_not = hand-takes k t.held t.known w no_end_not
@@ -296,7 +288,7 @@ module _ (k : CharClasses) (levels : ℕ) (d : CallsBind k levels) (ops : Deeper
         leafy_not : Leafy h.kind (encode_utf8_all (text_ahead (hand_of l w t).len (moved (hand_of l w t).gap w))) not_sign
         leafy_not =
             subst (λ (v : SyntaxKind). Leafy v (encode_utf8_all (text_ahead (hand_of l w t).len (moved (hand_of l w t).gap w))) not_sign) (ap (λ (v : Hand). v.kind) again)
-            (leafy-token k (hand_of l w t).token (text_ahead (hand_of l w t).len (moved (hand_of l w t).gap w)) (hand_of l w t).kind (hand-kind k t.held t.known w (hand_of l w t).kind no_end_not refl) (second-false (is_end (hand_of l w t).kind) (is_plain (hand_of l w t).kind) leaf_not))
+            (leafy-token k (hand_of l w t).token (text_ahead (hand_of l w t).len (moved (hand_of l w t).gap w)) (hand_of l w t).kind (hand-kind k t.held t.known w (hand_of l w t).kind no_end_not refl) (or-right (is_end (hand_of l w t).kind) (is_plain (hand_of l w t).kind) leaf_not))
 
         in-leaf : (i : SyntaxKind) → same kind.In i ≡ true → (is_end i || is_plain i) ≡ false
         in-leaf kind.End x = absurd (cc)
@@ -337,7 +329,7 @@ module _ (k : CharClasses) (levels : ℕ) (d : CallsBind k levels) (ops : Deeper
             let gap = ap (λ (v : Hand). v.len) again in
             let some = moves-eat l w t (omega (arith, some_not)) in
             went p less says-more (omega (arith, sum, some))
-            (grown-more (grown-binary k least n z s o p (tt {0}) g binary.NotIn (encode_utf8_all (text_ahead (hand_of l w t).len (moved (hand_of l w t).gap w))) not_sign (before ++ in_sign ∷ right) sign_not (λ sane is ls no_signs. ap (λ (u : Tree). first_sign false (ls ++ u ∷ (before ++ in_sign ∷ right))) is ∙ reads-not h.kind (not-comes least h.kind has_trivia e).0 (encode_utf8_all (text_ahead (hand_of l w t).len (moved (hand_of l w t).gap w))) ls no_signs before (all-map Still NoSign (λ u x. x.no_sign) before (still-hand l w2 t2 still2)) in_sign (is-in there is_in (all-sane (in_sign ∷ right) (errors-after before (in_sign ∷ right) sane)).0) right) (not-comes least h.kind has_trivia e).1 leafy_not still
+            (grown-more (grown-binary k least n z s o p (tt {0}) g binary.NotIn (encode_utf8_all (text_ahead (hand_of l w t).len (moved (hand_of l w t).gap w))) not_sign (before ++ in_sign ∷ right) sign_not (λ sane is ls no_signs. ap (λ (u : Tree). first_sign false (ls ++ u ∷ (before ++ in_sign ∷ right))) is ∙ reads-not h.kind (tail-comes least h.kind has_trivia tail.NotIn e).0 (encode_utf8_all (text_ahead (hand_of l w t).len (moved (hand_of l w t).gap w))) ls no_signs before (all-map Still NoSign (λ u x. x.no_sign) before (still-hand l w2 t2 still2)) in_sign (is-in there is_in (all-sane (in_sign ∷ right) (errors-after before (in_sign ∷ right) sane)).0) right) (tail-comes least h.kind has_trivia tail.NotIn e).1 leafy_not still
             x.nodes x.back x.hints b
             (λ sane. (let rest = errors-after before (in_sign ∷ right) sane in
             subst (λ (v : SyntaxKind). LastIs (has_errors not_sign ≡ true) (Ended k (right_least binary.NotIn) v) (before ++ in_sign ∷ right)) (sym same_kind)
@@ -386,28 +378,33 @@ module _ (k : CharClasses) (levels : ℕ) (d : CallsBind k levels) (ops : Deeper
       same-dot kind.End x = absurd (cc)
       same-dot _ x = refl
 
+      opens-goes : (i : SyntaxKind) → opens_arguments i ≡ true → is_end i ≡ false
+      opens-goes kind.End x = absurd (cc)
+      opens-goes _ x = refl
+
       turn-field : (has_trivia : Bool) → code_tail false least h.kind has_trivia ≡ tail.Field → Turned (p_of tail.Field)
       unfolding run field
       turn-field has_trivia e =
           let p = p_of tail.Field in
-          let lead = fills-first k levels (turn_by tail.Field) (λ _. first-field true true) w o.state g.binds.known in
+          let lead = eaten-first k levels (turn_by tail.Field) w o.state (first-tail (as_at_hand h) tail.Field (λ x. absurd (cc)) refl) in
           let room = lead.room in
-          went p (fits tail.Field) refl (moves-first k levels (turn_by tail.Field) (λ _. first-field true true) w o.state (comes (same-dot h.kind (dot-comes least h.kind has_trivia e))))
+          went p (fits tail.Field) refl (lead.taken (comes (same-dot h.kind (tail-comes least h.kind has_trivia tail.Field e))))
           (grown-other k least n z s o p (tt {0}) g kind.FieldAccess refl refl lead.none (omega (arith, room)) (level-binds k levels d (turn_by tail.Field) (proper-turn tail.Field) w o.state g.binds.known))
 
       turn-call : (has_trivia : Bool) → has_trivia ≡ not (is_nil h.trivia) → code_tail false least h.kind has_trivia ≡ tail.Call → Turned (p_of tail.Call)
       unfolding run call_tail
       turn-call has_trivia f e =
           let p = p_of tail.Call in
-          let c = called-back k levels w o.state g.binds.known (ap (calls_directly h.kind) (sym f) ∙ call-comes least h.kind has_trivia e) in
-          let back = c.none in let room = c.room in
-          went p (fits tail.Call) refl c.taken
-          (grown-other k least n z s o p (tt {0}) g kind.FuncCall refl refl back (omega (arith, room)) (level-binds k levels d (turn_by tail.Call) (proper-turn tail.Call) w o.state g.binds.known))
+          let direct : calls_directly h.kind (not (is_nil h.trivia)) ≡ true = ap (calls_directly h.kind) (sym f) ∙ tail-comes least h.kind has_trivia tail.Call e in
+          let lead = eaten-first k levels (turn_by tail.Call) w o.state (first-tail (as_at_hand h) tail.Call (λ _. direct) refl) in
+          let room = lead.room in
+          went p (fits tail.Call) refl (lead.taken (comes (opens-goes h.kind (and-first (opens_arguments h.kind) (not (not (is_nil h.trivia))) direct))))
+          (grown-other k least n z s o p (tt {0}) g kind.FuncCall refl refl lead.none (omega (arith, room)) (level-binds k levels d (turn_by tail.Call) (proper-turn tail.Call) w o.state g.binds.known))
 
       by-tail : (t : CodeTail) → code_tail false least h.kind (not (is_nil h.trivia)) ≡ t → Turned (p_of t)
       by-tail tail.Call e = turn-call (not (is_nil h.trivia)) refl e
       by-tail tail.Field e = turn-field (not (is_nil h.trivia)) e
-      by-tail tail.DirectField e = absurd (no-direct least h.kind (not (is_nil h.trivia)) e)
+      by-tail tail.DirectField e = absurd (tail-comes least h.kind (not (is_nil h.trivia)) tail.DirectField e)
       by-tail tail.NotIn e = turn-not (not (is_nil h.trivia)) e
       by-tail (tail.Binary op) e = turn-binary op (not (is_nil h.trivia)) e
       by-tail tail.Nothing e = turn-nothing (not (is_nil h.trivia)) e

@@ -29,7 +29,7 @@ on_true : {A : Type 0} (P : A → Type 0) (b : Bool) (x y : A) → b ≡ true �
 on_true P true x y e p = p
 on_true P false x y e p = absurd (cc)
 
-pub by_cases : {P : Type 0} (b : Bool) → (b ≡ true → P) → (b ≡ false → P) → P
+by_cases : {P : Type 0} (b : Bool) → (b ≡ true → P) → (b ≡ false → P) → P
 by_cases true f g = f refl
 by_cases false f g = g refl
 
@@ -49,10 +49,10 @@ module _ (k : CharClasses) where
   kind_at z s = (hand_of top z s).kind
 
   -- the point once the token at hand was asked for
-  abbrev pub known : Place → Point → Point
+  abbrev known : Place → Point → Point
   known z s = asked (hand_of top z s) s
 
-  pub kind-again : (z : Place) (s : Point) → kind_at z (known z s) ≡ kind_at z s
+  kind-again : (z : Place) (s : Point) → kind_at z (known z s) ≡ kind_at z s
   kind-again z s = ap (λ (h : Hand). h.kind) (hand-again k s.held s.known z)
 
   -- ---- one turn

@@ -1,5 +1,5 @@
 -- The whole text is read.
-use Rattle.std.proofs.Common.{◌≡◌, ℕ, ◌<◌, ◌≤◌, Bool, true, false, List, length, encode_utf8_all, refl, ap, ◌∙◌, arith}
+use Rattle.std.proofs.Common.{◌≡◌, ℕ, ◌<◌, ◌≤◌, Bool, true, List, length, encode_utf8_all, refl, ap, ◌∙◌, arith}
 use Rattle.typst_kinds.specs.declared.kind.SyntaxKind.{SyntaxKind}
 use Rattle.typst_kinds.specs.declared.kind.SyntaxKind.TheVariants as kind
 use Rattle.typst_lines.specs.Place.{moved}
@@ -11,7 +11,8 @@ use Rattle.typst_language.specs.Syntax.{Parser, ◌>>=◌, ◌>>◌}
 use Rattle.typst_language.specs.Syntax.Parser.{gives, next, repeat}
 use Rattle.typst_language.specs.Steps.{peek, unexpected}
 use Rattle.typst_language.specs.Depth.{is_end, too_deep, deeper}
-use Rattle.typst_language.specs.Meaning.{Level, start_point, run}
+use Rattle.typst_language.specs.Hand.{as_at_hand}
+use Rattle.typst_language.specs.Meaning.{Level, hand_of, start_point, run}
 use Rattle.typst_language.proofs.Places.{take-all}
 use Rattle.typst_language.proofs.Knot.{sane-at}
 use Rattle.typst_language.proofs.Eaten.{Eats}
@@ -20,17 +21,21 @@ use Rattle.typst_code.specs.head.MarkupHead.TheVariants as head
 use Rattle.typst_code.specs.Markup.{ends, note_piece, markup_turn, markup_run, markup_head, markup_by, markup_expr, markup_reading}
 use Rattle.typst_kinds.specs.declared.mode.SyntaxMode.TheVariants as mode
 use Rattle.typst_grammar.specs.Grammar.{rules, level_at, max_depth, start_of, whole, parsed, tree}
-use Rattle.typst_grammar.proofs.PlainParts.{first-markup}
-use Rattle.typst_grammar.proofs.Moves.{Moves, moves-next, moves-peek, moves-unexpected, eats-moves}
+use Rattle.typst_grammar.proofs.Begun.{first-markup}
+use Rattle.typst_grammar.proofs.Firsts.{eaten-first}
+use Rattle.typst_grammar.proofs.Moves.{Moves, moves-next, moves-peek, moves-unexpected}
 use Rattle.typst_grammar.proofs.Turns.{StopsAtEnd, Goes, Ends, turn-stops, repeat-ends, deep-ends, next-ends, gives-ends, all-taken}
 
 -- ---- each expression takes something
 
-module _ (l : Level) where
+module _ (k : CharClasses) (levels : ℕ) where
+  abbrev l : Level
+  l = level_at k levels
+
   moves-by : (nesting : ℕ) (h : MarkupHead) → Moves l (markup_by nesting h)
   moves-by nesting head.Stray = moves-next l (unexpected _) _ (moves-unexpected l _)
   moves-by nesting head.Unexpected = moves-next l (unexpected _) _ (moves-unexpected l _)
-  moves-by nesting h = eats-moves l false true (markup_by nesting h) (λ e. absurd (cc)) (first-markup nesting h refl)
+  moves-by nesting h = λ z s some. (eaten-first k levels (markup_by nesting h) z s (first-markup (as_at_hand (hand_of l z s)) true nesting h refl)).taken some
 
   pub eats-expr : (at_start : Bool) (nesting : ℕ) → Eats l (markup_expr at_start nesting)
   unfolding markup_expr
@@ -55,7 +60,7 @@ module _ (k : CharClasses) where
   goes : (x : Bool × ℕ) → Goes k (rest x)
   unfolding run deeper meaning_of
   goes x z s h =
-      let inside : 0 < (run (level_at k 255) (markup_expr x.0 x.1) (moved 0 z) s).taken = eats-expr (level_at k 255) x.0 x.1 z s h in
+      let inside : 0 < (run (level_at k 255) (markup_expr x.0 x.1) (moved 0 z) s).taken = eats-expr k 255 x.0 x.1 z s h in
       record { says = refl; taken = omega (arith, inside) }
 
   stops : (x : Bool × ℕ) → StopsAtEnd k (markup_turn true is_end x)

@@ -1,47 +1,39 @@
 -- The whole text of code is read.
-use Rattle.std.proofs.Common.{◌≡◌, ℕ, ◌+◌, ◌<◌, ◌≤◌, Bool, true, List, [], length, encode_utf8_all, refl, ap, ◌∙◌, arith}
+use Rattle.std.proofs.Common.{◌≡◌, ℕ, ◌≤◌, Bool, true, false, List, [], length, encode_utf8_all, refl, ap, ◌∙◌, arith}
 use Rattle.typst_kinds.specs.declared.mode.SyntaxMode.TheVariants as mode
-use Rattle.typst_lines.specs.Place.{Place, moved}
 use Rattle.typst_tree.specs.Tree.{text_of}
 use Rattle.typst_lines.specs.Classes.{CharClasses}
 use Rattle.typst_language.specs.declared.reading.AtNewline.TheVariants as newline
-use Rattle.typst_language.specs.Point.{Point}
 use Rattle.typst_language.specs.Knot.{meaning_of}
 use Rattle.typst_language.specs.Syntax.{Parser, ◌>>=◌, ◌>>◌}
 use Rattle.typst_language.specs.Syntax.Parser.{gives, repeat}
 use Rattle.typst_language.specs.Steps.{peek, unexpected, within}
 use Rattle.typst_language.specs.Depth.{is_end, too_deep, deeper}
+use Rattle.typst_language.specs.Hand.{as_at_hand}
 use Rattle.typst_language.specs.Meaning.{hand_of, start_point, run}
 use Rattle.typst_language.proofs.Places.{take-all}
 use Rattle.typst_language.proofs.Knot.{sane-at}
 use Rattle.typst_code.specs.Markup.{at_newline}
+use Rattle.typst_code.specs.Expressions.{code_expr}
 use Rattle.typst_code.specs.Starts.{begins_code}
 use Rattle.typst_code.specs.Parts.{code_expression}
-use Rattle.typst_code.specs.Sequences.{code_reading, code_turn, code_exprs, statement}
+use Rattle.typst_code.specs.Sequences.{code_reading, code_turn, code_exprs, statement, statement_end}
 use Rattle.typst_grammar.specs.Grammar.{rules, max_depth, start_of, whole_code, parsed_code, tree_code}
-use Rattle.typst_grammar.proofs.CodeMoves.{moves-expr}
-use Rattle.typst_grammar.proofs.Moves.{Moves, left-again, moves-unexpected, moves-within}
-use Rattle.typst_grammar.proofs.Turns.{by_cases, top, kind_at, known, kind-again, StopsAtEnd, Goes, Ends, turn-stops, repeat-ends, deep-ends, next-ends, all-taken}
+use Rattle.typst_grammar.proofs.Begun.{first-expr}
+use Rattle.typst_grammar.proofs.Firsts.{eaten-first}
+use Rattle.typst_grammar.proofs.Moves.{Moves, MovesAt, moves-or, moves-unexpected, moves-within}
+use Rattle.typst_grammar.proofs.Turns.{top, StopsAtEnd, Goes, Ends, turn-stops, repeat-ends, deep-ends, next-ends, all-taken}
 
 module _ (k : CharClasses) where
   -- an expression takes something where a token begins it
-  expression-moves : (z : Place) (s : Point) → begins_code (kind_at k z s) ≡ true → 0 < (hand_of (top k) z s).gap + (hand_of (top k) z s).len → 0 < (run (top k) code_expression z s).taken
+  expression-moves : {A : Type 0} (f : Unit {0} → Parser A) → MovesAt (top k) begins_code (code_expression >>= f)
   unfolding run deeper meaning_of
-  expression-moves z s b h = let inside = moves-expr k 255 0 z s b h in omega (arith, inside)
+  expression-moves f z s b h = let inside = (eaten-first k 255 (code_expr false 0) z s (first-expr (as_at_hand (hand_of (top k) z s)) 0 b)).taken h in omega (arith, inside)
 
   -- so does a statement, which else takes what it doesn't expect
   statement-moves : Moves (top k) (statement is_end)
-  unfolding run statement
-  statement-moves z s h =
-      let t = known k z s in
-      let left : 0 < (hand_of (top k) z t).gap + (hand_of (top k) z t).len = omega (arith, left-again (top k) z s) in
-      by_cases (begins_code (kind_at k z s))
-      (λ b.
-      let inside : 0 < (run (top k) code_expression (moved 0 z) t).taken = expression-moves z t (ap begins_code (kind-again k z s) ∙ b) left in
-      rw b (omega (arith, inside)))
-      (λ b.
-      let inside : 0 < (run (top k) (unexpected []) (moved 0 z) t).taken = moves-unexpected (top k) [] z t left in
-      rw b (omega (arith, inside)))
+  unfolding statement
+  statement-moves = moves-or (top k) begins_code (code_expression >> statement_end is_end) (unexpected []) (expression-moves (λ _. statement_end is_end)) (moves-unexpected (top k) [])
 
   abbrev inside : Parser (Unit {0})
   inside = within (at_newline newline.ContextualContinue) (statement is_end)

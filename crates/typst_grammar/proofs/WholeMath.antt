@@ -1,45 +1,37 @@
 -- The whole text of a formula is read.
-use Rattle.std.proofs.Common.{◌≡◌, ℕ, ◌+◌, ◌<◌, ◌≤◌, Bool, true, refl, List, [], length, encode_utf8_all, ap, ◌∙◌, arith}
+use Rattle.std.proofs.Common.{◌≡◌, ℕ, ◌≤◌, Bool, true, refl, List, [], length, encode_utf8_all, ap, ◌∙◌, arith}
 use Rattle.typst_kinds.specs.Kinds.{among}
 use Rattle.typst_kinds.specs.Sets.{math_expr as math_kinds}
 use Rattle.typst_kinds.specs.declared.mode.SyntaxMode.TheVariants as mode
-use Rattle.typst_lines.specs.Place.{Place, moved}
 use Rattle.typst_tree.specs.Tree.{text_of}
 use Rattle.typst_lines.specs.Classes.{CharClasses}
-use Rattle.typst_language.specs.Point.{Point}
 use Rattle.typst_language.specs.Knot.{meaning_of}
 use Rattle.typst_language.specs.Syntax.{Parser, ◌>>◌}
 use Rattle.typst_language.specs.Syntax.Parser.{gives, repeat}
 use Rattle.typst_language.specs.Steps.{peek, unexpected}
 use Rattle.typst_language.specs.Depth.{is_end, one_more, too_deep, deeper}
 use Rattle.typst_code.specs.Equations.{math_expression, math_item, math_turn, math_exprs, math_reading, no_signs}
+use Rattle.typst_language.specs.Hand.{as_at_hand}
 use Rattle.typst_language.specs.Meaning.{hand_of, start_point, run}
 use Rattle.typst_language.proofs.Places.{take-all}
 use Rattle.typst_language.proofs.Knot.{sane-at}
-use Rattle.typst_grammar.specs.Grammar.{rules, level_at, max_depth, start_of, whole_math, parsed_math, tree_math}
-use Rattle.typst_grammar.proofs.MathMoves.{moves-math}
-use Rattle.typst_grammar.proofs.Moves.{Moves, left-again, moves-unexpected}
-use Rattle.typst_grammar.proofs.Turns.{by_cases, top, kind_at, known, kind-again, StopsAtEnd, Goes, Ends, turn-stops, repeat-ends, deep-ends, next-ends, all-taken}
+use Rattle.typst_code.specs.MathExpressions.{math_expr}
+use Rattle.typst_grammar.specs.Grammar.{rules, max_depth, start_of, whole_math, parsed_math, tree_math}
+use Rattle.typst_grammar.proofs.Begun.{first-math-expr}
+use Rattle.typst_grammar.proofs.Firsts.{eaten-first}
+use Rattle.typst_grammar.proofs.Moves.{Moves, MovesAt, moves-or, moves-unexpected}
+use Rattle.typst_grammar.proofs.Turns.{top, StopsAtEnd, Goes, Ends, turn-stops, repeat-ends, deep-ends, next-ends, all-taken}
 
 module _ (k : CharClasses) where
   -- an expression takes something where a token begins it
-  expression-moves : (z : Place) (s : Point) → among math_kinds (kind_at k z s) ≡ true → 0 < (hand_of (top k) z s).gap + (hand_of (top k) z s).len → 0 < (run (top k) math_expression z s).taken
+  expression-moves : MovesAt (top k) (among math_kinds) math_expression
   unfolding run deeper meaning_of math_expression
-  expression-moves z s b h = let inside = moves-math k (level_at k 255) 0 no_signs z s b h in omega (arith, inside)
+  expression-moves z s b h = let inside = (eaten-first k 255 (math_expr k 0 no_signs) z s (first-math-expr k (as_at_hand (hand_of (top k) z s)) 0 no_signs b)).taken h in omega (arith, inside)
 
   -- so does what else stands there, which isn't expected
   item-moves : Moves (top k) math_item
-  unfolding run math_item
-  item-moves z s h =
-      let t = known k z s in
-      let left : 0 < (hand_of (top k) z t).gap + (hand_of (top k) z t).len = omega (arith, left-again (top k) z s) in
-      by_cases (among math_kinds (kind_at k z s))
-      (λ b.
-      let inside : 0 < (run (top k) math_expression (moved 0 z) t).taken = expression-moves z t (ap (among math_kinds) (kind-again k z s) ∙ b) left in
-      rw b (omega (arith, inside)))
-      (λ b.
-      let inside : 0 < (run (top k) (unexpected []) (moved 0 z) t).taken = moves-unexpected (top k) [] z t left in
-      rw b (omega (arith, inside)))
+  unfolding math_item
+  item-moves = moves-or (top k) (among math_kinds) math_expression (unexpected []) expression-moves (moves-unexpected (top k) [])
 
   abbrev rest : ℕ → Parser (Bool × ℕ)
   rest count = math_item >> gives (true, one_more count)
