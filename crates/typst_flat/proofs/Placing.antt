@@ -30,9 +30,8 @@ use Rattle.typst_highlight.proofs.Nears.{Alike, Near, past_near, passed_near, sa
 use Rattle.typst_flat.specs.Codes.{cut, tag_code}
 use Rattle.typst_flat.specs.Records.{meets, number_if}
 use Rattle.typst_flat.specs.Walk.{ahead_from, up_number}
-use Rattle.typst_flat.specs.Placed.{AreReady, Comes, EndsIn, IsBehind, IsPlaced, IsSought, Moves, Passes, RowFits, Stays}
+use Rattle.typst_flat.specs.Placed.{AreReady, Course, EndsIn, IsBehind, IsPlaced, IsSought, Moves, Passes, RowFits, Stays}
 use Rattle.typst_flat.specs.declared.placed.PlacedNode.{PlacedNode}
-use Rattle.typst_flat.specs.declared.nodes.StretchNodes.{StretchNodes}
 use Rattle.typst_flat.specs.declared.records.Stretch.{Stretch}
 use Rattle.typst_flat.proofs.Endings.{no_kids}
 use Rattle.typst_flat.proofs.Passed.{come_to, outside, passed_over}
@@ -82,7 +81,7 @@ ready_moved root r n m ws vs e h k p =
 boundary_moved : (root r : Tree) (b c : Boundary) → r ≡ root → c ≡ b → IsBoundary root b → IsBoundary r c
 boundary_moved root r b c e h k = subst (λ x. IsBoundary x c) (sym e) (subst (IsBoundary root) (sym h) k)
 
-stays_at : (w : StretchNodes) (root : Tree) (n : ℕ) (f : Forest) (front back : List Tree) (up : Option ℕ) (c : Context) (ws : List Waiting) (b : Boundary) → nodes root < 2 ^ 64 - 1 → IsBoundary root b → Stand root n f front back up → Goes root n f up c → AreReady root (n + count f) ws → cut (up_number up) ≡ w.parent → w.root.now ≡ root → w.near ≡ b → w.number ≡ n → forest w.nodes.now ≡ f → joined w.progress ≡ c → waiting w.progress ≡ ws → Stays w
+stays_at : (w : Course) (root : Tree) (n : ℕ) (f : Forest) (front back : List Tree) (up : Option ℕ) (c : Context) (ws : List Waiting) (b : Boundary) → nodes root < 2 ^ 64 - 1 → IsBoundary root b → Stand root n f front back up → Goes root n f up c → AreReady root (n + count f) ws → cut (up_number up) ≡ w.parent → w.root.now ≡ root → w.near ≡ b → w.number ≡ n → forest w.nodes.now ≡ f → joined w.progress ≡ c → waiting w.progress ≡ ws → Stays w
 stays_at w root n f front back up c ws b few known stands goes ready above eroot eb en ef ec ews =
     let total : w.number + count (forest w.nodes.now) ≡ n + count f = (λ i. en i + count (ef i)) in
     record {
@@ -102,7 +101,7 @@ stays_at w root n f front back up c ws b few known stands goes ready above eroot
 -- ---- steps
 
 -- the next node
-record First (w : StretchNodes) (t : Tree) (r : Forest) : Type 0 where
+record First (w : Course) (t : Tree) (r : Forest) : Type 0 where
   front : List Tree
   back : List Tree
   up : Option ℕ
@@ -113,7 +112,7 @@ record First (w : StretchNodes) (t : Tree) (r : Forest) : Type 0 where
   near : Near (joined w.progress) context
   ready : AreReady w.root.now (w.number + count (more t.head t.kids r)) (waiting w.progress)
 
-first_of : (w : StretchNodes) (t : Tree) (r : List Tree) → Stays w → w.nodes.now ≡ t ∷ r → First w t (forest r)
+first_of : (w : Course) (t : Tree) (r : List Tree) → Stays w → w.nodes.now ≡ t ∷ r → First w t (forest r)
 first_of w t r s e =
     let row : forest w.nodes.now ≡ more t.head t.kids (forest r) = ap forest e in
     record {
@@ -129,20 +128,20 @@ first_of w t r s e =
     }
 
 -- it is one of the tree's
-pub is_within : (w : StretchNodes) (t : Tree) (r : List Tree) → Stays w → w.nodes.now ≡ t ∷ r → w.number + nodes t ≤ nodes w.root.now
+pub is_within : (w : Course) (t : Tree) (r : List Tree) → Stays w → w.nodes.now ≡ t ∷ r → w.number + nodes t ≤ nodes w.root.now
 is_within w t r s e =
     let f = first_of w t r s e in
     omega (arith, within_nodes w.root.now w.number (more t.head t.kids (forest r)) f.front f.back f.up f.stands)
 
 -- its tag
-tag_is : (w : StretchNodes) (t : Tree) (r : List Tree) → Stays w → w.nodes.now ≡ t ∷ r → tag (joined w.progress) t (forest r) ≡ tag_of (at w.root.now w.number)
+tag_is : (w : Course) (t : Tree) (r : List Tree) → Stays w → w.nodes.now ≡ t ∷ r → tag (joined w.progress) t (forest r) ≡ tag_of (at w.root.now w.number)
 tag_is w t r s e =
     let f = first_of w t r s e in
     tag_near (joined w.progress) f.context t (forest r) f.near
     ∙ tag_law w.root.now w.number t.head t.kids (forest r) f.front f.back f.up f.context f.stands f.fits
 
 -- it is given as it is
-pub is_placed : (w : StretchNodes) (t : Tree) (r : List Tree) (g : PlacedNode) → Stays w → w.nodes.now ≡ t ∷ r → g.node.now ≡ t → g.start ≡ (joined w.progress).offset → g.end ≡ saturated (g.start + length (text_of t)) → g.number ≡ w.number → g.parent ≡ w.parent → g.tag ≡ tag_code (tag (joined w.progress) t (forest r)) → IsPlaced (at w.root.now w.number) g
+pub is_placed : (w : Course) (t : Tree) (r : List Tree) (g : PlacedNode) → Stays w → w.nodes.now ≡ t ∷ r → g.node.now ≡ t → g.start ≡ (joined w.progress).offset → g.end ≡ saturated (g.start + length (text_of t)) → g.number ≡ w.number → g.parent ≡ w.parent → g.tag ≡ tag_code (tag (joined w.progress) t (forest r)) → IsPlaced (at w.root.now w.number) g
 is_placed w t r g s e node start ends number up own =
     let f = first_of w t r s e in
     let is : node_of (at w.root.now w.number) ≡ t = here w.root.now w.number t f.front _ f.stands.whole f.stands.number in
@@ -158,7 +157,7 @@ is_placed w t r g s e node start ends number up own =
     }
 
 -- past a node without children
-pub stays_behind : (v w : StretchNodes) (t : Tree) (r : List Tree) → Stays v → v.nodes.now ≡ t ∷ r → is_childless t.kids ≡ true → w.root.now ≡ v.root.now → w.near ≡ v.near → w.number ≡ v.number + 1 → w.parent ≡ v.parent → w.nodes.now ≡ r → joined w.progress ≡ past (joined v.progress) t (passed (joined v.progress) t (forest r)) → waiting w.progress ≡ waiting v.progress → Stays w
+pub stays_behind : (v w : Course) (t : Tree) (r : List Tree) → Stays v → v.nodes.now ≡ t ∷ r → is_childless t.kids ≡ true → w.root.now ≡ v.root.now → w.near ≡ v.near → w.number ≡ v.number + 1 → w.parent ≡ v.parent → w.nodes.now ≡ r → joined w.progress ≡ past (joined v.progress) t (passed (joined v.progress) t (forest r)) → waiting w.progress ≡ waiting v.progress → Stays w
 stays_behind v w t r s e childless root near number up row around rows =
     let f = first_of v t r s e in
     let next : w.number ≡ v.number + (1 + count t.kids) = omega (arith, number, no_kids t.kids childless) in
@@ -173,7 +172,7 @@ stays_behind v w t r s e childless root near number up row around rows =
 no_leaf : (t : Tree) → is_childless t.kids ≡ false → is_leaf t ≡ false
 no_leaf t e = ap (λ b. b && (not (is_trivia t.head.kind) && not (is_error t.head.kind))) e
 
-row_behind : (v : StretchNodes) (t : Tree) (r : List Tree) (x : Waiting) → Stays v → v.nodes.now ≡ t ∷ r → x.nodes.now ≡ r → x.start ≡ end (joined v.progress) t → x.level ≡ v.progress.level → x.parent ≡ v.parent → AreReady v.root.now (v.number + (1 + count t.kids)) (x ∷ waiting v.progress)
+row_behind : (v : Course) (t : Tree) (r : List Tree) (x : Waiting) → Stays v → v.nodes.now ≡ t ∷ r → x.nodes.now ≡ r → x.start ≡ end (joined v.progress) t → x.level ≡ v.progress.level → x.parent ≡ v.parent → AreReady v.root.now (v.number + (1 + count t.kids)) (x ∷ waiting v.progress)
 row_behind v t r x s e row start level up =
     let f = first_of v t r s e in
     let n : ℕ = v.number + (1 + count t.kids) in
@@ -190,7 +189,7 @@ row_behind v t r x s e row start level up =
     let total : v.number + count (more t.head t.kids (forest r)) ≡ n + count (forest x.nodes.now) = omega (arith, ap (λ g. count (forest g)) row) in
     (fits, subst (λ m. AreReady v.root.now m (waiting v.progress)) total f.ready)
 
-pub stays_below : (v w : StretchNodes) (t : Tree) (r : List Tree) (x : Waiting) → Stays v → v.nodes.now ≡ t ∷ r → is_childless t.kids ≡ false → w.root.now ≡ v.root.now → w.near ≡ v.near → w.number ≡ v.number + 1 → w.parent ≡ cut v.number → forest w.nodes.now ≡ t.kids → joined w.progress ≡ within (joined v.progress) t (forest r) → waiting w.progress ≡ x ∷ waiting v.progress → x.nodes.now ≡ r → x.start ≡ end (joined v.progress) t → x.level ≡ v.progress.level → x.parent ≡ v.parent → Stays w
+pub stays_below : (v w : Course) (t : Tree) (r : List Tree) (x : Waiting) → Stays v → v.nodes.now ≡ t ∷ r → is_childless t.kids ≡ false → w.root.now ≡ v.root.now → w.near ≡ v.near → w.number ≡ v.number + 1 → w.parent ≡ cut v.number → forest w.nodes.now ≡ t.kids → joined w.progress ≡ within (joined v.progress) t (forest r) → waiting w.progress ≡ x ∷ waiting v.progress → x.nodes.now ≡ r → x.start ≡ end (joined v.progress) t → x.level ≡ v.progress.level → x.parent ≡ v.parent → Stays w
 stays_below v w t r x s e inner root near number up kids around rows row start level above =
     let f = first_of v t r s e in
     let next : v.number + (1 + count t.kids) ≡ v.number + 1 + count t.kids = omega arith in
@@ -201,7 +200,7 @@ stays_below v w t r x s e inner root near number up kids around rows row start l
     (sym up) root near number kids around rows
 
 -- at the first child of the last node of a row, after which there is nothing to come back to
-pub stays_below_last : (v w : StretchNodes) (t : Tree) → Stays v → v.nodes.now ≡ t ∷ [] → is_childless t.kids ≡ false → w.root.now ≡ v.root.now → w.near ≡ v.near → w.number ≡ v.number + 1 → w.parent ≡ cut v.number → forest w.nodes.now ≡ t.kids → joined w.progress ≡ within (joined v.progress) t none → waiting w.progress ≡ waiting v.progress → Stays w
+pub stays_below_last : (v w : Course) (t : Tree) → Stays v → v.nodes.now ≡ t ∷ [] → is_childless t.kids ≡ false → w.root.now ≡ v.root.now → w.near ≡ v.near → w.number ≡ v.number + 1 → w.parent ≡ cut v.number → forest w.nodes.now ≡ t.kids → joined w.progress ≡ within (joined v.progress) t none → waiting w.progress ≡ waiting v.progress → Stays w
 stays_below_last v w t s e inner root near number up kids around rows =
     let f = first_of v t [] s e in
     let next : v.number + count (more t.head t.kids none) ≡ v.number + 1 + count t.kids = omega arith in
@@ -212,12 +211,12 @@ stays_below_last v w t s e inner root near number up kids around rows =
     (sym up) root near number kids around rows
 
 -- back behind a node
-ended_row : (v : StretchNodes) → Stays v → v.nodes.now ≡ [] → AreReady v.root.now v.number (waiting v.progress)
+ended_row : (v : Course) → Stays v → v.nodes.now ≡ [] → AreReady v.root.now v.number (waiting v.progress)
 ended_row v s e =
     let number : v.number + count (forest v.nodes.now) ≡ v.number = omega (arith, ap (λ xs. count (forest xs)) e) in
     subst (λ m. AreReady v.root.now m (waiting v.progress)) number s.ready
 
-pub stays_back : (v w : StretchNodes) (x : Waiting) → Stays v → v.nodes.now ≡ [] → waiting v.progress ≡ x ∷ waiting w.progress → joined w.progress ≡ resumed x (waiting w.progress) v.progress.trail → w.parent ≡ x.parent → w.root.now ≡ v.root.now → w.near ≡ v.near → w.number ≡ v.number → w.nodes.now ≡ x.nodes.now → Stays w
+pub stays_back : (v w : Course) (x : Waiting) → Stays v → v.nodes.now ≡ [] → waiting v.progress ≡ x ∷ waiting w.progress → joined w.progress ≡ resumed x (waiting w.progress) v.progress.trail → w.parent ≡ x.parent → w.root.now ≡ v.root.now → w.near ≡ v.near → w.number ≡ v.number → w.nodes.now ≡ x.nodes.now → Stays w
 stays_back v w x s e rows around above root near number row =
     let ready : AreReady v.root.now v.number (x ∷ waiting w.progress) = subst (λ ws. AreReady v.root.now v.number ws) rows (ended_row v s e) in
     let r : RowFits v.root.now v.number x = ready.0 in
@@ -235,11 +234,11 @@ none_there [] e = refl
 none_there (x ∷ xs) e = absurd (omega (arith, e))
 
 -- at the end all nodes were come to
-pub all_come : (v : StretchNodes) → Stays v → v.nodes.now ≡ [] → waiting v.progress ≡ [] → v.number ≡ nodes v.root.now
+pub all_come : (v : Course) → Stays v → v.nodes.now ≡ [] → waiting v.progress ≡ [] → v.number ≡ nodes v.root.now
 all_come v s e rows = subst (λ ws. AreReady v.root.now v.number ws) rows (ended_row v s e)
 
 -- the root is first
-pub at_root : (w : StretchNodes) (root : Tree) (b : Boundary) → nodes root < 2 ^ 64 - 1 → IsBoundary root b → w.root.now ≡ root → w.near ≡ b → w.number ≡ 0 → w.parent ≡ 0 → w.nodes.now ≡ root ∷ [] → joined w.progress ≡ root_context → waiting w.progress ≡ [] → Stays w
+pub at_root : (w : Course) (root : Tree) (b : Boundary) → nodes root < 2 ^ 64 - 1 → IsBoundary root b → w.root.now ≡ root → w.near ≡ b → w.number ≡ 0 → w.parent ≡ 0 → w.nodes.now ≡ root ∷ [] → joined w.progress ≡ root_context → waiting w.progress ≡ [] → Stays w
 at_root w root b few known same near number up row around rows =
     let all : 0 + count (more root.head root.kids none) ≡ nodes root = omega arith in
     let goes : Goes root 0 (more root.head root.kids none) None root_context = record {
@@ -287,7 +286,7 @@ early_passes s root n t r front back up st early =
 
 -- ---- a place to go on at
 
-pub sought_here : (w : StretchNodes) (row : List Tree) (start n : ℕ) → Stays w → row ≡ w.nodes.now → start ≡ (joined w.progress).offset → n ≡ w.number → IsSought w row start n
+pub sought_here : (w : Course) (row : List Tree) (start n : ℕ) → Stays w → row ≡ w.nodes.now → start ≡ (joined w.progress).offset → n ≡ w.number → IsSought w row start n
 sought_here w row start n s same begins number =
     record {
       stays = s;
@@ -299,12 +298,12 @@ sought_here w row start n s same begins number =
       left = ap (ahead_from w.stretch w.root.now) (sym number);
     }
 
-pub sought_within : (w : StretchNodes) (t : Tree) (r : List Tree) (start n : ℕ) → IsSought w (t ∷ r) start n → n + nodes t ≤ nodes w.root.now
+pub sought_within : (w : Course) (t : Tree) (r : List Tree) (start n : ℕ) → IsSought w (t ∷ r) start n → n + nodes t ≤ nodes w.root.now
 sought_within w t r start n p =
     omega (arith, within_nodes w.root.now n (more t.head t.kids (forest r)) p.front p.stays.back p.stays.up p.stands)
 
 -- past a node that ends before the stretch
-pub sought_next : (w : StretchNodes) (t : Tree) (r : List Tree) (start e n : ℕ) → IsSought w (t ∷ r) start n → e ≡ saturated (start + length (text_of t)) → e < w.stretch.start → IsSought w r e (n + nodes t)
+pub sought_next : (w : Course) (t : Tree) (r : List Tree) (start e n : ℕ) → IsSought w (t ∷ r) start n → e ≡ saturated (start + length (text_of t)) → e < w.stretch.start → IsSought w r e (n + nodes t)
 sought_next w t r start e n p ends early =
     let stands : Stand w.root.now n (more t.head t.kids (forest r)) p.front p.stays.back p.stays.up = p.stands in
     let is : node_of (at w.root.now n) ≡ t = here w.root.now n t p.front _ stands.whole stands.number in
@@ -320,7 +319,7 @@ sought_next w t r start e n p ends early =
     }
 
 -- past so many nodes, the last of which ends before the stretch
-sought_on : (w : StretchNodes) (i : ℕ) (ts : List Tree) (start n : ℕ) → IsSought w ts start n → start + length (text_in (forest (take i ts))) < 2 ^ 64 → (0 < i → start + length (text_in (forest (take i ts))) < w.stretch.start)
+sought_on : (w : Course) (i : ℕ) (ts : List Tree) (start n : ℕ) → IsSought w ts start n → start + length (text_in (forest (take i ts))) < 2 ^ 64 → (0 < i → start + length (text_in (forest (take i ts))) < w.stretch.start)
     → IsSought w (drop i ts) (start + length (text_in (forest (take i ts)))) (n + count (forest (take i ts)))
 sought_on w zero ts start n p few early = subst (λ m. IsSought w ts m (n + 0)) (let same : start ≡ start + 0 = omega arith in same) (subst (IsSought w ts start) (let same : n ≡ n + 0 = omega arith in same) p)
 sought_on w (suc i) [] start n p few early = subst (λ m. IsSought w [] m (n + 0)) (let same : start ≡ start + 0 = omega arith in same) (subst (IsSought w [] start) (let same : n ≡ n + 0 = omega arith in same) p)
@@ -337,13 +336,13 @@ sought_on w (suc i) (t ∷ ts) start n p few early =
     subst (λ m. IsSought w (drop i ts) m (n + count (forest (take (suc i) (t ∷ ts))))) bytes (subst (IsSought w (drop i ts) (start + own + others)) numbers rest)
 
 -- where the first child of the root begins
-first_begins : (w : StretchNodes) → Stays w → w.number ≡ 1 → length w.root.now.head.text < 2 ^ 64 → length w.root.now.head.text ≡ (joined w.progress).offset
+first_begins : (w : Course) → Stays w → w.number ≡ 1 → length w.root.now.head.text < 2 ^ 64 → length w.root.now.head.text ≡ (joined w.progress).offset
 first_begins w s one few =
     let there : (joined w.progress).offset ≡ offset_of (at w.root.now 1) = s.near.offset ∙ (s.fits.offset ∙ ap (λ k. offset_of (at w.root.now k)) one) in
     omega (arith, there, few, ap length (append-nil w.root.now.head.text))
 
 -- at a boundary among the root's children
-pub sought_near : (w : StretchNodes) (b : Boundary) (ts : List Tree) → Stays w → w.number ≡ 1 → forest w.nodes.now ≡ w.root.now.kids → length (text_of w.root.now) < 2 ^ 64 → IsBoundary w.root.now b → (0 < b.index → b.bytes < w.stretch.start) → ts ≡ drop b.index w.nodes.now → IsSought w ts b.bytes (1 + b.nodes)
+pub sought_near : (w : Course) (b : Boundary) (ts : List Tree) → Stays w → w.number ≡ 1 → forest w.nodes.now ≡ w.root.now.kids → length (text_of w.root.now) < 2 ^ 64 → IsBoundary w.root.now b → (0 < b.index → b.bytes < w.stretch.start) → ts ≡ drop b.index w.nodes.now → IsSought w ts b.bytes (1 + b.nodes)
 sought_near w b ts s one row few is early later =
     let root : Tree = w.root.now in
     let i : ℕ = b.index in
@@ -359,7 +358,7 @@ sought_near w b ts s one row few is early later =
     (subst (λ m. IsSought w (drop i kids) (own + length (text_in (forest (take i kids)))) (1 + m)) (sym is.nodes) there))
 
 -- the root is the node of number 0
-pub first_is_root : (w : StretchNodes) (t : Tree) (r : List Tree) → Stays w → w.nodes.now ≡ t ∷ r → w.number ≡ 0 → t ≡ w.root.now
+pub first_is_root : (w : Course) (t : Tree) (r : List Tree) → Stays w → w.nodes.now ≡ t ∷ r → w.number ≡ 0 → t ≡ w.root.now
 first_is_root w t r s e none_before =
     let f = first_of w t r s e in
     sym (here w.root.now w.number t f.front _ f.stands.whole f.stands.number) ∙ ap (λ k. node_of (at w.root.now k)) none_before
@@ -395,11 +394,11 @@ trail_behind root n t r front back up k s e =
     let number : length (front ++ e.init) + 1 ≡ n + nodes t = omega (arith, s.number, length_places t, ap length e.nodes, length-append e.init (e.last ∷ []), length-append front e.init) in
     subst (λ m. Alike (one_leaf k) (trail_at root m)) number (trail_near root (length (front ++ e.init)) e.last (front ++ e.init) (preorder r ++ back) k whole refl e.leaf e.kind e.no_name e.no_dot)
 
-pub sought_behind : (w : StretchNodes) (t : Tree) (r : List Tree) (e n : ℕ) → IsBehind w t r e n → IsSought w r e n
+pub sought_behind : (w : Course) (t : Tree) (r : List Tree) (e n : ℕ) → IsBehind w t r e n → IsSought w r e n
 sought_behind w t r e n p = subst (IsSought w r e) (sym p.number) (sought_next w t r p.start e p.first p.sought p.ends p.early)
 
 -- the walk goes on there
-pub stays_sought : (v w : StretchNodes) (t : Tree) (r : List Tree) (e n : ℕ) (k : SyntaxKind) → IsBehind v t r e n → EndsIn t k → w.root.now ≡ v.root.now → w.near ≡ v.near → w.number ≡ n → w.parent ≡ v.parent → w.nodes.now ≡ r → joined w.progress ≡ record (joined v.progress) { offset = e; trail = one_leaf k } → waiting w.progress ≡ waiting v.progress → Stays w
+pub stays_sought : (v w : Course) (t : Tree) (r : List Tree) (e n : ℕ) (k : SyntaxKind) → IsBehind v t r e n → EndsIn t k → w.root.now ≡ v.root.now → w.near ≡ v.near → w.number ≡ n → w.parent ≡ v.parent → w.nodes.now ≡ r → joined w.progress ≡ record (joined v.progress) { offset = e; trail = one_leaf k } → waiting w.progress ≡ waiting v.progress → Stays w
 stays_sought v w t r e n k p last root near number up row around rows =
     let s : Stays v = p.sought.stays in
     let stands : Stand v.root.now p.first (more t.head t.kids (forest r)) p.sought.front s.back s.up = p.sought.stands in
@@ -419,14 +418,14 @@ stays_sought v w t r e n k p last root near number up row around rows =
     (subst (λ q. AreReady v.root.now q (waiting v.progress)) total s.ready)
     (s.above ∙ sym up) root near (number ∙ p.number) (ap forest row) around rows
 
-pub passes_none : (v : StretchNodes) → Passes v v
+pub passes_none : (v : Course) → Passes v v
 passes_none v = record { onward = omega arith; still = λ e. refl; left = refl }
 
-pub passes_to : (v w : StretchNodes) (r : List Tree) (e n : ℕ) → IsSought v r e n → v.number < n → w.number ≡ n → Passes v w
+pub passes_to : (v w : Course) (r : List Tree) (e n : ℕ) → IsSought v r e n → v.number < n → w.number ≡ n → Passes v w
 passes_to v w r e n q on number =
     record { onward = omega (arith, q.onward, number); still = λ same. absurd (omega (arith, on, number, same)); left = q.left ∙ ap (ahead_from v.stretch v.root.now) (sym number) }
 
-pub passes_on : (u v w : StretchNodes) → v.root.now ≡ u.root.now → v.stretch ≡ u.stretch → Passes u v → Passes v w → Passes u w
+pub passes_on : (u v w : Course) → v.root.now ≡ u.root.now → v.stretch ≡ u.stretch → Passes u v → Passes v w → Passes u w
 passes_on u v w root stretch p q =
     record {
       onward = omega (arith, p.onward, q.onward);
@@ -436,11 +435,11 @@ passes_on u v w root stretch p q =
 
 -- ---- a step of the walk
 
-pub moves_one : (v w : StretchNodes) → v.number < nodes v.root.now → w.number ≡ v.number + 1 → Stays w → Moves v w
+pub moves_one : (v w : Course) → v.number < nodes v.root.now → w.number ≡ v.number + 1 → Stays w → Moves v w
 moves_one v w less number s =
     record { within = less; onward = omega (arith, number); left = ap (ahead_from v.stretch v.root.now) (sym number); stays = s }
 
-pub moves_by : (v u w : StretchNodes) → v.number < nodes v.root.now → u.root.now ≡ v.root.now → u.stretch ≡ v.stretch → u.number ≡ v.number + 1 → Passes u w → Stays w → Moves v w
+pub moves_by : (v u w : Course) → v.number < nodes v.root.now → u.root.now ≡ v.root.now → u.stretch ≡ v.stretch → u.number ≡ v.number + 1 → Passes u w → Stays w → Moves v w
 moves_by v u w less root stretch number p s =
     record {
       within = less;
@@ -449,19 +448,7 @@ moves_by v u w less root stretch number p s =
       stays = s;
     }
 
--- a walk that went back over rows that are done gives the next node
-pub comes_from : (v u w : StretchNodes) (g : PlacedNode) → u.root.now ≡ v.root.now → u.stretch ≡ v.stretch → u.number ≡ v.number → IsPlaced (at u.root.now u.number) g → Moves u w → Comes v (Some g) w
-comes_from v u w g root stretch number placed m = (
-  subst (λ a. IsPlaced a g) (λ i. at (root i) (number i)) placed,
-  record {
-    within = omega (arith, m.within, number, ap nodes root);
-    onward = omega (arith, m.onward, number);
-    left = (λ i. ahead_from (sym stretch i) (sym root i) (sym number i + 1)) ∙ (m.left ∙ (λ i. ahead_from (stretch i) (root i) w.number));
-    stays = m.stays;
-  },
-)
-
 -- what is left of a stretch behind the next node
-pub goes_on : (s : Stretch) (v w : StretchNodes) → v.stretch ≡ s → w.root.now ≡ v.root.now → Moves v w → ahead_from s v.root.now (v.number + 1) ≡ ahead_from s w.root.now w.number
+pub goes_on : (s : Stretch) (v w : Course) → v.stretch ≡ s → w.root.now ≡ v.root.now → Moves v w → ahead_from s v.root.now (v.number + 1) ≡ ahead_from s w.root.now w.number
 goes_on s v w stretch root m =
     (λ i. ahead_from (sym stretch i) v.root.now (v.number + 1)) ∙ (m.left ∙ (λ i. ahead_from (stretch i) (sym root i) w.number))

@@ -1,12 +1,15 @@
 -- The walk through the nodes of a tree with their places and tags, begun near a stretch (of private clauses).
-use Rattle.std.specs.Prelude.{◌≡◌, ℕ, ◌+◌, ◌-◌, ◌^◌, ◌<◌, ◌≤◌, Bool, false, true, ◌&&◌, ◌||◌, not, List, [], ◌∷◌, ◌++◌, length, Option, None, Some}
+use Rattle.std.specs.Prelude.{◌≡◌, ℕ, ◌+◌, ◌-◌, ◌^◌, ◌<◌, ◌≤◌, Bool, false, true, ◌&&◌, ◌||◌, not, List, [], ◌∷◌, ◌++◌, drop, length, map, take, Option}
 use Rattle.typst_kinds.specs.Kinds.{is_error, is_trivia}
 use Rattle.typst_kinds.specs.declared.kind.SyntaxKind.{SyntaxKind}
+use Rattle.std.specs.Borrow.{Bor}
 use Rattle.typst_tree.specs.Boundaries.{IsBoundary}
+use Rattle.typst_tree.specs.declared.boundary.Boundary.{Boundary}
 use Rattle.typst_tree.specs.Tree.{Tree, count, nodes, forest, places, saturated, text_of}
 use Rattle.typst_tree.specs.Walks.{is_childless, is_leaf}
 use Rattle.typst_tree.specs.Steps.{At, at, node_of, offset_of, end_of, parent}
 use Rattle.typst_highlight.specs.declared.context.Context.{Context}
+use Rattle.typst_highlight.specs.declared.progress.Progress.{Progress}
 use Rattle.typst_highlight.specs.declared.progress.Waiting.{Waiting}
 use Rattle.typst_highlight.specs.Nodes.{tag_of}
 use Rattle.typst_highlight.specs.Rules.{is_dot, is_name}
@@ -16,10 +19,26 @@ use Rattle.typst_highlight.proofs.Leaves.{kind_up}
 use Rattle.typst_highlight.proofs.Contexts.{Fits, outer_at}
 use Rattle.typst_highlight.proofs.Nears.{Near}
 use Rattle.typst_flat.specs.Codes.{cut, tag_code}
-use Rattle.typst_flat.specs.Records.{number_if}
+use Rattle.typst_flat.specs.Records.{filled, met_in, node_record, number_if}
 use Rattle.typst_flat.specs.Walk.{ahead_from, up_number}
 use Rattle.typst_flat.specs.declared.placed.PlacedNode.{PlacedNode}
-use Rattle.typst_flat.specs.declared.nodes.StretchNodes.{StretchNodes}
+use Rattle.typst_flat.specs.declared.nodes.Here.{Here}
+use Rattle.typst_flat.specs.declared.nodes.Search.{Search}
+use Rattle.typst_flat.specs.declared.records.Node.{Node}
+use Rattle.typst_flat.specs.declared.records.Stretch.{Stretch}
+
+-- a walk: what it is after, where it is, and what the next node's tag depends on
+pub record Course : Type 0 where
+  pub root : Bor Tree
+  pub stretch : Stretch
+  pub near : Boundary
+  pub nodes : Bor (List Tree)
+  pub number : ℕ
+  pub parent : ℕ
+  pub progress : Progress
+
+abbrev pub course : Search → Here → Progress → Course
+course s h p = record { root = s.root; stretch = s.stretch; near = s.near; nodes = h.nodes; number = h.number; parent = h.parent; progress = p }
 
 -- a node as it is given
 pub record IsPlaced (a : At) (g : PlacedNode) : Type 0 where
@@ -47,8 +66,8 @@ abbrev pub AreReady : Tree → ℕ → List Waiting → Type 0
 AreReady root n [] = n ≡ nodes root
 AreReady root n (w ∷ ws) = RowFits root n w × AreReady root (n + count (forest w.nodes.now)) ws
 
--- the rows hold all nodes from the walk's number on, and the walk knows what is around the next one as far as tags depend on it, and a boundary of the root
-pub record Stays (w : StretchNodes) : Type 0 where
+-- the rows hold all nodes from the walk's number on, and it knows what is around the next one as far as tags depend on it, and a boundary of the root
+pub record Stays (w : Course) : Type 0 where
   pub counted : nodes w.root.now < 2 ^ 64 - 1
   pub boundary : IsBoundary w.root.now w.near
   pub front : List Tree
@@ -62,22 +81,17 @@ pub record Stays (w : StretchNodes) : Type 0 where
   pub ready : AreReady w.root.now (w.number + count (forest w.nodes.now)) (waiting w.progress)
 
 -- a walk goes past some nodes, none of which meets its stretch, or stays where it is
-pub record Passes (v w : StretchNodes) : Type 0 where
+pub record Passes (v w : Course) : Type 0 where
   pub onward : v.number ≤ w.number
   pub still : w.number ≡ v.number → w.nodes.now ≡ v.nodes.now
   pub left : ahead_from v.stretch v.root.now v.number ≡ ahead_from v.stretch v.root.now w.number
 
 -- a walk goes past the next node, and past some that don't meet its stretch
-pub record Moves (v w : StretchNodes) : Type 0 where
+pub record Moves (v w : Course) : Type 0 where
   pub within : v.number < nodes v.root.now
   pub onward : v.number < w.number
   pub left : ahead_from v.stretch v.root.now (v.number + 1) ≡ ahead_from v.stretch v.root.now w.number
   pub stays : Stays w
-
--- a walk gives the next node, or comes to its end
-abbrev pub Comes : StretchNodes → Option PlacedNode → StretchNodes → Type 0
-Comes v None w = v.number ≡ nodes v.root.now
-Comes v (Some g) w = IsPlaced (at v.root.now v.number) g × Moves v w
 
 -- the last node among a node and those below it
 pub record EndsWith (t last : Tree) : Type 0 where
@@ -100,7 +114,7 @@ pub record EndsIn (t : Tree) (k : SyntaxKind) : Type 0 where
   pub no_dot : is_dot k ≡ false
 
 -- a place in a walk's row that it may go on at, whose first node has the number n and begins there: all before it end before the stretch
-pub record IsSought (w : StretchNodes) (row : List Tree) (start n : ℕ) : Type 0 where
+pub record IsSought (w : Course) (row : List Tree) (start n : ℕ) : Type 0 where
   pub stays : Stays w
   pub front : List Tree
   pub stands : Stand w.root.now n (forest row) front stays.back stays.up
@@ -110,7 +124,7 @@ pub record IsSought (w : StretchNodes) (row : List Tree) (start n : ℕ) : Type 
   pub left : ahead_from w.stretch w.root.now w.number ≡ ahead_from w.stretch w.root.now n
 
 -- such a place behind the node t
-pub record IsBehind (w : StretchNodes) (t : Tree) (row : List Tree) (end n : ℕ) : Type 0 where
+pub record IsBehind (w : Course) (t : Tree) (row : List Tree) (end n : ℕ) : Type 0 where
   pub start : ℕ
   pub first : ℕ
   pub sought : IsSought w (t ∷ row) start first
@@ -129,3 +143,9 @@ pub record IsNarrow (g : PlacedNode) : Type 0 where
   pub end : g.end < 2 ^ 32
   pub number : g.number < 2 ^ 32
   pub nodes : nodes g.node.now < 2 ^ 32
+
+-- an array has the records of the nodes before the number n that meet a stretch, `count` of them, as far as they fit
+pub record IsFilled (s : Stretch) (root : Tree) (n count : ℕ) (array old : List Node) : Type 0 where
+  pub left : drop count (met_in s root) ≡ ahead_from s root n
+  pub short : count ≤ length (met_in s root)
+  pub put : array ≡ filled (map node_record (take count (met_in s root))) old

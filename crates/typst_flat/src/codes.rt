@@ -71,7 +71,8 @@ pub fn span_of(bits: u64) -> Span
     Span::new(file, number)
 }
 
-/// What single bits say of a node.
+/// What single bits say of a node. Only that of a node that isn't usual is asked for so.
+#[cold]
 #[inline(never)]
 pub(crate) fn flags(node: &SyntaxNode) -> u8
     ensures { result ≡ spec.flags_of node.now.head }

@@ -1,15 +1,18 @@
 //! Arrays of records of nodes.
 
-ghost use Rattle.std.specs.Prelude.{◌≡◌, ◌-◌, ◌^◌, ◌<◌, IfOk, IsTrue, OnOk, length, true};
+ghost use Rattle.std.specs.Prelude.{◌≡◌, ◌+◌, ◌-◌, ◌^◌, ◌<◌, ◌≤◌, IfOk, IsTrue, List, OnOk, length, true, ℕ};
 ghost use Rattle.typst_tree.specs.Boundaries.{IsBoundary};
-ghost use Rattle.typst_tree.specs.Tree.{nodes};
-ghost use Rattle.typst_flat.specs.Placed.{IsSmall};
-ghost use Rattle.typst_flat.specs.Records.{filled, records, records_in};
+ghost use Rattle.typst_tree.specs.Steps.{at};
+ghost use Rattle.typst_tree.specs.Tree.{Tree, nodes};
+ghost use Rattle.typst_flat.specs.Placed.{IsFilled, IsPlaced, IsSmall};
+ghost use Rattle.typst_flat.specs.Records.{filled, node_record, records, records_in};
+ghost use Rattle.typst_flat.specs.declared.records.Node.{Node};
 
-use crate::nodes::StretchNodes;
-use crate::placed::record;
+use crate::nodes::{Here, Search};
+use crate::placed::{PlacedNode, is_plain, plain_record, record};
 use crate::{Node, Stretch};
 use std::alloc::{AllocError, Global};
+use typst_highlight::Progress;
 use typst_tree::{Boundary, SyntaxNode};
 
 /// Bytes and nodes of a tree that has fewer are counted in 32 bits.
@@ -99,19 +102,55 @@ fn fill_met(
     ensures count { IfOk result (λ count. count ≡ length (records_in stretch root.now)) }
     ensures room { OnOk result (room.new ≡ filled (records_in stretch root.now) room.old) }
 {
-    let mut walk = StretchNodes::new(alloc, root, stretch, near);
+    let search = Search {
+        root,
+        stretch,
+        near,
+    };
+    let mut progress = Progress::start(alloc);
+    let mut here = Here::front(root);
     let mut count = 0;
-    'nodes: while let Some(placed) = walk.next()? {
+    'nodes: while let Some(next) = search.come(here, &mut progress) {
+        let placed = search.locate(next, &progress)?;
         if placed.start > stretch.end {
             return Ok(count);
         }
-        if stretch.start > placed.end {
+        if is_plain(next.node) {
+            count = put_met(
+                &placed,
+                plain_record(&placed, is_small),
+                stretch,
+                count,
+                room,
+            );
+            here = search.pass(next, placed.end, placed.name, &mut progress);
             continue 'nodes;
         }
-        if count < room.len() {
-            room[count] = record(&placed, is_small);
-        }
-        count += 1;
+        count = put_met(&placed, record(&placed, is_small), stretch, count, room);
+        here = search.go_on(next, placed.end, placed.name, &mut progress)?;
     }
     Ok(count)
+}
+
+/// Puts the record of a node into an array after those of `count` nodes, as far as there is room, if the node meets
+/// the stretch, and tells how many there are then.
+// Records are put before the walk goes on: less has to be kept over the step.
+#[inline(always)]
+fn put_met(
+    placed: &PlacedNode,
+    written: Node,
+    stretch: Stretch,
+    count: usize,
+    room: &mut [Node],
+) -> usize
+    requires { count < 2 ^ 64 - 1 }
+    ensures { (root : Tree) → (n : ℕ) → (old : List Node) → n < nodes root → IsPlaced (at root n) placed.now → written ≡ node_record (at root n) → placed.now.start ≤ stretch.end → IsFilled stretch root n count room.old old → IsFilled stretch root (n + 1) result room.new old }
+{
+    if stretch.start > placed.end {
+        return count;
+    }
+    if count < room.len() {
+        room[count] = written;
+    }
+    count + 1
 }

@@ -1,7 +1,6 @@
 //! The nodes of a tree with their places, one after the other.
 
-ghost use Rattle.std.specs.Prelude.{◌≡◌, ◌+◌, ◌∷◌, ◌-◌, ◌^◌, ◌<◌, ◌≤◌, [], drop, length, IfOk, IfSome, None, OnOk, true, false, if◌then◌else◌};
-ghost use Rattle.typst_tree.specs.Boundaries.{IsBoundary};
+ghost use Rattle.std.specs.Prelude.{◌≡◌, ◌+◌, ◌∷◌, ◌≤◌, [], drop, length, IfOk, IfSome, MatchOption, None, true, false, if◌then◌else◌};
 ghost use Rattle.typst_tree.specs.Tree.{forest, nodes};
 ghost use Rattle.typst_tree.specs.Steps.{at};
 ghost use Rattle.typst_tree.specs.Walks.{is_childless};
@@ -14,7 +13,7 @@ use crate::boundaries::last_before;
 use crate::codes::narrow;
 use crate::placed::{PlacedNode, node_count, own_len};
 use crate::tags::code_next;
-use std::alloc::{AllocError, Global};
+use std::alloc::AllocError;
 use std::slice;
 use typst_highlight::{Progress, Tag, is_childless, is_dot, is_name, is_skipped};
 use typst_kinds::SyntaxKind;
@@ -34,275 +33,302 @@ struct RowPlace<'t> {
     number: usize,
 }
 
-/// The nodes of a tree that a walk has still to come to, each before its children.
+/// A tree, and the stretch of its bytes whose nodes a walk comes to.
 ///
-/// It doesn't call itself, whatever the depth of the tree, and goes over rows of nodes as slices. It takes memory
+/// A walk doesn't call itself, whatever the depth of the tree, and goes over rows of nodes as slices. It takes memory
 /// for the rows to come back to. Of each row it passes the first nodes, where they end before the stretch: it adds up
 /// their lengths and counts, up to near the stretch, of the root's children from a known boundary on or back.
-#[derive(Drop)]
-pub struct StretchNodes<'t> {
-    root: &'t SyntaxNode,
-    stretch: Stretch,
+#[derive(Clone, Copy)]
+pub struct Search<'t> {
+    pub root: &'t SyntaxNode,
+    pub stretch: Stretch,
     /// A boundary among the root's children, from which the stretch is sought.
-    near: Boundary,
+    pub near: Boundary,
+}
+
+/// Where a walk is. What changes at each node is passed by value, apart from what tags depend on (`Progress`), so that
+/// the compiler keeps it in registers.
+#[derive(Clone, Copy)]
+pub struct Here<'t> {
+    /// The next node and those after it in its row.
+    nodes: &'t [SyntaxNode],
     /// The number of the next node.
     number: usize,
     /// The number of its parent, as records have it; of the root 0.
     parent: u32,
-    /// The next node and those after it in its row.
-    nodes: &'t [SyntaxNode],
-    /// The rows to come back to, and what the next node's tag depends on.
-    progress: Progress<'t>,
 }
 
-impl<'t> StretchNodes<'t> {
-    /// All nodes of a tree, except some that end before a stretch.
-    pub fn new(
-        alloc: Global,
-        root: &'t SyntaxNode,
-        stretch: Stretch,
-        near: Boundary,
-    ) -> StretchNodes<'t>
-        requires counted { nodes root.now < 2 ^ 64 - 1 }
-        requires near { IsBoundary root.now near }
-        ensures root { result.root.now ≡ root.now }
-        ensures stretch { result.stretch ≡ stretch }
+/// The node that a walk comes to next.
+#[derive(Clone, Copy)]
+pub struct Next<'t> {
+    pub here: Here<'t>,
+    pub node: &'t SyntaxNode,
+    /// The nodes after it in its row.
+    pub later: &'t [SyntaxNode],
+}
+
+impl<'t> Here<'t> {
+    /// Before the root of a tree.
+    pub fn front(root: &'t SyntaxNode) -> Here<'t>
+        ensures nodes { result.nodes.now ≡ root.now ∷ [] }
         ensures number { result.number ≡ 0 }
-        ensures ready { spec.Stays result }
+        ensures parent { result.parent ≡ 0 }
     {
-        StretchNodes {
-            root,
-            stretch,
-            near,
+        Here {
+            nodes: slice::from_ref(root),
             number: 0,
             parent: 0,
-            nodes: slice::from_ref(root),
-            progress: Progress::start(alloc),
         }
     }
+}
 
-    /// The next node with its place, or none at the end. After a refused request for memory the walk can't go on.
+impl<'t> Search<'t> {
+    /// Comes to the next node, or to the end.
     #[inline(always)]
-    pub fn next(&mut self) -> Result<Option<PlacedNode<'t>>, AllocError>
-        requires { spec.Stays self.old }
-        ensures root { OnOk result (self.new.root.now ≡ self.old.root.now) }
-        ensures stretch { OnOk result (self.new.stretch ≡ self.old.stretch) }
-        ensures comes { IfOk result (λ placed. spec.Comes self.old placed self.new) }
+    pub fn come(self, here: Here<'t>, progress: &mut Progress<'t>) -> Option<Next<'t>>
+        requires { spec.Stays (spec.course self here progress.old) }
+        ensures { MatchOption result (here.entry.number ≡ nodes self.entry.root.now) (λ next. (next.here.number ≡ here.entry.number) × ((next.here.nodes.now ≡ next.node.now ∷ next.later.now) × spec.Stays (spec.course self.entry next.here progress.new))) }
     {
+        let mut at = here;
         'rows: loop {
-            if let Some((node, later)) = self.nodes.split_first() {
-                let placed = self.visit(node, later)?;
-                return Ok(Some(placed));
+            if let Some((node, later)) = at.nodes.split_first() {
+                return Some(Next {
+                    here: at,
+                    node,
+                    later,
+                });
             }
-            let Some(row) = self.progress.leave() else {
-                return Ok(None);
+            let Some(row) = progress.leave() else {
+                return None;
             };
-            self.nodes = row.nodes;
-            self.parent = row.parent;
+            at = Here {
+                nodes: row.nodes,
+                number: at.number,
+                parent: row.parent,
+            };
         }
     }
 
-    /// Gives the next node with its place, and goes on to the one after it in preorder that has to be visited.
+    /// The next node with its place.
     #[inline(always)]
-    fn visit(
-        &mut self,
-        node: &'t SyntaxNode,
-        later: &'t [SyntaxNode],
+    pub fn locate(
+        self,
+        next: Next<'t>,
+        progress: &Progress<'t>,
     ) -> Result<PlacedNode<'t>, AllocError>
-        requires ready { spec.Stays self.old }
-        requires row { self.old.nodes.now ≡ node.now ∷ later.now }
-        ensures root { OnOk result (self.new.root.now ≡ self.old.root.now) }
-        ensures stretch { OnOk result (self.new.stretch ≡ self.old.stretch) }
-        ensures moves { OnOk result (spec.Moves self.old self.new) }
-        ensures placed { IfOk result (λ placed. spec.IsPlaced (at self.old.root.now self.old.number) placed) }
+        requires ready { spec.Stays (spec.course self next.here progress.now) }
+        requires row { next.here.nodes.now ≡ next.node.now ∷ next.later.now }
+        ensures node { IfOk result (λ placed. placed.node.now ≡ next.entry.node.now) }
+        ensures placed { IfOk result (λ placed. spec.IsPlaced (at self.entry.root.now next.entry.here.number) placed) }
+        ensures name { IfOk result (λ placed. placed.name ≡ (if is_name next.entry.node.now.head.kind then walk.name (walk.joined progress.now) next.entry.node.now (forest next.entry.later.now) else None)) }
+        ensures ends { IfOk result (λ placed. placed.end ≡ walk.end (walk.joined progress.now) next.entry.node.now) }
     {
-        let start = self.progress.offset();
-        let end = start.saturating_add(node.len());
-        let next = code_next(node, later, &self.progress)?;
-        let placed = PlacedNode {
-            node,
+        let start = progress.offset();
+        let end = start.saturating_add(next.node.len());
+        let code = code_next(next.node, next.later, progress)?;
+        Ok(PlacedNode {
+            node: next.node,
             start,
             end,
-            number: self.number,
-            parent: self.parent,
-            tag: next.code,
-        };
-        if is_childless(node) {
-            self.pass(node, later, end, next.name);
-        } else {
-            self.enter(node, later, end)?;
+            number: next.here.number,
+            parent: next.here.parent,
+            tag: code.code,
+            name: code.name,
+        })
+    }
+
+    /// Goes on from the next node, which ends there, and whose tag is known if it is a name, to the one after it in
+    /// preorder that has to be visited. After a refused request for memory the walk can't go on.
+    #[inline(always)]
+    pub fn go_on(
+        self,
+        next: Next<'t>,
+        end: usize,
+        name: Option<Tag>,
+        progress: &mut Progress<'t>,
+    ) -> Result<Here<'t>, AllocError>
+        requires ready { spec.Stays (spec.course self next.here progress.old) }
+        requires row { next.here.nodes.now ≡ next.node.now ∷ next.later.now }
+        requires named { name ≡ (if is_name next.node.now.head.kind then walk.name (walk.joined progress.old) next.node.now (forest next.later.now) else None) }
+        requires ends { end ≡ walk.end (walk.joined progress.old) next.node.now }
+        ensures { IfOk result (λ after. spec.Moves (spec.course self.entry next.entry.here progress.old) (spec.course self.entry after progress.new)) }
+    {
+        if is_childless(next.node) {
+            let after = self.pass(next, end, name, progress);
+            return Ok(after);
         }
-        Ok(placed)
+        let after = self.enter(next, end, progress)?;
+        Ok(after)
     }
 
     /// Goes past the next node, which has no children, and ends there, and whose tag is known if it is a name.
     #[inline(always)]
-    fn pass(&mut self, node: &'t SyntaxNode, later: &'t [SyntaxNode], end: usize, name: Option<Tag>)
-        requires ready { spec.Stays self.old }
-        requires row { self.old.nodes.now ≡ node.now ∷ later.now }
-        requires childless { is_childless node.now.kids ≡ true }
-        requires named { name ≡ (if is_name node.now.head.kind then walk.name (walk.joined self.old.progress) node.now (forest later.now) else None) }
-        requires ends { end ≡ walk.end (walk.joined self.old.progress) node.now }
-        ensures root { self.new.root.now ≡ self.old.root.now }
-        ensures stretch { self.new.stretch ≡ self.old.stretch }
-        ensures moves { spec.Moves self.old self.new }
+    pub fn pass(
+        self,
+        next: Next<'t>,
+        end: usize,
+        name: Option<Tag>,
+        progress: &mut Progress<'t>,
+    ) -> Here<'t>
+        requires ready { spec.Stays (spec.course self next.here progress.old) }
+        requires row { next.here.nodes.now ≡ next.node.now ∷ next.later.now }
+        requires childless { is_childless next.node.now.kids ≡ true }
+        requires named { name ≡ (if is_name next.node.now.head.kind then walk.name (walk.joined progress.old) next.node.now (forest next.later.now) else None) }
+        requires ends { end ≡ walk.end (walk.joined progress.old) next.node.now }
+        ensures { spec.Moves (spec.course self.entry next.entry.here progress.old) (spec.course self.entry result progress.new) }
     {
-        self.progress.pass_to(node, later, end, name);
-        self.nodes = later;
-        self.number += 1;
+        progress.pass_to(next.node, next.later, end, name);
+        Here {
+            nodes: next.later,
+            number: next.here.number + 1,
+            parent: next.here.parent,
+        }
     }
 
     /// Goes to the first child of the next node, which ends there, that has to be visited.
     #[inline(always)]
     fn enter(
-        &mut self,
-        node: &'t SyntaxNode,
-        later: &'t [SyntaxNode],
+        self,
+        next: Next<'t>,
         end: usize,
-    ) -> Result<(), AllocError>
-        requires ready { spec.Stays self.old }
-        requires row { self.old.nodes.now ≡ node.now ∷ later.now }
-        requires inner { is_childless node.now.kids ≡ false }
-        requires ends { end ≡ walk.end (walk.joined self.old.progress) node.now }
-        ensures root { OnOk result (self.new.root.now ≡ self.old.root.now) }
-        ensures stretch { OnOk result (self.new.stretch ≡ self.old.stretch) }
-        ensures moves { OnOk result (spec.Moves self.old self.new) }
+        progress: &mut Progress<'t>,
+    ) -> Result<Here<'t>, AllocError>
+        requires ready { spec.Stays (spec.course self next.here progress.old) }
+        requires row { next.here.nodes.now ≡ next.node.now ∷ next.later.now }
+        requires inner { is_childless next.node.now.kids ≡ false }
+        requires ends { end ≡ walk.end (walk.joined progress.old) next.node.now }
+        ensures { IfOk result (λ after. spec.Moves (spec.course self.entry next.entry.here progress.old) (spec.course self.entry after progress.new)) }
     {
-        self.go_below(node, later, end)?;
-        if self.progress.offset() >= self.stretch.start {
-            return Ok(());
+        let below = self.go_below(next, end, progress)?;
+        if progress.offset() >= self.stretch.start {
+            return Ok(below);
         }
-        self.seek();
-        Ok(())
+        let after = self.seek(below, progress);
+        Ok(after)
     }
 
     /// Goes to the first child of the next node, which ends there. It comes back to those after the node if there
     /// are some: as no row is empty to which it comes back, it goes back up a chain of last nodes in one step.
     #[inline(always)]
     fn go_below(
-        &mut self,
-        node: &'t SyntaxNode,
-        later: &'t [SyntaxNode],
+        self,
+        next: Next<'t>,
         end: usize,
-    ) -> Result<(), AllocError>
-        requires ready { spec.Stays self.old }
-        requires row { self.old.nodes.now ≡ node.now ∷ later.now }
-        requires inner { is_childless node.now.kids ≡ false }
-        requires ends { end ≡ walk.end (walk.joined self.old.progress) node.now }
-        ensures root { OnOk result (self.new.root.now ≡ self.old.root.now) }
-        ensures stretch { OnOk result (self.new.stretch ≡ self.old.stretch) }
-        ensures number { OnOk result (self.new.number ≡ self.old.number + 1) }
-        ensures row { OnOk result (forest self.new.nodes.now ≡ node.now.kids) }
-        ensures ready { OnOk result (spec.Stays self.new) }
+        progress: &mut Progress<'t>,
+    ) -> Result<Here<'t>, AllocError>
+        requires ready { spec.Stays (spec.course self next.here progress.old) }
+        requires row { next.here.nodes.now ≡ next.node.now ∷ next.later.now }
+        requires inner { is_childless next.node.now.kids ≡ false }
+        requires ends { end ≡ walk.end (walk.joined progress.old) next.node.now }
+        ensures number { IfOk result (λ below. below.number ≡ next.entry.here.number + 1) }
+        ensures row { IfOk result (λ below. forest below.nodes.now ≡ next.entry.node.now.kids) }
+        ensures ready { IfOk result (λ below. spec.Stays (spec.course self.entry below progress.new)) }
     {
-        if later.is_empty() {
-            self.go_below_last(node);
-            return Ok(());
+        if next.later.is_empty() {
+            let below = self.go_below_last(next, progress);
+            return Ok(below);
         }
-        self.go_below_first(node, later, end)?;
-        Ok(())
+        let below = self.go_below_first(next, end, progress)?;
+        Ok(below)
     }
 
     /// Goes to the first child of the last node of a row.
     #[inline(always)]
-    fn go_below_last(&mut self, node: &'t SyntaxNode)
-        requires ready { spec.Stays self.old }
-        requires row { self.old.nodes.now ≡ node.now ∷ [] }
-        requires inner { is_childless node.now.kids ≡ false }
-        ensures root { self.new.root.now ≡ self.old.root.now }
-        ensures stretch { self.new.stretch ≡ self.old.stretch }
-        ensures number { self.new.number ≡ self.old.number + 1 }
-        ensures row { forest self.new.nodes.now ≡ node.now.kids }
-        ensures ready { spec.Stays self.new }
+    fn go_below_last(self, next: Next<'t>, progress: &mut Progress<'t>) -> Here<'t>
+        requires ready { spec.Stays (spec.course self next.here progress.old) }
+        requires row { next.here.nodes.now ≡ next.node.now ∷ [] }
+        requires inner { is_childless next.node.now.kids ≡ false }
+        ensures number { result.number ≡ next.entry.here.number + 1 }
+        ensures row { forest result.nodes.now ≡ next.entry.node.now.kids }
+        ensures ready { spec.Stays (spec.course self.entry result progress.new) }
     {
-        self.progress.enter_last(node, own_len(node));
-        self.parent = narrow(self.number);
-        self.number += 1;
-        self.nodes = node.children();
+        progress.enter_last(next.node, own_len(next.node));
+        Here {
+            nodes: next.node.children(),
+            number: next.here.number + 1,
+            parent: narrow(next.here.number),
+        }
     }
 
     /// Goes to the first child of the next node, which ends there, and comes back to those after the node.
     #[inline(always)]
     fn go_below_first(
-        &mut self,
-        node: &'t SyntaxNode,
-        later: &'t [SyntaxNode],
+        self,
+        next: Next<'t>,
         end: usize,
-    ) -> Result<(), AllocError>
-        requires ready { spec.Stays self.old }
-        requires row { self.old.nodes.now ≡ node.now ∷ later.now }
-        requires inner { is_childless node.now.kids ≡ false }
-        requires ends { end ≡ walk.end (walk.joined self.old.progress) node.now }
-        ensures root { OnOk result (self.new.root.now ≡ self.old.root.now) }
-        ensures stretch { OnOk result (self.new.stretch ≡ self.old.stretch) }
-        ensures number { OnOk result (self.new.number ≡ self.old.number + 1) }
-        ensures row { OnOk result (forest self.new.nodes.now ≡ node.now.kids) }
-        ensures ready { OnOk result (spec.Stays self.new) }
+        progress: &mut Progress<'t>,
+    ) -> Result<Here<'t>, AllocError>
+        requires ready { spec.Stays (spec.course self next.here progress.old) }
+        requires row { next.here.nodes.now ≡ next.node.now ∷ next.later.now }
+        requires inner { is_childless next.node.now.kids ≡ false }
+        requires ends { end ≡ walk.end (walk.joined progress.old) next.node.now }
+        ensures number { IfOk result (λ below. below.number ≡ next.entry.here.number + 1) }
+        ensures row { IfOk result (λ below. forest below.nodes.now ≡ next.entry.node.now.kids) }
+        ensures ready { IfOk result (λ below. spec.Stays (spec.course self.entry below progress.new)) }
     {
-        self.progress
-            .enter_from(node, later, end, own_len(node), self.parent)?;
-        self.parent = narrow(self.number);
-        self.number += 1;
-        self.nodes = node.children();
-        Ok(())
+        let len = own_len(next.node);
+        progress.enter_from(next.node, next.later, end, len, next.here.parent)?;
+        Ok(Here {
+            nodes: next.node.children(),
+            number: next.here.number + 1,
+            parent: narrow(next.here.number),
+        })
     }
 
     /// Goes past nodes of the row that end before the stretch: up to the last place near it where tags depend on no
     /// more than the leaf before, or if there is none near it, as in a long node, to the last one before that. This is
     /// sought near that node first, and then among all nodes of the row.
+    #[cold]
     #[inline(never)]
-    fn seek(&mut self)
-        requires ready { spec.Stays self.old }
-        requires row { self.old.number ≡ 1 → forest self.old.nodes.now ≡ self.old.root.now.kids }
-        ensures root { self.new.root.now ≡ self.old.root.now }
-        ensures stretch { self.new.stretch ≡ self.old.stretch }
-        ensures ready { spec.Stays self.new }
-        ensures passes { spec.Passes self.old self.new }
+    fn seek(self, here: Here<'t>, progress: &mut Progress<'t>) -> Here<'t>
+        requires ready { spec.Stays (spec.course self here progress.old) }
+        requires row { here.number ≡ 1 → forest here.nodes.now ≡ self.root.now.kids }
+        ensures ready { spec.Stays (spec.course self.entry result progress.new) }
+        ensures passes { spec.Passes (spec.course self.entry here.entry progress.old) (spec.course self.entry result progress.new) }
     {
-        let number = self.number;
-        let front = self.place();
+        let front = self.place(here, progress);
         let from = self.stretch.start.saturating_sub(NEAR);
-        let begun = self.place_before(from);
-        self.seek_from(begun, from);
-        if self.number > number || front.start >= from {
-            return;
+        let begun = self.place_before(here, from, progress);
+        let first = self.seek_from(here, begun, from, progress);
+        if first.number > here.number || front.start >= from {
+            return first;
         }
         let before = from.min(begun.start).saturating_sub(NEAR);
-        let begun = self.place_before(before);
-        self.seek_from(begun, before);
-        if self.number > number || front.start >= before {
-            return;
+        let begun = self.place_before(first, before, progress);
+        let second = self.seek_from(first, begun, before, progress);
+        if second.number > here.number || front.start >= before {
+            return second;
         }
-        let front = self.place();
-        self.seek_from(front, 0);
+        let front = self.place(second, progress);
+        self.seek_from(second, front, 0, progress)
     }
 
     /// The place of the next node.
-    fn place(&self) -> RowPlace<'t>
-        requires { spec.Stays self.now }
-        ensures { spec.IsSought self.now result.nodes.now result.start result.number }
+    fn place(self, here: Here<'t>, progress: &Progress<'t>) -> RowPlace<'t>
+        requires { spec.Stays (spec.course self here progress.now) }
+        ensures { spec.IsSought (spec.course self.entry here.entry progress.now) result.nodes.now result.start result.number }
     {
         RowPlace {
-            nodes: self.nodes,
-            start: self.progress.offset(),
-            number: self.number,
+            nodes: here.nodes,
+            start: progress.offset(),
+            number: here.number,
         }
     }
 
     /// A place to look from for those at a byte and after it: among the root's children the last one before the byte,
     /// and in other rows that of the next node.
-    fn place_before(&self, byte: usize) -> RowPlace<'t>
-        requires ready { spec.Stays self.now }
-        requires row { self.now.number ≡ 1 → forest self.now.nodes.now ≡ self.now.root.now.kids }
-        requires early { byte ≤ self.now.stretch.start }
-        ensures { spec.IsSought self.now result.nodes.now result.start result.number }
+    fn place_before(self, here: Here<'t>, byte: usize, progress: &Progress<'t>) -> RowPlace<'t>
+        requires ready { spec.Stays (spec.course self here progress.now) }
+        requires row { here.number ≡ 1 → forest here.nodes.now ≡ self.root.now.kids }
+        requires early { byte ≤ self.stretch.start }
+        ensures { spec.IsSought (spec.course self.entry here.entry progress.now) result.nodes.now result.start result.number }
     {
-        if self.number != 1 || self.root.len() == usize::MAX {
-            return self.place();
+        if here.number != 1 || self.root.len() == usize::MAX {
+            return self.place(here, progress);
         }
         let begun = last_before(self.root, self.near, byte);
         RowPlace {
-            nodes: from_index(self.nodes, begun.index),
+            nodes: from_index(here.nodes, begun.index),
             start: begun.bytes,
             number: 1 + begun.nodes,
         }
@@ -310,46 +336,61 @@ impl<'t> StretchNodes<'t> {
 
     /// Goes past nodes of the row that end before the stretch, up to the last place where tags depend on no more than
     /// the leaf before, among those after the place `begun` and from the byte `from` on.
-    fn seek_from(&mut self, begun: RowPlace<'t>, from: usize)
-        requires { spec.IsSought self.old begun.nodes.now begun.start begun.number }
-        ensures root { self.new.root.now ≡ self.old.root.now }
-        ensures stretch { self.new.stretch ≡ self.old.stretch }
-        ensures ready { spec.Stays self.new }
-        ensures passes { spec.Passes self.old self.new }
+    fn seek_from(
+        self,
+        here: Here<'t>,
+        begun: RowPlace<'t>,
+        from: usize,
+        progress: &mut Progress<'t>,
+    ) -> Here<'t>
+        requires { spec.IsSought (spec.course self here progress.old) begun.nodes.now begun.start begun.number }
+        ensures ready { spec.Stays (spec.course self.entry result progress.new) }
+        ensures passes { spec.Passes (spec.course self.entry here.entry progress.old) (spec.course self.entry result progress.new) }
     {
+        let mut at = here;
         let mut rest = begun.nodes;
         let mut start = begun.start;
         let mut number = begun.number;
         'nodes: while let Some((node, later)) = rest.split_first() {
             let end = start.saturating_add(node.len());
             if end >= self.stretch.start {
-                return;
+                return at;
             }
             number += node_count(node);
             if end >= from {
-                self.settle(node, later, end, number);
+                at = self.settle(at, node, later, end, number, progress);
             }
             rest = later;
             start = end;
         }
+        at
     }
 
     /// Goes on after a node of the row, which ends there, where the next one has that number, if the last leaf is
     /// neither a name nor a dot.
     #[inline(always)]
-    fn settle(&mut self, node: &SyntaxNode, later: &'t [SyntaxNode], end: usize, number: usize)
-        requires { spec.IsBehind self.old node.now later.now end number }
-        ensures root { self.new.root.now ≡ self.old.root.now }
-        ensures stretch { self.new.stretch ≡ self.old.stretch }
-        ensures sought { spec.IsSought self.new later.now end number }
-        ensures passes { spec.Passes self.old self.new }
+    fn settle(
+        self,
+        here: Here<'t>,
+        node: &SyntaxNode,
+        later: &'t [SyntaxNode],
+        end: usize,
+        number: usize,
+        progress: &mut Progress<'t>,
+    ) -> Here<'t>
+        requires { spec.IsBehind (spec.course self here progress.old) node.now later.now end number }
+        ensures sought { spec.IsSought (spec.course self.entry result progress.new) later.now end number }
+        ensures passes { spec.Passes (spec.course self.entry here.entry progress.old) (spec.course self.entry result progress.new) }
     {
         let Some(before) = settled_end(node) else {
-            return;
+            return here;
         };
-        self.progress.resume(end, before);
-        self.nodes = later;
-        self.number = number;
+        progress.resume(end, before);
+        Here {
+            nodes: later,
+            number,
+            parent: here.parent,
+        }
     }
 }
 

@@ -1,15 +1,16 @@
 //! Nodes with their places.
 
-ghost use Rattle.std.specs.Prelude.{◌≡◌, length, true};
+ghost use Rattle.std.specs.Prelude.{◌≡◌, IsTrue, length, true};
 ghost use Rattle.typst_tree.specs.Tree.{nodes, saturated};
 ghost use Rattle.typst_tree.specs.Steps.{At};
+ghost use Rattle.typst_tree.specs.Walks.{is_childless};
 ghost use Rattle.typst_flat.specs.Codes.{flags_of};
 ghost use Rattle.typst_flat.specs.Placed.{IsNarrow, IsPlaced};
 ghost use Rattle.typst_flat.specs.Records.{node_record};
 
 use crate::Node;
 use crate::codes::{flags, is_usual, kind_code, narrow_known, span_code};
-use typst_highlight::is_childless;
+use typst_highlight::{Tag, is_childless};
 use typst_tree::SyntaxNode;
 
 /// A node with its place in a tree, and the number of its tag.
@@ -26,6 +27,8 @@ pub struct PlacedNode<'t> {
     pub parent: u32,
     /// Its tag, by `tag_code`.
     pub tag: u8,
+    /// Its tag itself, if it is a name.
+    pub name: Option<Tag>,
 }
 
 /// The record of a node. Of a node of a small tree it isn't asked whether its numbers fit into 32 bits.
@@ -34,8 +37,44 @@ pub fn record(placed: &PlacedNode, is_small: bool) -> Node
     requires { is_small ≡ true → IsNarrow placed.now }
     ensures { (a : At) → IsPlaced a placed.now → result ≡ node_record a }
 {
+    record_of(placed, tell(placed.node), is_small)
+}
+
+/// The record of a plain node. As its parts are written as constants, it stands apart.
+#[inline(always)]
+pub fn plain_record(placed: &PlacedNode, is_small: bool) -> Node
+    requires small { is_small ≡ true → IsNarrow placed.now }
+    requires childless { is_childless placed.now.node.now.kids ≡ true }
+    requires flags { flags_of placed.now.node.now.head ≡ 0 }
+    ensures { (a : At) → IsPlaced a placed.now → result ≡ node_record a }
+{
+    record_of(placed, Told { nodes: 1, flags: 0 }, is_small)
+}
+
+/// Whether a node is plain, as most: it has no children, is no inner node and no error, and has no diagnostics.
+#[inline(always)]
+pub fn is_plain(node: &SyntaxNode) -> bool
+    ensures childless { IsTrue result → is_childless node.now.kids ≡ true }
+    ensures flags { IsTrue result → flags_of node.now.head ≡ 0 }
+{
+    if node.is_inner() {
+        return false;
+    }
+    if !is_usual(node) {
+        return false;
+    }
+    is_childless(node)
+}
+
+/// The record of a node of which that is told.
+#[inline(always)]
+fn record_of(placed: &PlacedNode, told: Told, is_small: bool) -> Node
+    requires small { is_small ≡ true → IsNarrow placed.now }
+    requires nodes { told.nodes ≡ saturated (nodes placed.now.node.now) }
+    requires flags { told.flags ≡ flags_of placed.now.node.now.head }
+    ensures { (a : At) → IsPlaced a placed.now → result ≡ node_record a }
+{
     let node = placed.node;
-    let told = tell(node);
     Node {
         span: span_code(node.span()),
         start: narrow_known(placed.start, is_small),
@@ -108,6 +147,7 @@ pub fn own_len(node: &SyntaxNode) -> usize
 }
 
 /// The length of the text of any node itself.
+#[cold]
 #[inline(never)]
 fn own_len_apart(node: &SyntaxNode) -> usize
     ensures { result ≡ length node.now.head.text }

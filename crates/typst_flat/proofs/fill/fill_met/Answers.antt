@@ -1,133 +1,148 @@
-use Rattle.std.proofs.Common.{◌≡◌, ◌+◌, ◌<◌, ◌≤◌, ◌∷◌, Some, None, List, map, drop, ap, sym, subst, ◌∙◌, refl, arith}
+use Rattle.std.proofs.Common.{◌<◌, ap, sym, subst, ◌∙◌, refl, arith}
 use Rattle.typst_tree.specs.Tree.{nodes}
-use Rattle.typst_tree.specs.Steps.{At, at, offset_of, end_of}
-use Rattle.typst_flat.specs.Records.{filled, met_in, node_record}
-use Rattle.typst_flat.specs.Placed.{Comes, IsSmall}
-use Rattle.typst_flat.specs.Walk.{ahead_from}
-use Rattle.typst_flat.proofs.Filling.{first_left, left_next, length_mapped, none_left, step_fits, step_full}
-use Rattle.typst_flat.proofs.Placing.{goes_on, one_meets, one_passes}
+use Rattle.typst_tree.specs.Steps.{at, offset_of}
+use Rattle.typst_tree.specs.Walks.{is_childless}
+use Rattle.typst_flat.specs.Codes.{flags_of}
+use Rattle.typst_flat.specs.Placed.{Course, IsFilled, course}
+use Rattle.typst_flat.specs.declared.nodes.Search.{Search}
+use Rattle.typst_flat.proofs.Filled.{put_all, put_on}
+use Rattle.typst_flat.proofs.Placing.{at_root, is_within}
 use Rattle.typst_flat.proofs.Small.{small_numbers}
 use Rattle.typst_flat.proofs.Steps.{beyond, ended}
 use Rattle.typst_flat.proofs.Whole.{ahead_first, met_most}
 use Rattle.typst_flat.proofs.fill.fill_met.Goals as goal
-use Rattle.typst_flat.proofs.fill.fill_met.Goals.{then-count-room, else-count-room}
 
 pub nodes-init : goal.nodes-init
 nodes-init c =
-    let w = c.new-walk.result in
+    let s : Search = record { root = c.args.root; stretch = c.args.stretch; near = c.args.near } in
+    let first = c.front-here.ensures in
     record {
-      root = c.new-walk.ensures.root;
-      stretch = c.new-walk.ensures.stretch;
-      ready = c.new-walk.ensures.ready;
-      left = ahead_first c.args.stretch c.args.stretch w.root.now c.args.root.now w.number refl c.new-walk.ensures.root c.new-walk.ensures.number;
-      short = omega arith;
-      room = refl;
+      ready = at_root (course s c.front-here.result c.start-progress.result) c.args.root.now c.args.near c.requires.counted c.requires.near refl refl first.number first.parent first.nodes c.start-progress.ensures.joined c.start-progress.ensures.waiting;
+      put = record {
+        left = ahead_first c.args.stretch c.args.stretch c.args.root.now c.args.root.now c.front-here.result.number refl refl first.number;
+        short = omega arith;
+        put = refl;
+      };
     }
 
-pub next-requires : goal.next-requires
-next-requires c = c.nodes.invariant.ready
+pub come-requires : goal.come-requires
+come-requires c = c.nodes.invariant.ready
+
+pub locate-requires-clause-ready : goal.locate-requires-clause-ready
+locate-requires-clause-ready c = c.in-Some.ensures.1.1
+
+pub locate-requires-clause-row : goal.locate-requires-clause-row
+locate-requires-clause-row c = c.in-Some.ensures.1.0
 
 pub returns-then-placed-stretch-clause-count : goal.returns-then-placed-stretch-clause-count
 returns-then-placed-stretch-clause-count c =
-    let v = c.nodes.walk in
-    let comes : Comes v (Some c.in-Some.placed) c.next.new.self = subst (λ o. Comes v o c.next.new.self) c.in-Some.is c.in_ok-placed.ensures.comes in
-    let late : c.args.stretch.end < offset_of (at v.root.now v.number) = omega (arith, c.if-placed-stretch.true, comes.0.start) in
-    let met : List At = met_in c.args.stretch c.args.root.now in
-    let all = none_left c.nodes.count met (c.nodes.invariant.left ∙ beyond c.args.stretch v.root.now v.number late) c.nodes.invariant.short in
-    sym (length_mapped node_record met ∙ all.1)
+    let s : Search = record { root = c.args.root; stretch = c.args.stretch; near = c.args.near } in
+    let n = c.in-Some.next in
+    let v : Course = course s n.here c.come.new.progress in
+    let before : IsFilled c.args.stretch c.args.root.now n.here.number c.nodes.count c.nodes.room c.args.room.now = subst (λ k. IsFilled c.args.stretch c.args.root.now k c.nodes.count c.nodes.room c.args.room.now) (sym c.in-Some.ensures.0) c.nodes.invariant.put in
+    let late : c.args.stretch.end < offset_of (at c.args.root.now n.here.number) = omega (arith, c.if-placed-stretch.true, c.in_ok-placed.ensures.placed.start) in
+    (put_all c.args.stretch c.args.root.now n.here.number c.nodes.count c.nodes.room c.args.room.now (beyond c.args.stretch c.args.root.now n.here.number late) before).count_is
 
 pub returns-then-placed-stretch-clause-room : goal.returns-then-placed-stretch-clause-room
 returns-then-placed-stretch-clause-room c =
-    let v = c.nodes.walk in
-    let comes : Comes v (Some c.in-Some.placed) c.next.new.self = subst (λ o. Comes v o c.next.new.self) c.in-Some.is c.in_ok-placed.ensures.comes in
-    let late : c.args.stretch.end < offset_of (at v.root.now v.number) = omega (arith, c.if-placed-stretch.true, comes.0.start) in
-    let met : List At = met_in c.args.stretch c.args.root.now in
-    let all = none_left c.nodes.count met (c.nodes.invariant.left ∙ beyond c.args.stretch v.root.now v.number late) c.nodes.invariant.short in
-    c.nodes.invariant.room ∙ ap (λ xs. filled (map node_record xs) c.args.room.now) all.0
+    let s : Search = record { root = c.args.root; stretch = c.args.stretch; near = c.args.near } in
+    let n = c.in-Some.next in
+    let v : Course = course s n.here c.come.new.progress in
+    let before : IsFilled c.args.stretch c.args.root.now n.here.number c.nodes.count c.nodes.room c.args.room.now = subst (λ k. IsFilled c.args.stretch c.args.root.now k c.nodes.count c.nodes.room c.args.room.now) (sym c.in-Some.ensures.0) c.nodes.invariant.put in
+    let late : c.args.stretch.end < offset_of (at c.args.root.now n.here.number) = omega (arith, c.if-placed-stretch.true, c.in_ok-placed.ensures.placed.start) in
+    (put_all c.args.stretch c.args.root.now n.here.number c.nodes.count c.nodes.room c.args.room.now (beyond c.args.stretch c.args.root.now n.here.number late) before).array_is
 
-pub nodes-preserved-then-stretch-placed : goal.nodes-preserved-then-stretch-placed
-nodes-preserved-then-stretch-placed c =
-    let v = c.nodes.walk in
-    let w = c.next.new.self in
-    let comes : Comes v (Some c.in-Some.placed) w = subst (λ o. Comes v o w) c.in-Some.is c.in_ok-placed.ensures.comes in
-    let placed = comes.0 in
-    let reaches : offset_of (at v.root.now v.number) ≤ c.args.stretch.end = omega (arith, c.if-placed-stretch.false, placed.start) in
-    let early : end_of (at v.root.now v.number) < c.args.stretch.start = omega (arith, c.if-stretch-placed.true, placed.end) in
+pub plain_record-requires-clause-small : goal.plain_record-requires-clause-small
+plain_record-requires-clause-small c = λ e.
+    let s : Search = record { root = c.args.root; stretch = c.args.stretch; near = c.args.near } in
+    let n = c.in-Some.next in
+    let v : Course = course s n.here c.come.new.progress in
+    let less : n.here.number < nodes c.args.root.now = omega (arith, is_within v n.node.now n.later.now c.in-Some.ensures.1.1 c.in-Some.ensures.1.0) in
+    small_numbers c.args.root.now n.here.number c.in_ok-placed.placed less (c.requires.small e) c.in_ok-placed.ensures.placed
+
+pub plain_record-requires-clause-childless : goal.plain_record-requires-clause-childless
+plain_record-requires-clause-childless c = ap (λ t. is_childless t.kids) c.in_ok-placed.ensures.node ∙ c.is_plain.ensures.childless c.if-is_plain.true
+
+pub plain_record-requires-clause-flags : goal.plain_record-requires-clause-flags
+plain_record-requires-clause-flags c = ap (λ t. flags_of t.head) c.in_ok-placed.ensures.node ∙ c.is_plain.ensures.flags c.if-is_plain.true
+
+pub put_met-count-requires : goal.put_met-count-requires
+put_met-count-requires c = omega (arith, c.nodes.invariant.put.short, met_most c.args.stretch c.args.root.now, c.requires.counted)
+
+pub pass-here-requires-clause-ready : goal.pass-here-requires-clause-ready
+pass-here-requires-clause-ready c = c.in-Some.ensures.1.1
+
+pub pass-here-requires-clause-row : goal.pass-here-requires-clause-row
+pass-here-requires-clause-row c = c.in-Some.ensures.1.0
+
+pub pass-here-requires-clause-childless : goal.pass-here-requires-clause-childless
+pass-here-requires-clause-childless c = c.is_plain.ensures.childless c.if-is_plain.true
+
+pub pass-here-requires-clause-named : goal.pass-here-requires-clause-named
+pass-here-requires-clause-named c = c.in_ok-placed.ensures.name
+
+pub pass-here-requires-clause-ends : goal.pass-here-requires-clause-ends
+pass-here-requires-clause-ends c = c.in_ok-placed.ensures.ends
+
+pub nodes-preserved-then-is_plain : goal.nodes-preserved-then-is_plain
+nodes-preserved-then-is_plain c =
+    let s : Search = record { root = c.args.root; stretch = c.args.stretch; near = c.args.near } in
+    let n = c.in-Some.next in
+    let v : Course = course s n.here c.come.new.progress in
+    let before : IsFilled c.args.stretch c.args.root.now n.here.number c.nodes.count c.nodes.room c.args.room.now = subst (λ k. IsFilled c.args.stretch c.args.root.now k c.nodes.count c.nodes.room c.args.room.now) (sym c.in-Some.ensures.0) c.nodes.invariant.put in
+    let less : n.here.number < nodes c.args.root.now = omega (arith, is_within v n.node.now n.later.now c.in-Some.ensures.1.1 c.in-Some.ensures.1.0) in
+    let here = c.put_met-count.ensures c.args.root.now n.here.number c.args.room.now less c.in_ok-placed.ensures.placed (c.plain_record.ensures (at c.args.root.now n.here.number) c.in_ok-placed.ensures.placed) (omega (arith, c.if-placed-stretch.false)) before in
     record {
-      root = c.in_ok-placed.ensures.root ∙ c.nodes.invariant.root;
-      stretch = c.in_ok-placed.ensures.stretch ∙ c.nodes.invariant.stretch;
-      ready = comes.1.stays;
-      left = c.nodes.invariant.left ∙ (one_passes c.args.stretch v.root.now v.number comes.1.within reaches early ∙ goes_on c.args.stretch v w c.nodes.invariant.stretch c.in_ok-placed.ensures.root comes.1);
-      short = c.nodes.invariant.short;
-      room = c.nodes.invariant.room;
+      ready = c.pass-here.ensures.stays;
+      put = put_on c.args.stretch c.args.root.now v (course s c.pass-here.result c.pass-here.new.progress) _ _ c.args.room.now refl refl refl c.pass-here.ensures here;
     }
 
-pub nodes-smaller-then-stretch-placed : goal.nodes-smaller-then-stretch-placed
-nodes-smaller-then-stretch-placed c =
-    let v = c.nodes.walk in
-    let comes : Comes v (Some c.in-Some.placed) c.next.new.self = subst (λ o. Comes v o c.next.new.self) c.in-Some.is c.in_ok-placed.ensures.comes in
-    omega (arith, comes.1.within, comes.1.onward, ap nodes c.in_ok-placed.ensures.root)
-
-pub overflow_add-count : goal.overflow_add-count
-overflow_add-count c =
-    let v = c.nodes.walk in
-    let comes : Comes v (Some c.in-Some.placed) c.next.new.self = subst (λ o. Comes v o c.next.new.self) c.in-Some.is c.in_ok-placed.ensures.comes in
-    let placed = comes.0 in
-    let reaches : offset_of (at v.root.now v.number) ≤ c.args.stretch.end = omega (arith, c.if-placed-stretch.false, placed.start) in
-    let begins : c.args.stretch.start ≤ end_of (at v.root.now v.number) = omega (arith, c.if-stretch-placed.false, placed.end) in
-    let here = c.nodes.invariant.left ∙ one_meets c.args.stretch v.root.now v.number comes.1.within reaches begins in
-    let first = first_left c.nodes.count (met_in c.args.stretch c.args.root.now) (at v.root.now v.number) (ahead_from c.args.stretch v.root.now (v.number + 1)) here in
-    omega (arith, first.within, met_most c.args.stretch c.args.root.now, c.requires.counted)
-
-pub nodes-preserved : goal.nodes-preserved
-nodes-preserved c =
-    let v = c.nodes.walk in
-    let w = c.next.new.self in
-    let comes : Comes v (Some c.in-Some.placed) w = subst (λ o. Comes v o w) c.in-Some.is c.in_ok-placed.ensures.comes in
-    let placed = comes.0 in
-    let a : At = at v.root.now v.number in
-    let met : List At = met_in c.args.stretch c.args.root.now in
-    let rest : List At = ahead_from c.args.stretch v.root.now (v.number + 1) in
-    let reaches : offset_of a ≤ c.args.stretch.end = omega (arith, c.if-placed-stretch.false, placed.start) in
-    let begins : c.args.stretch.start ≤ end_of a = omega (arith, c.if-stretch-placed.false, placed.end) in
-    let here : drop c.nodes.count met ≡ a ∷ rest = c.nodes.invariant.left ∙ one_meets c.args.stretch v.root.now v.number comes.1.within reaches begins in
-    let first = first_left c.nodes.count met a rest here in
-    record {
-      root = c.in_ok-placed.ensures.root ∙ c.nodes.invariant.root;
-      stretch = c.in_ok-placed.ensures.stretch ∙ c.nodes.invariant.stretch;
-      ready = comes.1.stays;
-      left = left_next c.nodes.count met a rest here ∙ goes_on c.args.stretch v w c.nodes.invariant.stretch c.in_ok-placed.ensures.root comes.1;
-      short = omega (arith, first.within);
-      room = elim c.if-count-room.branch [
-        | then-count-room b ↦ b.room-is ∙ step_fits node_record c.nodes.count met a rest c.nodes.room c.args.room.now _ here c.nodes.invariant.room (b.record.ensures a placed) (omega (arith, b.if-count-room.true))
-        | else-count-room b ↦ b.room-is ∙ step_full node_record c.nodes.count met a rest c.nodes.room c.args.room.now here c.nodes.invariant.room (omega (arith, b.if-count-room.false))
-      ];
-    }
-
-pub nodes-smaller : goal.nodes-smaller
-nodes-smaller c =
-    let v = c.nodes.walk in
-    let comes : Comes v (Some c.in-Some.placed) c.next.new.self = subst (λ o. Comes v o c.next.new.self) c.in-Some.is c.in_ok-placed.ensures.comes in
-    omega (arith, comes.1.within, comes.1.onward, ap nodes c.in_ok-placed.ensures.root)
-
-pub returns-clause-count : goal.returns-clause-count
-returns-clause-count c =
-    let v = c.nodes.walk in
-    let met : List At = met_in c.args.stretch c.args.root.now in
-    let comes : Comes v None c.next.new.self = subst (λ o. Comes v o c.next.new.self) c.in_default.is c.in_ok-placed.ensures.comes in
-    let all = none_left c.nodes.count met (c.nodes.invariant.left ∙ ended c.args.stretch v.root.now v.number comes) c.nodes.invariant.short in
-    sym (length_mapped node_record met ∙ all.1)
-
-pub returns-clause-room : goal.returns-clause-room
-returns-clause-room c =
-    let v = c.nodes.walk in
-    let met : List At = met_in c.args.stretch c.args.root.now in
-    let comes : Comes v None c.next.new.self = subst (λ o. Comes v o c.next.new.self) c.in_default.is c.in_ok-placed.ensures.comes in
-    let all = none_left c.nodes.count met (c.nodes.invariant.left ∙ ended c.args.stretch v.root.now v.number comes) c.nodes.invariant.short in
-    c.nodes.invariant.room ∙ ap (λ xs. filled (map node_record xs) c.args.room.now) all.0
+pub nodes-smaller-then-is_plain : goal.nodes-smaller-then-is_plain
+nodes-smaller-then-is_plain c = omega (arith, c.pass-here.ensures.within, c.pass-here.ensures.onward, c.in-Some.ensures.0)
 
 pub record-requires : goal.record-requires
 record-requires c = λ e.
-    let v = c.nodes.walk in
-    let comes : Comes v (Some c.in-Some.placed) c.next.new.self = subst (λ o. Comes v o c.next.new.self) c.in-Some.is c.in_ok-placed.ensures.comes in
-    small_numbers v.root.now v.number c.in-Some.placed comes.1.within (subst IsSmall (sym c.nodes.invariant.root) (c.requires.small e)) comes.0
+    let s : Search = record { root = c.args.root; stretch = c.args.stretch; near = c.args.near } in
+    let n = c.in-Some.next in
+    let v : Course = course s n.here c.come.new.progress in
+    let less : n.here.number < nodes c.args.root.now = omega (arith, is_within v n.node.now n.later.now c.in-Some.ensures.1.1 c.in-Some.ensures.1.0) in
+    small_numbers c.args.root.now n.here.number c.in_ok-placed.placed less (c.requires.small e) c.in_ok-placed.ensures.placed
+
+pub put_met-count-requires-in-Some : goal.put_met-count-requires-in-Some
+put_met-count-requires-in-Some c = omega (arith, c.nodes.invariant.put.short, met_most c.args.stretch c.args.root.now, c.requires.counted)
+
+pub go_on-requires-clause-ready : goal.go_on-requires-clause-ready
+go_on-requires-clause-ready c = c.in-Some.ensures.1.1
+
+pub go_on-requires-clause-row : goal.go_on-requires-clause-row
+go_on-requires-clause-row c = c.in-Some.ensures.1.0
+
+pub go_on-requires-clause-named : goal.go_on-requires-clause-named
+go_on-requires-clause-named c = c.in_ok-placed.ensures.name
+
+pub go_on-requires-clause-ends : goal.go_on-requires-clause-ends
+go_on-requires-clause-ends c = c.in_ok-placed.ensures.ends
+
+pub nodes-preserved : goal.nodes-preserved
+nodes-preserved c =
+    let s : Search = record { root = c.args.root; stretch = c.args.stretch; near = c.args.near } in
+    let n = c.in-Some.next in
+    let v : Course = course s n.here c.come.new.progress in
+    let before : IsFilled c.args.stretch c.args.root.now n.here.number c.nodes.count c.nodes.room c.args.room.now = subst (λ k. IsFilled c.args.stretch c.args.root.now k c.nodes.count c.nodes.room c.args.room.now) (sym c.in-Some.ensures.0) c.nodes.invariant.put in
+    let less : n.here.number < nodes c.args.root.now = omega (arith, is_within v n.node.now n.later.now c.in-Some.ensures.1.1 c.in-Some.ensures.1.0) in
+    let here = c.put_met-count-in-Some.ensures c.args.root.now n.here.number c.args.room.now less c.in_ok-placed.ensures.placed (c.record.ensures (at c.args.root.now n.here.number) c.in_ok-placed.ensures.placed) (omega (arith, c.if-placed-stretch.false)) before in
+    record {
+      ready = c.in_ok-here.ensures.stays;
+      put = put_on c.args.stretch c.args.root.now v (course s c.in_ok-here.here c.go_on.new.progress) _ _ c.args.room.now refl refl refl c.in_ok-here.ensures here;
+    }
+
+pub nodes-smaller : goal.nodes-smaller
+nodes-smaller c = omega (arith, c.in_ok-here.ensures.within, c.in_ok-here.ensures.onward, c.in-Some.ensures.0)
+
+pub returns-clause-count : goal.returns-clause-count
+returns-clause-count c =
+    (put_all c.args.stretch c.args.root.now c.nodes.here.number c.nodes.count c.nodes.room c.args.room.now (ended c.args.stretch c.args.root.now c.nodes.here.number c.in_default.ensures) c.nodes.invariant.put).count_is
+
+pub returns-clause-room : goal.returns-clause-room
+returns-clause-room c =
+    (put_all c.args.stretch c.args.root.now c.nodes.here.number c.nodes.count c.nodes.room c.args.room.now (ended c.args.stretch c.args.root.now c.nodes.here.number c.in_default.ensures) c.nodes.invariant.put).array_is
