@@ -3,3 +3,4 @@ pub mod Held
 pub mod Names
 pub mod Positions
 pub mod Trees
+pub mod Edited

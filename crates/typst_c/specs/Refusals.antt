@@ -22,6 +22,10 @@ code_of refusal.BadArgument = 4
 code_of refusal.SpanNumbers = 5
 code_of refusal.TooLarge = 6
 
+-- what calls answer: 0, or the code of a refusal
+abbrev pub IsCode : ℕ → Type 0
+IsCode code = code < 7
+
 abbrev pub no_memory : Refusal
 no_memory = refusal.NoMemory
 
@@ -38,14 +42,15 @@ RefusesBytes text refusal.BadArgument = ⊥
 RefusesBytes text refusal.SpanNumbers = ⊥
 RefusesBytes text refusal.TooLarge = IsLarge text
 
--- why a text isn't parsed: if the nodes of its tree can be counted, it is too large only by its bytes
+-- why a text isn't parsed: if it has a tree whose nodes can be counted, or none in this mode, it is too large only by
+-- its bytes
 abbrev pub RefusesParse : ℕ → List ℕ → Refusal → Type 0
 RefusesParse mode text refusal.NoMemory = Unit {0}
 RefusesParse mode text refusal.NotUtf8 = IsUtf8 text → ⊥
 RefusesParse mode text refusal.BadRange = ⊥
 RefusesParse mode text refusal.BadArgument = 2 < mode
 RefusesParse mode text refusal.SpanNumbers = ⊥
-RefusesParse mode text refusal.TooLarge = (root : Tree) → tree_as mode text ≡ Some root → nodes root < 2 ^ 64 - 1 → IsLarge text
+RefusesParse mode text refusal.TooLarge = (tree_as mode text ≡ None → IsLarge text) × ((root : Tree) → tree_as mode text ≡ Some root → nodes root < 2 ^ 64 - 1 → IsLarge text)
 
 -- why no source of a text is made
 abbrev pub RefusesText : ℕ → List ℕ → Refusal → Type 0

@@ -17,6 +17,7 @@ ghost use Rattle.typst_parser.specs.UnicodeTables.{unicode_classes};
 ghost use Rattle.typst_flat.specs.Codes.{tag_code};
 ghost use Rattle.typst_flat.specs.Records.{filled, records, records_in};
 ghost use Rattle.typst_flat.specs.Said as flat;
+ghost use Rattle.typst_c.specs.Edited.{IsEdited, IsReplaced};
 ghost use Rattle.typst_c.specs.Names.{IsPut};
 ghost use Rattle.typst_c.specs.Positions.{IsByteAt, position_of};
 ghost use Rattle.typst_c.specs.Refusals.{RefusesByte, RefusesEdit, RefusesPage, RefusesParse, RefusesPosition, RefusesRecords, RefusesReplace, RefusesText};
@@ -94,6 +95,7 @@ pub extern "C" fn typst_parse(
     ensures count { result ≡ 0 → (root : Tree) → tree_as mode text.now ≡ Some root → count.new ≡ nodes root }
     ensures room { result ≡ 0 → (root : Tree) → tree_as mode text.now ≡ Some root → room.new ≡ filled (records root) room.old }
     ensures refused { (refusal : Refusal) → result ≡ spec.code_of refusal → RefusesParse mode text.now refusal }
+    ensures known { spec.IsCode result }
 {
     match parse_as(alloc, mode, text) {
         Ok(root) => counted(put_nodes(alloc, &root, room), count),
@@ -121,6 +123,7 @@ pub extern "C" fn typst_parse_all(
     ensures remarks { result ≡ 0 → (root : Tree) → tree_as mode text.now ≡ Some root → remarks.new ≡ filled (flat.remarks root) remarks.old }
     ensures messages { result ≡ 0 → (root : Tree) → tree_as mode text.now ≡ Some root → messages.new ≡ filled (flat.messages root) messages.old }
     ensures refused { (refusal : Refusal) → result ≡ spec.code_of refusal → RefusesParse mode text.now refusal }
+    ensures known { spec.IsCode result }
 {
     match parse_as(alloc, mode, text) {
         Ok(root) => sized(put_all(alloc, &root, room, remarks, messages), sizes),
@@ -138,6 +141,7 @@ pub extern "C" fn typst_highlight_html(
 ) -> u32
     ensures page { result ≡ 0 → IsPut (html_of (tree unicode_classes (chars text.now))) count.new room.old room.new }
     ensures refused { (refusal : Refusal) → result ≡ spec.code_of refusal → RefusesPage text.now refusal }
+    ensures known { spec.IsCode result }
 {
     match page(alloc, text) {
         Ok(page) => {
@@ -156,7 +160,8 @@ pub extern "C" fn typst_source_new(
     text: &[u8],
     source: &mut *mut u8,
 ) -> u32
-    ensures { (refusal : Refusal) → result ≡ spec.code_of refusal → RefusesText file text.now refusal }
+    ensures refused { (refusal : Refusal) → result ≡ spec.code_of refusal → RefusesText file text.now refusal }
+    ensures known { spec.IsCode result }
 {
     match make(alloc, file, text) {
         Ok(kept) => give(alloc, kept, source),
@@ -173,7 +178,8 @@ pub extern "C" fn typst_source_free(source: Handle) {
 /// Gives out a copy of a source.
 #[unsafe(no_mangle)]
 pub extern "C" fn typst_source_clone(alloc: Global, source: Handle, copied: &mut *mut u8) -> u32
-    ensures { (refusal : Refusal) → result ≡ spec.code_of refusal → refusal ≡ spec.no_memory }
+    ensures refused { (refusal : Refusal) → result ≡ spec.code_of refusal → refusal ≡ spec.no_memory }
+    ensures known { spec.IsCode result }
 {
     let kept = source.take();
     let answer = copy(&kept);
@@ -193,7 +199,9 @@ pub extern "C" fn typst_source_edit(
     with: &[u8],
     changed: &mut Stretch,
 ) -> u32
-    ensures { (refusal : Refusal) → result ≡ spec.code_of refusal → RefusesEdit source.home.source (record { start = start; end = end }) with.now refusal }
+    ensures refused { (refusal : Refusal) → result ≡ spec.code_of refusal → RefusesEdit source.home.source (record { start = start; end = end }) with.now refusal }
+    ensures edited { result ≡ 0 → IsEdited source.home.source (record { start = start; end = end }) with.now changed.new }
+    ensures known { spec.IsCode result }
 {
     let mut kept = source.take();
     let answer = edit(&mut kept.source, start..end, with);
@@ -204,7 +212,9 @@ pub extern "C" fn typst_source_edit(
 /// Makes another text the text of a source, and reports which bytes were read again.
 #[unsafe(no_mangle)]
 pub extern "C" fn typst_source_replace(source: Handle, text: &[u8], changed: &mut Stretch) -> u32
-    ensures { (refusal : Refusal) → result ≡ spec.code_of refusal → RefusesReplace source.home.source text.now refusal }
+    ensures refused { (refusal : Refusal) → result ≡ spec.code_of refusal → RefusesReplace source.home.source text.now refusal }
+    ensures replaced { result ≡ 0 → IsReplaced source.home.source text.now changed.new }
+    ensures known { spec.IsCode result }
 {
     let mut kept = source.take();
     let answer = replace(&mut kept.source, text);
@@ -220,6 +230,7 @@ pub extern "C" fn typst_source_sizes(alloc: Global, source: Handle, room: &mut S
     ensures remarks { result ≡ 0 → room.new.remarks ≡ saturated (length (flat.all_said source.home.source.root)) }
     ensures messages { result ≡ 0 → room.new.messages ≡ saturated (length (flat.messages source.home.source.root)) }
     ensures refused { (refusal : Refusal) → result ≡ spec.code_of refusal → RefusesRecords source.home.source.root refusal }
+    ensures known { spec.IsCode result }
 {
     let kept = source.take();
     let answer = sizes_of(alloc, kept.source.root());
@@ -250,6 +261,7 @@ pub extern "C" fn typst_source_nodes(
     ensures count { result ≡ 0 → count.new ≡ nodes source.home.source.root }
     ensures room { result ≡ 0 → room.new ≡ filled (records source.home.source.root) room.old }
     ensures refused { (refusal : Refusal) → result ≡ spec.code_of refusal → RefusesRecords source.home.source.root refusal }
+    ensures known { spec.IsCode result }
 {
     let kept = source.take();
     let answer = put_nodes(alloc, kept.source.root(), room);
@@ -271,6 +283,7 @@ pub extern "C" fn typst_source_nodes_in(
     ensures count { result ≡ 0 → count.new ≡ length (records_in (record { start = start; end = end }) source.home.source.root) }
     ensures room { result ≡ 0 → room.new ≡ filled (records_in (record { start = start; end = end }) source.home.source.root) room.old }
     ensures refused { (refusal : Refusal) → result ≡ spec.code_of refusal → RefusesRecords source.home.source.root refusal }
+    ensures known { spec.IsCode result }
 {
     let kept = source.take();
     let near = kept.source.boundary();
@@ -295,6 +308,7 @@ pub extern "C" fn typst_source_remarks(
     ensures room { result ≡ 0 → room.new ≡ filled (flat.remarks source.home.source.root) room.old }
     ensures messages { result ≡ 0 → messages.new ≡ filled (flat.messages source.home.source.root) messages.old }
     ensures refused { (refusal : Refusal) → result ≡ spec.code_of refusal → RefusesRecords source.home.source.root refusal }
+    ensures known { spec.IsCode result }
 {
     let kept = source.take();
     let answer = put_remarks(alloc, kept.source.root(), room, messages);
@@ -326,6 +340,7 @@ pub extern "C" fn typst_source_position(source: Handle, byte: usize, position: &
     ensures position { result ≡ 0 → position.new ≡ position_of source.home.source.text byte }
     ensures boundary { result ≡ 0 → IsCharBoundary source.home.source.text byte }
     ensures refused { (refusal : Refusal) → result ≡ spec.code_of refusal → RefusesPosition source.home.source.text byte refusal }
+    ensures known { spec.IsCode result }
 {
     let kept = source.take();
     let answer = position_of(kept.source.lines(), byte);
@@ -344,6 +359,7 @@ pub extern "C" fn typst_source_byte(
 ) -> u32
     ensures byte { result ≡ 0 → IsByteAt unit source.home.source.text line column byte.new }
     ensures refused { (refusal : Refusal) → result ≡ spec.code_of refusal → RefusesByte unit source.home.source.text line column refusal }
+    ensures known { spec.IsCode result }
 {
     let kept = source.take();
     let answer = byte_at(kept.source.lines(), line, column, unit);
@@ -353,7 +369,8 @@ pub extern "C" fn typst_source_byte(
 
 /// Gives a source to C, which is refused only for lack of memory. C may pass it on to another thread.
 fn give(alloc: Global, kept: Kept, source: &mut *mut u8) -> u32
-    ensures { (refusal : Refusal) → result ≡ spec.code_of refusal → refusal ≡ spec.no_memory }
+    ensures refused { (refusal : Refusal) → result ≡ spec.code_of refusal → refusal ≡ spec.no_memory }
+    ensures known { spec.IsCode result }
 {
     match Box::new(alloc, movable(kept)) {
         Ok(boxed) => {
@@ -366,7 +383,8 @@ fn give(alloc: Global, kept: Kept, source: &mut *mut u8) -> u32
 
 /// Writes a count where C wants it, and answers the code.
 fn counted(answer: Result<usize, Refusal>, count: &mut usize) -> u32
-    ensures { MatchResult answer (λ many. (result ≡ 0) × (count.new ≡ many)) (λ refusal. (result ≡ spec.code_of refusal) × (count.new ≡ count.old)) }
+    ensures told { MatchResult answer (λ many. (result ≡ 0) × (count.new ≡ many)) (λ refusal. (result ≡ spec.code_of refusal) × (count.new ≡ count.old)) }
+    ensures known { spec.IsCode result }
 {
     match answer {
         Ok(many) => {
@@ -379,7 +397,8 @@ fn counted(answer: Result<usize, Refusal>, count: &mut usize) -> u32
 
 /// Writes counts of remarks where C wants them, and answers the code.
 fn told(answer: Result<Said, Refusal>, room: &mut Said) -> u32
-    ensures { MatchResult answer (λ many. (result ≡ 0) × (room.new ≡ many)) (λ refusal. (result ≡ spec.code_of refusal) × (room.new ≡ room.old)) }
+    ensures told { MatchResult answer (λ many. (result ≡ 0) × (room.new ≡ many)) (λ refusal. (result ≡ spec.code_of refusal) × (room.new ≡ room.old)) }
+    ensures known { spec.IsCode result }
 {
     match answer {
         Ok(many) => {
@@ -392,7 +411,8 @@ fn told(answer: Result<Said, Refusal>, room: &mut Said) -> u32
 
 /// Writes sizes where C wants them, and answers the code.
 fn sized(answer: Result<Sizes, Refusal>, room: &mut Sizes) -> u32
-    ensures { MatchResult answer (λ many. (result ≡ 0) × (room.new ≡ many)) (λ refusal. (result ≡ spec.code_of refusal) × (room.new ≡ room.old)) }
+    ensures told { MatchResult answer (λ many. (result ≡ 0) × (room.new ≡ many)) (λ refusal. (result ≡ spec.code_of refusal) × (room.new ≡ room.old)) }
+    ensures known { spec.IsCode result }
 {
     match answer {
         Ok(many) => {
@@ -405,7 +425,8 @@ fn sized(answer: Result<Sizes, Refusal>, room: &mut Sizes) -> u32
 
 /// Writes a range where C wants it, and answers the code.
 fn read_anew(answer: Result<Range<usize>, Refusal>, room: &mut Stretch) -> u32
-    ensures { MatchResult answer (λ range. (result ≡ 0) × ((room.new.start ≡ range.start) × (room.new.end ≡ range.end))) (λ refusal. (result ≡ spec.code_of refusal) × (room.new ≡ room.old)) }
+    ensures told { MatchResult answer (λ range. (result ≡ 0) × ((room.new.start ≡ range.start) × (room.new.end ≡ range.end))) (λ refusal. (result ≡ spec.code_of refusal) × (room.new ≡ room.old)) }
+    ensures known { spec.IsCode result }
 {
     match answer {
         Ok(range) => {
@@ -421,7 +442,8 @@ fn read_anew(answer: Result<Range<usize>, Refusal>, room: &mut Stretch) -> u32
 
 /// Writes a position where C wants it, and answers the code.
 fn placed(answer: Result<Position, Refusal>, room: &mut Position) -> u32
-    ensures { MatchResult answer (λ position. (result ≡ 0) × (room.new ≡ position)) (λ refusal. (result ≡ spec.code_of refusal) × (room.new ≡ room.old)) }
+    ensures told { MatchResult answer (λ position. (result ≡ 0) × (room.new ≡ position)) (λ refusal. (result ≡ spec.code_of refusal) × (room.new ≡ room.old)) }
+    ensures known { spec.IsCode result }
 {
     match answer {
         Ok(position) => {

@@ -29,6 +29,7 @@ pub const OK: u32 = 0;
 pub fn code_of(refusal: Refusal) -> u32
     ensures code { result ≡ spec.code_of refusal }
     ensures refused { 0 < result }
+    ensures known { spec.IsCode result }
 {
     match refusal {
         Refusal::NoMemory => 1,
