@@ -1,6 +1,7 @@
 -- The errors and warnings that are shown while someone types: not those that only follow from a delimiter that nothing closes.
-use Rattle.std.specs.Prelude.{ℕ, ◌&&◌, nat_lt, Bool, true, false, List, [], ◌∷◌, ◌++◌, length, map, max, codes, if◌then◌else◌}
+use Rattle.std.specs.Prelude.{ℕ, ◌&&◌, nat_le, nat_lt, Bool, true, false, List, [], ◌∷◌, ◌++◌, length, map, max, codes, if◌then◌else◌}
 use Rattle.std.specs.Str.{bytes_eq}
+use Rattle.std.specs.declared.ops.Range.{Range}
 use Rattle.typst_kinds.specs.Diagnostic.{Diagnostic}
 use Rattle.typst_kinds.specs.declared.diagnostic.Severity.{Severity}
 use Rattle.typst_kinds.specs.declared.diagnostic.Severity.TheVariants.{Error, Warning}
@@ -41,12 +42,16 @@ abbrev pub hidden_to : List Inside → ℕ
 hidden_to [] = 0
 hidden_to (last ∷ before) = swallowed_to before
 
+-- an error is in what is swallowed up to byte b, if anything is: it goes no further, also where it is empty there
+abbrev pub is_swallowed : ℕ → Range ℕ → Bool
+is_swallowed b r = nat_lt 0 b && nat_le r.end b
+
 -- what is shown of problems after some errors, of which the last comes first: all warnings, and each error that isn't hidden
 abbrev pub shown_after : List Inside → List Inside → List Reported
 shown_after before [] = []
 shown_after before (p ∷ ps) =
     if is_error p.problem.diagnostic
-    then (if nat_lt p.problem.range.start (hidden_to before) then [] else p.problem ∷ []) ++ shown_after (p ∷ before) ps
+    then (if is_swallowed (hidden_to before) p.problem.range then [] else p.problem ∷ []) ++ shown_after (p ∷ before) ps
     else p.problem ∷ shown_after before ps
 
 -- what is reported of a node itself that begins at byte a, has n bytes, and stands in one that ends at byte e

@@ -1,14 +1,14 @@
 -- What is left of a search for what is shown (for private clauses).
-use Rattle.std.specs.Prelude.{◌≡◌, ℕ, ◌+◌, nat_lt, List, [], ◌∷◌, ◌++◌, max, map, if◌then◌else◌}
+use Rattle.std.specs.Prelude.{◌≡◌, ℕ, ◌+◌, List, [], ◌∷◌, ◌++◌, max, map, if◌then◌else◌}
 use Rattle.typst_tree.specs.Tree.{Forest, none, more, forest}
 use Rattle.typst_features.specs.Problems.{Reported, reported}
-use Rattle.typst_features.specs.Shown.{Inside, is_error, row_in, swallows_to}
+use Rattle.typst_features.specs.Shown.{Inside, is_error, is_swallowed, row_in, swallows_to}
 use Rattle.typst_features.specs.declared.typing.Row.{Row}
 use Rattle.typst_features.specs.declared.typing.Shown.{Shown}
 
--- an error, unless it begins before a byte
+-- an error, unless it is in what is swallowed up to a byte
 abbrev pub unless_before : ℕ → Reported → List Reported
-unless_before byte p = if nat_lt p.range.start byte then [] else p ∷ []
+unless_before byte p = if is_swallowed byte p.range then [] else p ∷ []
 
 -- what is shown of problems, where errors are hidden up to one byte, and after the next one up to another
 abbrev pub shown_from : ℕ → ℕ → List Inside → List Reported

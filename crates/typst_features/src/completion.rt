@@ -2,6 +2,7 @@
 
 use crate::naming::label_name;
 use crate::parents::{Parents, is_markup};
+use crate::typing::is_open_text;
 use std::alloc::{AllocError, Global};
 use std::ops::Range;
 use typst_kinds::SyntaxKind;
@@ -32,13 +33,13 @@ pub struct Completions<'a> {
 enum Mode {
     Markup,
     Code,
-    /// Raw text, a comment or a text in quotes.
+    /// Raw text, a comment, a text in quotes, or names of another module.
     Plain,
 }
 
 /// What the word before a byte may become: after `@` and `<` a label of the text, after a hash and in code a
 /// name that is bound there, if it begins with the word. There is nothing in raw texts, comments and texts in
-/// quotes, and after a dot.
+/// quotes, after the dot of a field, and among the items of an import.
 pub fn completions_at<'a>(
     alloc: Global,
     root: &'a SyntaxNode,
@@ -72,18 +73,20 @@ fn mode_at(root: &SyntaxNode, byte: usize) -> Mode {
     let mut mode = Mode::Markup;
     let mut around = Placed::top(root).if_holds(byte);
     while let Some(placed) = around {
-        mode = mode_of(placed.node.kind(), mode);
+        mode = mode_of(placed.node, mode);
         around = placed.child_at(byte);
     }
     mode
 }
 
-/// What is written in a node of a kind that stands where this is written.
-fn mode_of(kind: SyntaxKind, around: Mode) -> Mode {
-    match kind {
+/// What is written in a node that stands where this is written.
+fn mode_of(node: &SyntaxNode, around: Mode) -> Mode {
+    match node.kind() {
         SyntaxKind::Raw | SyntaxKind::LineComment | SyntaxKind::BlockComment | SyntaxKind::Str => {
             Mode::Plain
         }
+        SyntaxKind::ImportItems => Mode::Plain,
+        SyntaxKind::Error if is_open_text(node) => Mode::Plain,
         SyntaxKind::Markup | SyntaxKind::Equation | SyntaxKind::Math => Mode::Markup,
         SyntaxKind::Code | SyntaxKind::CodeBlock | SyntaxKind::Args | SyntaxKind::Array => {
             Mode::Code
@@ -99,7 +102,10 @@ fn mode_of(kind: SyntaxKind, around: Mode) -> Mode {
         | SyntaxKind::Closure
         | SyntaxKind::Binary
         | SyntaxKind::Unary
-        | SyntaxKind::Contextual => Mode::Code,
+        | SyntaxKind::Contextual
+        | SyntaxKind::FuncReturn
+        | SyntaxKind::ModuleImport
+        | SyntaxKind::ModuleInclude => Mode::Code,
         _ => around,
     }
 }
@@ -114,10 +120,11 @@ fn label_before(front: &str) -> Option<&str> {
     }
 }
 
-/// The word at the end of a text, where it stands after a hash, or in code and not after a dot.
+/// The word at the end of a text, where it stands after a hash, or in code and not after the dot of a field.
 fn name_before(front: &str, mode: Mode) -> Option<&str> {
     let before = front.trim_end_matches(|c: char| is_of_name(c));
-    if before.ends_with('#') || (mode == Mode::Code && !before.ends_with('.')) {
+    let is_field = before.ends_with('.') && !before.ends_with("..");
+    if before.ends_with('#') || (mode == Mode::Code && !is_field) {
         front.get(before.len()..)
     } else {
         None

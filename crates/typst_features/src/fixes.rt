@@ -3,12 +3,12 @@
 ghost use Rattle.std.specs.Prelude.{◌≡◌, option_map};
 ghost use Rattle.typst_features.specs.Closers as spec;
 
-use crate::parents::{Parent, Parents, is_markup};
+use crate::parents::Parents;
 use crate::report::range_of;
-use crate::typing::is_unclosed;
+use crate::typing::{is_open_text, is_unclosed};
 use std::alloc::{AllocError, Global};
 use std::ops::Range;
-use typst_kinds::{Diagnostic, Hint};
+use typst_kinds::{Diagnostic, Hint, SyntaxKind};
 use typst_names::Placed;
 use typst_tree::SyntaxNode;
 
@@ -29,7 +29,8 @@ pub struct Fix<'a> {
 
 /// The edits that remove errors and warnings which touch a range of bytes, those of a node before those of its
 /// children: they add a missing closing delimiter, or do what a hint says. It looks at the nodes that have errors
-/// and warnings, at them or below them, and at their children.
+/// and warnings, at them or below them, and at their children; for a closing delimiter also at those around its
+/// place, and at their children.
 pub fn quick_fixes<'a>(
     alloc: Global,
     root: &'a SyntaxNode,
@@ -40,7 +41,7 @@ pub fn quick_fixes<'a>(
     let mut lines = LineEnds {
         text,
         upto: 0,
-        end: None,
+        end: 0,
     };
     let mut around = Parents::new(alloc);
     let mut walk = root.preorder(alloc);
@@ -65,7 +66,7 @@ pub fn quick_fixes<'a>(
 #[derive(Drop)]
 struct Fault<'a> {
     node: Placed<'a>,
-    parent: Option<Parent>,
+    parent: Option<Placed<'a>>,
     problem: Range<usize>,
 }
 
@@ -92,14 +93,20 @@ impl<'a> Fault<'a> {
     fn told_by(&self, hint: &'a Hint, text: &str) -> Option<Fix<'a>> {
         let Range { start, end } = self.problem;
         match hint.message() {
-            "try using a backslash escape: \\]" => Some(put(&self.problem, start..start, "\\")),
-            "try escaping the preceding hash: `\\#`" => {
+            "try using a backslash escape: \\]" if self.takes_backslash() => {
+                Some(put(&self.problem, start..start, "\\"))
+            }
+            "try escaping the preceding hash: `\\#`" if self.takes_backslash() => {
                 let hash = start.saturating_sub(1);
                 Some(put(&self.problem, hash..hash, "\\"))
             }
             "try removing the `#`" => Some(put(&self.problem, start..end, "")),
             "consider escaping the `*` with a backslash or opening the block comment with `/*`"
-                if is_markup(self.parent) => { Some(put(&self.problem, start..start, "\\")) }
+                if self.takes_backslash() => { Some(put(&self.problem, start..start, "\\")) }
+            "there may not be any spaces before the argument list" => {
+                let space = space_before_bracket(text.get(end..)?)?;
+                Some(put(&self.problem, end..end.saturating_add(space), ""))
+            }
             "to treat this as text, add a space after the initial backticks" => {
                 let inner = hint.sub_range()?.start();
                 let at = self.node.start.saturating_add(inner);
@@ -109,6 +116,17 @@ impl<'a> Fault<'a> {
                 let word = proposed_by(message)?;
                 Some(self.put_word(word, text))
             }
+        }
+    }
+
+    /// Whether a backslash put before the fault would stand in markup.
+    fn takes_backslash(&self) -> bool {
+        match self.parent {
+            Some(parent) => {
+                let is_markup = parent.node.kind() == SyntaxKind::Markup;
+                is_markup && !is_kept(parent, self.problem.start, "\\")
+            }
+            None => false,
         }
     }
 
@@ -130,26 +148,185 @@ impl<'a> Fault<'a> {
         }
     }
 
-    /// Adds the closing delimiter at the end of the line, and before what ended the node.
+    /// Adds the closing delimiter at the end of the line, if the node goes on after that, and at the node's end: each
+    /// time before space and comments.
     fn add_closers(
         &self,
         found: &mut Vec<Fix<'a>>,
         lines: &mut LineEnds<'_>,
     ) -> Result<(), AllocError> {
-        let Some(closer) = closer_of(self.node.node.leaf_text()) else {
+        let (Some(closer), Some(around)) = (closer_of(self.node.node.leaf_text()), self.parent)
+        else {
             return Ok(());
         };
-        let end = self.parent.map_or(self.problem.end, |parent| parent.end);
-        if let Some(at) = lines.end_from(self.problem.end)
-            && at < end
+        let line_end = lines.end_from(self.problem.end);
+        let at_end = gap_before(around, around.end(), closer);
+        let last = at_end.map_or(around.end(), |gap| gap.byte);
+        if let Some(gap) = gap_before(around, line_end, closer)
+            && gap.byte < last
         {
             found.push(Fix {
                 at_line_end: true,
-                ..put(&self.problem, at..at, closer)
+                ..self.close(closer, gap, lines.text)
             })?;
         }
-        found.push(put(&self.problem, end..end, closer))?;
+        if let Some(gap) = at_end {
+            found.push(self.close(closer, gap, lines.text))?;
+        }
         Ok(())
+    }
+
+    /// A fix that puts a closing delimiter into a gap. A star and a slash behind it would be one sign.
+    fn close(&self, closer: &'static str, gap: Gap, text: &str) -> Fix<'a> {
+        let is_before_slash = text
+            .get(gap.byte..)
+            .is_some_and(|rest| rest.starts_with('/'));
+        Fix {
+            space_before: gap.space_before,
+            space_behind: closer == "*" && is_before_slash,
+            ..put(&self.problem, gap.byte..gap.byte, closer)
+        }
+    }
+}
+
+/// A place between tokens for a closing delimiter.
+#[derive(Clone, Copy)]
+struct Gap {
+    byte: usize,
+    /// Whether a space has to part it from the token before it.
+    space_before: bool,
+}
+
+/// The last gap in a node before a byte, with only space and comments between, in which a delimiter closes the node.
+/// There is none within a token, nor after a text that nothing closes, nor in what would keep the delimiter.
+fn gap_before(node: Placed<'_>, byte: usize, closer: &str) -> Option<Gap> {
+    let mut end = byte;
+    for _turn in 0..byte {
+        let token = token_before(node, end)?;
+        if !token.node.kind().is_trivia() {
+            return if is_kept(node, end, closer) {
+                None
+            } else {
+                gap_after(token, end, closer)
+            };
+        }
+        end = token.start;
+    }
+    None
+}
+
+/// The gap at a byte, after the token that holds the byte before that one.
+fn gap_after(token: Placed<'_>, byte: usize, closer: &str) -> Option<Gap> {
+    if byte < token.end() || is_open_text(token.node) {
+        return None;
+    }
+    Some(Gap {
+        byte,
+        space_before: takes_in(token.node, closer),
+    })
+}
+
+/// The token of a node that holds the byte before another one.
+fn token_before(node: Placed<'_>, byte: usize) -> Option<Placed<'_>> {
+    let last = byte.checked_sub(1)?;
+    let mut around = node.if_holds(last);
+    while let Some(placed) = around {
+        if is_token(placed.node) {
+            return Some(placed);
+        }
+        around = placed.child_at(last);
+    }
+    None
+}
+
+/// Whether nothing can be put into a node so that it stays what it is.
+fn is_token(node: &SyntaxNode) -> bool {
+    node.kind() == SyntaxKind::Raw || node.children().is_empty()
+}
+
+/// Whether a node within another one would keep a closing delimiter that is put at a byte.
+fn is_kept(node: Placed<'_>, byte: usize, closer: &str) -> bool {
+    let last = byte.saturating_sub(1);
+    let mut within = node.child_at(last);
+    while let Some(placed) = within {
+        if keeps(placed, byte, closer) {
+            return true;
+        }
+        within = placed.child_at(last);
+    }
+    false
+}
+
+/// Whether a node that holds the byte before another one would keep a closing delimiter that is put there: it has
+/// delimiters of its own, and the place is between them, or it goes on to the end of its line.
+fn keeps(node: Placed<'_>, byte: usize, closer: &str) -> bool {
+    match node.node.kind() {
+        SyntaxKind::ListItem | SyntaxKind::EnumItem | SyntaxKind::TermItem | SyntaxKind::Heading =>
+            !is_of_bracket(closer),
+        kind if has_delimiters(kind) => {
+            if is_open(node.node) {
+                !ends_by(kind, closer)
+            } else {
+                byte < node.end()
+            }
+        }
+        _ => false,
+    }
+}
+
+fn has_delimiters(kind: SyntaxKind) -> bool {
+    match kind {
+        SyntaxKind::ContentBlock
+        | SyntaxKind::CodeBlock
+        | SyntaxKind::Equation
+        | SyntaxKind::Strong
+        | SyntaxKind::Emph => true,
+        SyntaxKind::Args
+        | SyntaxKind::MathArgs
+        | SyntaxKind::Params
+        | SyntaxKind::Parenthesized
+        | SyntaxKind::Array
+        | SyntaxKind::Dict
+        | SyntaxKind::Destructuring => true,
+        _ => false,
+    }
+}
+
+/// Whether nothing closes a node with delimiters: its first one is an error then.
+fn is_open(node: &SyntaxNode) -> bool {
+    match node.children().first() {
+        Some(first) => first.kind() == SyntaxKind::Error,
+        None => false,
+    }
+}
+
+/// Whether a node that nothing closes ends where a node around it is closed.
+fn ends_by(kind: SyntaxKind, closer: &str) -> bool {
+    match kind {
+        SyntaxKind::ContentBlock | SyntaxKind::Equation => false,
+        SyntaxKind::Strong | SyntaxKind::Emph => is_of_bracket(closer),
+        SyntaxKind::CodeBlock => closer == "]" || closer == ")",
+        SyntaxKind::MathArgs => closer == "$",
+        _ => closer == "]" || closer == "}",
+    }
+}
+
+/// Whether it is a bracket, or the backslash before one that closes nothing.
+fn is_of_bracket(closer: &str) -> bool {
+    closer == "]" || closer == "\\"
+}
+
+/// Whether a closing delimiter directly after a token would be read otherwise: after a line break as an escape, after
+/// a hash as code, as the end of an address, of a name or of what is no token, or as the beginning of a comment.
+fn takes_in(token: &SyntaxNode, closer: &str) -> bool {
+    let Some(last) = token.leaf_text().chars().next_back() else {
+        return false;
+    };
+    match token.kind() {
+        SyntaxKind::Linebreak | SyntaxKind::Link | SyntaxKind::Hash => true,
+        SyntaxKind::Error => token.leaf_text().len() > 1 || closer == "*" || closer == "_",
+        SyntaxKind::Text => closer == "*" && last == '/',
+        _ => closer == "_" && is_of_word(last),
     }
 }
 
@@ -171,22 +348,18 @@ struct LineEnds<'t> {
     text: &'t str,
     /// The byte up to which the last line goes, and where its text ends.
     upto: usize,
-    end: Option<usize>,
+    end: usize,
 }
 
 impl LineEnds<'_> {
-    /// Where the text of the line ends, space aside, from a byte on. There is none where a comment may end it.
-    fn end_from(&mut self, from: usize) -> Option<usize> {
+    /// Where the text of the line ends, space aside, from a byte on.
+    fn end_from(&mut self, from: usize) -> usize {
         if self.upto <= from {
             let line = line_from(self.text, from);
             self.upto = from.saturating_add(line.len()).saturating_add(1);
-            self.end = if line.contains("//") {
-                None
-            } else {
-                Some(from.saturating_add(line.trim_end().len()))
-            };
+            self.end = from.saturating_add(line.trim_end().len());
         }
-        self.end.map(|end| end.max(from))
+        self.end.max(from)
     }
 }
 
@@ -211,6 +384,16 @@ fn closer_of(opener: &str) -> Option<&'static str>
         "*" => Some("*"),
         "_" => Some("_"),
         _ => None,
+    }
+}
+
+/// How many bytes of space a text begins with, if a bracket follows them.
+fn space_before_bracket(text: &str) -> Option<usize> {
+    let rest = text.trim_start();
+    if rest.starts_with('(') || rest.starts_with('[') {
+        Some(text.len().saturating_sub(rest.len()))
+    } else {
+        None
     }
 }
 

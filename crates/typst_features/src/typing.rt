@@ -9,8 +9,9 @@ ghost use Rattle.typst_features.specs.ShownRows.{Takes, left, left_all, steps, s
 
 use crate::report::{Problem, range_of};
 use std::alloc::{AllocError, Global};
+use std::ops::Range;
 use std::slice;
-use typst_kinds::{Diagnostic, Severity};
+use typst_kinds::{Diagnostic, Severity, SyntaxKind};
 use typst_names::Placed;
 use typst_tree::SyntaxNode;
 
@@ -29,9 +30,9 @@ struct Row<'a> {
 #[derive(Drop)]
 struct Shown<'a> {
     problems: Vec<Problem<'a>>,
-    /// The byte before which no error is shown.
+    /// The byte up to which no error is shown.
     hidden_to: usize,
-    /// The byte before which none is shown either after the next error.
+    /// The byte up to which none is shown either after the next error.
     next: usize,
 }
 
@@ -184,7 +185,7 @@ impl<'a> Shown<'a> {
         ensures hidden { OnOk result (self.new.hidden_to ≡ max self.old.hidden_to self.old.next) }
         ensures next { OnOk result (self.new.next ≡ spec.swallows_to (record { problem = reported problem.entry; end = end })) }
     {
-        let is_hidden = problem.range.start < self.hidden_to;
+        let is_hidden = is_swallowed(&problem.range, self.hidden_to);
         self.hidden_to = self.hidden_to.max(self.next);
         self.next = swallows_to(problem.diagnostic, end);
         if !is_hidden {
@@ -192,6 +193,13 @@ impl<'a> Shown<'a> {
         }
         Ok(())
     }
+}
+
+/// Whether an error of these bytes is in what is swallowed up to a byte, if anything is.
+fn is_swallowed(range: &Range<usize>, byte: usize) -> bool
+    ensures { result ≡ spec.is_swallowed byte range.now }
+{
+    0 < byte && range.end <= byte
 }
 
 /// Up to which byte a problem swallows what follows, in a node that ends at a byte.
@@ -215,4 +223,10 @@ fn is_error(diagnostic: &Diagnostic) -> bool
         Severity::Error => true,
         Severity::Warning => false,
     }
+}
+
+/// Whether a node is an error that begins as a text in quotes or a raw text does, as one that nothing closes.
+pub fn is_open_text(node: &SyntaxNode) -> bool {
+    let text = node.leaf_text();
+    node.kind() == SyntaxKind::Error && (text.starts_with('"') || text.starts_with('`'))
 }

@@ -1,0 +1,13 @@
+use Rattle.std.proofs.Common.{ℕ}
+use Rattle.std.specs.Prelude.{Option, None, Some}
+use Rattle.typst_tree.specs.Tree.{nodes}
+use Rattle.typst_names.specs.declared.places.Placed.{Placed}
+use Rattle.typst_features.proofs.fixes.token_before.Given as goal
+
+-- how many nodes are left
+abbrev pub left : Option Placed → ℕ
+left None = 0
+left (Some p) = nodes p.node.now
+
+abbrev pub decreases-loop-around : goal.decreases-loop-around
+decreases-loop-around l = left l.around
