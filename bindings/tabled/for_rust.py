@@ -5,6 +5,17 @@ from .table import Table
 
 TYPES = {"uint8_t": "u8", "uint16_t": "u16", "uint32_t": "u32", "uint64_t": "u64", "size_t": "usize", "void": "()"}
 RECORDS = {"typst_source": "Opaque"}
+# What the documentation shows of kinds.
+KIND = '''\
+What a node of a tree is.
+
+```
+use typst_syntax::{SyntaxKind, parse};
+
+let heading = parse("= Hi").children().next().unwrap().kind();
+assert_eq!((heading, heading.name()), (SyntaxKind::Heading, "heading"));
+assert!(SyntaxKind::Space.is_trivia() && SyntaxKind::Let.is_keyword());
+```'''
 MADE = "Made by bindings/tables: change bindings/abi.toml."
 
 
@@ -30,7 +41,7 @@ def kinds(table: Table) -> str:
     names, words = [it.name for it in table.kinds], sources.kind_words()
     tags, scopes = [it.name for it, _, _ in table.tags], sources.tag_scopes()
     parts = [f"//! Kinds and tags, in the order of their numbers. {MADE}\n"]
-    parts.append(enumeration("SyntaxKind", "What a node of a tree is.", [(it.name, it.comment) for it in table.kinds]))
+    parts.append(enumeration("SyntaxKind", KIND, [(it.name, it.comment) for it in table.kinds]))
     parts.append(listed("KINDS", "All kinds, each at its number.", "SyntaxKind", names))
     calls = [words_of("SyntaxKind", "name", "The kind's name in messages.", [(it, words[it]) for it in names])]
     parts.append(methods("SyntaxKind", calls + [member(*it) for it in sources.kind_sets()]))
@@ -62,7 +73,8 @@ def member(name: str, comment: str, kinds: list[str]) -> str:
 def enumeration(name: str, comment: str, values: list[tuple[str, str]]) -> str:
     body = "".join(f"    /// {said}\n    {it},\n" for it, said in values)
     derives = "#[derive(Debug, Clone, Copy, PartialEq, Eq, Hash)]\n#[repr(u8)]\n"
-    return f"/// {comment}\n{derives}pub enum {name} {{\n{body}}}\n"
+    said = "".join(f"/// {it}".rstrip() + "\n" for it in comment.splitlines())
+    return f"{said}{derives}pub enum {name} {{\n{body}}}\n"
 
 
 def listed(name: str, comment: str, type: str, values: list[str]) -> str:

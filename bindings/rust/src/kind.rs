@@ -1,6 +1,14 @@
 //! Kinds and tags, in the order of their numbers. Made by bindings/tables: change bindings/abi.toml.
 
 /// What a node of a tree is.
+///
+/// ```
+/// use typst_syntax::{SyntaxKind, parse};
+///
+/// let heading = parse("= Hi").children().next().unwrap().kind();
+/// assert_eq!((heading, heading.name()), (SyntaxKind::Heading, "heading"));
+/// assert!(SyntaxKind::Space.is_trivia() && SyntaxKind::Let.is_keyword());
+/// ```
 #[derive(Debug, Clone, Copy, PartialEq, Eq, Hash)]
 #[repr(u8)]
 pub enum SyntaxKind {

@@ -49,6 +49,14 @@ pub fn parse_math(text: &str) -> SyntaxNode {
 }
 
 /// A node with all below it. To clone it costs little, as all nodes of a tree share its records.
+///
+/// ```
+/// use typst_syntax::{SyntaxKind, parse};
+///
+/// let heading = parse("= Hi").children().next().unwrap();
+/// assert_eq!((heading.kind(), heading.len()), (SyntaxKind::Heading, 4));
+/// assert_eq!((heading.full_text(), heading.descendants()), ("= Hi", 5));
+/// ```
 #[derive(Clone)]
 pub struct SyntaxNode {
     pub(crate) tree: Arc<Tree>,

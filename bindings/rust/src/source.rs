@@ -93,6 +93,12 @@ impl Source {
     }
 
     /// Puts a text in the place of a range of bytes, and answers which bytes of the new text were read again.
+    ///
+    /// ```
+    /// let mut source = typst_syntax::Source::detached("= Hi *a");
+    /// assert_eq!(source.edit(7..7, "*"), 0..8);
+    /// assert_eq!(source.text(), "= Hi *a*");
+    /// ```
     #[track_caller]
     pub fn edit(&mut self, replace: Range<usize>, with: &str) -> Range<usize> {
         self.try_edit(replace, with)
@@ -132,6 +138,12 @@ impl Source {
     }
 
     /// The node with a span.
+    ///
+    /// ```
+    /// let source = typst_syntax::Source::detached("= Hi");
+    /// let heading = source.root().children().next().unwrap();
+    /// assert_eq!(source.find(heading.span()).unwrap().range(), 0..4);
+    /// ```
     pub fn find(&self, span: Span) -> Option<LinkedNode<'_>> {
         if span.id() != Some(self.id) {
             return None;
