@@ -12,6 +12,13 @@ use typst_kinds::{Diagnostic, Hint, SyntaxKind};
 use typst_names::Placed;
 use typst_tree::SyntaxNode;
 
+/// So many spaces and comments are passed at most to find a place for a closing delimiter: each is sought from the
+/// front of its row.
+const MOST_TRIVIA: usize = 16;
+
+/// A row with more nodes isn't searched for each fault in it: that would take time by the square.
+const LONG_ROW: usize = 1024;
+
 /// An edit that takes an error or a warning away.
 #[derive(Debug, PartialEq, Eq, Drop)]
 pub struct Fix<'a> {
@@ -119,12 +126,14 @@ impl<'a> Fault<'a> {
         }
     }
 
-    /// Whether a backslash put before the fault would stand in markup.
+    /// Whether a backslash put before the fault would stand in markup. In a long row it isn't asked whether a node
+    /// before the fault would keep it.
     fn takes_backslash(&self) -> bool {
         match self.parent {
             Some(parent) => {
                 let is_markup = parent.node.kind() == SyntaxKind::Markup;
-                is_markup && !is_kept(parent, self.problem.start, "\\")
+                let is_long = parent.node.children().len() > LONG_ROW;
+                is_markup && (is_long || !is_kept(parent, self.problem.start, "\\"))
             }
             None => false,
         }
@@ -197,11 +206,11 @@ struct Gap {
     space_before: bool,
 }
 
-/// The last gap in a node before a byte, with only space and comments between, in which a delimiter closes the node.
-/// There is none within a token, nor after a text that nothing closes, nor in what would keep the delimiter.
+/// The last gap in a node before a byte, with only space and a few comments between, in which a delimiter closes the
+/// node. There is none within a token, nor after a text that nothing closes, nor in what would keep the delimiter.
 fn gap_before(node: Placed<'_>, byte: usize, closer: &str) -> Option<Gap> {
     let mut end = byte;
-    for _turn in 0..byte {
+    for _turn in 0..MOST_TRIVIA {
         let token = token_before(node, end)?;
         if !token.node.kind().is_trivia() {
             return if is_kept(node, end, closer) {
