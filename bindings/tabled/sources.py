@@ -66,7 +66,7 @@ def kinds() -> list[Member]:
 
 def kind_words() -> dict[str, str]:
     """What messages call the kinds."""
-    return dict(re.findall(r'SyntaxKind::(\w+) => "([^"]+)"', text_of("crates/typst_kinds/src/kind.rt")))
+    return dict(re.findall(r'SyntaxKind::(\w+),\s+\("\w+", "([^"]+)"\)', text_of("crates/typst_kinds/src/kind.rt")))
 
 
 def kind_sets() -> list[tuple[str, str, list[str]]]:

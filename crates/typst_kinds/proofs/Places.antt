@@ -1,48 +1,86 @@
--- Each place below the number of kinds is that of a kind.
-use Rattle.std.proofs.Common.{◌≡◌, ℕ, ◌<◌, List, [], ◌∷◌, map, get_or, refl, sym, ◌∙◌, ap, zero-add, lit<}
+-- Each kind has its row at its place, and each place below the number of kinds is that of a kind.
+use Rattle.std.proofs.Common.{◌≡◌, ℕ, zero, suc, ◌+◌, ◌<◌, ◌≤◌, List, [], ◌∷◌, length, map, get_or, Option, None, Some, refl, ap, sym, ◌∙◌, arith, zero-add, lit<}
 use Rattle.std.proofs.Math.ListN.{get_or-map}
 use Rattle.std.proofs.lemmas.List.FromFn.{get_or-range_with_len}
+use Rattle.std.proofs.lemmas.Option.{same_Some, none-some, slice_get-map, slice_get_within}
+use Rattle.std.specs.Borrow.{Bor}
 use Rattle.std.specs.List.{range_with_len}
+use Rattle.std.specs.Prelude.{option_copied, option_map, slice_get}
+use Rattle.std.specs.Slice.{IsItemAt}
 use Rattle.typst_kinds.specs.Members.{place_of}
 use Rattle.typst_kinds.specs.declared.kind.SyntaxKind.{SyntaxKind}
 use Rattle.typst_kinds.specs.declared.kind.SyntaxKind.TheVariants as kind
+use Rattle.typst_kinds.specs.declared.kind.TheConstants.{ROWS}
+
+pub get_is : {A : Type 0} (xs : List A) (n : ℕ) (d x : A) → slice_get xs n ≡ Some x → get_or xs n d ≡ x
+get_is [] n d x e = absurd (none-some x e)
+get_is (y ∷ xs) zero d x e = same_Some y x e
+get_is (y ∷ xs) (suc n) d x e = get_is xs n d x e
+
+get_some : {A : Type 0} (xs : List A) (n : ℕ) (d : A) → n < length xs → slice_get xs n ≡ Some (get_or xs n d)
+get_some [] n d h = absurd (omega (arith, h))
+get_some (x ∷ xs) zero d h = refl
+get_some (x ∷ xs) (suc n) d h = get_some xs n d (omega (arith, h))
+
+get_none : {A : Type 0} (xs : List A) (n : ℕ) → length xs ≤ n → slice_get xs n ≡ None
+get_none [] n h = refl
+get_none (x ∷ xs) zero h = absurd (omega (arith, h))
+get_none (x ∷ xs) (suc n) h = get_none xs n (omega (arith, h))
+
+-- what `get` lends, if it lends something
+pub got : {A : Type 0} (xs : List A) (n : ℕ) (r : Option (Bor A)) → IsItemAt xs n r → option_copied r ≡ slice_get xs n
+got xs n None h = sym (get_none xs n h.3)
+got xs n (Some x) h = ap (λ y. Some y) h.1 ∙ sym (get_some xs n x.now h.3.0)
+
+-- elements whose numbers rise one by one
+pub numbered : {A : Type 0} (f : A → ℕ) (xs : List A) (a count n : ℕ) (x : A) → map f xs ≡ range_with_len a count → length xs ≡ count → slice_get xs n ≡ Some x → f x ≡ a + n
+numbered f xs a count n x rising many e =
+    let small : n < count = omega (arith, slice_get_within xs n x e, many) in
+    sym (ap f (get_is xs n x x e))
+    ∙ (sym (get_or-map f xs n x)
+    ∙ (ap (λ ns. get_or ns n (f x)) rising
+    ∙ get_or-range_with_len a count n (f x) small))
+
+-- the kinds in the order of their rows
+unfoldable pub kinds : List SyntaxKind
+kinds = map (λ r. r.0) ROWS.now
+
+kinds_rise : map place_of kinds ≡ range_with_len 0 137
+unfolding kinds place_of
+kinds_rise = refl
+
+all_kinds : length kinds ≡ 137
+unfolding kinds
+all_kinds = refl
+
+pub kind_here : (k : SyntaxKind) → slice_get kinds (place_of k) ≡ Some k
+unfolding kinds place_of
+kind_here kind.End = refl
+kind_here _ = refl
+
+-- the first part of the row that `get` lends, if it lends one
+pub lent : {A B : Type 0} (rows : List (A × B)) (n : ℕ) (row : Option (Bor (A × B))) (firsts : List A) → IsItemAt rows n row → map (λ r. r.0) rows ≡ firsts → option_map (λ r. r.now.0) row ≡ slice_get firsts n
+lent rows n row firsts h e = alike row ∙ (ap (option_map (λ r. r.0)) (got rows n row h) ∙ (sym (slice_get-map (λ r. r.0) rows n) ∙ ap (λ xs. slice_get xs n) e))
+  where
+    alike : {A B : Type 0} (row : Option (Bor (A × B))) → option_map (λ r. r.now.0) row ≡ option_map (λ r. r.0) (option_copied row)
+    alike None = refl
+    alike (Some row) = refl
+
+pub kind_there : (n : ℕ) (k : SyntaxKind) → slice_get kinds n ≡ Some k → place_of k ≡ n
+kind_there n k e = numbered place_of kinds 0 137 n k kinds_rise all_kinds e ∙ zero-add n
+
+-- each place below the number of kinds is that of a kind
+pub kind_with : (n : ℕ) → n < 137 → (k : SyntaxKind) × (place_of k ≡ n)
+kind_with n l =
+    let found = some_at kinds n (omega (arith, l, all_kinds)) in
+    (found.0, kind_there n found.0 found.1)
+  where
+    some_at : {A : Type 0} (xs : List A) (n : ℕ) → n < length xs → (x : A) × (slice_get xs n ≡ Some x)
+    some_at [] n h = absurd (omega (arith, h))
+    some_at (x ∷ xs) zero h = (x, refl)
+    some_at (x ∷ xs) (suc n) h = some_at xs n (omega (arith, h))
 
 pub placed : (k : SyntaxKind) → place_of k < 137
 unfolding place_of
 placed kind.End = lit< tt
 placed _ = lit< tt
-
--- the kinds in the order in which they are declared
-kinds : List SyntaxKind
-kinds =
-    kind.End ∷ kind.Error ∷ kind.Shebang ∷ kind.LineComment ∷ kind.BlockComment ∷ kind.Markup ∷ kind.Text ∷ kind.Space ∷ kind.Linebreak ∷
-    kind.Parbreak ∷ kind.Escape ∷ kind.Shorthand ∷ kind.SmartQuote ∷ kind.Strong ∷ kind.Emph ∷ kind.Raw ∷ kind.RawLang ∷ kind.RawDelim ∷
-    kind.RawTrimmed ∷ kind.Link ∷ kind.Label ∷ kind.Ref ∷ kind.RefMarker ∷ kind.Heading ∷ kind.HeadingMarker ∷ kind.ListItem ∷ kind.ListMarker ∷
-    kind.EnumItem ∷ kind.EnumMarker ∷ kind.TermItem ∷ kind.TermMarker ∷ kind.Equation ∷ kind.Math ∷ kind.MathText ∷ kind.MathIdent ∷
-    kind.MathFieldAccess ∷ kind.MathShorthand ∷ kind.MathAlignPoint ∷ kind.MathCall ∷ kind.MathArgs ∷ kind.MathDelimited ∷ kind.MathAttach ∷
-    kind.MathPrimes ∷ kind.MathFrac ∷ kind.MathRoot ∷ kind.Hash ∷ kind.LeftBrace ∷ kind.RightBrace ∷ kind.LeftBracket ∷ kind.RightBracket ∷
-    kind.LeftParen ∷ kind.RightParen ∷ kind.Comma ∷ kind.Semicolon ∷ kind.Colon ∷ kind.Star ∷ kind.Underscore ∷ kind.Dollar ∷ kind.Plus ∷ kind.Minus ∷
-    kind.Slash ∷ kind.Hat ∷ kind.Dot ∷ kind.Bang ∷ kind.Eq ∷ kind.EqEq ∷ kind.ExclEq ∷ kind.Lt ∷ kind.LtEq ∷ kind.Gt ∷ kind.GtEq ∷ kind.PlusEq ∷
-    kind.HyphEq ∷ kind.StarEq ∷ kind.SlashEq ∷ kind.Dots ∷ kind.Arrow ∷ kind.Root ∷ kind.Not ∷ kind.And ∷ kind.Or ∷ kind.None ∷ kind.Auto ∷ kind.Let ∷
-    kind.Set ∷ kind.Show ∷ kind.Context ∷ kind.If ∷ kind.Else ∷ kind.For ∷ kind.In ∷ kind.While ∷ kind.Break ∷ kind.Continue ∷ kind.Return ∷
-    kind.Import ∷ kind.Include ∷ kind.As ∷ kind.Code ∷ kind.Ident ∷ kind.Bool ∷ kind.Int ∷ kind.Float ∷ kind.Numeric ∷ kind.Str ∷ kind.CodeBlock ∷
-    kind.ContentBlock ∷ kind.Parenthesized ∷ kind.Array ∷ kind.Dict ∷ kind.Named ∷ kind.Keyed ∷ kind.Unary ∷ kind.Binary ∷ kind.FieldAccess ∷
-    kind.FuncCall ∷ kind.Args ∷ kind.Spread ∷ kind.Closure ∷ kind.Params ∷ kind.LetBinding ∷ kind.SetRule ∷ kind.ShowRule ∷ kind.Contextual ∷
-    kind.Conditional ∷ kind.WhileLoop ∷ kind.ForLoop ∷ kind.ModuleImport ∷ kind.ImportItems ∷ kind.ImportItemPath ∷ kind.RenamedImportItem ∷
-    kind.ModuleInclude ∷ kind.LoopBreak ∷ kind.LoopContinue ∷ kind.FuncReturn ∷ kind.Destructuring ∷ kind.DestructAssignment ∷ []
-
--- the kind at a place
-pub kind_at : ℕ → SyntaxKind
-kind_at place = get_or kinds place kind.End
-
--- the kinds' places are the numbers from 0 on
-in_order : map place_of kinds ≡ range_with_len 0 137
-unfolding kinds place_of
-in_order = refl
-
-pub kind_at-place : (p : ℕ) → p < 137 → place_of (kind_at p) ≡ p
-unfolding kind_at
-kind_at-place p lt =
-    let found = get_or-map place_of kinds p kind.End in
-    let same = ap (λ (ns : List ℕ). get_or ns p (place_of kind.End)) in_order in
-    sym found ∙ same ∙ get_or-range_with_len 0 137 p (place_of kind.End) lt ∙ zero-add p

@@ -8,7 +8,7 @@ use Rattle.std.specs.Int.{bit_at}
 use Rattle.typst_kinds.specs.Members.{bit_of, has, kind_words, place_of, same_kinds}
 use Rattle.typst_kinds.specs.declared.kind.SyntaxKind.{SyntaxKind}
 use Rattle.typst_kinds.specs.declared.set.SyntaxSet.{SyntaxSet}
-use Rattle.typst_kinds.proofs.Places.{placed, kind_at, kind_at-place}
+use Rattle.typst_kinds.proofs.Places.{placed, kind_with}
 
 -- the first nine bits of a number are those of what is left of it at nine bits
 low_bit : (n i : ℕ) → i < 9 → bit_at n i ≡ bit_at (n % 2 ^ 9) i
@@ -58,7 +58,8 @@ bits_from : (a b : SyntaxSet) → ((k : SyntaxKind) → has a k ≡ has b k) →
 unfolding has
 bits_from a b same p lt =
     let P : ℕ → Type 0 = λ place. bit_of a.words place ≡ bit_of b.words place in
-    subst P (kind_at-place p lt) (same_bit _ _ (bit_at-lt _ _) (bit_at-lt _ _) (same (kind_at p)))
+    let found = kind_with p lt in
+    subst P found.1 (same_bit _ _ (bit_at-lt _ _) (bit_at-lt _ _) (same found.0))
 
 three_words : (x y z u v w : ℕ) → x ≡ u → y ≡ v → z ≡ w → ◌≡◌ {A = List ℕ} (x ∷ y ∷ z ∷ []) (u ∷ v ∷ w ∷ [])
 three_words x y z u v w e f g = rw (e, f, g) refl

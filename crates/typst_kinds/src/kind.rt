@@ -1,5 +1,6 @@
-ghost use Rattle.std.specs.Prelude.{◌≡◌, ◌↔◌, IsTrue};
-ghost use Rattle.typst_kinds.specs.Names.{name_of};
+ghost use Rattle.std.specs.Prelude.{◌≡◌, ◌<◌, ◌↔◌, IsTrue, IfNone, IfSome, List, map, slice_get, ℕ};
+ghost use Rattle.typst_kinds.specs.Members.{place_of};
+ghost use Rattle.typst_kinds.specs.Names.{name_of, variant_name};
 ghost use Rattle.typst_kinds.specs.Kinds.{same, is_trivia, is_error, is_keyword, is_grouping, is_terminator, is_block, is_hash_expr};
 
 /// What a node of the syntax tree is.
@@ -281,6 +282,206 @@ pub enum SyntaxKind {
     DestructAssignment,
 }
 
+/// A kind; its name in code, and its name in messages.
+type Row = (SyntaxKind, (&'static str, &'static str));
+
+/// The kinds, each at its place, with their names.
+const ROWS: &[Row] = &[
+    (SyntaxKind::End, ("End", "end of tokens")),
+    (SyntaxKind::Error, ("Error", "syntax error")),
+    (SyntaxKind::Shebang, ("Shebang", "shebang")),
+    (SyntaxKind::LineComment, ("LineComment", "line comment")),
+    (SyntaxKind::BlockComment, ("BlockComment", "block comment")),
+    (SyntaxKind::Markup, ("Markup", "markup")),
+    (SyntaxKind::Text, ("Text", "text")),
+    (SyntaxKind::Space, ("Space", "space")),
+    (SyntaxKind::Linebreak, ("Linebreak", "line break")),
+    (SyntaxKind::Parbreak, ("Parbreak", "paragraph break")),
+    (SyntaxKind::Escape, ("Escape", "escape sequence")),
+    (SyntaxKind::Shorthand, ("Shorthand", "shorthand")),
+    (SyntaxKind::SmartQuote, ("SmartQuote", "smart quote")),
+    (SyntaxKind::Strong, ("Strong", "strong content")),
+    (SyntaxKind::Emph, ("Emph", "emphasized content")),
+    (SyntaxKind::Raw, ("Raw", "raw block")),
+    (SyntaxKind::RawLang, ("RawLang", "raw language tag")),
+    (SyntaxKind::RawDelim, ("RawDelim", "raw delimiter")),
+    (SyntaxKind::RawTrimmed, ("RawTrimmed", "raw trimmed")),
+    (SyntaxKind::Link, ("Link", "link")),
+    (SyntaxKind::Label, ("Label", "label")),
+    (SyntaxKind::Ref, ("Ref", "reference")),
+    (SyntaxKind::RefMarker, ("RefMarker", "reference marker")),
+    (SyntaxKind::Heading, ("Heading", "heading")),
+    (
+        SyntaxKind::HeadingMarker,
+        ("HeadingMarker", "heading marker"),
+    ),
+    (SyntaxKind::ListItem, ("ListItem", "list item")),
+    (SyntaxKind::ListMarker, ("ListMarker", "list marker")),
+    (SyntaxKind::EnumItem, ("EnumItem", "enum item")),
+    (SyntaxKind::EnumMarker, ("EnumMarker", "enum marker")),
+    (SyntaxKind::TermItem, ("TermItem", "term list item")),
+    (SyntaxKind::TermMarker, ("TermMarker", "term marker")),
+    (SyntaxKind::Equation, ("Equation", "equation")),
+    (SyntaxKind::Math, ("Math", "math")),
+    (SyntaxKind::MathText, ("MathText", "math text")),
+    (SyntaxKind::MathIdent, ("MathIdent", "math identifier")),
+    (
+        SyntaxKind::MathFieldAccess,
+        ("MathFieldAccess", "math field access"),
+    ),
+    (
+        SyntaxKind::MathShorthand,
+        ("MathShorthand", "math shorthand"),
+    ),
+    (
+        SyntaxKind::MathAlignPoint,
+        ("MathAlignPoint", "math alignment point"),
+    ),
+    (SyntaxKind::MathCall, ("MathCall", "math call")),
+    (SyntaxKind::MathArgs, ("MathArgs", "math args")),
+    (
+        SyntaxKind::MathDelimited,
+        ("MathDelimited", "delimited math"),
+    ),
+    (SyntaxKind::MathAttach, ("MathAttach", "math attachments")),
+    (SyntaxKind::MathPrimes, ("MathPrimes", "math primes")),
+    (SyntaxKind::MathFrac, ("MathFrac", "math fraction")),
+    (SyntaxKind::MathRoot, ("MathRoot", "math root")),
+    (SyntaxKind::Hash, ("Hash", "hash")),
+    (SyntaxKind::LeftBrace, ("LeftBrace", "opening brace")),
+    (SyntaxKind::RightBrace, ("RightBrace", "closing brace")),
+    (SyntaxKind::LeftBracket, ("LeftBracket", "opening bracket")),
+    (
+        SyntaxKind::RightBracket,
+        ("RightBracket", "closing bracket"),
+    ),
+    (SyntaxKind::LeftParen, ("LeftParen", "opening paren")),
+    (SyntaxKind::RightParen, ("RightParen", "closing paren")),
+    (SyntaxKind::Comma, ("Comma", "comma")),
+    (SyntaxKind::Semicolon, ("Semicolon", "semicolon")),
+    (SyntaxKind::Colon, ("Colon", "colon")),
+    (SyntaxKind::Star, ("Star", "star")),
+    (SyntaxKind::Underscore, ("Underscore", "underscore")),
+    (SyntaxKind::Dollar, ("Dollar", "dollar sign")),
+    (SyntaxKind::Plus, ("Plus", "plus")),
+    (SyntaxKind::Minus, ("Minus", "minus")),
+    (SyntaxKind::Slash, ("Slash", "slash")),
+    (SyntaxKind::Hat, ("Hat", "hat")),
+    (SyntaxKind::Dot, ("Dot", "dot")),
+    (SyntaxKind::Bang, ("Bang", "exclamation mark")),
+    (SyntaxKind::Eq, ("Eq", "equals sign")),
+    (SyntaxKind::EqEq, ("EqEq", "equality operator")),
+    (SyntaxKind::ExclEq, ("ExclEq", "inequality operator")),
+    (SyntaxKind::Lt, ("Lt", "less-than operator")),
+    (SyntaxKind::LtEq, ("LtEq", "less-than or equal operator")),
+    (SyntaxKind::Gt, ("Gt", "greater-than operator")),
+    (SyntaxKind::GtEq, ("GtEq", "greater-than or equal operator")),
+    (SyntaxKind::PlusEq, ("PlusEq", "add-assign operator")),
+    (SyntaxKind::HyphEq, ("HyphEq", "subtract-assign operator")),
+    (SyntaxKind::StarEq, ("StarEq", "multiply-assign operator")),
+    (SyntaxKind::SlashEq, ("SlashEq", "divide-assign operator")),
+    (SyntaxKind::Dots, ("Dots", "dots")),
+    (SyntaxKind::Arrow, ("Arrow", "arrow")),
+    (SyntaxKind::Root, ("Root", "root")),
+    (SyntaxKind::Not, ("Not", "operator `not`")),
+    (SyntaxKind::And, ("And", "operator `and`")),
+    (SyntaxKind::Or, ("Or", "operator `or`")),
+    (SyntaxKind::None, ("None", "`none`")),
+    (SyntaxKind::Auto, ("Auto", "`auto`")),
+    (SyntaxKind::Let, ("Let", "keyword `let`")),
+    (SyntaxKind::Set, ("Set", "keyword `set`")),
+    (SyntaxKind::Show, ("Show", "keyword `show`")),
+    (SyntaxKind::Context, ("Context", "keyword `context`")),
+    (SyntaxKind::If, ("If", "keyword `if`")),
+    (SyntaxKind::Else, ("Else", "keyword `else`")),
+    (SyntaxKind::For, ("For", "keyword `for`")),
+    (SyntaxKind::In, ("In", "keyword `in`")),
+    (SyntaxKind::While, ("While", "keyword `while`")),
+    (SyntaxKind::Break, ("Break", "keyword `break`")),
+    (SyntaxKind::Continue, ("Continue", "keyword `continue`")),
+    (SyntaxKind::Return, ("Return", "keyword `return`")),
+    (SyntaxKind::Import, ("Import", "keyword `import`")),
+    (SyntaxKind::Include, ("Include", "keyword `include`")),
+    (SyntaxKind::As, ("As", "keyword `as`")),
+    (SyntaxKind::Code, ("Code", "code")),
+    (SyntaxKind::Ident, ("Ident", "identifier")),
+    (SyntaxKind::Bool, ("Bool", "boolean")),
+    (SyntaxKind::Int, ("Int", "integer")),
+    (SyntaxKind::Float, ("Float", "float")),
+    (SyntaxKind::Numeric, ("Numeric", "numeric value")),
+    (SyntaxKind::Str, ("Str", "string")),
+    (SyntaxKind::CodeBlock, ("CodeBlock", "code block")),
+    (SyntaxKind::ContentBlock, ("ContentBlock", "content block")),
+    (SyntaxKind::Parenthesized, ("Parenthesized", "group")),
+    (SyntaxKind::Array, ("Array", "array")),
+    (SyntaxKind::Dict, ("Dict", "dictionary")),
+    (SyntaxKind::Named, ("Named", "named pair")),
+    (SyntaxKind::Keyed, ("Keyed", "keyed pair")),
+    (SyntaxKind::Unary, ("Unary", "unary expression")),
+    (SyntaxKind::Binary, ("Binary", "binary expression")),
+    (SyntaxKind::FieldAccess, ("FieldAccess", "field access")),
+    (SyntaxKind::FuncCall, ("FuncCall", "function call")),
+    (SyntaxKind::Args, ("Args", "call arguments")),
+    (SyntaxKind::Spread, ("Spread", "spread")),
+    (SyntaxKind::Closure, ("Closure", "closure")),
+    (SyntaxKind::Params, ("Params", "closure parameters")),
+    (SyntaxKind::LetBinding, ("LetBinding", "`let` expression")),
+    (SyntaxKind::SetRule, ("SetRule", "`set` expression")),
+    (SyntaxKind::ShowRule, ("ShowRule", "`show` expression")),
+    (
+        SyntaxKind::Contextual,
+        ("Contextual", "`context` expression"),
+    ),
+    (SyntaxKind::Conditional, ("Conditional", "`if` expression")),
+    (
+        SyntaxKind::WhileLoop,
+        ("WhileLoop", "while-loop expression"),
+    ),
+    (SyntaxKind::ForLoop, ("ForLoop", "for-loop expression")),
+    (
+        SyntaxKind::ModuleImport,
+        ("ModuleImport", "`import` expression"),
+    ),
+    (SyntaxKind::ImportItems, ("ImportItems", "import items")),
+    (
+        SyntaxKind::ImportItemPath,
+        ("ImportItemPath", "imported item path"),
+    ),
+    (
+        SyntaxKind::RenamedImportItem,
+        ("RenamedImportItem", "renamed import item"),
+    ),
+    (
+        SyntaxKind::ModuleInclude,
+        ("ModuleInclude", "`include` expression"),
+    ),
+    (SyntaxKind::LoopBreak, ("LoopBreak", "`break` expression")),
+    (
+        SyntaxKind::LoopContinue,
+        ("LoopContinue", "`continue` expression"),
+    ),
+    (
+        SyntaxKind::FuncReturn,
+        ("FuncReturn", "`return` expression"),
+    ),
+    (
+        SyntaxKind::Destructuring,
+        ("Destructuring", "destructuring pattern"),
+    ),
+    (
+        SyntaxKind::DestructAssignment,
+        ("DestructAssignment", "destructuring assignment expression"),
+    ),
+];
+
+/// The kind of the row at a place.
+fn kind_at(rows: &[Row], place: usize) -> Option<SyntaxKind>
+    ensures { (kinds : List SyntaxKind) → map (λ row. row.0) rows.now ≡ kinds → result ≡ slice_get kinds place }
+{
+    let (kind, _) = rows.get(place)?;
+    Some(*kind)
+}
+
 impl SyntaxKind {
     /// Whether the two kinds are the same: `==`, with a contract that says so.
     pub fn same(self, other: SyntaxKind) -> bool
@@ -294,145 +495,53 @@ impl SyntaxKind {
     pub fn name(self) -> &'static str
         ensures { result.now ≡ name_of self }
     {
-        match self {
-            SyntaxKind::End => "end of tokens",
-            SyntaxKind::Error => "syntax error",
-            SyntaxKind::Shebang => "shebang",
-            SyntaxKind::LineComment => "line comment",
-            SyntaxKind::BlockComment => "block comment",
-            SyntaxKind::Markup => "markup",
-            SyntaxKind::Text => "text",
-            SyntaxKind::Space => "space",
-            SyntaxKind::Linebreak => "line break",
-            SyntaxKind::Parbreak => "paragraph break",
-            SyntaxKind::Escape => "escape sequence",
-            SyntaxKind::Shorthand => "shorthand",
-            SyntaxKind::SmartQuote => "smart quote",
-            SyntaxKind::Strong => "strong content",
-            SyntaxKind::Emph => "emphasized content",
-            SyntaxKind::Raw => "raw block",
-            SyntaxKind::RawLang => "raw language tag",
-            SyntaxKind::RawDelim => "raw delimiter",
-            SyntaxKind::RawTrimmed => "raw trimmed",
-            SyntaxKind::Link => "link",
-            SyntaxKind::Label => "label",
-            SyntaxKind::Ref => "reference",
-            SyntaxKind::RefMarker => "reference marker",
-            SyntaxKind::Heading => "heading",
-            SyntaxKind::HeadingMarker => "heading marker",
-            SyntaxKind::ListItem => "list item",
-            SyntaxKind::ListMarker => "list marker",
-            SyntaxKind::EnumItem => "enum item",
-            SyntaxKind::EnumMarker => "enum marker",
-            SyntaxKind::TermItem => "term list item",
-            SyntaxKind::TermMarker => "term marker",
-            SyntaxKind::Equation => "equation",
-            SyntaxKind::Math => "math",
-            SyntaxKind::MathText => "math text",
-            SyntaxKind::MathIdent => "math identifier",
-            SyntaxKind::MathFieldAccess => "math field access",
-            SyntaxKind::MathShorthand => "math shorthand",
-            SyntaxKind::MathAlignPoint => "math alignment point",
-            SyntaxKind::MathCall => "math call",
-            SyntaxKind::MathArgs => "math args",
-            SyntaxKind::MathDelimited => "delimited math",
-            SyntaxKind::MathAttach => "math attachments",
-            SyntaxKind::MathPrimes => "math primes",
-            SyntaxKind::MathFrac => "math fraction",
-            SyntaxKind::MathRoot => "math root",
-            SyntaxKind::Hash => "hash",
-            SyntaxKind::LeftBrace => "opening brace",
-            SyntaxKind::RightBrace => "closing brace",
-            SyntaxKind::LeftBracket => "opening bracket",
-            SyntaxKind::RightBracket => "closing bracket",
-            SyntaxKind::LeftParen => "opening paren",
-            SyntaxKind::RightParen => "closing paren",
-            SyntaxKind::Comma => "comma",
-            SyntaxKind::Semicolon => "semicolon",
-            SyntaxKind::Colon => "colon",
-            SyntaxKind::Star => "star",
-            SyntaxKind::Underscore => "underscore",
-            SyntaxKind::Dollar => "dollar sign",
-            SyntaxKind::Plus => "plus",
-            SyntaxKind::Minus => "minus",
-            SyntaxKind::Slash => "slash",
-            SyntaxKind::Hat => "hat",
-            SyntaxKind::Dot => "dot",
-            SyntaxKind::Bang => "exclamation mark",
-            SyntaxKind::Eq => "equals sign",
-            SyntaxKind::EqEq => "equality operator",
-            SyntaxKind::ExclEq => "inequality operator",
-            SyntaxKind::Lt => "less-than operator",
-            SyntaxKind::LtEq => "less-than or equal operator",
-            SyntaxKind::Gt => "greater-than operator",
-            SyntaxKind::GtEq => "greater-than or equal operator",
-            SyntaxKind::PlusEq => "add-assign operator",
-            SyntaxKind::HyphEq => "subtract-assign operator",
-            SyntaxKind::StarEq => "multiply-assign operator",
-            SyntaxKind::SlashEq => "divide-assign operator",
-            SyntaxKind::Dots => "dots",
-            SyntaxKind::Arrow => "arrow",
-            SyntaxKind::Root => "root",
-            SyntaxKind::Not => "operator `not`",
-            SyntaxKind::And => "operator `and`",
-            SyntaxKind::Or => "operator `or`",
-            SyntaxKind::None => "`none`",
-            SyntaxKind::Auto => "`auto`",
-            SyntaxKind::Let => "keyword `let`",
-            SyntaxKind::Set => "keyword `set`",
-            SyntaxKind::Show => "keyword `show`",
-            SyntaxKind::Context => "keyword `context`",
-            SyntaxKind::If => "keyword `if`",
-            SyntaxKind::Else => "keyword `else`",
-            SyntaxKind::For => "keyword `for`",
-            SyntaxKind::In => "keyword `in`",
-            SyntaxKind::While => "keyword `while`",
-            SyntaxKind::Break => "keyword `break`",
-            SyntaxKind::Continue => "keyword `continue`",
-            SyntaxKind::Return => "keyword `return`",
-            SyntaxKind::Import => "keyword `import`",
-            SyntaxKind::Include => "keyword `include`",
-            SyntaxKind::As => "keyword `as`",
-            SyntaxKind::Code => "code",
-            SyntaxKind::Ident => "identifier",
-            SyntaxKind::Bool => "boolean",
-            SyntaxKind::Int => "integer",
-            SyntaxKind::Float => "float",
-            SyntaxKind::Numeric => "numeric value",
-            SyntaxKind::Str => "string",
-            SyntaxKind::CodeBlock => "code block",
-            SyntaxKind::ContentBlock => "content block",
-            SyntaxKind::Parenthesized => "group",
-            SyntaxKind::Array => "array",
-            SyntaxKind::Dict => "dictionary",
-            SyntaxKind::Named => "named pair",
-            SyntaxKind::Keyed => "keyed pair",
-            SyntaxKind::Unary => "unary expression",
-            SyntaxKind::Binary => "binary expression",
-            SyntaxKind::FieldAccess => "field access",
-            SyntaxKind::FuncCall => "function call",
-            SyntaxKind::Args => "call arguments",
-            SyntaxKind::Spread => "spread",
-            SyntaxKind::Closure => "closure",
-            SyntaxKind::Params => "closure parameters",
-            SyntaxKind::LetBinding => "`let` expression",
-            SyntaxKind::SetRule => "`set` expression",
-            SyntaxKind::ShowRule => "`show` expression",
-            SyntaxKind::Contextual => "`context` expression",
-            SyntaxKind::Conditional => "`if` expression",
-            SyntaxKind::WhileLoop => "while-loop expression",
-            SyntaxKind::ForLoop => "for-loop expression",
-            SyntaxKind::ModuleImport => "`import` expression",
-            SyntaxKind::ImportItems => "import items",
-            SyntaxKind::ImportItemPath => "imported item path",
-            SyntaxKind::RenamedImportItem => "renamed import item",
-            SyntaxKind::ModuleInclude => "`include` expression",
-            SyntaxKind::LoopBreak => "`break` expression",
-            SyntaxKind::LoopContinue => "`continue` expression",
-            SyntaxKind::FuncReturn => "`return` expression",
-            SyntaxKind::Destructuring => "destructuring pattern",
-            SyntaxKind::DestructAssignment => "destructuring assignment expression",
+        let (_, (_, name)) = self.row();
+        name
+    }
+
+    /// The kind's name in code: `ListItem`.
+    pub fn variant_name(self) -> &'static str
+        ensures { result.now ≡ variant_name self }
+    {
+        let (_, (variant, _)) = self.row();
+        variant
+    }
+
+    /// How many kinds there are.
+    pub fn count() -> usize
+        ensures { (place : ℕ) → (place < result) ↔ ((kind : SyntaxKind) × (place_of kind ≡ place)) }
+    {
+        ROWS.len()
+    }
+
+    /// The kind at a place, counted from 0 in the order of the definition; none from their number on.
+    pub fn at(place: usize) -> Option<SyntaxKind>
+        ensures { (kind : SyntaxKind) → (result ≡ Some kind) ↔ (place_of kind ≡ place) }
+    {
+        kind_at(ROWS, place)
+    }
+
+    /// The kind that messages name so. Goes through the kinds.
+    pub fn named(name: &[u8]) -> Option<SyntaxKind>
+        ensures named { IfSome result (λ kind. name_of kind ≡ name.now) }
+        ensures none { IfNone result ((kind : SyntaxKind) → name_of kind ≡ name.now → ⊥) }
+    {
+        for place in 0..SyntaxKind::count() {
+            let kind = SyntaxKind::at(place)?;
+            if kind.name().as_bytes() == name {
+                return Some(kind);
+            }
         }
+        None
+    }
+
+    /// The kind's row.
+    fn row(self) -> Row
+        ensures kind { result.0 ≡ self }
+        ensures variant { result.1.0.now ≡ variant_name self }
+        ensures name { result.1.1.now ≡ name_of self }
+    {
+        ROWS[self as usize]
     }
 
     /// Whether the kind is trivia: a space, a paragraph break or a comment.

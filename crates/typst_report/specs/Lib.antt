@@ -14,4 +14,3 @@ pub mod Streams
 pub mod Tally
 pub mod Reported
 pub mod TreeLines
-pub mod Variants

@@ -11,7 +11,7 @@ use Rattle.typst_kinds.specs.Head.{Head}
 use Rattle.typst_tree.specs.Tree.{Forest, none, more, Tree, joined, text_of}
 use Rattle.typst_lines.specs.Classes.{CharClasses}
 use Rattle.typst_grammar.specs.Grammar.{tree, tree_code, tree_math}
-use Rattle.typst_report.specs.Variants.{variant_name}
+use Rattle.typst_kinds.specs.Names.{variant_name}
 
 -- characters as bytes, with a space for each newline character
 abbrev pub spaced : List ℕ → List ℕ

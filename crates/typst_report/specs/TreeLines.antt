@@ -3,7 +3,7 @@ use Rattle.std.specs.Prelude.{ℕ, ◌+◌, List, [], ◌∷◌, ◌++◌, lengt
 use Rattle.json.specs.Token.{Token, begin_object, end_object}
 use Rattle.typst_kinds.specs.Head.{Head}
 use Rattle.typst_tree.specs.Tree.{Forest, none, more, Tree, joined, saturated}
-use Rattle.typst_report.specs.Variants.{variant_name}
+use Rattle.typst_kinds.specs.Names.{variant_name}
 use Rattle.typst_report.specs.Ndjson.{count_member, line, text_member}
 
 -- the text of a leaf

@@ -21,4 +21,3 @@ mod style;
 pub mod tally;
 pub mod tree;
 mod tree_lines;
-mod variants;

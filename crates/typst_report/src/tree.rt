@@ -4,7 +4,6 @@ ghost use Rattle.std.specs.Prelude.{◌≡◌, ◌+◌, ◌<◌, ◌^◌, ◌++�
 ghost use Rattle.typst_tree.specs.Tree.{text_of};
 ghost use Rattle.typst_report.specs.PrintedTree as spec;
 
-pub use crate::variants::variant_name;
 use std::alloc::{AllocError, Global};
 use std::ops::Range;
 use std::slice;
@@ -120,7 +119,7 @@ fn print_own_line(
 ) -> Result<(), AllocError>
     ensures { OnOk result (string_bytes printed.new ≡ string_bytes printed.old ++ spec.own_line indent.now range.start range.end node.now.head) }
 {
-    let (name, start, end) = (variant_name(node.kind()), range.start, range.end);
+    let (name, start, end) = (node.kind().variant_name(), range.start, range.end);
     write!(printed, "{indent}{name} {start}..{end}")?;
     print_errors(printed, node.diagnostics())?;
     printed.push_str("\n")?;

@@ -5,7 +5,6 @@ ghost use Rattle.typst_report.specs.Ndjson.{line};
 ghost use Rattle.typst_report.specs.TreeLines as spec;
 
 use crate::ndjson::{end_line, write_count, write_text};
-use crate::tree::variant_name;
 use json::Writer;
 use std::alloc::{AllocError, Global};
 use typst_tree::SyntaxNode;
@@ -60,7 +59,7 @@ fn write_members(
     ensures tokens { OnOk result (writer.new.tokens ≡ writer.old.tokens ++ (spec.members depth start (spec.end_of start node.now.head node.now.kids) node.now.head)) }
 {
     write_count(writer, "depth", depth)?;
-    write_text(writer, "kind", variant_name(node.kind()))?;
+    write_text(writer, "kind", node.kind().variant_name())?;
     write_range(writer, start, start.saturating_add(node.len()))?;
     write_own_text(writer, node)
 }
