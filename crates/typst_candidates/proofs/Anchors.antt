@@ -1,60 +1,39 @@
 -- What is looked up from a place among the entries on.
-use Rattle.std.proofs.Common.{◌≡◌, ℕ, suc, ◌+◌, ◌-◌, ◌≤◌, ◌<◌, ◌==◌, ◌&&◌, nat_le, Bool, true, false, if◌then◌else◌, List, [], ◌∷◌, ◌++◌, length, take, take-suc, drop, Option, None, Some, refl, ap, sym, subst, ◌∙◌, arith}
+use Rattle.std.proofs.Common.{◌≡◌, ℕ, suc, ◌+◌, ◌-◌, ◌≤◌, ◌<◌, ◌==◌, nat_le, false, List, [], ◌∷◌, ◌++◌, length, take, drop, Option, Some, refl, ap, sym, subst, ◌∙◌, arith}
 use Rattle.std.proofs.lemmas.Bool.Decides.{nat_tests}
-use Rattle.std.proofs.lemmas.Option.{get_or_from_slice_get, slice_get_within}
+use Rattle.std.proofs.lemmas.Option.{slice_get_within}
 use Rattle.std.proofs.lemmas.List.{drop-append-le, drop-take, length-append, length-drop, length-take-le, take-append-drop, take-append-le}
 use Rattle.std.specs.List.{slice_get}
 use Rattle.typst_candidates.specs.declared.anchor.Anchor.{Anchor}
 use Rattle.typst_candidates.specs.declared.cuts.Window.{Window}
 use Rattle.typst_candidates.specs.declared.entry.Entry.{Entry}
 use Rattle.typst_candidates.specs.Anchors.{AllLooksEnd, IsAnchor, inside_of}
-use Rattle.typst_candidates.specs.Cursors.{EntryPlace, after, entry_after, inside_after, leads, piece_of, pieces_of, start_at, token_at}
+use Rattle.typst_candidates.specs.Cursors.{EntryPlace, after, entry_after, inside_after, piece_of, pieces_of, start_at, token_at}
 use Rattle.typst_candidates.specs.Entries.{end_of, front_of}
 use Rattle.typst_candidates.specs.Records.{opening_of}
 use Rattle.typst_candidates.specs.Edges.{within}
 use Rattle.typst_candidates.proofs.Blocks.{opening-over}
-use Rattle.typst_candidates.proofs.Cursors.{after-found-in, end-after, inside-grows, start-on}
+use Rattle.typst_candidates.proofs.Cursors.{after-found-in, end-after, inside-grows, one-further, start-on}
 use Rattle.typst_candidates.proofs.Tallies.{fewer}
+use Rattle.typst_candidates.proofs.Walks.{end-over}
 
 -- ---- the anchor of entries that stay
 
 pub same-front : (n : ℕ) (es fs : List Entry) (a : Anchor) → IsAnchor es a → a.number ≤ n → take n fs ≡ take n es → n ≤ length fs → IsAnchor fs a
 same-front n es fs a h le same long =
     let few : take a.number fs ≡ take a.number es = fewer a.number n fs le ∙ ap (take a.number) same ∙ sym (fewer a.number n es le) in
-    record {
-      within = omega (arith, le, long);
-      start = h.start ∙ ap (end_of 0) (sym few);
-      order = h.order;
-      looks = subst (AllLooksEnd a.reach 0) (sym few) h.looks;
-      first = h.first;
-      outer = let le1 = h.first in h.outer ∙ ap (end_of 0) (fewer (a.first - 1) a.number es (omega (arith, le1)) ∙ ap (take (a.first - 1)) (sym few) ∙ sym (fewer (a.first - 1) a.number fs (omega (arith, le1))));
-      run = ap (λ us. inside_of 0 (drop a.first us)) few ∙ h.run;
-    }
+    let fewest : take (a.first - 1) fs ≡ take (a.first - 1) es = fewer (a.first - 1) n fs (omega arith) ∙ ap (take (a.first - 1)) same ∙ sym (fewer (a.first - 1) n es (omega arith)) in
+    record { within = omega arith; start = rw few h.start; order = h.order; looks = rw few h.looks; first = h.first; outer = rw fewest h.outer; run = rw few h.run }
 
 pub anchor-append : (es : List Entry) (e : Entry) (a : Anchor) → IsAnchor es a → IsAnchor (es ++ e ∷ []) a
 anchor-append es e a h =
-    let long = length-append es (e ∷ []) in
-    same-front (length es) es (es ++ e ∷ []) a h h.within (take-append-le (length es) es (e ∷ []) (omega arith)) (omega (arith, long))
+    same-front (length es) es (es ++ e ∷ []) a h h.within (take-append-le (length es) es (e ∷ []) (omega arith)) (omega (arith, length-append es (e ∷ [])))
 
 -- ---- an entry more
 
--- what follows from in how many blocks entries after the first begin, if the run goes on
-abbrev OnTo : List Entry → ℕ → Option ℕ → Type 0
-OnTo es now o = (elim o as (λ _. Option ℕ) [ None ↦ None | Some m ↦ inside_of m es ]) ≡ Some now
-
-none-to : (es : List Entry) (now : ℕ) → OnTo es now None → ⊥
-none-to es now q = cc
-
-same-inside : (inside now : ℕ) → ◌≡◌ {A = Option ℕ} (Some inside) (Some now) → inside ≡ now
-same-inside inside now q = cc
-
 pub inside-on : (inside now further : ℕ) (es : List Entry) (e : Entry) → inside_of inside es ≡ Some now → inside_after e.kind now ≡ Some further → inside_of inside (es ++ e ∷ []) ≡ Some further
-inside-on inside now further [] e h i = ap (λ (o : Option ℕ). elim o as (λ _. Option ℕ) [ None ↦ None | Some m ↦ Some m ]) (ap (inside_after e.kind) (same-inside inside now h) ∙ i)
-inside-on inside now further (d ∷ es) e h i = by (λ m q. inside-on m now further es e q i) (inside_after d.kind inside) h
-  where
-    by : ((m : ℕ) → inside_of m es ≡ Some now → inside_of m (es ++ e ∷ []) ≡ Some further) → (o : Option ℕ) → OnTo es now o → OnTo (es ++ e ∷ []) further o
-    by f None q = absurd (none-to es now q)
-    by f (Some m) q = f m q
+inside-on inside now further [] e h i = grind arith
+inside-on inside now further (d ∷ es) e h i = let later = λ (m : ℕ) (q : inside_of m es ≡ Some now). inside-on m now further es e q i in grind (arith, later)
 
 pub looks-on : (at start : ℕ) (es : List Entry) (e : Entry) → AllLooksEnd at start es → token_at (end_of start es) e + e.forth ≤ at → AllLooksEnd at start (es ++ e ∷ [])
 looks-on at start [] e h l = (l, tt)
@@ -62,19 +41,11 @@ looks-on at start (d ∷ es) e h l = (h.0, looks-on at (token_at start d) es e h
 
 pub looks-more : (at more start : ℕ) (es : List Entry) → at ≤ more → AllLooksEnd at start es → AllLooksEnd more start es
 looks-more at more start [] le h = tt
-looks-more at more start (e ∷ es) le h = let here = h.0 in (omega (arith, here, le), looks-more at more (token_at start e) es le h.1)
+looks-more at more start (e ∷ es) le h = (omega arith, looks-more at more (token_at start e) es le h.1)
 
 pub inside-over : (inside now : ℕ) (us vs : List Entry) → inside_of inside us ≡ Some now → inside_of inside (us ++ vs) ≡ inside_of now vs
-inside-over inside now [] vs h = ap (λ i. inside_of i vs) (same-inside inside now h)
-inside-over inside now (u ∷ us) vs h = by (λ m q. inside-over m now us vs q) (inside_after u.kind inside) h
-  where
-    by : ((m : ℕ) → inside_of m us ≡ Some now → inside_of m (us ++ vs) ≡ inside_of now vs) → (o : Option ℕ) → OnTo us now o → (elim o as (λ _. Option ℕ) [ None ↦ None | Some m ↦ inside_of m (us ++ vs) ]) ≡ inside_of now vs
-    by f None q = absurd (none-to us now q)
-    by f (Some m) q = f m q
-
-pub end-over : (start : ℕ) (us vs : List Entry) → end_of start (us ++ vs) ≡ end_of (end_of start us) vs
-end-over start [] vs = refl
-end-over start (u ∷ us) vs = end-over (token_at start u) us vs
+inside-over inside now [] vs h = grind arith
+inside-over inside now (u ∷ us) vs h = let later = λ (m : ℕ) (q : inside_of m us ≡ Some now). inside-over m now us vs q in grind (arith, later)
 
 -- after an entry more
 pub record Further (es : List Entry) (n start reach : ℕ) : Type 0 where
@@ -82,12 +53,9 @@ pub record Further (es : List Entry) (n start reach : ℕ) : Type 0 where
   pub order : start ≤ reach
   pub looks : AllLooksEnd reach 0 (take n es)
 
-one-more : (es : List Entry) (n : ℕ) (e : Entry) → slice_get es n ≡ Some e → take (suc n) es ≡ take n es ++ e ∷ []
-one-more es n e h = take-suc es n e (slice_get_within es n e h) ∙ ap (λ d. take n es ++ d ∷ []) (get_or_from_slice_get es n e e h)
-
 pub goes-further : (es : List Entry) (n start end reach more : ℕ) (e : Entry) → slice_get es n ≡ Some e → start ≡ token_at (end_of 0 (take n es)) e → end ≡ start + e.forth → reach ≤ more → end ≤ more → AllLooksEnd reach 0 (take n es) → Further es (suc n) start more
 goes-further es n start end reach more e h s f le upto l =
-    let whole = one-more es n e h in
+    let whole = one-further es n e h in
     record {
       start_is = s ∙ sym (ap (end_of 0) whole ∙ end-over 0 (take n es) (e ∷ []));
       order = omega (arith, f, upto);
@@ -97,10 +65,8 @@ goes-further es n start end reach more e h s f le upto l =
 pub run-further : (es : List Entry) (first n inside further : ℕ) (e : Entry) → slice_get es n ≡ Some e → first ≤ n → inside_of 0 (drop first (take n es)) ≡ Some inside → inside_after e.kind inside ≡ Some further
     → inside_of 0 (drop first (take (suc n) es)) ≡ Some further
 run-further es first n inside further e h le i b =
-    let lt = slice_get_within es n e h in
-    let long = length-take-le n es (omega (arith, lt)) in
-    let split = drop-append-le first (take n es) (e ∷ []) (omega (arith, long, le)) in
-    ap (λ us. inside_of 0 (drop first us)) (one-more es n e h) ∙ ap (inside_of 0) split ∙ inside-on 0 inside further (drop first (take n es)) e i b
+    let split = drop-append-le first (take n es) (e ∷ []) (omega (arith, length-take-le n es (omega (arith, slice_get_within es n e h)), le)) in
+    ap (λ us. inside_of 0 (drop first us)) (one-further es n e h) ∙ ap (inside_of 0) split ∙ inside-on 0 inside further (drop first (take n es)) e i b
 
 -- a run begins in no block of it
 pub run-begins : (es : List Entry) (n : ℕ) → inside_of 0 (drop n (take n es)) ≡ Some 0
@@ -143,31 +109,26 @@ pub passed-on : (es : List Entry) (a : Anchor) (p q : EntryPlace) (e : Entry) (s
 passed-on es a p q e start end reach more inside further h anchor there moved s f le upto b =
     let here = after-found-in es p e h.entries there in
     let number : q.number ≡ suc p.number = ap (λ (r : EntryPlace). r.number) moved in
-    let lt = slice_get_within es p.number e here in
     let on = further-on es a p q e start end reach more inside h there moved s f le upto in
-    let first = anchor.first in
     let after = h.after in
     let few = h.few in
-    let grows = inside-grows e.kind inside further b in
-    let run = run-further es a.first p.number inside further e here (omega (arith, first, after)) h.run b in
+    let run = run-further es a.first p.number inside further e here (omega (arith, after)) h.run b in
     record {
       passed = record {
         entries = ap (λ (r : EntryPlace). r.entries) moved ∙ h.entries;
-        few = omega (arith, number, few, grows);
+        few = omega (arith, number, few, inside-grows e.kind inside further b);
         after = omega (arith, number, after);
         looks = subst (λ n. AllLooksEnd more 0 (take n es)) (sym number) on.looks;
         run = ap (λ n. inside_of 0 (drop a.first (take n es))) number ∙ run;
       };
       further = subst (λ n. Further es n start more) (sym number) on;
-      within = omega (arith, number, lt);
+      within = omega (arith, number, slice_get_within es p.number e here);
     }
 
 -- an anchor after that entry, in no block of the run
 pub anchor-on : (es : List Entry) (a b : Anchor) (p : EntryPlace) (start reach inside : ℕ) → PassedOn es a p start reach inside → IsAnchor es a → inside ≡ 0 → b ≡ record { number = p.number; start = start; reach = reach; first = a.first; outer = a.outer } → IsAnchor es b
 anchor-on es a b p start reach inside h anchor none is =
-    let first = anchor.first in
-    let after = h.passed.after in
-    anchors es p.number start reach a.first a.outer b h.within (omega (arith, first, after)) h.further anchor.outer (h.passed.run ∙ ap (λ n. Some n) none) is
+    anchors es p.number start reach a.first a.outer b h.within (omega arith) h.further anchor.outer (h.passed.run ∙ ap (λ n. Some n) none) is
 
 -- an anchor at the begin of the block that begins after another
 pub record AnchorIn (es : List Entry) (a b : Anchor) : Type 0 where
@@ -194,67 +155,35 @@ anchor-in es a b p q e start end more h at there moved s f le upto is =
 
 front-split : (at start : ℕ) (us vs : List Entry) → AllLooksEnd at start us → front_of at start (us ++ vs) ≡ length us + front_of at (end_of start us) vs
 front-split at start [] vs h = omega arith
-front-split at start (u ∷ us) vs h =
-    let first = h.0 in
-    let here : nat_le (((start + u.step) + u.gap) + u.forth) at ≡ true = grind (arith, nat_tests, first) in
-    let rest = front-split at (token_at start u) us vs h.1 in
-    let on = ap (λ b. if b then suc (front_of at (token_at start u) (us ++ vs)) else 0) here in
-    omega (arith, on, rest)
+front-split at start (u ∷ us) vs h = grind (arith, nat_tests, h.0, front-split at (token_at start u) us vs h.1)
 
 piece-split : (at inside start number now : ℕ) (us vs : List Entry) → inside_of inside us ≡ Some now → end_of start us < at
     → piece_of at inside start number (us ++ vs) ≡ piece_of at now (end_of start us) (number + length us) vs
-piece-split at inside start number now [] vs h lt = ap (λ i. piece_of at i start number vs) (same-inside inside now h) ∙ ap (λ n. piece_of at now start n vs) (omega arith)
+piece-split at inside start number now [] vs h lt = grind arith
 piece-split at inside start number now (u ∷ us) vs h lt =
-    let after = end-after (token_at start u) us in
-    let early : token_at start u < at = omega (arith, after, lt) in
-    let other : (token_at start u == at) ≡ false = grind (arith, nat_tests, early) in
-    let test : (leads u.kind inside && token_at start u == at) ≡ false = ap (λ b. leads u.kind inside && b) other ∙ and-false (leads u.kind inside) in
-    ap (λ b. if b then Some number else onto (inside_after u.kind inside) (us ++ vs)) test
-    ∙ by (λ m q. piece-split at m (token_at start u) (suc number) now us vs q lt) (inside_after u.kind inside) h ∙ ap (λ n. piece_of at now (end_of (token_at start u) us) n vs) (omega arith)
-  where
-    and-false : (b : Bool) → (b && false) ≡ false
-    and-false true = refl
-    and-false false = refl
-
-    onto : Option ℕ → List Entry → Option ℕ
-    onto o es = elim o as (λ _. Option ℕ) [ None ↦ None | Some further ↦ piece_of at further (token_at start u) (suc number) es ]
-
-    by : ((m : ℕ) → inside_of m us ≡ Some now → piece_of at m (token_at start u) (suc number) (us ++ vs) ≡ piece_of at now (end_of (token_at start u) us) (suc number + length us) vs)
-        → (o : Option ℕ) → OnTo us now o → onto o (us ++ vs) ≡ piece_of at now (end_of (token_at start u) us) (suc number + length us) vs
-    by f None q = absurd (none-to us now q)
-    by f (Some m) q = f m q
+    let early : token_at start u < at = omega (arith, end-after (token_at start u) us) in
+    let other : (token_at start u == at) ≡ false = grind (arith, nat_tests) in
+    let later = λ (m : ℕ) (q : inside_of m us ≡ Some now). piece-split at m (token_at start u) (suc number) now us vs q lt in
+    grind (arith, later)
 
 -- pieces that begin before a window aren't in it
 pieces-split : (w : Window) (inside start now : ℕ) (us vs : List Entry) → inside_of inside us ≡ Some now → end_of start us < w.from
     → within w (pieces_of inside start (us ++ vs)) ≡ within w (pieces_of now (end_of start us) vs)
-pieces-split w inside start now [] vs h lt = ap (λ i. within w (pieces_of i start vs)) (same-inside inside now h)
+pieces-split w inside start now [] vs h lt = grind arith
 pieces-split w inside start now (u ∷ us) vs h lt =
-    let after = end-after (token_at start u) us in
-    let early : token_at start u < w.from = omega (arith, after, lt) in
-    let out : nat_le w.from (token_at start u) ≡ false = grind (arith, nat_tests, early) in
-    skipped (leads u.kind inside) (onto (inside_after u.kind inside) (us ++ vs)) out ∙ by (λ m q. pieces-split w m (token_at start u) now us vs q lt) (inside_after u.kind inside) h
-  where
-    onto : Option ℕ → List Entry → List ℕ
-    onto o es = elim o as (λ _. List ℕ) [ None ↦ [] | Some further ↦ pieces_of further (token_at start u) es ]
-
-    skipped : (b : Bool) (bs : List ℕ) → nat_le w.from (token_at start u) ≡ false → within w (if b then token_at start u ∷ bs else bs) ≡ within w bs
-    skipped true bs out = ap (λ c. if c && nat_le (token_at start u) w.to then token_at start u ∷ within w bs else within w bs) out
-    skipped false bs out = refl
-
-    by : ((m : ℕ) → inside_of m us ≡ Some now → within w (pieces_of m (token_at start u) (us ++ vs)) ≡ within w (pieces_of now (end_of (token_at start u) us) vs))
-        → (o : Option ℕ) → OnTo us now o → within w (onto o (us ++ vs)) ≡ within w (pieces_of now (end_of (token_at start u) us) vs)
-    by f None q = absurd (none-to us now q)
-    by f (Some m) q = f m q
+    let early : token_at start u < w.from = omega (arith, end-after (token_at start u) us) in
+    let out : nat_le w.from (token_at start u) ≡ false = grind (arith, nat_tests) in
+    let later = λ (m : ℕ) (q : inside_of m us ≡ Some now). pieces-split w m (token_at start u) now us vs q lt in
+    grind (arith, later)
 
 -- ---- the same from an anchor on
 
 pub front-from : (es : List Entry) (a : Anchor) (at : ℕ) → IsAnchor es a → a.reach ≤ at → a.number + front_of at a.start (drop a.number es) ≡ front_of at 0 es
 front-from es a at h le =
-    let split = front-split at 0 (take a.number es) (drop a.number es) (looks-more a.reach at 0 (take a.number es) le h.looks) in
     let whole = ap (front_of at 0) (take-append-drop a.number es) in
     let long = length-take-le a.number es h.within in
     let there = ap (λ s. front_of at s (drop a.number es)) h.start in
-    omega (arith, split, whole, long, there)
+    omega (arith, front-split at 0 (take a.number es) (drop a.number es) (looks-more a.reach at 0 (take a.number es) le h.looks), whole, long, there)
 
 pub opening-at : (es : List Entry) (n start at : ℕ) → n ≤ length es → start ≡ end_of 0 (take n es) → start < at → opening_of at start n (drop n es) ≡ opening_of at 0 0 es
 opening-at es n start at within there lt =
@@ -265,9 +194,7 @@ opening-from es a at h lt = opening-at es a.number a.start at h.within h.start l
 
 pub opening-around : (es : List Entry) (a : Anchor) (at n : ℕ) → IsAnchor es a → n ≡ a.first - 1 → a.outer < at → opening_of at a.outer n (drop n es) ≡ opening_of at 0 0 es
 opening-around es a at n h is lt =
-    let first = h.first in
-    let within = h.within in
-    opening-at es n a.outer at (omega (arith, is, first, within)) (h.outer ∙ ap (λ m. end_of 0 (take m es)) (sym is)) lt
+    opening-at es n a.outer at (omega (arith, is)) (h.outer ∙ ap (λ m. end_of 0 (take m es)) (sym is)) lt
 
 -- the entries after some, up to more of them and after these
 record Parts (es : List Entry) (n m : ℕ) : Type 0 where
@@ -280,33 +207,29 @@ parts : (es : List Entry) (n m : ℕ) → n ≤ m → m ≤ length es → Parts 
 parts es n m le within =
     let whole = length-take-le m es within in
     let front : take n es ++ drop n (take m es) ≡ take m es = ap (λ us. us ++ drop n (take m es)) (fewer n m es le) ∙ take-append-drop n (take m es) in
-    let some = length-drop n (take m es) in
     record {
       front = front;
       rest = ap (drop n) (sym (take-append-drop m es)) ∙ drop-append-le n (take m es) (drop m es) (omega (arith, whole, le));
       end_is = sym (end-over 0 (take n es) (drop n (take m es))) ∙ ap (end_of 0) front;
-      long = omega (arith, some, whole);
+      long = omega (arith, length-drop n (take m es), whole);
     }
 
 -- the first piece of an anchor's run that begins at a byte after it comes after it
 pub piece-from : (es : List Entry) (a : Anchor) (at : ℕ) → IsAnchor es a → a.start < at → piece_of at 0 (end_of 0 (take a.number es)) a.number (drop a.number es) ≡ piece_of at 0 (end_of 0 (take a.first es)) a.first (drop a.first es)
 piece-from es a at h lt =
-    let there = h.start in
     let le = h.first in
     let p = parts es a.first a.number le h.within in
     let end_is = p.end_is in
-    let long = p.long in
     let vs = drop a.first (take a.number es) in
     let ws = drop a.number es in
     sym
-    (ap (piece_of at 0 (end_of 0 (take a.first es)) a.first) p.rest ∙ piece-split at 0 (end_of 0 (take a.first es)) a.first 0 vs ws h.run (omega (arith, end_is, there, lt))
-    ∙ ap (λ s. piece_of at 0 s (a.first + length vs) ws) end_is ∙ ap (λ n. piece_of at 0 (end_of 0 (take a.number es)) n ws) (omega (arith, long, le)))
+    (ap (piece_of at 0 (end_of 0 (take a.first es)) a.first) p.rest ∙ piece-split at 0 (end_of 0 (take a.first es)) a.first 0 vs ws h.run (omega (arith, end_is, lt))
+    ∙ ap (λ s. piece_of at 0 s (a.first + length vs) ws) end_is ∙ ap (λ n. piece_of at 0 (end_of 0 (take a.number es)) n ws) (omega (arith, le)))
 
 -- the same pieces of an anchor's run come after it as after a place of the run before it
 pub pieces-from : (es : List Entry) (a : Anchor) (n : ℕ) (w : Window) → IsAnchor es a → a.first ≤ n → n ≤ a.number → inside_of 0 (drop a.first (take n es)) ≡ Some 0 → a.start < w.from
     → within w (pieces_of 0 (end_of 0 (take a.number es)) (drop a.number es)) ≡ within w (pieces_of 0 (end_of 0 (take n es)) (drop n es))
 pieces-from es a n w h after le run lt =
-    let there = h.start in
     let inside = h.within in
     let p = parts es n a.number le inside in
     let end_is = p.end_is in
@@ -317,5 +240,5 @@ pieces-from es a n w h after le run lt =
     let both : us ++ vs ≡ drop a.first (take a.number es) = sym (drop-append-le a.first (take n es) vs (omega (arith, long, after))) ∙ ap (drop a.first) p.front in
     let inner : inside_of 0 vs ≡ Some 0 = sym (inside-over 0 0 us vs run) ∙ ap (inside_of 0) both ∙ h.run in
     sym
-    (ap (λ xs. within w (pieces_of 0 (end_of 0 (take n es)) xs)) p.rest ∙ pieces-split w 0 (end_of 0 (take n es)) 0 vs ws inner (omega (arith, end_is, there, lt))
+    (ap (λ xs. within w (pieces_of 0 (end_of 0 (take n es)) xs)) p.rest ∙ pieces-split w 0 (end_of 0 (take n es)) 0 vs ws inner (omega (arith, end_is, lt))
     ∙ ap (λ s. within w (pieces_of 0 s ws)) end_is)

@@ -1,48 +1,36 @@
 -- Blocks of words that are passed over at once.
-use Rattle.std.proofs.Common.{◌≡◌, ℕ, zero, suc, ◌+◌, ◌-◌, ◌/◌, ◌%◌, ◌^◌, ◌≤◌, ◌<◌, ◌==◌, ◌&&◌, max, nat_le, Bool, true, false, if◌then◌else◌, List, [], ◌∷◌, ◌++◌, get_or, length, length-drop, map, take, drop, Option, None, Some, refl, ap, sym, subst, ◌∙◌, arith}
+use Rattle.std.proofs.Common.{◌≡◌, ℕ, zero, suc, ◌+◌, ◌-◌, ◌/◌, ◌%◌, ◌^◌, ◌≤◌, ◌<◌, max, true, if◌then◌else◌, List, [], ◌∷◌, ◌++◌, get_or, length, length-drop, map, take, drop, Option, None, Some, refl, ap, sym, subst, ◌∙◌, arith}
+use Rattle.std.proofs.Math.Seq.{take-add}
 use Rattle.std.proofs.lemmas.Bool.Decides.{nat_tests}
-use Rattle.std.proofs.lemmas.List.{drop-map, length-map, take-append-drop, take-map}
+use Rattle.std.proofs.lemmas.List.{take-append-drop}
 use Rattle.std.proofs.lemmas.Nat.{mod_below, pow_pos}
 use Rattle.std.specs.List.{slice_get}
 use Rattle.typst_candidates.specs.declared.entry.Entry.{Entry}
 use Rattle.typst_candidates.specs.declared.entry.EntryKind.{EntryKind}
-use Rattle.typst_candidates.specs.declared.entry.EntryKind.TheVariants as entry_kind
 use Rattle.typst_candidates.specs.declared.packed.Packed.{Packed}
 use Rattle.typst_candidates.specs.Cursors.{AreNear, EntryPlace, GoBack, back_after, start_at}
 use Rattle.typst_candidates.specs.Entries.{end_of, front_of, is_after, rear_of}
-use Rattle.typst_candidates.specs.Packed.{all_beside, beside, entry_by, entry_in, back_bits, filled, forth_bits, spans, entry_kinds, unpacked, wides, widths}
-use Rattle.typst_candidates.specs.Records.{is_opening, opening_of}
+use Rattle.typst_candidates.specs.Packed.{beside, entry_by, entry_in, back_bits, filled, forth_bits, spans, entry_kinds, unpacked, wides, widths}
+use Rattle.typst_candidates.specs.Records.{opening_of}
 use Rattle.typst_candidates.proofs.Cursors.{cut, end-after}
 use Rattle.typst_candidates.proofs.Spans.{filled-end}
-use Rattle.typst_candidates.proofs.Words.{beside-append, halves}
+use Rattle.typst_candidates.proofs.Walks.{end-over}
+use Rattle.typst_candidates.proofs.Words.{by_kind, halves, wides-append}
 
 -- ---- what words hold
 
 forth-small : (t : EntryKind) (m : ℕ) → m % 2 ^ forth_bits t < 2 ^ 10
-forth-small (entry_kind.Piece at_start) m = let low = mod_below m (2 ^ 10) (pow_pos 10) in omega (arith, low)
-forth-small (entry_kind.Opens b x) m = let low = mod_below m (2 ^ 6) (pow_pos 6) in omega (arith, low)
-forth-small entry_kind.Closes m = let low = mod_below m (2 ^ 10) (pow_pos 10) in omega (arith, low)
+forth-small t m = grind (arith, mod_below m (2 ^ 10) (pow_pos 10), mod_below m (2 ^ 6) (pow_pos 6))
 
 back-small : (t : EntryKind) (m : ℕ) → m % 2 ^ back_bits t < 2 ^ 4
-back-small (entry_kind.Piece at_start) m = let low = mod_below m (2 ^ 4) (pow_pos 4) in omega (arith, low)
-back-small (entry_kind.Opens b x) m = let low = mod_below m (2 ^ 2) (pow_pos 2) in omega (arith, low)
-back-small entry_kind.Closes m = let low = mod_below m (2 ^ 4) (pow_pos 4) in omega (arith, low)
+back-small t m = grind (arith, mod_below m (2 ^ 4) (pow_pos 4), mod_below m (2 ^ 2) (pow_pos 2))
 
 abbrev IsNear : Entry → Type 0
 IsNear e = (e.forth < 2 ^ 10) × (e.back < 2 ^ 4)
 
-abbrev by_kind : Option EntryKind → ℕ → Option Entry
-by_kind o rest = elim o as (λ _. Option Entry) [ None ↦ None | Some t ↦ Some (entry_by t (widths t) rest) ]
-
 near-kind : (o : Option EntryKind) (rest : ℕ) (e : Entry) → by_kind o rest ≡ Some e → IsNear e
-near-kind None rest e h = absurd (never h)
-  where
-    never : ◌≡◌ {A = Option Entry} None (Some e) → ⊥
-    never q = cc
-near-kind (Some t) rest e h = subst IsNear (inj h) (forth-small t (rest / 2 ^ 8 / 2 ^ 4), back-small t (rest / 2 ^ 8 / 2 ^ 4 / 2 ^ forth_bits t))
-  where
-    inj : ◌≡◌ {A = Option Entry} (Some (entry_by t (widths t) rest)) (Some e) → entry_by t (widths t) rest ≡ e
-    inj q = cc
+near-kind None rest e h = absurd (cc)
+near-kind (Some t) rest e h = let same : entry_by t (widths t) rest ≡ e = cc in subst IsNear same (forth-small t (rest / 2 ^ 8 / 2 ^ 4), back-small t (rest / 2 ^ 8 / 2 ^ 4 / 2 ^ forth_bits t))
 
 near-words : (ps : List Packed) → wides ps ≡ 0 → AreNear (unpacked ps [])
 near-words [] h = tt
@@ -59,113 +47,56 @@ pub record IsBlock (es : List Entry) (n m span : ℕ) : Type 0 where
 -- words that all hold entries
 pub block-of : (ps : List Packed) (ws : List Entry) (n m span : ℕ) → n + m ≤ length ps → wides ps ≡ length ws → wides (take m (drop n ps)) ≡ 0 → span ≡ spans (take m (drop n ps)) → IsBlock (unpacked ps ws) n m span
 block-of ps ws n m span within h none sum =
-    let os = map entry_in ps in
-    let qs = drop n ps in
-    let k = all_beside (take n os) in
-    let vs = drop k ws in
-    let long : length os ≡ length ps = length-map ps entry_in in
-    let after : drop n os ≡ map entry_in qs = drop-map entry_in n ps in
-    let a = halves os ws n (omega (arith, within, long)) h in
-    let rest : drop n (unpacked ps ws) ≡ unpacked qs vs = a.back ∙ ap (λ us. filled us vs) after in
-    let parts : all_beside os ≡ k + wides qs = ap all_beside (sym (take-append-drop n os)) ∙ beside-append (take n os) (drop n os) ∙ ap (λ us. k + all_beside us) after in
-    let left : length vs ≡ length ws - k = length-drop k ws in
-    let all : wides qs ≡ length vs = omega (arith, parts, left, h) in
-    let some : length (map entry_in qs) ≡ length ps - n = length-map qs entry_in ∙ length-drop n ps in
-    let b = halves (map entry_in qs) vs m (omega (arith, some, within)) all in
-    let first : take m (map entry_in qs) ≡ map entry_in (take m qs) = take-map entry_in m qs in
-    let no : all_beside (take m (map entry_in qs)) ≡ 0 = ap all_beside first ∙ none in
-    let is : take m (drop n (unpacked ps ws)) ≡ unpacked (take m qs) [] =
-    ap (take m) rest ∙ b.front ∙ ap (λ j. filled (take m (map entry_in qs)) (take j vs)) no ∙ ap (λ us. filled us []) first in
-    record {
-      span_is = λ start. (let e = filled-end (map entry_in (take m qs)) [] start none in let same = ap (end_of start) is in omega (arith, e, same, sum));
-      near = subst AreNear (sym is) (near-words (take m qs) none);
-    }
+    let k = wides (take n ps) in
+    let a = halves ps ws n (omega arith) h in
+    let all : wides (drop n ps) ≡ length (drop k ws) = omega (arith, ap wides (take-append-drop n ps), wides-append (take n ps) (drop n ps), length-drop k ws) in
+    let b = halves (drop n ps) (drop k ws) m (omega (arith, length-drop n ps)) all in
+    let is : take m (drop n (unpacked ps ws)) ≡ unpacked (take m (drop n ps)) [] = ap (take m) a.back ∙ b.front ∙ ap (λ j. unpacked (take m (drop n ps)) (take j (drop k ws))) none in
+    record { span_is = λ start. omega (arith, filled-end (map entry_in (take m (drop n ps))) [] start none, ap (end_of start) is); near = subst AreNear (sym is) (near-words (take m (drop n ps)) none) }
 
 -- ---- passing over entries
-
-abbrev on-by : ℕ → ℕ → List Entry → Bool → ℕ
-on-by at here es b = if b then suc (front_of at here es) else 0
 
 -- of entries that end far enough before a byte all stand before it with their looks
 pub front-over : (m at start : ℕ) (es : List Entry) → m ≤ length es → AreNear (take m es) → end_of start (take m es) + 2 ^ 10 ≤ at → front_of at start es ≡ m + front_of at (end_of start (take m es)) (drop m es)
 front-over zero at start es h a f = omega arith
 front-over (suc m) at start [] h a f = absurd (omega (arith, h))
 front-over (suc m) at start (e ∷ es) h a f =
-    let here = (start + e.step) + e.gap in
-    let end = end-after here (take m es) in
-    let far = a.0 in
-    let near : here + e.forth ≤ at = omega (arith, end, far, f) in
-    let test : nat_le (here + e.forth) at ≡ true = grind (arith, nat_tests, near) in
-    let one : front_of at start (e ∷ es) ≡ suc (front_of at here es) = ap (on-by at here es) test in
-    let rest = front-over m at here es (omega (arith, h)) a.2 f in
-    omega (arith, one, rest)
-
-and-false : (b : Bool) → (b && false) ≡ false
-and-false true = refl
-and-false false = refl
+    let here = (start + e.step) + e.gap in grind (arith, nat_tests, a.0, end-after here (take m es), front-over m at here es (omega arith) a.2 f)
 
 -- none of entries that end before a byte opens a block at it
 pub opening-over : (m at start number : ℕ) (es : List Entry) → m ≤ length es → end_of start (take m es) < at → opening_of at start number es ≡ opening_of at (end_of start (take m es)) (number + m) (drop m es)
 opening-over zero at start number es h f = ap (λ n. opening_of at start n es) (omega arith)
 opening-over (suc m) at start number [] h f = absurd (omega (arith, h))
 opening-over (suc m) at start number (e ∷ es) h f =
-    let here = (start + e.step) + e.gap in
-    let end = end-after here (take m es) in
-    let less : here < at = omega (arith, end, f) in
-    let test : (is_opening e.kind && here == at) ≡ false = ap (λ b. is_opening e.kind && b) (grind (arith, nat_tests, less)) ∙ and-false (is_opening e.kind) in
-    let one : opening_of at start number (e ∷ es) ≡ opening_of at here (suc number) es = ap (λ (b : Bool). if b then Some number else opening_of at here (suc number) es) test in
-    let count : suc number + m ≡ number + suc m = omega arith in
-    one ∙ opening-over m at here (suc number) es (omega (arith, h)) f ∙ ap (λ n. opening_of at (end_of here (take m es)) n (drop m es)) count
+    let here = (start + e.step) + e.gap in grind (arith, nat_tests, end-after here (take m es), opening-over m at here (suc number) es (omega arith) f)
 
 -- ---- passing back
 
 far : (at start back : ℕ) → at + 2 ^ 4 ≤ start → back < 2 ^ 4 → is_after at start back ≡ true
-far at start back h b = let less : at < suc start - back = omega (arith, h, b) in grind (arith, nat_tests, less)
-
-abbrev most_by : ℕ → ℕ → Bool → ℕ
-most_by count rest b = max (if b then 0 else count) rest
+far at start back h b = let less : at < suc start - back = omega arith in grind (arith, nat_tests)
 
 -- where all looks begin after a byte none counts
 rear-none : (at start count : ℕ) (ys : List Entry) (back : ℕ) → at + 2 ^ 4 ≤ start → AreNear ys → is_after at (end_of start ys) back ≡ true → rear_of at start count ys back ≡ 0
-rear-none at start count [] back h a b = ap (λ (t : Bool). if t then 0 else count) b
-rear-none at start count (y ∷ ys) back h a b =
-    let here = (start + y.step) + y.gap in
-    let rest = rear-none at here (suc count) ys back (omega (arith, h)) a.2 b in
-    let one : rear_of at start count (y ∷ ys) back ≡ max 0 (rear_of at here (suc count) ys back) = ap (most_by count (rear_of at here (suc count) ys back)) (far at start y.back h a.1) in
-    omega (arith, one, rest)
+rear-none at start count [] back h a b = grind arith
+rear-none at start count (y ∷ ys) back h a b = grind (arith, far at start y.back h a.1, rear-none at ((start + y.step) + y.gap) (suc count) ys back (omega arith) a.2 b)
 
 -- entries whose looks begin after a byte, except for those of their first, are passed over
 pub rear-over : (at start count : ℕ) (xs : List Entry) (y : Entry) (ys : List Entry) (back : ℕ) → is_after at (end_of start (xs ++ y ∷ ys)) back ≡ true → AreNear (y ∷ ys) → at + 2 ^ 4 ≤ end_of start xs
     → rear_of at start count (xs ++ y ∷ ys) back ≡ rear_of at start count xs y.back
 rear-over at start count [] y ys back b a h =
-    let rest = rear-none at ((start + y.step) + y.gap) (suc count) ys back (omega (arith, h)) a.2 b in
-    omega (arith, rest)
+    omega (arith, rear-none at ((start + y.step) + y.gap) (suc count) ys back (omega (arith, h)) a.2 b)
 rear-over at start count (x ∷ xs) y ys back b a h =
     let here = (start + x.step) + x.gap in
     ap (max (if is_after at start x.back then 0 else count)) (rear-over at here (suc count) xs y ys back b a h)
 
-pub take-more : (n m : ℕ) (es : List Entry) → take (n + m) es ≡ take n es ++ take m (drop n es)
-take-more zero m es = ap (λ k. take k es) (omega arith)
-take-more (suc n) m [] = let e : suc n + m ≡ suc (n + m) = omega arith in ap (λ k. take k []) e ∙ none m
-  where
-    none : (m : ℕ) → ◌≡◌ {A = List Entry} [] (take m [])
-    none zero = refl
-    none (suc m) = refl
-take-more (suc n) m (e ∷ es) = let s : suc n + m ≡ suc (n + m) = omega arith in ap (λ k. take k (e ∷ es)) s ∙ ap (λ us. e ∷ us) (take-more n m es)
-
--- where the last of some entries ends, in two steps
-pub end-more : (start : ℕ) (xs ys : List Entry) → end_of start (xs ++ ys) ≡ end_of (end_of start xs) ys
-end-more start [] ys = refl
-end-more start (x ∷ xs) ys = end-more ((start + x.step) + x.gap) xs ys
-
 pub end-block : (es : List Entry) (n m : ℕ) → end_of 0 (take (n + m) es) ≡ end_of (end_of 0 (take n es)) (take m (drop n es))
-end-block es n m = ap (end_of 0) (take-more n m es) ∙ end-more 0 (take n es) (take m (drop n es))
+end-block es n m = ap (end_of 0) (take-add n m es) ∙ end-over 0 (take n es) (take m (drop n es))
 
 pub rear-block : (es : List Entry) (at back n : ℕ) (e : Entry) → slice_get es n ≡ Some e → is_after at (end_of 0 (take (n + 16) es)) back ≡ true → AreNear (take 16 (drop n es)) → at + 2 ^ 4 ≤ end_of 0 (take n es)
     → rear_of at 0 0 (take (n + 16) es) back ≡ rear_of at 0 0 (take n es) e.back
 rear-block es at back n e here b near h =
     let block : take 16 (drop n es) ≡ e ∷ take 15 (drop (suc n) es) = ap (take 16) (cut es n e here) in
-    let whole = take-more n 16 es ∙ ap (λ us. take n es ++ us) block in
+    let whole = take-add n 16 es ∙ ap (λ us. take n es ++ us) block in
     ap (λ us. rear_of at 0 0 us back) whole
     ∙ rear-over at 0 0 (take n es) e (take 15 (drop (suc n) es)) back (ap (λ us. is_after at (end_of 0 us) back) (sym whole) ∙ b) (subst AreNear block near) h
 
@@ -195,40 +126,24 @@ back-words (p ∷ ps) ws most h a = step (entry_in p) ws (λ e. near-kind (slice
 -- also after a place
 pub back-after : (ps : List Packed) (ws : List Entry) (n passed most : ℕ) → n ≤ length ps → passed ≡ wides (take n ps) → wides ps ≡ length ws → 2 ^ 4 ≤ most → GoBack most (drop passed ws) → GoBack most (drop n (unpacked ps ws))
 back-after ps ws n passed most within is h far a =
-    let os = map entry_in ps in
-    let long : length os ≡ length ps = length-map ps entry_in in
-    let half = halves os ws n (omega (arith, within, long)) h in
-    let after : drop n os ≡ map entry_in (drop n ps) = drop-map entry_in n ps in
-    let same : all_beside (take n os) ≡ passed = ap all_beside (take-map entry_in n ps) ∙ sym is in
-    let rest : drop n (unpacked ps ws) ≡ unpacked (drop n ps) (drop passed ws) = half.back ∙ ap (λ us. filled us (drop (all_beside (take n os)) ws)) after ∙ ap (λ k. unpacked (drop n ps) (drop k ws)) same in
+    let rest : drop n (unpacked ps ws) ≡ unpacked (drop n ps) (drop passed ws) = (halves ps ws n within h).back ∙ ap (λ k. unpacked (drop n ps) (drop k ws)) (sym is) in
     subst (GoBack most) (sym rest) (back-words (drop n ps) (drop passed ws) most far a)
 
 -- and further on
-back-next : (es : List Entry) (n most : ℕ) → GoBack most (drop n es) → GoBack most (drop (suc n) es)
-back-next [] zero most a = tt
-back-next [] (suc n) most a = tt
-back-next (e ∷ es) zero most a = a.1
-back-next (e ∷ es) (suc n) most a = back-next es n most a
-
-back-later : (es : List Entry) (n most k : ℕ) → GoBack most (drop n es) → GoBack most (drop (k + n) es)
-back-later es n most zero a = let none : n ≡ 0 + n = omega arith in subst (λ m. GoBack most (drop m es)) none a
-back-later es n most (suc k) a =
-    let one : suc (k + n) ≡ suc k + n = omega arith in
-    subst (λ m. GoBack most (drop m es)) one (back-next es (k + n) most (back-later es n most k a))
-
 pub back-on : (es : List Entry) (m n most : ℕ) → m ≤ n → GoBack most (drop m es) → GoBack most (drop n es)
-back-on es m n most h a = let sum : (n - m) + m ≡ n = omega (arith, h) in subst (λ k. GoBack most (drop k es)) sum (back-later es m most (n - m) a)
+back-on [] m zero most h a = tt
+back-on [] m (suc n) most h a = tt
+back-on (e ∷ es) zero zero most h a = a
+back-on (e ∷ es) zero (suc n) most h a = back-on es zero n most (omega arith) a.1
+back-on (e ∷ es) (suc m) zero most h a = absurd (omega arith)
+back-on (e ∷ es) (suc m) (suc n) most h a = back-on es m n most (omega arith) a
 
 far-by : (at start back most : ℕ) → at + most ≤ start → back ≤ most → is_after at start back ≡ true
-far-by at start back most h b = let less : at < suc start - back = omega (arith, h, b) in grind (arith, nat_tests, less)
+far-by at start back most h b = let less : at < suc start - back = omega arith in grind (arith, nat_tests)
 
 none-after : (at start count : ℕ) (ys : List Entry) (back most : ℕ) → at + most ≤ start → GoBack most ys → back ≤ most → rear_of at start count ys back ≡ 0
-none-after at start count [] back most h a b = ap (λ (t : Bool). if t then 0 else count) (far-by at start back most h b)
-none-after at start count (y ∷ ys) back most h a b =
-    let here = (start + y.step) + y.gap in
-    let rest = none-after at here (suc count) ys back most (omega (arith, h)) a.1 b in
-    let one : rear_of at start count (y ∷ ys) back ≡ max 0 (rear_of at here (suc count) ys back) = ap (most_by count (rear_of at here (suc count) ys back)) (far-by at start y.back most h a.0) in
-    omega (arith, one, rest)
+none-after at start count [] back most h a b = grind (arith, far-by at start back most h b)
+none-after at start count (y ∷ ys) back most h a b = grind (arith, far-by at start y.back most h a.0, none-after at ((start + y.step) + y.gap) (suc count) ys back most (omega arith) a.1 b)
 
 -- how far back the looks of the first of some entries begin, or `back` if there is none
 abbrev first_back : ℕ → List Entry → ℕ
@@ -238,8 +153,7 @@ first_back back (y ∷ ys) = y.back
 rear-cut : (at start count : ℕ) (xs ys : List Entry) (back most : ℕ) → at + most ≤ end_of start xs → GoBack most ys → back ≤ most → rear_of at start count (xs ++ ys) back ≡ rear_of at start count xs (first_back back ys)
 rear-cut at start count [] [] back most h a b = refl
 rear-cut at start count [] (y ∷ ys) back most h a b =
-    let rest = none-after at ((start + y.step) + y.gap) (suc count) ys back most (omega (arith, h)) a.1 b in
-    omega (arith, rest)
+    omega (arith, none-after at ((start + y.step) + y.gap) (suc count) ys back most (omega (arith, h)) a.1 b)
 rear-cut at start count (x ∷ xs) ys back most h a b =
     let here = (start + x.step) + x.gap in
     ap (max (if is_after at start x.back then 0 else count)) (rear-cut at here (suc count) xs ys back most h a b)

@@ -11,14 +11,10 @@ use Rattle.typst_candidates.specs.Cursors.{inside_after, leads, pieces_of, token
 
 -- ---- whether a byte is among them
 
-or-true : (b : Bool) → (b || true) ≡ true
-or-true true = refl
-or-true false = refl
-
 among-at : (b : ℕ) (xs : List ℕ) (i : ℕ) → i < length xs → get_or xs i 0 ≡ b → is_among b xs ≡ true
 among-at b [] i h e = absurd (omega (arith, h))
-among-at b (x ∷ xs) zero h e = ap (λ t. t || is_among b xs) (eq-eqb b x (sym e))
-among-at b (x ∷ xs) (suc i) h e = ap (λ t. (b == x) || t) (among-at b xs i (omega (arith, h)) e) ∙ or-true (b == x)
+among-at b (x ∷ xs) zero h e = rw (eq-eqb b x (sym e))
+among-at b (x ∷ xs) (suc i) h e = let later = among-at b xs i (omega arith) e in grind arith
 
 among-none : (b : ℕ) (xs : List ℕ) → ((k : ℕ) → k < length xs → b ≡ get_or xs k 0 → ⊥) → is_among b xs ≡ false
 among-none b [] h = refl

@@ -90,10 +90,6 @@ on_step f all n h e =
     let next : n + 1 ≡ suc n = omega arith in
     rw more (rw e (ap (on_past f (all - (n + 1))) (sym next)))
 
-pub on_stop : (f : ℕ → Bool) (limit n : ℕ) → f n ≡ false → on_past f limit n ≡ n
-on_stop f zero n e = refl
-on_stop f (suc limit) n e = rw e refl
-
 -- ---- how many begin before a byte
 
 begun_suc : (b at : ℕ) (ts : List Tree) (n : ℕ) → n < length ts → begins at ts n < b → begun b (laid (begins at ts n) (drop n ts)) ≡ suc (begun b (laid (begins at ts (suc n)) (drop (suc n) ts)))
@@ -120,8 +116,7 @@ begun_stop b at ts n known h = omega (arith, known, begun_none b (begins at ts n
 
 pub begun_all : (b at : ℕ) (ts : List Tree) (n : ℕ) → Begun b at ts n → length ts ≤ n → begun b (laid at ts) ≡ n
 begun_all b at ts n known h =
-    let none : drop n ts ≡ [] = drop_of_length-le ts h in
-    omega (arith, known, ap (λ us. begun b (laid (begins at ts n) us)) none)
+    omega (arith, known, ap (λ us. begun b (laid (begins at ts n) us)) (drop_of_length-le ts h))
 
 -- where one begins before a byte, so do those before it
 pub begun_upto : (b at : ℕ) (ts : List Tree) (n : ℕ) → n < length ts → begins at ts n < b → Begun b at ts (n + 1)
@@ -160,25 +155,19 @@ ended_from b at (x ∷ ts) (suc n) h le =
     let last : begins (at + length (text_of x)) ts n ≤ b = le (omega arith) in
     let here : at + length (text_of x) ≤ b = omega (arith, last, begins_least (at + length (text_of x)) ts n) in
     let yes : nat_le (at + length (text_of x)) b ≡ true = grind (arith, nat_tests) in
-    let more = ended_from b (at + length (text_of x)) ts n (omega arith) (λ _. last) in
-    rw yes (omega (arith, more))
+    rw yes (omega (arith, ended_from b (at + length (text_of x)) ts n (omega arith) (λ _. last)))
 
 pub ended_next : (b at : ℕ) (ts : List Tree) (n : ℕ) → Ended b at ts n → n < length ts → begins at ts (n + 1) ≤ b → Ended b at ts (n + 1)
 ended_next b at ts n known h le =
-    let next : n + 1 ≡ suc n = omega arith in
-    let le' : begins at ts (suc n) ≤ b = rw next at le in
-    rw next (omega (arith, known, ended_suc b at ts n h le'))
+    rw add-one (omega (arith, known, ended_suc b at ts n h (rw add-one at le)))
 
 pub ended_stop : (b at : ℕ) (ts : List Tree) (n : ℕ) → Ended b at ts n → n < length ts → b < begins at ts (n + 1) → ended b (laid at ts) ≡ n
 ended_stop b at ts n known h lt =
-    let next : n + 1 ≡ suc n = omega arith in
-    let lt' : b < begins at ts (suc n) = rw next at lt in
-    omega (arith, known, ended_none b at ts n h lt')
+    omega (arith, known, ended_none b at ts n h (rw add-one at lt))
 
 pub ended_all : (b at : ℕ) (ts : List Tree) (n : ℕ) → Ended b at ts n → length ts ≤ n → ended b (laid at ts) ≡ n
 ended_all b at ts n known h =
-    let none : drop n ts ≡ [] = drop_of_length-le ts h in
-    omega (arith, known, ap (λ us. ended b (laid (begins at ts n) us)) none)
+    omega (arith, known, ap (λ us. ended b (laid (begins at ts n) us)) (drop_of_length-le ts h))
 
 -- ---- the children near an edit
 
@@ -190,11 +179,7 @@ first_all b at ts n m known h e = omega (arith, e, begun_all b at ts n known h)
 
 -- from the last one back
 begun_here : (b at : ℕ) (ts : List Tree) (n : ℕ) → Begun b at ts n → (n < length ts → b ≤ begins at ts n) → begun b (laid at ts) ≡ n
-begun_here b at ts n known after = pick (nat_lt n (length ts)) refl
-  where
-    pick : (c : Bool) → nat_lt n (length ts) ≡ c → begun b (laid at ts) ≡ n
-    pick true e = begun_stop b at ts n known (after (grind (arith, nat_tests)))
-    pick false e = let all : length ts ≤ n = grind (arith, nat_tests) in begun_all b at ts n known all
+begun_here b at ts n known after = grind (arith, begun_stop b at ts n known, begun_all b at ts n known)
 
 pub back_stop_first : (b at : ℕ) (ts : List Tree) (n m : ℕ) → n ≤ length ts → (n < length ts → b ≤ begins at ts n) → 0 < n → m ≡ n - 1 → begins at ts m < b → m ≡ first_near b (laid at ts)
 back_stop_first b at ts n m within after some e lt =

@@ -1,6 +1,6 @@
 -- Candidates one after the other.
 use Rattle.std.proofs.Common.{◌≡◌, ℕ, zero, suc, ◌+◌, ◌-◌, ◌*◌, ◌^◌, ◌<◌, ◌≤◌, max, min, Bool, true, false, List, [], ◌∷◌, ◌++◌, length, take, get_or, refl, ap, sym, ◌∙◌, arith, append_assoc, if◌then◌else◌, Some, None, length-append}
-use Rattle.std.specs.Prelude.{◌==◌, nat_lt, map, Option}
+use Rattle.std.specs.Prelude.{◌==◌, map, Option}
 use Rattle.std.proofs.lemmas.Bool.Decides.{nat_tests}
 use Rattle.std.proofs.lemmas.List.{append-nil, map-append, take-take, take_at}
 use Rattle.typst_kinds.specs.declared.kind.SyntaxKind.{SyntaxKind}
@@ -57,11 +57,7 @@ all_taken cuts at ts i j x h le =
     rw (left, right, rest, same) refl
 
 pub not_all : (cuts : List ℕ) (at : ℕ) (ts : List Tree) (i j x : ℕ) → i ≤ length ts → is_all (laid at ts) (around cuts (laid at ts) i j x) ≡ false → x < length ts
-not_all cuts at ts i j x h e = pick (nat_lt x (length ts)) refl
-  where
-    pick : (b : Bool) → nat_lt x (length ts) ≡ b → x < length ts
-    pick true p = grind (arith, nat_tests)
-    pick false p = let le : length ts ≤ x = grind (arith, nat_tests) in let all = all_taken cuts at ts i j x h le in absurd (cc)
+not_all cuts at ts i j x h e = grind (arith, all_taken cuts at ts i j x h)
 
 pub all_by_test : (cs : List Child) (w s : ChildRange) (b : Bool) → w ≡ s → is_all cs w ≡ b → is_all cs s ≡ b
 all_by_test cs w s b e f = ap (is_all cs) (sym e) ∙ f

@@ -1,5 +1,5 @@
 -- What the numbers of records decide.
-use Rattle.std.proofs.Common.{◌≡◌, ℕ, suc, ◌+◌, ◌-◌, ◌≤◌, ◌<◌, ◌↔◌, max, nat_le, Bool, true, false, if◌then◌else◌, List, [], ◌∷◌, ◌++◌, length, refl, ap, sym, subst, arith}
+use Rattle.std.proofs.Common.{◌≡◌, ℕ, suc, ◌+◌, ◌-◌, ◌≤◌, ◌<◌, ◌↔◌, max, nat_le, Bool, true, if◌then◌else◌, List, [], ◌∷◌, ◌++◌, length, refl, ap, sym, subst, arith}
 use Rattle.std.proofs.lemmas.Bool.Decides.{nat_tests}
 use Rattle.typst_language.specs.declared.calls.Note.{Note}
 use Rattle.typst_candidates.specs.declared.entry.Entry.{Entry}
@@ -18,12 +18,11 @@ step-front at start n es a b = ap (λ here. if nat_le (here + (n.reach - n.start
 
 -- a note's token begins no earlier than that of one before it
 rises : (start : ℕ) (ns more : List Note) (n : Note) → IsRising start (ns ++ n ∷ more) → start ≤ n.start
-rises start [] more n r = let a = r.0 in let b = r.1 in omega (arith, a, b)
-rises start (m ∷ ns) more n r = let a = r.0 in let b = r.1 in let c = rises m.start ns more n r.2 in omega (arith, a, b, c)
+rises start [] more n r = omega arith
+rises start (m ∷ ns) more n r = omega (arith, rises m.start ns more n r.2)
 
 counted : (at reach start rest : ℕ) (b : Bool) → nat_le (start + (reach - start)) at ≡ b → start ≤ at → (n : ℕ) → (n < (if b then suc rest else 0) ↔ (reach ≤ at) × (n ≤ rest))
-counted at reach start rest true e s n = ((λ h. (let d : start + (reach - start) ≤ at = grind (arith, nat_tests, e) in (omega (arith, d), omega (arith, h)))), (λ h. (let d = h.1 in omega (arith, d))))
-counted at reach start rest false e s n = ((λ h. absurd (omega (arith, h))), (λ h. (let d : at < start + (reach - start) = grind (arith, nat_tests, e) in let f = h.0 in absurd (omega (arith, d, f)))))
+counted at reach start rest b e s n = (λ h. grind (arith, nat_tests), λ h. grind (arith, nat_tests))
 
 front-by : (ns more : List Note) (n : Note) (at start : ℕ) → IsRising start (ns ++ n ∷ more) → n.start ≤ at
     → (length ns < front_of at start (entries_by start (ns ++ n ∷ more)) ↔ AllEnd at (ns ++ n ∷ []))
@@ -33,8 +32,7 @@ front-by [] more n at start r h =
     ((λ l. ((c.0 (subst (λ j. 0 < j) e l)).0, tt)), (λ a. subst (λ j. 0 < j) (sym e) (c.1 (a.0, omega arith))))
 front-by (m ∷ ns) more n at start r h =
     let e = step-front at start m (entries_by m.start (ns ++ n ∷ more)) r.0 r.1 in
-    let rise = rises m.start ns more n r.2 in
-    let here : m.start ≤ at = omega (arith, rise) in
+    let here : m.start ≤ at = omega (arith, rises m.start ns more n r.2) in
     let c = counted at m.reach m.start (front_of at m.start (entries_by m.start (ns ++ n ∷ more))) _ refl here (suc (length ns)) in
     let i = front-by ns more n at m.start r.2 h in
     ((λ l. (let d = c.0 (subst (λ j. suc (length ns) < j) e l) in (d.0, i.0 d.1))), (λ a. subst (λ j. suc (length ns) < j) (sym e) (c.1 (a.0, i.1 a.1))))
@@ -46,18 +44,11 @@ front-law ns more n at r h = front-by ns more n at 0 r h
 
 -- after a token at a byte or after it looks begin after the byte just where their number is greater
 after-is : (at start least : ℕ) → at ≤ start → (is_after at start (back_of start least) ≡ true ↔ at < least)
-after-is at start least h = (
-  (λ e. (let d : at < suc start - (suc start - least) = grind (arith, nat_tests, e) in omega (arith, d))),
-  (λ l. (let d : at < suc start - (suc start - least) = omega (arith, l) in grind (arith, nat_tests, d))),
-)
+after-is at start least h = (λ e. grind (arith, nat_tests), λ l. grind (arith, nat_tests))
 
 -- a number that stands for a look that begins too early is more than so many
 passes : (b : Bool) (number c : ℕ) → c < number → ((if b then 0 else number) ≤ c ↔ b ≡ true)
-passes true number c l = ((λ h. refl), (λ e. omega arith))
-passes false number c l = ((λ h. absurd (omega (arith, h, l))), (λ e. absurd (false-true e)))
-  where
-    false-true : false ≡ true → ⊥
-    false-true e = cc
+passes b number c l = (λ h. grind arith, λ h. grind arith)
 
 step-rear : (at start number : ℕ) (n : Note) (es : List Entry) (back : ℕ) → start ≤ n.before → n.before ≤ n.start
     → rear_of at start number (entry_of start n ∷ es) back ≡ max (if is_after at start (back_of start n.least) then 0 else number) (rear_of at n.start (suc number) es back)
@@ -83,8 +74,7 @@ tail-by (n ∷ more) at least start number c l h r =
     )
 
 small : (b : Bool) (number c : ℕ) → number ≤ c → (if b then 0 else number) ≤ c
-small true number c h = omega arith
-small false number c h = h
+small b number c h = grind arith
 
 rear-by : (ns more : List Note) (n : Note) (at least start number : ℕ) → IsRising start (ns ++ n ∷ more) → at ≤ n.start
     → (rear_of at start number (entries_by start (ns ++ n ∷ more)) (back_of (last_start start (ns ++ n ∷ more)) least) ≤ number + length ns ↔ AllBegin at more least)

@@ -1,6 +1,6 @@
 -- On the way down to the replaced bytes and back.
 use Rattle.std.proofs.Common.{◌≡◌, ℕ, zero, suc, ◌+◌, ◌^◌, ◌<◌, ◌≤◌, Bool, true, false, List, [], ◌∷◌, ◌++◌, length, take, drop, get_or, refl, ap, sym, subst, ◌∙◌, arith, append_assoc, length-append, if◌then◌else◌, Option, Some, None}
-use Rattle.std.specs.Prelude.{◌==◌, option_and_then, slice_get}
+use Rattle.std.specs.Prelude.{option_and_then, slice_get}
 use Rattle.std.proofs.lemmas.Bool.Decides.{nat_tests}
 use Rattle.std.proofs.lemmas.List.{append-nil, length-take, take-append-le, take-take}
 use Rattle.std.proofs.lemmas.Option.{get_or_from_slice_get, slice_get_past, slice_get_read, slice_get_within}
@@ -104,22 +104,20 @@ pub record Covered (rs re : ℕ) (s : Stop) (t : Tree) : Type 0 where
   pub is : t ≡ get_or (kids s) s.near.first.index t
   pub covers : is_covered rs re s.near t.head.is_inner ≡ true
 
-pub covered : (rs re : ℕ) (s : Stop) (t : Tree) → covering rs re s ≡ Some t → Covered rs re s t
-covered rs re s t e = pick (slice_get (kids s) s.near.first.index) refl e
-  where
-    test : (u : Tree) → slice_get (kids s) s.near.first.index ≡ Some u → (b : Bool) → is_covered rs re s.near u.head.is_inner ≡ b → (if b then Some u else None) ≡ Some t → Covered rs re s t
-    test u there true f same =
-        let here : u ≡ t = cc in
-        record {
-          within = slice_get_within (kids s) s.near.first.index u there;
-          is = sym (get_or_from_slice_get (kids s) s.near.first.index t t (there ∙ ap Some here));
-          covers = ap (λ (v : Tree). is_covered rs re s.near v.head.is_inner) (sym here) ∙ f;
-        }
-    test u there false f same = absurd (cc)
+covered-at : (rs re : ℕ) (s : Stop) (t : Tree) → covering rs re s ≡ Some t → slice_get (kids s) s.near.first.index ≡ Some t
+covered-at rs re s t e = grind arith
 
-    pick : (o : Option Tree) → slice_get (kids s) s.near.first.index ≡ o → Test rs re s o ≡ Some t → Covered rs re s t
-    pick None there same = absurd (cc)
-    pick (Some u) there same = test u there (is_covered rs re s.near u.head.is_inner) refl same
+covered-by : (rs re : ℕ) (s : Stop) (t : Tree) → covering rs re s ≡ Some t → is_covered rs re s.near t.head.is_inner ≡ true
+covered-by rs re s t e = grind arith
+
+pub covered : (rs re : ℕ) (s : Stop) (t : Tree) → covering rs re s ≡ Some t → Covered rs re s t
+covered rs re s t e =
+    let there = covered-at rs re s t e in
+    record {
+      within = slice_get_within (kids s) s.near.first.index t there;
+      is = sym (get_or_from_slice_get (kids s) s.near.first.index t t there);
+      covers = covered-by rs re s t e;
+    }
 
 -- nothing below a stop without one
 pub none-below : (ns : List Note) (rs re : ℕ) (path : List ℕ) (s : Stop) → IsNear (inside s) (kids s) rs re s.near → covering rs re s ≡ None → below ns rs re path s.at s.node.now ≡ []
@@ -141,26 +139,20 @@ none-below ns rs re path s near e = pick (slice_get (kids s) s.near.first.index)
 
 -- it alone is near them
 pub alone : (rs re : ℕ) (near : Near) (inner : Bool) → is_covered rs re near inner ≡ true → near.end.index ≡ suc near.first.index
-alone rs re near inner covers = pick (near.end.index == suc near.first.index) refl
-  where
-    pick : (b : Bool) → (near.end.index == suc near.first.index) ≡ b → near.end.index ≡ suc near.first.index
-    pick true f = grind (arith, nat_tests)
-    pick false f = let other : is_covered rs re near inner ≡ false = rw f refl in absurd (cc)
+alone rs re near inner covers = grind (arith, nat_tests)
 
 -- its end can be counted
 pub covered-fits : (rs re : ℕ) (s : Stop) (t : Tree) → Covered rs re s t → s.near.first.byte + length (text_of t) < 2 ^ 64
 covered-fits rs re s t is =
-    let small = child_fits (inside s) (kids s) s.near.first.index t is.within (fits_of s.at (inside s) s.node.now (kids s) refl refl s.fits) in
     let same : length (text_of t) ≡ length (text_of (get_or (kids s) s.near.first.index t)) = ap (λ (v : Tree). length (text_of v)) is.is in
-    omega (arith, small, same, s.first.byte)
+    omega (arith, child_fits (inside s) (kids s) s.near.first.index t is.within (fits_of s.at (inside s) s.node.now (kids s) refl refl s.fits), same, s.first.byte)
 
 -- it has fewer nodes
 pub covered-fewer : (rs re : ℕ) (s : Stop) (t u : Tree) → Covered rs re s t → u ≡ t → nodes u < nodes s.node.now
 covered-fewer rs re s t u is e =
-    let less = fewer (kids s) s.near.first.index t is.within in
     let same : nodes u ≡ nodes (get_or (kids s) s.near.first.index t) = ap nodes (e ∙ is.is) in
     let all : count (forest (kids s)) ≡ count s.node.now.kids = ap count (forest_trees s.node.now.kids) in
-    omega (arith, less, same, all)
+    omega (arith, fewer (kids s) s.near.first.index t is.within, same, all)
 
 -- stretches of a run by the children near the replaced bytes
 run-is : (rs re : ℕ) (path final : List ℕ) (s : Stop) (run : Option (List ℕ)) → IsNear (inside s) (kids s) rs re s.near → take s.depth final ≡ path → run_of final s run ≡ of_run rs re path (inside s) (kids s) run

@@ -1,16 +1,13 @@
 -- What is kept of how many entries stand beside words.
-use Rattle.std.proofs.Common.{◌≡◌, ℕ, zero, suc, ◌≤◌, List, [], ◌∷◌, ◌++◌, length, take, refl, ap, sym, ◌∙◌, arith}
-use Rattle.std.proofs.lemmas.List.{length-append, take-append-le}
+use Rattle.std.proofs.Common.{◌≡◌, ℕ, ◌≤◌, List, [], ◌∷◌, ◌++◌, length, take, ap, sym, ◌∙◌, arith}
+use Rattle.std.proofs.lemmas.List.{length-append, take-append-le, take-take}
 use Rattle.typst_candidates.specs.declared.entries.Tally.{Tally}
 use Rattle.typst_candidates.specs.declared.packed.Packed.{Packed}
 use Rattle.typst_candidates.specs.Tallies.{IsTally}
 use Rattle.typst_candidates.specs.Packed.{wides}
 
 pub fewer : {A : Type 0} (i m : ℕ) (us : List A) → i ≤ m → take i us ≡ take i (take m us)
-fewer zero m us h = refl
-fewer (suc i) zero us h = absurd (omega (arith, h))
-fewer (suc i) (suc m) [] h = refl
-fewer (suc i) (suc m) (u ∷ us) h = ap (λ vs. u ∷ vs) (fewer i m us (omega (arith, h)))
+fewer i m us h = sym (take-take i m us h)
 
 pub tally-upto : (n : ℕ) (ps qs : List Packed) (m : Tally) → IsTally ps m → m.number ≤ n → take n qs ≡ take n ps → n ≤ length qs → IsTally qs m
 tally-upto n ps qs m h le same long =
@@ -19,5 +16,4 @@ tally-upto n ps qs m h le same long =
 
 pub tally-append : (ps : List Packed) (p : Packed) (m : Tally) → IsTally ps m → IsTally (ps ++ p ∷ []) m
 tally-append ps p m h =
-    let long = length-append ps (p ∷ []) in
-    tally-upto (length ps) ps (ps ++ p ∷ []) m h h.within (take-append-le (length ps) ps (p ∷ []) (omega arith)) (omega (arith, long))
+    tally-upto (length ps) ps (ps ++ p ∷ []) m h h.within (take-append-le (length ps) ps (p ∷ []) (omega arith)) (omega (arith, length-append ps (p ∷ [])))

@@ -1,6 +1,6 @@
 -- A stretch of a run that lies in a window is the same by the pieces that begin there alone.
-use Rattle.std.proofs.Common.{◌≡◌, ℕ, zero, suc, ◌+◌, ◌-◌, ◌≤◌, ◌<◌, Bool, true, false, max, min, List, [], ◌∷◌, ◌++◌, length, take, refl, ap, sym, ◌∙◌, arith, nat_lt, nat_le}
-use Rattle.std.specs.Prelude.{◌==◌, ◌||◌, ◌&&◌, not}
+use Rattle.std.proofs.Common.{◌≡◌, ℕ, zero, suc, ◌+◌, ◌-◌, ◌≤◌, Bool, true, false, max, min, List, [], ◌∷◌, ◌++◌, length, take, refl, ap, sym, ◌∙◌, arith, nat_lt, nat_le}
+use Rattle.std.specs.Prelude.{◌||◌, ◌&&◌, not}
 use Rattle.std.proofs.lemmas.Bool.{leb-true}
 use Rattle.std.proofs.lemmas.Bool.Decides.{nat_tests}
 use Rattle.std.proofs.lemmas.Bool.{and_parts}
@@ -8,7 +8,7 @@ use Rattle.std.proofs.Math.Seq.{take-append-add, take-append_seam}
 use Rattle.typst_tree.specs.Tree.{Tree, text_of}
 use Rattle.typst_candidates.specs.declared.cuts.Window.{Window}
 use Rattle.typst_candidates.specs.declared.children.ChildRange as children
-use Rattle.typst_candidates.specs.Candidates.{Child, ChildRange, laid, begun, ended, first_near, end_near, clings, is_hash, is_among, leads, holds_at, back_past, on_past, begins, with_hash, from_of, to_of, around}
+use Rattle.typst_candidates.specs.Candidates.{Child, ChildRange, laid, begun, ended, first_near, end_near, clings, is_among, leads, holds_at, back_past, on_past, begins, with_hash, from_of, to_of, around}
 use Rattle.typst_candidates.specs.Edges.{IsEdge, indices, within}
 use Rattle.typst_candidates.proofs.Edges.{laid_length, begins_order, begun_none}
 
@@ -16,19 +16,7 @@ use Rattle.typst_candidates.proofs.Edges.{laid_length, begins_order, begun_none}
 
 among_within : (w : Window) (b : ℕ) (bs : List ℕ) → w.from ≤ b → b ≤ w.to → is_among b (within w bs) ≡ is_among b bs
 among_within w b [] from to = refl
-among_within w b (c ∷ cs) from to = pick (among_within w b cs from to) (nat_le w.from c && nat_le c w.to) refl
-  where
-    other : (t : Bool) → (b == c) ≡ t → (nat_le w.from c && nat_le c w.to) ≡ false → t ≡ false
-    other false e f = refl
-    other true e f =
-        let same : b ≡ c = grind (arith, nat_tests) in
-        let low : nat_le w.from c ≡ true = grind (arith, nat_tests) in
-        let high : nat_le c w.to ≡ true = grind (arith, nat_tests) in
-        absurd (cc)
-
-    pick : is_among b (within w cs) ≡ is_among b cs → (t : Bool) → (nat_le w.from c && nat_le c w.to) ≡ t → is_among b (within w (c ∷ cs)) ≡ is_among b (c ∷ cs)
-    pick rest true e = rw e (ap (λ (o : Bool). (b == c) || o) rest)
-    pick rest false e = rw (e, other (b == c) refl e) rest
+among_within w b (c ∷ cs) from to = grind (arith, nat_tests, among_within w b cs from to)
 
 leads_within : (w : Window) (bs : List ℕ) (c : Child) → w.from ≤ c.start → c.start ≤ w.to → leads (within w bs) c ≡ leads bs c
 leads_within w bs c from to = ap (λ (o : Bool). nat_lt c.start c.end && o) (among_within w c.start bs from to)
@@ -42,66 +30,40 @@ holds_same f g at (t ∷ ts) (suc n) same = holds_same f g (at + length (text_of
 
 back_most : (f : ℕ → Bool) (n : ℕ) → back_past f n ≤ n
 back_most f zero = omega arith
-back_most f (suc n) = pick (back_most f n) (f (suc n)) refl
-  where
-    pick : back_past f n ≤ n → (b : Bool) → f (suc n) ≡ b → back_past f (suc n) ≤ suc n
-    pick less true e = let here : back_past f (suc n) ≡ back_past f n = rw e refl in omega (arith, here, less)
-    pick less false e = let here : back_past f (suc n) ≡ suc n = rw e refl in omega (arith, here)
+back_most f (suc n) = grind (arith, back_most f n)
 
 back_same : (f g : ℕ → Bool) (n : ℕ) → ((k : ℕ) → back_past f n ≤ k → k ≤ n → f k ≡ g k) → back_past f n ≡ back_past g n
 back_same f g zero same = refl
 back_same f g (suc n) same = pick (back_same f g n) (f (suc n)) refl
   where
-    most : back_past f (suc n) ≤ suc n
-    most = back_most f (suc n)
-
     pick : (((k : ℕ) → back_past f n ≤ k → k ≤ n → f k ≡ g k) → back_past f n ≡ back_past g n) → (b : Bool) → f (suc n) ≡ b → back_past f (suc n) ≡ back_past g (suc n)
     pick less true e =
-        let here : back_past f (suc n) ≡ back_past f n = rw e refl in
-        let there : g (suc n) ≡ true = sym (same (suc n) most (omega arith)) ∙ e in
-        let further : back_past g (suc n) ≡ back_past g n = rw there refl in
-        here ∙ (less (λ k low high. same k (omega (arith, here, low)) (omega (arith, high))) ∙ sym further)
+        let there : g (suc n) ≡ true = sym (same (suc n) (back_most f (suc n)) (omega arith)) ∙ e in
+        rw (e, there) (less (λ k low high. same k (rw e low) (omega arith)))
     pick less false e =
-        let here : back_past f (suc n) ≡ suc n = rw e refl in
-        let there : g (suc n) ≡ false = sym (same (suc n) most (omega arith)) ∙ e in
-        let stops : back_past g (suc n) ≡ suc n = rw there refl in
-        here ∙ sym stops
+        let there : g (suc n) ≡ false = sym (same (suc n) (back_most f (suc n)) (omega arith)) ∙ e in
+        rw (e, there)
 
 on_least : (f : ℕ → Bool) (limit n : ℕ) → n ≤ on_past f limit n
 on_least f zero n = omega arith
-on_least f (suc limit) n = pick (on_least f limit (suc n)) (f n) refl
-  where
-    pick : suc n ≤ on_past f limit (suc n) → (b : Bool) → f n ≡ b → n ≤ on_past f (suc limit) n
-    pick next true e = let here : on_past f (suc limit) n ≡ on_past f limit (suc n) = rw e refl in omega (arith, here, next)
-    pick next false e = let here : on_past f (suc limit) n ≡ n = rw e refl in omega (arith, here)
+on_least f (suc limit) n = grind (arith, on_least f limit (suc n))
 
 on_same : (f g : ℕ → Bool) (limit n : ℕ) → ((k : ℕ) → n ≤ k → k ≤ on_past f limit n → f k ≡ g k) → on_past f limit n ≡ on_past g limit n
 on_same f g zero n same = refl
 on_same f g (suc limit) n same = pick (on_same f g limit (suc n)) (f n) refl
   where
-    least : n ≤ on_past f (suc limit) n
-    least = on_least f (suc limit) n
-
     pick : (((k : ℕ) → suc n ≤ k → k ≤ on_past f limit (suc n) → f k ≡ g k) → on_past f limit (suc n) ≡ on_past g limit (suc n)) → (b : Bool) → f n ≡ b → on_past f (suc limit) n ≡ on_past g (suc limit) n
     pick next true e =
-        let here : on_past f (suc limit) n ≡ on_past f limit (suc n) = rw e refl in
-        let there : g n ≡ true = sym (same n (omega arith) least) ∙ e in
-        let further : on_past g (suc limit) n ≡ on_past g limit (suc n) = rw there refl in
-        here ∙ (next (λ k low high. same k (omega (arith, low)) (omega (arith, here, high))) ∙ sym further)
+        let there : g n ≡ true = sym (same n (omega arith) (on_least f (suc limit) n)) ∙ e in
+        rw (e, there) (next (λ k low high. same k (omega arith) (rw e high)))
     pick next false e =
-        let here : on_past f (suc limit) n ≡ n = rw e refl in
-        let there : g n ≡ false = sym (same n (omega arith) least) ∙ e in
-        let stops : on_past g (suc limit) n ≡ n = rw there refl in
-        here ∙ sym stops
+        let there : g n ≡ false = sym (same n (omega arith) (on_least f (suc limit) n)) ∙ e in
+        rw (e, there)
 
 -- ---- a stretch in a window
 
 hash_most : (cs : List Child) (n : ℕ) → with_hash cs n ≤ n
-hash_most cs n = pick (nat_lt 0 n && holds_at (λ c. is_hash c.node) cs (n - 1)) refl
-  where
-    pick : (b : Bool) → (nat_lt 0 n && holds_at (λ c. is_hash c.node) cs (n - 1)) ≡ b → with_hash cs n ≤ n
-    pick true e = let here : with_hash cs n ≡ n - 1 = rw e refl in omega (arith, here)
-    pick false e = let here : with_hash cs n ≡ n = rw e refl in omega (arith, here)
+hash_most cs n = grind arith
 
 module _ (w : Window) (bs : List ℕ) (at : ℕ) (ts : List Tree) (i j x : ℕ) (order : i ≤ j) (last : j ≤ length ts)
     (low : w.from ≤ begins at ts (from_of (within w bs) (laid at ts) i x)) (high : begins at ts (to_of (within w bs) (laid at ts) j x) ≤ w.to) where
@@ -164,26 +126,11 @@ in_window w bs cuts at ts i j x s order last e from to is lies =
 
 begun_ended : (rs re at : ℕ) (ts : List Tree) → rs ≤ re → begun rs (laid at ts) ≤ suc (ended re (laid at ts))
 begun_ended rs re at [] h = omega arith
-begun_ended rs re at (t ∷ ts) h = pick (begun_ended rs re (at + length (text_of t)) ts h) (nat_lt at rs) (nat_le (at + length (text_of t)) re) refl refl
-  where
-    pick : begun rs (laid (at + length (text_of t)) ts) ≤ suc (ended re (laid (at + length (text_of t)) ts)) → (a b : Bool) → nat_lt at rs ≡ a → nat_le (at + length (text_of t)) re ≡ b → begun rs (laid at (t ∷ ts)) ≤ suc (ended re (laid at (t ∷ ts)))
-    pick rest false b e f = let none : begun rs (laid at (t ∷ ts)) ≡ 0 = rw e refl in omega (arith, none)
-    pick rest true true e f =
-        let one : begun rs (laid at (t ∷ ts)) ≡ suc (begun rs (laid (at + length (text_of t)) ts)) = rw e refl in
-        let too : ended re (laid at (t ∷ ts)) ≡ suc (ended re (laid (at + length (text_of t)) ts)) = rw f refl in
-        omega (arith, one, too, rest)
-    pick rest true false e f =
-        let one : begun rs (laid at (t ∷ ts)) ≡ suc (begun rs (laid (at + length (text_of t)) ts)) = rw e refl in
-        let after : re < at + length (text_of t) = grind (arith, nat_tests) in
-        omega (arith, one, begun_none rs (at + length (text_of t)) ts (omega (arith, after, h)))
+begun_ended rs re at (t ∷ ts) h = grind (arith, nat_tests, begun_ended rs re (at + length (text_of t)) ts h, begun_none rs (at + length (text_of t)) ts)
 
 begun_most : (b at : ℕ) (ts : List Tree) → begun b (laid at ts) ≤ length ts
 begun_most b at [] = omega arith
-begun_most b at (t ∷ ts) = pick (begun_most b (at + length (text_of t)) ts) (nat_lt at b) refl
-  where
-    pick : begun b (laid (at + length (text_of t)) ts) ≤ length ts → (a : Bool) → nat_lt at b ≡ a → begun b (laid at (t ∷ ts)) ≤ length (t ∷ ts)
-    pick rest false e = let none : begun b (laid at (t ∷ ts)) ≡ 0 = rw e refl in omega (arith, none)
-    pick rest true e = let one : begun b (laid at (t ∷ ts)) ≡ suc (begun b (laid (at + length (text_of t)) ts)) = rw e refl in omega (arith, one, rest)
+begun_most b at (t ∷ ts) = grind (arith, begun_most b (at + length (text_of t)) ts)
 
 pub near_order : (rs re at : ℕ) (ts : List Tree) → rs ≤ re → first_near rs (laid at ts) ≤ end_near re (laid at ts)
 near_order rs re at ts h = omega (arith, begun_ended rs re at ts h, begun_most rs at ts, laid_length at ts)

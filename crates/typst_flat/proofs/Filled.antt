@@ -1,5 +1,6 @@
 -- The records of the nodes that a walk has come to are in an array.
 use Rattle.std.proofs.Common.{◌≡◌, ℕ, ◌+◌, ◌<◌, ◌≤◌, List, [], map, set, length, ap, sym, ◌∙◌, arith}
+use Rattle.std.proofs.lemmas.List.{length-map}
 use Rattle.typst_tree.specs.Tree.{Tree, nodes}
 use Rattle.typst_tree.specs.Steps.{At, at, offset_of, end_of}
 use Rattle.typst_flat.specs.Records.{filled, met_in, node_record, records_in}
@@ -7,7 +8,7 @@ use Rattle.typst_flat.specs.Placed.{Course, IsFilled, Moves}
 use Rattle.typst_flat.specs.Walk.{ahead_from}
 use Rattle.typst_flat.specs.declared.records.Node.{Node}
 use Rattle.typst_flat.specs.declared.records.Stretch.{Stretch}
-use Rattle.typst_flat.proofs.Filling.{first_left, left_next, length_mapped, none_left, step_fits, step_full}
+use Rattle.typst_flat.proofs.Filling.{first_left, left_next, none_left, step_fits, step_full}
 use Rattle.typst_flat.proofs.Placing.{goes_on, one_meets, one_passes}
 
 -- past a node that ends before the stretch
@@ -59,6 +60,6 @@ pub put_all : (s : Stretch) (root : Tree) (n count : ℕ) (array old : List Node
 put_all s root n count array old none f =
     let all = none_left count (met_in s root) (f.left ∙ none) f.short in
     record {
-      count_is = sym (length_mapped node_record (met_in s root) ∙ all.1);
+      count_is = sym (length-map (met_in s root) node_record ∙ all.1);
       array_is = f.put ∙ ap (λ xs. filled (map node_record xs) old) all.0;
     }

@@ -1,6 +1,6 @@
 -- What an array holds into which a list is put.
 use Rattle.std.proofs.Common.{◌≡◌, ℕ, zero, suc, ◌+◌, ◌^◌, ◌<◌, ◌≤◌, List, [], ◌∷◌, ◌++◌, length, take, drop, map, refl, ap, sym, ◌∙◌, arith, set, get_or, append_assoc, length-append, length-take}
-use Rattle.std.proofs.lemmas.List.{map-append, take_more}
+use Rattle.std.proofs.lemmas.List.{length-map, map-append, take_more}
 use Rattle.typst_tree.specs.Tree.{saturated}
 use Rattle.typst_flat.specs.Records.{filled}
 
@@ -18,12 +18,6 @@ filled_full [] (y ∷ old) x h = absurd (omega (arith, h))
 filled_full (z ∷ xs) [] x h = refl
 filled_full (z ∷ xs) (y ∷ old) x h = ap (λ ys. z ∷ ys) (filled_full xs old x (omega (arith, h)))
 
--- an array without room
-pub filled_none : {A : Type 0} (xs old : List A) → length old ≡ 0 → old ≡ filled xs old
-filled_none [] old e = refl
-filled_none (z ∷ xs) [] e = refl
-filled_none (z ∷ xs) (y ∷ old) e = absurd (omega (arith, e))
-
 pub length_filled : {A : Type 0} (xs old : List A) → length (filled xs old) ≡ length old
 length_filled [] old = refl
 length_filled (z ∷ xs) [] = refl
@@ -36,23 +30,14 @@ pub record First {A : Type 0} (n : ℕ) (xs : List A) (x : A) (ys : List A) : Ty
   pub within : n < length xs
   pub long : length (take n xs) ≡ n
 
-first_suc : {A : Type 0} (n : ℕ) (z : A) (xs : List A) (x : A) (ys : List A) → First n xs x ys → First (suc n) (z ∷ xs) x ys
-first_suc n z xs x ys f =
-    record {
-      before = ap (λ zs. z ∷ zs) f.before;
-      behind = f.behind;
-      within = omega (arith, f.within);
-      long = ap suc f.long;
-    }
-
 pub first_left : {A : Type 0} (n : ℕ) (xs : List A) (x : A) (ys : List A) → drop n xs ≡ x ∷ ys → First n xs x ys
 first_left zero [] x ys e = absurd (cc)
 first_left (suc n) [] x ys e = absurd (cc)
 first_left zero (z ∷ xs) x ys e =
-    let same : z ≡ x = cc in
-    let rest : xs ≡ ys = cc in
-    record { before = ap (λ w. w ∷ []) same; behind = rest; within = omega arith; long = refl }
-first_left (suc n) (z ∷ xs) x ys e = first_suc n z xs x ys (first_left n xs x ys e)
+    record { before = cc; behind = cc; within = omega arith; long = refl }
+first_left (suc n) (z ∷ xs) x ys e =
+    let f = first_left n xs x ys e in
+    record { before = ap (λ zs. z ∷ zs) f.before; behind = f.behind; within = omega (arith, f.within); long = ap suc f.long }
 
 -- the same with the next number as a sum
 pub taken_next : {A : Type 0} (n : ℕ) (xs : List A) (x : A) (ys : List A) → drop n xs ≡ x ∷ ys → take (n + 1) xs ≡ take n xs ++ x ∷ []
@@ -67,15 +52,10 @@ none_left zero (z ∷ xs) e h = absurd (cc)
 none_left (suc n) [] e h = absurd (omega (arith, h))
 none_left (suc n) (z ∷ xs) e h = let w = none_left n xs e (omega (arith, h)) in (ap (λ zs. z ∷ zs) w.0, ap suc w.1)
 
-pub length_mapped : {A B : Type 0} (f : A → B) (xs : List A) → length (map f xs) ≡ length xs
-length_mapped f [] = refl
-length_mapped f (x ∷ xs) = ap suc (length_mapped f xs)
-
 -- the record of the next element is put behind the others, where it fits
 pub step_fits : {A B : Type 0} (f : A → B) (n : ℕ) (xs : List A) (x : A) (ys : List A) (room old : List B) (y : B) → drop n xs ≡ x ∷ ys → room ≡ filled (map f (take n xs)) old → y ≡ f x → n < length room → set room n y ≡ filled (map f (take (n + 1) xs)) old
 step_fits f n xs x ys room old y e h g l =
-    let first = first_left n xs x ys e in
-    let len : length (map f (take n xs)) ≡ n = length_mapped f (take n xs) ∙ first.long in
+    let len : length (map f (take n xs)) ≡ n = length-map (take n xs) f ∙ (first_left n xs x ys e).long in
     let all : length room ≡ length old = ap length h ∙ length_filled (map f (take n xs)) old in
     let mapped : map f (take n xs) ++ f x ∷ [] ≡ map f (take (n + 1) xs) = sym (ap (map f) (taken_next n xs x ys e) ∙ map-append f (take n xs) (x ∷ [])) in
     (λ i. set (h i) (sym len i) (g i))
@@ -84,8 +64,7 @@ step_fits f n xs x ys room old y e h g l =
 -- where it doesn't fit, nothing changes
 pub step_full : {A B : Type 0} (f : A → B) (n : ℕ) (xs : List A) (x : A) (ys : List A) (room old : List B) → drop n xs ≡ x ∷ ys → room ≡ filled (map f (take n xs)) old → length room ≤ n → room ≡ filled (map f (take (n + 1) xs)) old
 step_full f n xs x ys room old e h l =
-    let first = first_left n xs x ys e in
-    let len : length (map f (take n xs)) ≡ n = length_mapped f (take n xs) ∙ first.long in
+    let len : length (map f (take n xs)) ≡ n = length-map (take n xs) f ∙ (first_left n xs x ys e).long in
     let all : length room ≡ length old = ap length h ∙ length_filled (map f (take n xs)) old in
     let mapped : map f (take n xs) ++ f x ∷ [] ≡ map f (take (n + 1) xs) = sym (ap (map f) (taken_next n xs x ys e) ∙ map-append f (take n xs) (x ∷ [])) in
     h ∙ (filled_full (map f (take n xs)) old (f x) (omega (arith, l, len, all)) ∙ ap (λ ys. filled ys old) mapped)
@@ -108,9 +87,3 @@ byte_full bs before old room i a e h l m =
     let all : length room ≡ length old = ap length h ∙ length_filled (before ++ take i bs) old in
     let longer : (before ++ take i bs) ++ get_or bs i 0 ∷ [] ≡ before ++ take (i + 1) bs = append_assoc before (take i bs) (get_or bs i 0 ∷ []) ∙ ap (λ ys. before ++ ys) (sym (take_more bs i 0 l)) in
     h ∙ (filled_full (before ++ take i bs) old (get_or bs i 0) (omega (arith, m, e, len, all)) ∙ ap (λ ys. filled ys old) longer)
-
-pub take_whole : {A : Type 0} (n : ℕ) (xs : List A) → length xs ≤ n → take n xs ≡ xs
-take_whole zero [] h = refl
-take_whole (suc n) [] h = refl
-take_whole zero (x ∷ xs) h = absurd (omega (arith, h))
-take_whole (suc n) (x ∷ xs) h = ap (λ ys. x ∷ ys) (take_whole n xs (omega (arith, h)))

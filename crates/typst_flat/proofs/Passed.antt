@@ -1,13 +1,12 @@
 -- A node that doesn't meet a stretch has none below it that does.
-use Rattle.std.proofs.Common.{◌≡◌, ℕ, zero, suc, ◌+◌, ◌<◌, ◌≤◌, Bool, true, false, ◌&&◌, List, [], ◌∷◌, ◌++◌, length, map, Option, Some, refl, ap, sym, subst, ◌∙◌, arith, inl, inr, append-nil, length-append}
-use Rattle.std.specs.Prelude.{nat_le}
+use Rattle.std.proofs.Common.{◌≡◌, ℕ, zero, suc, ◌+◌, ◌<◌, ◌≤◌, true, false, List, [], ◌∷◌, ◌++◌, length, map, Option, Some, refl, ap, sym, subst, ◌∙◌, arith, inl, inr, append-nil, length-append}
 use Rattle.std.specs.List.{filter}
 use Rattle.std.proofs.lemmas.Bool.{cases_lt}
 use Rattle.std.proofs.lemmas.Bool.Decides.{nat_tests}
 use Rattle.typst_kinds.specs.Head.{Head}
 use Rattle.typst_tree.specs.Tree.{Forest, none, more, Tree, count, joined, places, preorder, text_of}
 use Rattle.typst_tree.specs.Walks.{texts}
-use Rattle.typst_tree.specs.Steps.{at, node_of, start_of, offset_of, end_of}
+use Rattle.typst_tree.specs.Steps.{at, node_of, start_of}
 use Rattle.typst_tree.proofs.WalksInPreorder.{texts_append, texts_places}
 use Rattle.typst_highlight.specs.Walk.{tree_of}
 use Rattle.typst_highlight.proofs.Rows.{Stand, here, starts, below, behind}
@@ -57,27 +56,9 @@ inside root k j (more h ks r) front back up s l m =
           wider root j _ _ a (a + length (joined (more h ks r))) (omega (arith, next)) (omega (arith, next, total, own)) (inside root (k + (1 + count ks)) j r (front ++ places t) back up (behind root k h ks r front back up s) (omega (arith, late)) (omega (arith, m))))
     ]
 
-and_fails : (x y : Bool) → (x ≡ true → y ≡ true → ⊥) → (x && y) ≡ false
-and_fails true true h = absurd (h refl refl)
-and_fails true false h = refl
-and_fails false y h = refl
-
-and_holds : (x y : Bool) → (x && y) ≡ false → x ≡ true → y ≡ true → ⊥
-and_holds true true e p q = absurd (cc)
-and_holds true false e p q = absurd (cc)
-and_holds false y e p q = absurd (cc)
-
 -- what lies within a node that doesn't meet a stretch doesn't meet it
 outside_one : (s : Stretch) (root : Tree) (n j : ℕ) → Within root j (start_of (at root n)) (start_of (at root n) + length (text_of (node_of (at root n)))) → meets s (at root n) ≡ false → meets s (at root j) ≡ false
-outside_one s root n j w e =
-    and_fails (nat_le (offset_of (at root j)) s.end) (nat_le s.start (end_of (at root j))) (λ p q.
-    let reaches : offset_of (at root j) ≤ s.end = grind (arith, nat_tests, p) in
-    let begins : s.start ≤ end_of (at root j) = grind (arith, nat_tests, q) in
-    let from : offset_of (at root n) ≤ s.end = omega (arith, reaches, w.from) in
-    let to : s.start ≤ end_of (at root n) = omega (arith, begins, w.to) in
-    let first : nat_le (offset_of (at root n)) s.end ≡ true = grind (arith, nat_tests, from) in
-    let last : nat_le s.start (end_of (at root n)) ≡ true = grind (arith, nat_tests, to) in
-    and_holds (nat_le (offset_of (at root n)) s.end) (nat_le s.start (end_of (at root n))) e first last)
+outside_one s root n j w e = grind (arith, nat_tests, e)
 
 -- nor does any node of its subtree
 pub outside : (s : Stretch) (root : Tree) (n : ℕ) (h : Head) (ks r : Forest) (front back : List Tree) (up : Option ℕ) → Stand root n (more h ks r) front back up → meets s (at root n) ≡ false → (j : ℕ) → n ≤ j → j < n + (1 + count ks) → meets s (at root j) ≡ false

@@ -1,6 +1,6 @@
 -- The walk through the nodes of a tree with their tags, step by step.
-use Rattle.std.proofs.Common.{◌≡◌, ℕ, zero, suc, ◌+◌, ◌-◌, ◌^◌, ◌<◌, ◌≤◌, Bool, true, false, ◌&&◌, not, List, [], ◌∷◌, ◌++◌, length, map, take, drop, Option, None, Some, refl, ap, sym, subst, ◌∙◌, arith, cond, append_assoc, append-nil, length-append}
-use Rattle.std.specs.Prelude.{nat_le, option_and_then}
+use Rattle.std.proofs.Common.{◌≡◌, ℕ, zero, suc, ◌+◌, ◌-◌, ◌^◌, ◌<◌, ◌≤◌, true, false, ◌&&◌, not, List, [], ◌∷◌, ◌++◌, length, map, take, drop, Option, None, Some, refl, ap, sym, subst, ◌∙◌, arith, cond, append_assoc, append-nil, length-append}
+use Rattle.std.specs.Prelude.{option_and_then}
 use Rattle.std.specs.List.{filter}
 use Rattle.std.proofs.lemmas.Bool.Decides.{nat_tests}
 use Rattle.typst_kinds.specs.Head.{Head}
@@ -71,22 +71,15 @@ goes_below root k h ks r front back up c d s w n inner =
     }
 
 -- a walk that comes to some nodes
-moved : (P : Tree → ℕ → Forest → Type 0) (root r : Tree) (n m : ℕ) (f g : Forest) → r ≡ root → m ≡ n → g ≡ f → P root n f → P r m g
+moved : {X : Type 0} (P : Tree → ℕ → X → Type 0) (root r : Tree) (n m : ℕ) (f g : X) → r ≡ root → m ≡ n → g ≡ f → P root n f → P r m g
 moved P root r n m f g e h k p = subst (λ x. P x m g) (sym e) (subst (λ x. P root x g) (sym h) (subst (λ x. P root n x) (sym k) p))
-
-ready_moved : (root r : Tree) (n m : ℕ) (ws vs : List Waiting) → r ≡ root → m ≡ n → vs ≡ ws → AreReady root n ws → AreReady r m vs
-ready_moved root r n m ws vs e h k p =
-    subst (λ x. AreReady x m vs) (sym e) (subst (λ x. AreReady root x vs) (sym h) (subst (λ x. AreReady root n x) (sym k) p))
-
-boundary_moved : (root r : Tree) (b c : Boundary) → r ≡ root → c ≡ b → IsBoundary root b → IsBoundary r c
-boundary_moved root r b c e h k = subst (λ x. IsBoundary x c) (sym e) (subst (IsBoundary root) (sym h) k)
 
 stays_at : (w : Course) (root : Tree) (n : ℕ) (f : Forest) (front back : List Tree) (up : Option ℕ) (c : Context) (ws : List Waiting) (b : Boundary) → nodes root < 2 ^ 64 - 1 → IsBoundary root b → Stand root n f front back up → Goes root n f up c → AreReady root (n + count f) ws → cut (up_number up) ≡ w.parent → w.root.now ≡ root → w.near ≡ b → w.number ≡ n → forest w.nodes.now ≡ f → joined w.progress ≡ c → waiting w.progress ≡ ws → Stays w
 stays_at w root n f front back up c ws b few known stands goes ready above eroot eb en ef ec ews =
     let total : w.number + count (forest w.nodes.now) ≡ n + count f = (λ i. en i + count (ef i)) in
     record {
       counted = subst (λ x. nodes x < 2 ^ 64 - 1) (sym eroot) few;
-      boundary = boundary_moved root w.root.now b w.near eroot eb known;
+      boundary = subst (λ x. IsBoundary x w.near) (sym eroot) (subst (IsBoundary root) (sym eb) known);
       front = front;
       back = back;
       up = up;
@@ -95,7 +88,7 @@ stays_at w root n f front back up c ws b few known stands goes ready above eroot
       context = goes.context;
       fits = moved (λ x m g. Fits x m g up goes.context) root w.root.now n w.number f (forest w.nodes.now) eroot en ef goes.fits;
       near = subst (λ x. Near x goes.context) (sym ec) goes.near;
-      ready = ready_moved root w.root.now (n + count f) (w.number + count (forest w.nodes.now)) ws (waiting w.progress) eroot total ews ready;
+      ready = moved AreReady root w.root.now (n + count f) (w.number + count (forest w.nodes.now)) ws (waiting w.progress) eroot total ews ready;
     }
 
 -- ---- steps
@@ -253,28 +246,20 @@ at_root w root b few known same near number up row around rows =
 -- of the node at hand and those after it, those that meet a stretch: it is the first of them
 pub one_meets : (s : Stretch) (root : Tree) (n : ℕ) → n < nodes root → offset_of (at root n) ≤ s.end → s.start ≤ end_of (at root n) → ahead_from s root n ≡ at root n ∷ ahead_from s root (n + 1)
 one_meets s root n less reaches begins =
-    let first : nat_le (offset_of (at root n)) s.end ≡ true = grind (arith, nat_tests, reaches) in
-    let last : nat_le s.start (end_of (at root n)) ≡ true = grind (arith, nat_tests, begins) in
-    let passes : meets s (at root n) ≡ true = rw (first, last) refl in
+    let passes : meets s (at root n) ≡ true = grind (arith, nat_tests, reaches, begins) in
     let whole : nodes root - n ≡ 1 + (nodes root - (n + 1)) = omega (arith, less) in
     ap (λ k. filter (meets s) (map (at root) (numbers_from n k))) whole ∙ come_to s root n (nodes root - (n + 1)) passes
+
+ends_early : (s : Stretch) (a : At) → end_of a < s.start → meets s a ≡ false
+ends_early s a h = grind (arith, nat_tests, h)
 
 -- or it ends before the stretch
 pub one_passes : (s : Stretch) (root : Tree) (n : ℕ) → n < nodes root → offset_of (at root n) ≤ s.end → end_of (at root n) < s.start → ahead_from s root n ≡ ahead_from s root (n + 1)
 one_passes s root n less reaches early =
-    let first : nat_le (offset_of (at root n)) s.end ≡ true = grind (arith, nat_tests, reaches) in
-    let last : nat_le s.start (end_of (at root n)) ≡ false = grind (arith, nat_tests, early) in
-    let fails : meets s (at root n) ≡ false = rw (first, last) refl in
+    let fails : meets s (at root n) ≡ false = ends_early s (at root n) early in
     let whole : nodes root - n ≡ 1 + (nodes root - (n + 1)) = omega (arith, less) in
     let only : (j : ℕ) → n ≤ j → j < n + 1 → meets s (at root j) ≡ false = λ j l m. let number : n ≡ j = omega (arith, l, m) in subst (λ k. meets s (at root k) ≡ false) number fails in
     ap (λ k. filter (meets s) (map (at root) (numbers_from n k))) whole ∙ passed_over s root n 1 (nodes root - (n + 1)) only
-
-and_false : (b : Bool) → (b && false) ≡ false
-and_false true = refl
-and_false false = refl
-
-ends_early : (s : Stretch) (a : At) → end_of a < s.start → meets s a ≡ false
-ends_early s a h = let last : nat_le s.start (end_of a) ≡ false = grind (arith, nat_tests, h) in rw last (and_false (nat_le (offset_of a) s.end))
 
 -- a node that ends before the stretch doesn't meet it, nor does what is below it
 early_passes : (s : Stretch) (root : Tree) (n : ℕ) (t : Tree) (r : Forest) (front back : List Tree) (up : Option ℕ) → Stand root n (more t.head t.kids r) front back up → end_of (at root n) < s.start → ahead_from s root n ≡ ahead_from s root (n + nodes t)

@@ -1,8 +1,9 @@
 -- The steps of a walk.
 use Rattle.std.proofs.Common.{◌≡◌, ℕ, zero, suc, ◌+◌, ◌-◌, ◌^◌, ◌<◌, ◌≤◌, true, false, List, [], ◌∷◌, ◌++◌, length, take, map, Option, None, Some, refl, ap, sym, subst, ◌∙◌, arith, get_or, set, length-append}
-use Rattle.std.specs.Prelude.{nat_le, reverse}
+use Rattle.std.specs.Prelude.{reverse}
 use Rattle.std.proofs.lemmas.Bool.Decides.{nat_tests}
-use Rattle.std.proofs.lemmas.List.{reverse-append}
+use Rattle.std.proofs.Math.ListN.{length-set}
+use Rattle.std.proofs.lemmas.List.{reverse-append, take_all, take_more, take_more_set}
 use Rattle.std.specs.List.{filter}
 use Rattle.std.specs.Option.{option_map}
 use Rattle.typst_kinds.specs.Head.{Head}
@@ -126,13 +127,13 @@ came s root n above ws c e =
 -- what is before a number is no longer than what is before a later one
 before_more : (n m : ℕ) (xs : List Tree) → n ≤ m → length (texts (take n xs)) ≤ length (texts (take m xs))
 before_more zero m xs h = omega arith
-before_more (suc n) zero xs h = absurd (omega (arith, h))
-before_more (suc n) (suc m) [] h = omega arith
+before_more (suc n) m [] h = omega arith
+before_more (suc n) zero (x ∷ xs) h = absurd (omega (arith, h))
 before_more (suc n) (suc m) (x ∷ xs) h =
     omega (arith, before_more n m xs (omega (arith, h)), length-append x.head.text (texts (take n xs)), length-append x.head.text (texts (take m xs)))
 
 behind_end : (s : Stretch) (a : At) → s.end < offset_of a → meets s a ≡ false
-behind_end s a h = let fails : nat_le (offset_of a) s.end ≡ false = grind (arith, nat_tests, h) in rw fails refl
+behind_end s a h = grind (arith, nat_tests, h)
 
 -- from a node on that begins behind the stretch, none meets it
 pub beyond : (s : Stretch) (root : Tree) (n : ℕ) → s.end < offset_of (at root n) → ahead_from s root n ≡ []
@@ -173,17 +174,11 @@ entered_row root n above old pushed w a c e f g h =
 
 -- the last of some rows
 pub last_row : (rs : List Row) (n : ℕ) (w : Row) → length rs ≡ n + 1 → w ≡ get_or rs n w → rs ≡ take n rs ++ w ∷ []
-last_row [] n w e f = absurd (omega (arith, e))
-last_row (r ∷ []) zero w e f = ap (λ x. x ∷ []) (sym f)
-last_row (r ∷ s ∷ rs) zero w e f = absurd (omega (arith, e))
-last_row (r ∷ rs) (suc n) w e f = ap (λ xs. r ∷ xs) (last_row rs n w (omega (arith, e)) f)
+last_row rs n w e f = sym (take_all (n + 1) rs (omega arith)) ∙ (take_more rs n w (omega arith) ∙ ap (λ x. take n rs ++ x ∷ []) (sym f))
 
 -- another one in its place
 pub set_last : (rs : List Row) (n : ℕ) (v : Row) → length rs ≡ n + 1 → set rs n v ≡ take n rs ++ v ∷ []
-set_last [] n v e = absurd (omega (arith, e))
-set_last (r ∷ []) zero v e = refl
-set_last (r ∷ s ∷ rs) zero v e = absurd (omega (arith, e))
-set_last (r ∷ rs) (suc n) v e = ap (λ xs. r ∷ xs) (set_last rs n v (omega (arith, e)))
+set_last rs n v e = sym (take_all (n + 1) (set rs n v) (omega (arith, e, length-set rs n v))) ∙ take_more_set rs n v (omega arith)
 
 -- how many nodes the node at hand says that it has
 pub size_told : (root : Tree) (n above d : ℕ) (ws : List Row) (t : Tree) (a : At) → IsAt root n above ws → t ≡ node_of a → a ≡ at root n → d ≡ saturated (nodes t) → nodes root < 2 ^ 64 - 1 → d ≡ nodes (node_of (at root n))

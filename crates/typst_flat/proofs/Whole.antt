@@ -1,22 +1,16 @@
 -- All nodes of a tree meet the stretch of all bytes.
-use Rattle.std.proofs.Common.{◌≡◌, ℕ, zero, suc, ◌+◌, ◌-◌, ◌^◌, ◌≤◌, Bool, true, false, List, [], ◌∷◌, length, map, refl, ap, sym, ◌∙◌, arith, cond}
-use Rattle.std.specs.Prelude.{nat_le}
+use Rattle.std.proofs.Common.{◌≡◌, ℕ, zero, suc, ◌+◌, ◌-◌, ◌^◌, ◌≤◌, Bool, true, List, [], ◌∷◌, length, map, refl, ap, sym, ◌∙◌, arith}
 use Rattle.std.specs.List.{filter}
 use Rattle.std.proofs.lemmas.Bool.Decides.{nat_tests}
+use Rattle.std.proofs.lemmas.List.{length-map}
 use Rattle.typst_tree.specs.Tree.{Tree, nodes}
-use Rattle.typst_tree.specs.Steps.{At, at, offset_of, end_of}
+use Rattle.typst_tree.specs.Steps.{At, at}
 use Rattle.typst_highlight.specs.Spans.{numbers_from}
 use Rattle.typst_flat.specs.Records.{all_of, meets, met_in, node_record, records, records_in}
 use Rattle.typst_flat.specs.declared.records.Stretch.{Stretch}
-use Rattle.typst_flat.proofs.Filling.{length_mapped}
 
 meets_all : (s : Stretch) (a : At) → s.start ≡ 0 → s.end ≡ 2 ^ 64 - 1 → meets s a ≡ true
-meets_all s a e f =
-    let reaches : offset_of a ≤ s.end = omega (arith, f) in
-    let begins : s.start ≤ end_of a = omega (arith, e) in
-    let first : nat_le (offset_of a) s.end ≡ true = grind (arith, nat_tests, reaches) in
-    let last : nat_le s.start (end_of a) ≡ true = grind (arith, nat_tests, begins) in
-    rw (first, last) refl
+meets_all s a e f = grind (arith, nat_tests, e, f)
 
 kept : {A : Type 0} (p : A → Bool) (xs : List A) → ((x : A) → p x ≡ true) → filter p xs ≡ xs
 kept p [] h = refl
@@ -39,29 +33,15 @@ counted n zero = refl
 counted n (suc c) = ap suc (counted (n + 1) c)
 
 pub length_all : (root : Tree) → length (all_of root) ≡ nodes root
-length_all root = length_mapped (at root) (numbers_from 0 (nodes root)) ∙ counted 0 (nodes root)
+length_all root = length-map (numbers_from 0 (nodes root)) (at root) ∙ counted 0 (nodes root)
 
 pub length_records : (root : Tree) → length (records root) ≡ nodes root
-length_records root = length_mapped node_record (all_of root) ∙ length_all root
+length_records root = length-map (all_of root) node_record ∙ length_all root
 
 fewer : {A : Type 0} (p : A → Bool) (xs : List A) → length (filter p xs) ≤ length xs
 fewer p [] = omega arith
-fewer p (x ∷ xs) =
-    let rest : length (filter p xs) ≤ length xs = fewer p xs in
-    elim (p x) as (λ b. length (cond b (x ∷ filter p xs) (filter p xs)) ≤ length (x ∷ xs)) [ true ↦ omega (arith, rest) | false ↦ omega (arith, rest) ]
+fewer p (x ∷ xs) = grind (arith, fewer p xs)
 
 -- no more nodes meet a stretch than there are
 pub met_most : (s : Stretch) (root : Tree) → length (met_in s root) ≤ nodes root
 met_most s root = omega (arith, fewer (meets s) (all_of root), length_all root)
-
-kept_case : {P : Type 0} (b : Bool) (a x : At) (rest ys : List At) → cond b (a ∷ rest) rest ≡ x ∷ ys → (a ≡ x → P) → (rest ≡ x ∷ ys → P) → P
-kept_case true a x rest ys e f g = f (cc)
-kept_case false a x rest ys e f g = g e
-
--- what a walk comes to first is a node of the tree
-pub first_root : (p : At → Bool) (root : Tree) (ns : List ℕ) (x : At) (ys : List At) → filter p (map (at root) ns) ≡ x ∷ ys → x.root ≡ root
-first_root p root [] x ys e = absurd (cc)
-first_root p root (n ∷ ns) x ys e =
-    kept_case (p (at root n)) (at root n) x (filter p (map (at root) ns)) ys e
-    (λ same. ap (λ (a : At). a.root) (sym same))
-    (λ f. first_root p root ns x ys f)

@@ -228,8 +228,13 @@ impl<'t> Search<'t> {
             let below = self.go_below_last(next, progress);
             return Ok(below);
         }
-        let below = self.go_below_first(next, end, progress)?;
-        Ok(below)
+        let len = own_len(next.node);
+        progress.enter_from(next.node, next.later, end, len, next.here.parent)?;
+        Ok(Here {
+            nodes: next.node.children(),
+            number: next.here.number + 1,
+            parent: narrow(next.here.number),
+        })
     }
 
     /// Goes to the first child of the last node of a row.
@@ -248,31 +253,6 @@ impl<'t> Search<'t> {
             number: next.here.number + 1,
             parent: narrow(next.here.number),
         }
-    }
-
-    /// Goes to the first child of the next node, which ends there, and comes back to those after the node.
-    #[inline(always)]
-    fn go_below_first(
-        self,
-        next: Next<'t>,
-        end: usize,
-        progress: &mut Progress<'t>,
-    ) -> Result<Here<'t>, AllocError>
-        requires ready { spec.Stays (spec.course self next.here progress.old) }
-        requires row { next.here.nodes.now ≡ next.node.now ∷ next.later.now }
-        requires inner { is_childless next.node.now.kids ≡ false }
-        requires ends { end ≡ walk.end (walk.joined progress.old) next.node.now }
-        ensures number { IfOk result (λ below. below.number ≡ next.entry.here.number + 1) }
-        ensures row { IfOk result (λ below. forest below.nodes.now ≡ next.entry.node.now.kids) }
-        ensures ready { IfOk result (λ below. spec.Stays (spec.course self.entry below progress.new)) }
-    {
-        let len = own_len(next.node);
-        progress.enter_from(next.node, next.later, end, len, next.here.parent)?;
-        Ok(Here {
-            nodes: next.node.children(),
-            number: next.here.number + 1,
-            parent: narrow(next.here.number),
-        })
     }
 
     /// Goes past nodes of the row that end before the stretch: up to the last place near it where tags depend on no

@@ -1,5 +1,5 @@
 -- What two lists have in common at the front and at the end.
-use Rattle.std.proofs.Common.{◌≡◌, ◌≢◌, ℕ, ◌+◌, ◌-◌, ◌<◌, ◌≤◌, List, ◌++◌, length, take, drop, None, Some, ap, sym, ◌∙◌, arith, length-drop, inl, inr, get_or}
+use Rattle.std.proofs.Common.{◌≡◌, ◌≢◌, ℕ, ◌+◌, ◌-◌, ◌<◌, ◌≤◌, List, ◌++◌, length, take, drop, ap, ◌∙◌, arith, length-drop, inl, inr}
 use Rattle.std.specs.Prelude.{slice_get, slice_range}
 use Rattle.std.proofs.lemmas.Bool.Decides.{leb_tells}
 use Rattle.std.proofs.lemmas.List.{take-append-drop, drop-drop}
@@ -13,14 +13,9 @@ made_by_ends old new os ns f e is_old is_new fo fn front eo en end =
     let n : length ns ≡ length new - f = ap length is_new ∙ length-drop f new in
     let i : f + (length old - e - f) ≡ f + (length os - e) = omega (arith, o, eo, fo) in
     let j : f + (length ns - e) ≡ length new - e = omega (arith, n, en, fn) in
-    let old_end : drop (length os - e) os ≡ drop (f + (length os - e)) old = ap (drop (length os - e)) is_old ∙ drop-drop (length os - e) f old in
-    let new_end : drop (length ns - e) ns ≡ drop (f + (length ns - e)) new = ap (drop (length ns - e)) is_new ∙ drop-drop (length ns - e) f new in
-    let tail : drop (f + (length old - e - f)) old ≡ drop (length new - e) new =
-    ap (λ k. drop k old) i ∙ (sym old_end ∙ (end ∙ (new_end ∙ ap (λ k. drop k new) j))) in
     let ordered : f ≤ length new - e = omega (arith, n, en, fn) in
-    sym
-    (ap (λ t. take f old ++ (slice_range new f (length new - e) ++ t)) tail
-    ∙ (ap (λ t. take f old ++ t) (sym (drop_split new f (length new - e) ordered)) ∙ (ap (λ t. t ++ drop f new) front ∙ take-append-drop f new)))
+    cc
+    (is_old, is_new, drop-drop (length os - e) f old, drop-drop (length ns - e) f new, i, j, end, drop_split new f (length new - e) ordered, front, take-append-drop f new)
 
 -- behind what is common at the front the lists differ
 pub front_differs : (old new os : List ℕ) (f e : ℕ) → os ≡ drop f old → f ≤ length old → f ≤ length new → (f < length old → slice_get old f ≢ slice_get new f) → e ≤ length os → (f ≡ length old - e → f ≡ length new - e → ⊥) → slice_get old f ≢ slice_get new f
@@ -31,10 +26,7 @@ front_differs old new os f e is_old fo fn differs eo apart =
           let here : f ≡ length old - e = omega (arith, o, eo, fo, past.1) in
           elim (leb_tells (length new) f) [
             | inl both ↦ absurd (apart here (omega (arith, o, eo, fo, fn, past.1, both.1)))
-            | inr more ↦
-                let ended : slice_get old f ≡ None = slice_get_past old f past.1 in
-                let goes_on : slice_get new f ≡ Some (get_or new f 0) = slice_get-get_or new f 0 more.1 in
-                λ p. cc (ended, goes_on, p)
+            | inr more ↦ λ p. cc (slice_get_past old f past.1, slice_get-get_or new f 0 more.1, p)
           ]
       | inr inside ↦ differs inside.1
     ]

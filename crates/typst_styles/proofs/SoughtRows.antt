@@ -11,15 +11,13 @@ use Rattle.typst_tree.proofs.Boundaries.{kids_are}
 use Rattle.typst_tree.proofs.Siblings.{drop_numbers}
 use Rattle.typst_tree.proofs.WalksInPreorder.{length_places}
 use Rattle.typst_highlight.specs.Walk.{tree_of}
-use Rattle.typst_highlight.specs.declared.tags.Tag.{Tag}
 use Rattle.typst_highlight.proofs.Rows.{alone, here}
 use Rattle.typst_names.specs.Bytes.{behind, inner}
 use Rattle.typst_names.specs.Contexts.{after}
 use Rattle.typst_names.specs.Names.{is_end}
 use Rattle.typst_names.specs.RoleRows.{steps}
-use Rattle.typst_names.specs.declared.contexts.Context.{Context}
 use Rattle.typst_names.specs.declared.contexts.Context.TheVariants as context
-use Rattle.typst_styles.specs.Seeking.{AreRows, Below, IsRow, IsSpot, IsTop, IsWhole, Opens, Passes, Standing, Takes, first_number, left_of, left_of_all, node, number, of_first, of_spot, row, steps_all, steps_left}
+use Rattle.typst_styles.specs.Seeking.{AreRows, Below, IsRow, IsSpot, IsTop, IsWhole, Opens, Passes, Standing, Takes, first_number, left_of, left_of_all, node, number, of_spot, row, steps_all, steps_left}
 use Rattle.typst_styles.specs.Tokens.{all_tokens}
 use Rattle.typst_styles.specs.declared.seeking.Row.{Row}
 use Rattle.typst_styles.specs.declared.seeking.Spot.{Spot}
@@ -43,12 +41,8 @@ standing root n (more h ks r) front back e l =
 pub standing_root : (root : Tree) → Standing root 0 (more root.head root.kids none)
 standing_root root = standing root 0 (more root.head root.kids none) [] [] (alone root).whole refl
 
--- the first of some places
-abbrev first_of : At → List At → At
-first_of d [] = d
-first_of d (a ∷ rest) = a
-
-abbrev rest_of : List At → List At
+-- the places behind the first
+abbrev pub rest_of : List At → List At
 rest_of [] = []
 rest_of (a ∷ rest) = rest
 
@@ -73,19 +67,6 @@ left_from text root m w e =
 
 -- ---- a node is taken out of a row
 
-pub record Taken (w v : Row) (t : Tree) (ts : List Tree) (s : Spot) : Type 0 where
-  pub were : w.nodes.now ≡ t ∷ ts
-  pub placed : left w.places ≡ linked s.place ∷ left v.places
-  pub tree : s.node.node.now ≡ t
-  pub start : s.node.start ≡ w.start
-  pub role_in : s.context ≡ w.context
-  pub around : s.around ≡ w.around
-  pub is_last : s.is_last ≡ is_end (forest ts)
-  pub later : v.nodes.now ≡ ts
-  pub end : v.start ≡ behind w.start t.head t.kids
-  pub then_in : v.context ≡ after w.context t.head.kind
-  pub still : v.around ≡ w.around
-
 -- the first node of a row is passed
 pub record Passed (w v : Row) (t : Tree) (ts : List Tree) : Type 0 where
   pub were : w.nodes.now ≡ t ∷ ts
@@ -95,24 +76,25 @@ pub record Passed (w v : Row) (t : Tree) (ts : List Tree) : Type 0 where
   pub then_in : v.context ≡ after w.context t.head.kind
   pub still : v.around ≡ w.around
 
+-- and taken
+pub record Taken (w v : Row) (t : Tree) (ts : List Tree) (s : Spot) : Type 0 where
+  pub passed : Passed w v t ts
+  pub placed : left w.places ≡ linked s.place ∷ left v.places
+  pub tree : s.node.node.now ≡ t
+  pub start : s.node.start ≡ w.start
+  pub role_in : s.context ≡ w.context
+  pub around : s.around ≡ w.around
+  pub is_last : s.is_last ≡ is_end (forest ts)
+
 pub passes : (root : Tree) (w v : Row) (t : Tree) (ts : List Tree) → IsRow root w → Passed w v t ts → Passes root w v
 passes root w v t ts is k =
     let n : ℕ = number w in
     let m : ℕ = n + (1 + count t.kids) in
     let same : n + 1 + count t.kids ≡ m = omega arith in
-    let rest : left v.places ≡ map (at root) (numbers m (forest v.nodes.now)) =
-    k.placed
-    ∙ (ap rest_of (is.places ∙ ap (λ xs. map (at root) (numbers n (forest xs))) k.were)
-    ∙ (ap (λ j. map (at root) (numbers j (forest ts))) same ∙ ap (λ xs. map (at root) (numbers m (forest xs))) (sym k.later))) in
+    let rest : left v.places ≡ map (at root) (numbers m (forest v.nodes.now)) = cc (k.placed, is.places, k.were, same, k.later) in
     let stands : Standing root n (forest (t ∷ ts)) = subst (λ xs. Standing root n (forest xs)) k.were is.standing in (
       is_row root m v rest (subst (λ xs. Standing root m (forest xs)) (sym k.later) stands.1.1),
-      λ text.
-          let whole : left_of text root w ≡ node text root n w.start w.around w.context (is_end (forest ts)) t ++ row text root m (behind w.start t.head t.kids) w.around (after w.context t.head.kind) (forest ts) =
-          ap (λ xs. row text root n w.start w.around w.context (forest xs)) k.were in
-          let first : node text root n w.start w.around w.context (is_end (forest ts)) t ≡ of_first text root n w.start w.around w.context w.nodes.now = ap (of_first text root n w.start w.around w.context) (sym k.were) in
-          let others : row text root m (behind w.start t.head t.kids) w.around (after w.context t.head.kind) (forest ts) ≡ left_of text root v =
-          (λ i. row text root m (sym k.end i) (sym k.still i) (sym k.then_in i) (forest (sym k.later i))) ∙ left_from text root m v rest in
-          whole ∙ (λ i. first i ++ others i),
+      λ text. cc (left_from text root m v rest, k.were, k.later, k.end, k.then_in, k.still),
     )
 
 -- the places that are left after the first, whether there is one or not
@@ -123,11 +105,9 @@ left_after ps qs (Some x) h = ap rest_of (sym h)
 pub takes : (root : Tree) (w v : Row) (t : Tree) (ts : List Tree) (s : Spot) → IsRow root w → Taken w v t ts s → Takes root w (Some s) v
 takes root w v t ts s is k =
     let n : ℕ = number w in
-    let others = passes root w v t ts is (record { were = k.were; placed = ap rest_of (sym k.placed); later = k.later; end = k.end; then_in = k.then_in; still = k.still }) in
-    let parts : linked s.place ∷ left v.places ≡ at root n ∷ map (at root) (numbers (n + 1 + count t.kids) (forest ts)) =
-    sym k.placed ∙ (is.places ∙ ap (λ xs. map (at root) (numbers n (forest xs))) k.were) in
-    let place : linked s.place ≡ at root n = ap (first_of (at root n)) parts in
-    let stands : Standing root n (forest (t ∷ ts)) = subst (λ xs. Standing root n (forest xs)) k.were is.standing in
+    let others = passes root w v t ts is k.passed in
+    let place : linked s.place ≡ at root n = cc (k.placed, is.places, k.passed.were) in
+    let stands : Standing root n (forest (t ∷ ts)) = subst (λ xs. Standing root n (forest xs)) k.passed.were is.standing in
     let num : (linked s.place).number ≡ n = ap (λ (a : At). a.number) place in
     let alone_it : Standing root n (more t.head t.kids none) = (stands.0, (stands.1.0, tt)) in
     let spot : IsSpot root s = record {
@@ -137,41 +117,23 @@ takes root w v t ts s is k =
       spot,
       (
         others.0,
-        λ text.
-            let mine : of_first text root n w.start w.around w.context w.nodes.now ≡ of_spot text root s =
-            ap (of_first text root n w.start w.around w.context) k.were
-            ∙ (λ i. node text root (sym num i) (sym k.start i) (sym k.around i) (sym k.role_in i) (sym k.is_last i) (sym k.tree i)) in
-            others.1 text ∙ ap (λ l. l ++ left_of text root v) mine,
+        λ text. cc (others.1 text, k.passed.were, num, k.start, k.around, k.role_in, k.is_last, k.tree),
       ),
     )
 
 pub fewer : (were kept : List Tree) (kids : Forest) (t : Tree) (ts : List Tree) → were ≡ t ∷ ts → kids ≡ t.kids → kept ≡ ts → 1 + steps kids + (1 + steps (forest kept)) < 1 + steps (forest were)
-fewer were kept kids t ts e f g =
-    let whole : steps (forest were) ≡ 2 + (steps t.kids + steps (forest ts)) = ap (λ xs. steps (forest xs)) e in
-    let inside : steps kids ≡ steps t.kids = ap steps f in
-    let later : steps (forest kept) ≡ steps (forest ts) = ap (λ xs. steps (forest xs)) g in
-    omega (arith, whole, inside, later)
+fewer were kept kids t ts e f g = omega (arith, ap (λ xs. steps (forest xs)) e, ap steps f, ap (λ xs. steps (forest xs)) g)
 
-nothing_left : (text : List ℕ) (root : Tree) (n a : ℕ) (u : Option Tag) (c : Context) (ts : List Tree) → length ts ≡ 0 → row text root n a u c (forest ts) ≡ []
-nothing_left text root n a u c [] e = refl
-nothing_left text root n a u c (t ∷ ts) e = absurd (omega (arith, e))
+none_left : (ts : List Tree) → length ts ≡ 0 → ts ≡ []
+none_left [] e = refl
+none_left (t ∷ ts) e = absurd (omega arith)
 
 pub takes_none : (root : Tree) (w : Row) → length w.nodes.now ≡ 0 → (text : List ℕ) → left_of text root w ≡ []
-takes_none root w e = λ text. nothing_left text root (number w) w.start w.around w.context w.nodes.now e
-
-of_none : (text : List ℕ) (root : Tree) (n a : ℕ) (u : Option Tag) (c : Context) (ts : List Tree) → length ts ≡ 0 → of_first text root n a u c ts ≡ []
-of_none text root n a u c [] e = refl
-of_none text root n a u c (t ∷ ts) e = absurd (omega (arith, e))
-
-pub passes_none : (root : Tree) (w : Row) → length w.nodes.now ≡ 0 → IsRow root w → Passes root w w
-passes_none root w e is = (is, λ text. ap (λ l. l ++ left_of text root w) (sym (of_none text root (number w) w.start w.around w.context w.nodes.now e)))
+takes_none root w e = λ text. ap (λ ts. row text root (number w) w.start w.around w.context (forest ts)) (none_left w.nodes.now e)
 
 -- where a node is left there is a place for it
 pub has_place : (root : Tree) (w : Row) (t : Tree) (ts : List Tree) → IsRow root w → w.nodes.now ≡ t ∷ ts → left w.places ≡ [] → ⊥
-has_place root w t ts is e f =
-    let some : [] ≡ at root (number w) ∷ map (at root) (numbers (number w + 1 + count t.kids) (forest ts)) = sym f ∙ (is.places ∙ ap (λ xs. map (at root) (numbers (number w) (forest xs))) e) in
-    let long : length (at root (number w) ∷ map (at root) (numbers (number w + 1 + count t.kids) (forest ts))) ≡ 0 = sym (ap length some) in
-    omega (arith, long)
+has_place root w t ts is e f = cc (f, is.places, e)
 
 -- ---- the rows
 
@@ -196,7 +158,7 @@ rows_popped root (v ∷ ws) w are = let rest = rows_popped root ws w are.1 in ((
 below_from : (root : Tree) (s : Spot) (w : Row) → IsSpot root s → Below s w → left w.places ≡ map (at root) (numbers ((linked s.place).number + 1) (forest w.nodes.now))
 below_from root s w is k =
     let n : ℕ = (linked s.place).number in
-    k.placed ∙ (ap children is.place ∙ (ap (λ (t : Tree). map (at root) (numbers (n + 1) t.kids)) is.standing.0 ∙ ap (λ f. map (at root) (numbers (n + 1) f)) (sym k.kids)))
+    cc (k.placed, is.place, is.standing.0, k.kids)
 
 pub below_is : (root : Tree) (s : Spot) (w : Row) → IsSpot root s → Below s w → IsRow root w
 below_is root s w is k =
@@ -219,7 +181,7 @@ top_is root s k =
 pub top_tokens : (text : List ℕ) (root : Tree) (s : Spot) → IsTop root s → of_spot text root s ≡ all_tokens text root
 top_tokens text root s k =
     let num : (linked s.place).number ≡ 0 = ap (λ (a : At). a.number) k.place in
-    (λ i. node text root (num i) (k.start i) (k.around i) (k.role_in i) (k.is_last i) (k.tree i)) ∙ (sym (append-nil (node text root 0 0 None context.Value true root)) ∙ sym (by_node text root))
+    cc (num, k.start, k.around, k.role_in, k.is_last, k.tree, append-nil (node text root 0 0 None context.Value true root), by_node text root)
 
 pub whole_from : (text : List ℕ) (root : Tree) (s : Spot) (w : Row) (old new : List Token) → IsTop root s → Opens text s old new w → IsWhole root w
 whole_from text root s w old new top k = record {
@@ -233,7 +195,7 @@ pub whole_nodes : (root : Tree) (w : Row) → IsWhole root w → trees root.kids
 whole_nodes root w k = sym (kids_are root w.nodes.now k.kids)
 
 pub whole_places : (root : Tree) (w : Row) → IsWhole root w → left w.places ≡ map (at root) (numbers 1 (forest w.nodes.now))
-whole_places root w k = k.placed ∙ (ap (λ (t : Tree). map (at root) (numbers 1 t.kids)) (standing_root root).0 ∙ ap (λ f. map (at root) (numbers 1 f)) (sym k.kids))
+whole_places root w k = cc (k.placed, (standing_root root).0, k.kids)
 
 whole_stands : (root : Tree) (w : Row) → IsWhole root w → Standing root 1 (forest w.nodes.now)
 whole_stands root w k = subst (Standing root 1) (sym k.kids) (standing_root root).1.0
@@ -262,9 +224,7 @@ standing_on root n (suc i) (t ∷ ts) s =
 
 pub on_places : (root : Tree) (b : Boundary) (w v : Row) → IsWhole root w → GoesOn root b w v → left v.places ≡ map (at root) (numbers (number_after b.index w) (forest v.nodes.now))
 on_places root b w v k g =
-    g.placed
-    ∙ (ap (drop b.index) (sym k.placed ∙ whole_places root w k)
-    ∙ (drop_numbers root 1 b.index w.nodes.now ∙ ap (λ xs. map (at root) (numbers (number_after b.index w) (forest xs))) (sym g.later)))
+    cc (g.placed, k.placed, whole_places root w k, drop_numbers root 1 b.index w.nodes.now, g.later)
 
 pub on_is : (root : Tree) (b : Boundary) (w v : Row) → IsWhole root w → GoesOn root b w v → IsRow root v
 on_is root b w v k g =

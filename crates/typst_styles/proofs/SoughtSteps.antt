@@ -7,34 +7,26 @@ use Rattle.typst_tree.specs.Linked.{linked}
 use Rattle.typst_tree.specs.declared.boundary.Boundary.{Boundary}
 use Rattle.typst_tree.proofs.ReplacesChildren.{start_le}
 use Rattle.typst_highlight.specs.declared.tags.Tag.{Tag}
-use Rattle.typst_highlight.specs.Html.{spanned}
-use Rattle.typst_highlight.specs.Names.{first_tag}
-use Rattle.typst_highlight.specs.Nodes.{tag_of}
 use Rattle.typst_names.specs.Bytes.{inner, behind}
 use Rattle.typst_names.specs.Contexts.{below, role_of}
 use Rattle.typst_names.specs.Names.{is_end}
 use Rattle.typst_names.specs.RoleRows.{steps}
 use Rattle.typst_names.specs.declared.contexts.Context.TheVariants as context
-use Rattle.typst_names.specs.declared.contexts.Role.{Role}
 use Rattle.typst_styles.specs.Seeking.{AreRows, Below, IsFewer, IsRow, IsSpot, IsTop, IsWhole, Opens, Seeks, Skips, Takes, left_of, left_of_all, number, of_first, of_spot, own, row, steps_all, steps_left, tag_in}
-use Rattle.typst_styles.specs.Styles.{style_of}
-use Rattle.typst_styles.specs.Tokens.{all_tokens, stretch, touching}
+use Rattle.typst_styles.specs.Tokens.{all_tokens, touching}
 use Rattle.typst_styles.specs.declared.seeking.Row.{Row}
 use Rattle.typst_styles.specs.declared.seeking.Spot.{Spot}
 use Rattle.typst_styles.specs.declared.tokens.Token.{Token}
 use Rattle.typst_styles.proofs.SoughtRows.{GoesOn, below_is, below_left, left_from, left_pushed, number_after, on_is, on_places, rows_popped, rows_pushed, steps_pushed, top_is, top_tokens, whole_nodes, whole_places}
-use Rattle.typst_styles.proofs.TokensTouching.{node-ended, row-begun, row-from, touching-append}
+use Rattle.typst_styles.proofs.TokensTouching.{behind_others, node_ended, row_begun, row_from, touching_append}
 
 -- ---- what a range doesn't touch
 
 pub skipped : (range : Range ℕ) (text : List ℕ) (root : Tree) (w : Row) (t : Tree) (ts : List Tree) (later : List Token) → w.nodes.now ≡ t ∷ ts → behind w.start t.head t.kids ≤ range.start
     → touching range (of_first text root (number w) w.start w.around w.context w.nodes.now ++ later) ≡ touching range later
 skipped range text root w t ts later e l =
-    let n : ℕ = number w in
-    let here : List Tree → List Token = of_first text root n w.start w.around w.context in
-    touching-append range (here w.nodes.now) later
-    ∙ ap (λ us. us ++ touching range later)
-    (ap (λ xs. touching range (here xs)) e ∙ node-ended range text root n w.start (tag_in root n w.around) (role_of w.context t.head.kind (is_end (forest ts))) (below w.context t.head.kind) t.head t.kids l)
+    behind_others range (of_first text root (number w) w.start w.around w.context w.nodes.now) later
+    (ap (λ xs. touching range (of_first text root (number w) w.start w.around w.context xs)) e ∙ node_ended range text root (number w) w.start w.around w.context (is_end (forest ts)) t l)
 
 -- what is left of a row, the first node of which is taken out or isn't there, is left of one that passed nodes before it
 pub sought : (range : Range ℕ) (text : List ℕ) (root : Tree) (was w v : Row) (o : Option Spot) → touching range (left_of text root was) ≡ touching range (left_of text root w) → Takes root w o v → Seeks range text root was o v
@@ -46,14 +38,12 @@ sought_fewer was w v None l less = tt
 sought_fewer was w v (Some s) l less = omega (arith, l, less)
 
 pub over : (range : Range ℕ) (text : List ℕ) (root : Tree) (w : Row) → range.end ≤ w.start → touching range (left_of text root w) ≡ []
-over range text root w l = row-begun range text root (number w) w.start w.around w.context (forest w.nodes.now) l
+over range text root w l = row_begun range text root (number w) w.start w.around w.context (forest w.nodes.now) l
 
 -- what is touched of a part may be put for it
 same_part : (range : Range ℕ) (before here there after_it : List Token) → touching range here ≡ touching range there → touching range (before ++ (here ++ after_it)) ≡ touching range (before ++ (there ++ after_it))
 same_part range before here there after_it e =
-    touching-append range before (here ++ after_it)
-    ∙ (ap (λ ts. touching range before ++ ts) (touching-append range here after_it ∙ (ap (λ ts. ts ++ touching range after_it) e ∙ sym (touching-append range there after_it)))
-    ∙ sym (touching-append range before (there ++ after_it)))
+    cc (touching_append range before (here ++ after_it), touching_append range here after_it, touching_append range there after_it, touching_append range before (there ++ after_it))
 
 pub dropped : (range : Range ℕ) (found part rest : List Token) → touching range part ≡ [] → touching range (found ++ rest) ≡ touching range (found ++ (part ++ rest))
 dropped range found part rest e = sym (same_part range found part [] rest e)
@@ -64,19 +54,13 @@ pub opened : (text : List ℕ) (root : Tree) (s : Spot) (w : Row) (old new : Lis
 opened text root s w old new is k =
     let n : ℕ = (linked s.place).number in
     let t : Option Tag = tag_in root n s.around in
-    let tagged : w.around ≡ t = k.around ∙ ap (λ a. first_tag (spanned (tag_of a)) s.around) is.place in
-    let r : Option Role = role_of s.context s.node.node.now.head.kind s.is_last in
-    let mine : List Token = own text t r s.node.start s.node.node.now.head in
+    let mine : List Token = own text t (role_of s.context s.node.node.now.head.kind s.is_last) s.node.start s.node.node.now.head in
     let kids : List Token = row text root (n + 1) (inner s.node.start s.node.node.now.head) t (below s.context s.node.node.now.head.kind) s.node.node.now.kids in
-    let first : new ≡ old ++ mine = k.added ∙ (λ i. old ++ stretch text s.node.start (k.start i) (style_of (tagged i) r)) in
-    let rest : left_of text root w ≡ kids = sym (below_left text root s w is k.kids) ∙ (λ i. row text root (n + 1) (k.start i) (tagged i) (k.role_in i) s.node.node.now.kids) in
-    (λ i. first i ++ rest i) ∙ append_assoc old mine kids
+    cc (k.added, k.start, k.around, k.role_in, is.place, below_left text root s w is k.kids, append_assoc old mine kids)
 
 pub entered : (text : List ℕ) (root : Tree) (s : Spot) (w : Row) (old new : List Token) (rows pushed : List Row) → IsSpot root s → Opens text s old new w → pushed ≡ rows ++ w ∷ [] → new ++ left_of_all text root pushed ≡ old ++ (of_spot text root s ++ left_of_all text root rows)
 entered text root s w old new rows pushed is k put =
-    let others : List Token = left_of_all text root rows in
-    ap (λ ts. new ++ ts) (ap (left_of_all text root) put ∙ left_pushed text root rows w)
-    ∙ (sym (append_assoc new (left_of text root w) others) ∙ (ap (λ ts. ts ++ others) (opened text root s w old new is k) ∙ append_assoc old (of_spot text root s) others))
+    cc (put, left_pushed text root rows w, append_assoc new (left_of text root w) (left_of_all text root rows), opened text root s w old new is k, append_assoc old (of_spot text root s) (left_of_all text root rows))
 
 pub entered_rows : (root : Tree) (s : Spot) (w : Row) (rows pushed : List Row) → IsSpot root s → Below s w → pushed ≡ rows ++ w ∷ [] → AreRows root rows → AreRows root pushed
 entered_rows root s w rows pushed is k put are = subst (AreRows root) (sym put) (rows_pushed root rows w are (below_is root s w is k))
@@ -91,12 +75,8 @@ pub taken : (range : Range ℕ) (text : List ℕ) (root : Tree) (w v : Row) (s :
     → new ++ left_of_all text root last ≡ found ++ (of_spot text root s ++ left_of_all text root pushed)
     → touching range (new ++ left_of_all text root last) ≡ touching range (found ++ (left_of text root w ++ left_of_all text root rows))
 taken range text root w v s found new rows pushed last e put went =
-    let here : List Token = of_spot text root s in
-    let later : List Token = left_of text root v in
-    let others : List Token = left_of_all text root rows in
-    let parts : here ++ left_of_all text root pushed ≡ (here ++ later) ++ others =
-    ap (λ ts. here ++ ts) (ap (left_of_all text root) put ∙ left_pushed text root rows v) ∙ sym (append_assoc here later others) in
-    ap (touching range) (went ∙ ap (λ ts. found ++ ts) parts) ∙ sym (same_part range found (left_of text root w) (here ++ later) others e)
+    ap (touching range) (cc (went, put, left_pushed text root rows v, append_assoc (of_spot text root s) (left_of text root v) (left_of_all text root rows)))
+    ∙ sym (same_part range found (left_of text root w) (of_spot text root s ++ left_of text root v) (left_of_all text root rows) e)
 
 pub popped_left : (text : List ℕ) (root : Tree) (found : List Token) (rows rest : List Row) (w : Row) → rows ≡ rest ++ w ∷ [] → found ++ left_of_all text root rows ≡ found ++ (left_of text root w ++ left_of_all text root rest)
 popped_left text root found rows rest w e = ap (λ ts. found ++ ts) (ap (left_of_all text root) e ∙ left_pushed text root rest w)
@@ -108,8 +88,7 @@ pub popped_steps : (rows rest : List Row) (w : Row) → rows ≡ rest ++ w ∷ [
 popped_steps rows rest w e = ap steps_all e ∙ steps_pushed rest w
 
 pub at_end : (range : Range ℕ) (text : List ℕ) (root : Tree) (found all : List Token) (rows : List Row) → rows ≡ [] → touching range (found ++ left_of_all text root rows) ≡ touching range all → touching range found ≡ touching range all
-at_end range text root found all rows e so_far =
-    ap (touching range) (sym (append-nil found)) ∙ (ap (λ ws. touching range (found ++ left_of_all text root ws)) (sym e) ∙ so_far)
+at_end range text root found all rows e so_far = cc (e, so_far, append-nil found)
 
 -- ---- the walk begins
 
@@ -127,12 +106,9 @@ from_near range text root b w v k plain counted is low g =
     let most : a + length (joined (forest (take i kids))) ≤ length (text_of root) = start_le [] i root in
     let few : end ≤ 2 ^ 64 - 1 = omega (arith, counted.1, bytes, is.bytes, most) in
     let start : w.start ≡ a = omega (arith, k.start, few) in
-    let all : left_of text root w ≡ row text root 1 a w.around context.Value (forest ts) = sym (left_from text root 1 w (whole_places root w k)) ∙ (λ j. row text root 1 (start j) w.around (plain j) (forest ts)) in
-    let first : v.start ≡ end = g.start ∙ bytes in
-    let role_in : v.context ≡ context.Value = g.role_in ∙ plain in
-    let later : left_of text root v ≡ row text root m end w.around context.Value (forest (drop i ts)) =
-    sym (left_from text root m v (on_places root b w v k g)) ∙ (λ j. row text root m (first j) (g.still j) (role_in j) (forest (g.later j))) in
-    (on_is root b w v k g, ap (touching range) later ∙ (sym (row-from range text root 1 a w.around i ts (λ some. omega (arith, bytes, low some)) few) ∙ ap (touching range) (sym all)))
+    let all : left_of text root w ≡ row text root 1 a w.around context.Value (forest ts) = cc (left_from text root 1 w (whole_places root w k), start, plain) in
+    let later : left_of text root v ≡ row text root m end w.around context.Value (forest (drop i ts)) = cc (left_from text root m v (on_places root b w v k g), g.start, bytes, g.still, g.role_in, plain, g.later) in
+    (on_is root b w v k g, ap (touching range) later ∙ (sym (row_from range text root 1 a w.around i ts (λ some. omega (arith, bytes, low some)) few) ∙ ap (touching range) (sym all)))
 
 pub begun : (range : Range ℕ) (text : List ℕ) (root : Tree) (s : Spot) (w v : Row) (old found : List Token) (were rows : List Row) → IsTop root s → Opens text s old found w → touching range (left_of text root v) ≡ touching range (left_of text root w) → old ≡ [] → rows ≡ were ++ v ∷ [] → were ≡ []
     → touching range (found ++ left_of_all text root rows) ≡ touching range (all_tokens text root)
@@ -140,8 +116,8 @@ begun range text root s w v old found were rows top k near none put empty =
     let one : rows ≡ v ∷ [] = put ∙ ap (λ ws. ws ++ v ∷ []) empty in
     let whole : found ++ left_of text root w ≡ all_tokens text root = opened text root s w old found (top_is root s top) k ∙ (ap (λ ts. ts ++ of_spot text root s) none ∙ top_tokens text root s top) in
     ap (λ ws. touching range (found ++ left_of_all text root ws)) one
-    ∙ (touching-append range found (left_of text root v)
-    ∙ (ap (λ ts. touching range found ++ ts) near ∙ (sym (touching-append range found (left_of text root w)) ∙ ap (touching range) whole)))
+    ∙ (touching_append range found (left_of text root v)
+    ∙ (ap (λ ts. touching range found ++ ts) near ∙ (sym (touching_append range found (left_of text root w)) ∙ ap (touching range) whole)))
 
 pub begun_rows : (root : Tree) (v : Row) (were rows : List Row) → IsRow root v → rows ≡ were ++ v ∷ [] → were ≡ [] → AreRows root rows
 begun_rows root v were rows is put empty = subst (AreRows root) (sym (put ∙ ap (λ ws. ws ++ v ∷ []) empty)) (is, tt)

@@ -1,8 +1,7 @@
 -- The tokens on one side of an edge don't depend on what stands on the other.
-use Rattle.std.proofs.Common.{◌≡◌, ℕ, ◌+◌, ◌-◌, ◌^◌, ◌<◌, ◌≤◌, ◌==◌, Bool, true, false, ◌&&◌, List, [], ◌∷◌, ◌++◌, length, map, Option, None, Some, refl, ap, sym, subst, ◌∙◌, arith, inl, inr, cond}
-use Rattle.std.specs.Prelude.{nat_lt}
+use Rattle.std.proofs.Common.{◌≡◌, ℕ, ◌+◌, ◌-◌, ◌^◌, ◌≤◌, List, [], ◌∷◌, ◌++◌, length, map, Option, None, Some, refl, ap, sym, subst, ◌∙◌, arith, inl, inr}
 use Rattle.std.specs.declared.ops.Range.{Range}
-use Rattle.std.proofs.lemmas.Bool.Decides.{leb_tells, nat_tests}
+use Rattle.std.proofs.lemmas.Bool.Decides.{nat_tests}
 use Rattle.std.proofs.lemmas.List.{map-append}
 use Rattle.typst_tree.specs.Tree.{Forest, none, more, Tree, forest, joined, text_of}
 use Rattle.typst_highlight.specs.declared.context.Context.{Context as Around}
@@ -16,48 +15,27 @@ use Rattle.typst_names.specs.Contexts.{after, below, role_of}
 use Rattle.typst_names.specs.Names.{is_end}
 use Rattle.typst_names.specs.declared.contexts.Context.{Context}
 use Rattle.typst_styles.specs.Styles.{style_of}
-use Rattle.typst_styles.specs.Tokens.{end_of, ends_line, lines, token, touches, touching}
+use Rattle.typst_styles.specs.Tokens.{lines, touching}
 use Rattle.typst_styles.specs.Windows.{moved}
 use Rattle.typst_styles.specs.declared.styles.Style.{Style}
 use Rattle.typst_styles.specs.declared.tokens.Token.{Token}
-use Rattle.typst_styles.proofs.TokensByWalk.{piece, shown, tag_by}
-use Rattle.typst_styles.proofs.TokensTouching.{both-gone, lines-begun, lines-ended, touching-append}
+use Rattle.typst_styles.proofs.EachToken.{Between, IsBetween, each_both, piece, piece_between, touching_each}
+use Rattle.typst_styles.proofs.TokensByWalk.{of_kids, of_later, of_tree, own_piece, shown, tag_by}
+use Rattle.typst_styles.proofs.TokensTouching.{aside, behind_others, touching_append}
 
--- ---- what a range doesn't touch
+-- ---- where the tokens of trees are
 
-piece_begun : (range : Range ℕ) (o : Option Style) (a : ℕ) (bs : List ℕ) → range.end ≤ a → touching range (piece o a bs) ≡ []
-piece_begun range None a bs l = refl
-piece_begun range (Some s) a bs l = lines-begun range s a 0 bs l
-
-piece_ended : (range : Range ℕ) (o : Option Style) (a : ℕ) (bs : List ℕ) → a + length bs ≤ range.start → touching range (piece o a bs) ≡ []
-piece_ended range None a bs l = refl
-piece_ended range (Some s) a bs l = lines-ended range s a 0 bs (omega (arith, l))
-
--- trees that begin at the range's end or after it
-pub shown_begun : (range : Range ℕ) (c : Around) (u : Option Tag) (x : Context) (f : Forest) → range.end ≤ c.offset → range.end ≤ 2 ^ 64 - 1 → touching range (shown c u x f) ≡ []
-shown_begun range c u x none l m = refl
-shown_begun range c u x (more h ks r) l m =
+pub shown_between : (b e : ℕ) (c : Around) (u : Option Tag) (x : Context) (f : Forest) → b ≤ c.offset → b ≤ 2 ^ 64 - 1 → c.offset + length (joined f) ≤ e → Between b e (shown c u x f)
+shown_between b e c u x none l k m = tt
+shown_between b e c u x (more h ks r) l k m =
     let t : Tree = tree_of h ks in
-    let style : Option Style = style_of (tag_by c u t r) (role_of x h.kind (is_end r)) in
-    both-gone range (piece style c.offset h.text ++ shown (within c t r) (tag_by c u t r) (below x h.kind) ks) (shown (past c t (passed c t r)) u (after x h.kind) r)
-    (both-gone range (piece style c.offset h.text) (shown (within c t r) (tag_by c u t r) (below x h.kind) ks)
-    (piece_begun range style c.offset h.text l)
-    (shown_begun range (within c t r) (tag_by c u t r) (below x h.kind) ks (omega (arith, l, m)) m))
-    (shown_begun range (past c t (passed c t r)) u (after x h.kind) r (omega (arith, l, m)) m)
-
--- trees that end by the range's start
-pub shown_ended : (range : Range ℕ) (c : Around) (u : Option Tag) (x : Context) (f : Forest) → c.offset + length (joined f) ≤ range.start → touching range (shown c u x f) ≡ []
-shown_ended range c u x none l = refl
-shown_ended range c u x (more h ks r) l =
-    let t : Tree = tree_of h ks in
-    let style : Option Style = style_of (tag_by c u t r) (role_of x h.kind (is_end r)) in
     let total = row_length h ks r in
     let whole = tree_length t in
-    both-gone range (piece style c.offset h.text ++ shown (within c t r) (tag_by c u t r) (below x h.kind) ks) (shown (past c t (passed c t r)) u (after x h.kind) r)
-    (both-gone range (piece style c.offset h.text) (shown (within c t r) (tag_by c u t r) (below x h.kind) ks)
-    (piece_ended range style c.offset h.text (omega (arith, l, total)))
-    (shown_ended range (within c t r) (tag_by c u t r) (below x h.kind) ks (omega (arith, l, total))))
-    (shown_ended range (past c t (passed c t r)) u (after x h.kind) r (omega (arith, l, total, whole)))
+    each_both (IsBetween b e) (of_tree c u x t r) (of_later c u x t r)
+    (each_both (IsBetween b e) (own_piece c u x t r) (of_kids c u x t r)
+    (piece_between b e (style_of (tag_by c u t r) (role_of x h.kind (is_end r))) c.offset h.text l (omega (arith, total, m)))
+    (shown_between b e (within c t r) (tag_by c u t r) (below x h.kind) ks (omega (arith, l, k)) k (omega (arith, total, m))))
+    (shown_between b e (past c t (passed c t r)) u (after x h.kind) r (omega (arith, l, k)) k (omega (arith, total, whole, m)))
 
 -- ---- before an edge
 
@@ -72,21 +50,20 @@ list_length t ts = omega (arith, row_length t.head t.kids (forest ts), tree_leng
 pub shown_before : (range : Range ℕ) (c : Around) (u : Option Tag) (x : Context) (front : List Tree) (b : Tree) (xs ys : List Tree) → IsEdge b → range.end ≤ c.offset + length (joined (forest front)) → range.end ≤ 2 ^ 64 - 1
     → touching range (shown c u x (forest (front ++ b ∷ xs))) ≡ touching range (shown c u x (forest (front ++ b ∷ ys)))
 shown_before range c u x [] b xs ys w l m =
-    let at : range.end ≤ c.offset = omega (arith, l) in
-    shown_begun range c u x (forest (b ∷ xs)) at m ∙ sym (shown_begun range c u x (forest (b ∷ ys)) at m)
+    let begun : (f : Forest) → touching range (shown c u x f) ≡ [] =
+    λ f. aside range range.end (c.offset + length (joined f)) (shown c u x f) (shown_between range.end (c.offset + length (joined f)) c u x f (omega (arith, l)) m (omega arith)) (inl (omega arith)) in
+    begun (forest (b ∷ xs)) ∙ sym (begun (forest (b ∷ ys)))
 shown_before range c u x (t ∷ front) b xs ys w l m =
     let q : Forest = forest (front ++ b ∷ xs) in
     let r : Forest = forest (front ++ b ∷ ys) in
     let apart : IsApart c t q r = before_edge c t front b xs ys w in
     let ends = ends_same front b xs ys in
-    let first : Forest → List Token = λ f. piece (style_of (tag_by c u t f) (role_of x t.head.kind (is_end f))) c.offset t.head.text ++ shown (within c t f) (tag_by c u t f) (below x t.head.kind) t.kids in
-    let later : Forest → List Token = λ f. shown (past c t (passed c t f)) u (after x t.head.kind) f in
-    let mine : first q ≡ first r =
+    let mine : of_tree c u x t q ≡ of_tree c u x t r =
     λ i. piece (style_of (first_tag (spanned (apart.own i)) u) (role_of x t.head.kind (ends i))) c.offset t.head.text ++ shown (apart.below i) (first_tag (spanned (apart.own i)) u) (below x t.head.kind) t.kids in
-    let others : touching range (later q) ≡ touching range (later r) =
+    let others : touching range (of_later c u x t q) ≡ touching range (of_later c u x t r) =
     shown_before range (past c t (passed c t q)) u (after x t.head.kind) front b xs ys w (omega (arith, l, m, list_length t front)) m
     ∙ ap (λ z. touching range (shown z u (after x t.head.kind) r)) apart.later in
-    touching-append range (first q) (later q) ∙ ((λ i. touching range (mine i) ++ others i) ∙ sym (touching-append range (first r) (later r)))
+    touching_append range (of_tree c u x t q) (of_later c u x t q) ∙ ((λ i. touching range (mine i) ++ others i) ∙ sym (touching_append range (of_tree c u x t r) (of_later c u x t r)))
 
 -- ---- behind some trees
 
@@ -105,17 +82,13 @@ pub shown_behind : (range : Range ℕ) (c : Around) (u : Option Tag) (x : Contex
 shown_behind range c u x [] q l = refl
 shown_behind range c u x (t ∷ xs) q l =
     let r : Forest = forest (xs ++ q) in
-    let style : Option Style = style_of (tag_by c u t r) (role_of x t.head.kind (is_end r)) in
-    let first : List Token = piece style c.offset t.head.text ++ shown (within c t r) (tag_by c u t r) (below x t.head.kind) t.kids in
-    let later : List Token = shown (past c t (passed c t r)) u (after x t.head.kind) r in
     let total = list_length t xs in
     let whole = tree_length t in
-    let gone : touching range first ≡ [] =
-    both-gone range (piece style c.offset t.head.text) (shown (within c t r) (tag_by c u t r) (below x t.head.kind) t.kids)
-    (piece_ended range style c.offset t.head.text (omega (arith, l, total, whole)))
-    (shown_ended range (within c t r) (tag_by c u t r) (below x t.head.kind) t.kids (omega (arith, l, total, whole))) in
-    touching-append range first later
-    ∙ (ap (λ ts. ts ++ touching range later) gone ∙ shown_behind range (past c t (passed c t r)) u (after x t.head.kind) xs q (omega (arith, l, total)))
+    let inside : Between 0 range.start (of_kids c u x t r) = shown_between 0 range.start (within c t r) (tag_by c u t r) (below x t.head.kind) t.kids (omega arith) (omega arith) (omega (arith, l, total, whole)) in
+    let first : Between 0 range.start (of_tree c u x t r) =
+    each_both (IsBetween 0 range.start) (own_piece c u x t r) (of_kids c u x t r) (piece_between 0 range.start (style_of (tag_by c u t r) (role_of x t.head.kind (is_end r))) c.offset t.head.text (omega arith) (omega (arith, l, total, whole))) inside in
+    behind_others range (of_tree c u x t r) (of_later c u x t r) (aside range 0 range.start (of_tree c u x t r) first (inr (omega arith)))
+    ∙ shown_behind range (past c t (passed c t r)) u (after x t.head.kind) xs q (omega (arith, l, total))
 
 -- the same round trees, further on, but for the last leaves
 pub record Follows (c d : Around) (n : ℕ) : Type 0 where
@@ -138,32 +111,10 @@ round_follows c (t ∷ xs) q l =
 
 -- ---- tokens that are moved
 
-moved_start : (s : Style) (k a b : ℕ) → a ≡ b → (let t : Token = record { start = a; len = k; style = s } in t) ≡ record { start = b; len = k; style = s }
-moved_start s k a b e = ap (λ z. let t : Token = record { start = z; len = k; style = s } in t) e
-
-by_none : (m n k a b : ℕ) (s : Style) (nothing : Bool) → b ≡ a - m + n
-    → cond nothing [] ((let t : Token = record { start = b; len = k; style = s } in t) ∷ []) ≡ map (moved m n) (cond nothing [] ((let t : Token = record { start = a; len = k; style = s } in t) ∷ []))
-by_none m n k a b s true e = refl
-by_none m n k a b s false e = ap (λ t. t ∷ []) (moved_start s k b (a - m + n) e)
-
-token_moved : (m n k a b : ℕ) (s : Style) → b ≡ a - m + n → token s b k ≡ map (moved m n) (token s a k)
-token_moved m n k a b s e = by_none m n k a b s (k == 0) e
-
-map_choice : (f : Token → Token) (b : Bool) (xs ys zs ws : List Token) → xs ≡ map f zs → ys ≡ map f ws → cond b xs ys ≡ map f (cond b zs ws)
-map_choice f true xs ys zs ws e g = e
-map_choice f false xs ys zs ws e g = g
-
-map_both : (f : Token → Token) (xs ys zs ws : List Token) → xs ≡ map f zs → ys ≡ map f ws → xs ++ ys ≡ map f (zs ++ ws)
-map_both f xs ys zs ws e g = (λ i. e i ++ g i) ∙ sym (map-append f zs ws)
-
 lines_moved : (m n k a b : ℕ) (s : Style) (bs : List ℕ) → m ≤ a → b + m ≡ a + n → lines s b k bs ≡ map (moved m n) (lines s a k bs)
-lines_moved m n k a b s [] l e = token_moved m n k a b s (omega (arith, l, e))
+lines_moved m n k a b s [] l e = grind (arith, nat_tests)
 lines_moved m n k a b s (z ∷ bs) l e =
-    map_choice (moved m n) (ends_line z) (token s b k ++ lines s (b + k + 1) 0 bs) (lines s b (k + 1) bs) (token s a k ++ lines s (a + k + 1) 0 bs) (lines s a (k + 1) bs)
-    (map_both (moved m n) (token s b k) (lines s (b + k + 1) 0 bs) (token s a k) (lines s (a + k + 1) 0 bs)
-    (token_moved m n k a b s (omega (arith, l, e)))
-    (lines_moved m n 0 (a + k + 1) (b + k + 1) s bs (omega (arith, l)) (omega (arith, e))))
-    (lines_moved m n (k + 1) a b s bs l e)
+    grind (arith, nat_tests, map-append, lines_moved m n 0 (a + k + 1) (b + k + 1) s bs (omega arith) (omega arith), lines_moved m n (k + 1) a b s bs l e)
 
 piece_moved : (m n a b : ℕ) (o : Option Style) (bs : List ℕ) → m ≤ a → b + m ≡ a + n → piece o b bs ≡ map (moved m n) (piece o a bs)
 piece_moved m n a b None bs l e = refl
@@ -178,125 +129,24 @@ shown_moved m n c d u x (more h ks r) w b l =
     let total = row_length h ks r in
     let whole = tree_length t in
     let same : tag_by d u t r ≡ tag_by c u t r = ap (λ z. first_tag (spanned z) u) (moved_tag m n c d t r w b) in
-    let own : piece (style_of (tag_by d u t r) role) d.offset h.text ≡ map (moved m n) (piece (style_of (tag_by c u t r) role) c.offset h.text) =
-    ap (λ z. piece (style_of z role) d.offset h.text) same ∙ piece_moved m n c.offset d.offset (style_of (tag_by c u t r) role) h.text l w.place.moved in
-    let kids : shown (within d t r) (tag_by d u t r) (below x h.kind) ks ≡ map (moved m n) (shown (within c t r) (tag_by c u t r) (below x h.kind) ks) =
+    let own : own_piece d u x t r ≡ map (moved m n) (own_piece c u x t r) = ap (λ z. piece (style_of z role) d.offset h.text) same ∙ piece_moved m n c.offset d.offset (style_of (tag_by c u t r) role) h.text l w.place.moved in
+    let kids : of_kids d u x t r ≡ map (moved m n) (of_kids c u x t r) =
     ap (λ z. shown (within d t r) z (below x h.kind) ks) same
     ∙ shown_moved m n (within c t r) (within d t r) (tag_by c u t r) (below x h.kind) ks (moved_within m n c d t r w b) (counted_below c d t r r b) (omega (arith, l, b.here, total)) in
-    let later : shown (past d t (passed d t r)) u (after x h.kind) r ≡ map (moved m n) (shown (past c t (passed c t r)) u (after x h.kind) r) =
+    let later : of_later d u x t r ≡ map (moved m n) (of_later c u x t r) =
     shown_moved m n (past c t (passed c t r)) (past d t (passed d t r)) u (after x h.kind) r (moved_later m n c d t r w b) (counted_past c d t (passed c t r) (passed d t r) r b) (omega (arith, l, b.here, total, whole)) in
-    map_both (moved m n) (piece (style_of (tag_by d u t r) role) d.offset h.text ++ shown (within d t r) (tag_by d u t r) (below x h.kind) ks) (shown (past d t (passed d t r)) u (after x h.kind) r) (piece (style_of (tag_by c u t r) role) c.offset h.text ++ shown (within c t r) (tag_by c u t r) (below x h.kind) ks) (shown (past c t (passed c t r)) u (after x h.kind) r)
-    (map_both (moved m n) (piece (style_of (tag_by d u t r) role) d.offset h.text) (shown (within d t r) (tag_by d u t r) (below x h.kind) ks) (piece (style_of (tag_by c u t r) role) c.offset h.text) (shown (within c t r) (tag_by c u t r) (below x h.kind) ks) own kids)
-    later
-
--- ---- where the tokens of trees are
-
--- each token is between two bytes
-abbrev pub Between : ℕ → ℕ → List Token → Type 0
-Between a e [] = Unit {0}
-Between a e (t ∷ ts) = (a ≤ t.start) × ((t.start + t.len ≤ e) × Between a e ts)
-
-pub between_both : (a e : ℕ) (xs ys : List Token) → Between a e xs → Between a e ys → Between a e (xs ++ ys)
-between_both a e [] ys p q = q
-between_both a e (t ∷ xs) ys p q = (p.0, (p.1.0, between_both a e xs ys p.1.1 q))
-
-pub between_wider : (a b e f : ℕ) (xs : List Token) → b ≤ a → e ≤ f → Between a e xs → Between b f xs
-between_wider a b e f [] l m p = tt
-between_wider a b e f (t ∷ xs) l m p = (omega (arith, l, p.0), (omega (arith, m, p.1.0), between_wider a b e f xs l m p.1.1))
-
-between_none : (a e : ℕ) (nothing : Bool) (t : Token) → a ≤ t.start → t.start + t.len ≤ e → Between a e (cond nothing [] (t ∷ []))
-between_none a e true t l m = tt
-between_none a e false t l m = (l, (m, tt))
-
-between_choice : (a e : ℕ) (b : Bool) (xs ys : List Token) → Between a e xs → Between a e ys → Between a e (cond b xs ys)
-between_choice a e true xs ys p q = p
-between_choice a e false xs ys p q = q
-
-token_between : (s : Style) (a k : ℕ) → Between a (a + k) (token s a k)
-token_between s a k = between_none a (a + k) (k == 0) (record { start = a; len = k; style = s }) (omega arith) (omega arith)
-
-lines_between : (s : Style) (a k : ℕ) (bs : List ℕ) → Between a (a + k + length bs) (lines s a k bs)
-lines_between s a k [] = between_wider a a (a + k) (a + k + 0) (token s a k) (omega arith) (omega arith) (token_between s a k)
-lines_between s a k (z ∷ bs) =
-    between_choice a (a + k + length (z ∷ bs)) (ends_line z) (token s a k ++ lines s (a + k + 1) 0 bs) (lines s a (k + 1) bs)
-    (between_both a (a + k + length (z ∷ bs)) (token s a k) (lines s (a + k + 1) 0 bs)
-    (between_wider a a (a + k) (a + k + length (z ∷ bs)) (token s a k) (omega arith) (omega arith) (token_between s a k))
-    (between_wider (a + k + 1) a (a + k + 1 + 0 + length bs) (a + k + length (z ∷ bs)) (lines s (a + k + 1) 0 bs) (omega arith) (omega arith) (lines_between s (a + k + 1) 0 bs)))
-    (between_wider a a (a + (k + 1) + length bs) (a + k + length (z ∷ bs)) (lines s a (k + 1) bs) (omega arith) (omega arith) (lines_between s a (k + 1) bs))
-
-piece_between : (o : Option Style) (a : ℕ) (bs : List ℕ) → Between a (a + length bs) (piece o a bs)
-piece_between None a bs = tt
-piece_between (Some s) a bs = between_wider a a (a + 0 + length bs) (a + length bs) (lines s a 0 bs) (omega arith) (omega arith) (lines_between s a 0 bs)
-
-pub shown_between : (c : Around) (u : Option Tag) (x : Context) (f : Forest) → c.offset + length (joined f) ≤ 2 ^ 64 - 1 → Between c.offset (c.offset + length (joined f)) (shown c u x f)
-shown_between c u x none l = tt
-shown_between c u x (more h ks r) l =
-    let t : Tree = tree_of h ks in
-    let a : ℕ = c.offset in
-    let e : ℕ = c.offset + length (joined (more h ks r)) in
-    let style : Option Style = style_of (tag_by c u t r) (role_of x h.kind (is_end r)) in
-    let inside : List Token = shown (within c t r) (tag_by c u t r) (below x h.kind) ks in
-    let later : List Token = shown (past c t (passed c t r)) u (after x h.kind) r in
-    let total = row_length h ks r in
-    let whole = tree_length t in
-    between_both a e (piece style a h.text ++ inside) later
-    (between_both a e (piece style a h.text) inside
-    (between_wider a a (a + length h.text) e (piece style a h.text) (omega arith) (omega (arith, total)) (piece_between style a h.text))
-    (between_wider (within c t r).offset a ((within c t r).offset + length (joined ks)) e inside (omega (arith, l, total)) (omega (arith, total)) (shown_between (within c t r) (tag_by c u t r) (below x h.kind) ks (omega (arith, l, total)))))
-    (between_wider (past c t (passed c t r)).offset a ((past c t (passed c t r)).offset + length (joined r)) e later (omega (arith, l, total, whole)) (omega (arith, total, whole)) (shown_between (past c t (passed c t r)) u (after x h.kind) r (omega (arith, l, total, whole))))
+    simp map-append (λ i. (own i ++ kids i) ++ later i)
 
 -- ---- what a moved range touches
-
-less_moved : (m n a b x y : ℕ) → x + m ≡ a + n → y + m ≡ b + n → nat_lt x y ≡ nat_lt a b
-less_moved m n a b x y e f = elim (leb_tells b a) [
-  | inl past ↦
-      let not_one : b ≤ a = past.1 in
-      let not_two : y ≤ x = omega (arith, e, f, not_one) in
-      let one : nat_lt a b ≡ false = grind (arith, nat_tests, not_one) in
-      let two : nat_lt x y ≡ false = grind (arith, nat_tests, not_two) in
-      two ∙ sym one
-  | inr within ↦
-      let less_one : a < b = within.1 in
-      let less_two : x < y = omega (arith, e, f, less_one) in
-      let one : nat_lt a b ≡ true = grind (arith, nat_tests, less_one) in
-      let two : nat_lt x y ≡ true = grind (arith, nat_tests, less_two) in
-      two ∙ sym one
-]
 
 -- the second range is the first one, moved
 pub record MovedRange (m n : ℕ) (old new : Range ℕ) : Type 0 where
   pub start : new.start + m ≡ old.start + n
   pub end : new.end + m ≡ old.end + n
 
-touches_moved : (m n e : ℕ) (old new : Range ℕ) (t : Token) → MovedRange m n old new → m ≤ t.start → t.start + t.len ≤ e → e ≤ 2 ^ 64 - 1 → e - m + n ≤ 2 ^ 64 - 1 → touches new (moved m n t) ≡ touches old t
-touches_moved m n e old new t w l k b g =
-    let first : nat_lt (t.start - m + n) new.end ≡ nat_lt t.start old.end = less_moved m n t.start old.end (t.start - m + n) new.end (omega (arith, l)) w.end in
-    let last : end_of (moved m n t) + m ≡ end_of t + n = omega (arith, l, k, b, g) in
-    let second : nat_lt new.start (end_of (moved m n t)) ≡ nat_lt old.start (end_of t) = less_moved m n old.start (end_of t) new.start (end_of (moved m n t)) w.start last in
-    λ i. first i && second i
-
-map_first : (f : Token → Token) (p q : Bool) (t : Token) (xs ys : List Token) → p ≡ q → xs ≡ map f ys → cond p (f t ∷ xs) xs ≡ map f (cond q (t ∷ ys) ys)
-map_first f p q t xs ys e g = (λ i. cond (e i) (f t ∷ g i) (g i)) ∙ map_cons f q t ys
-  where
-    map_cons : (f : Token → Token) (q : Bool) (t : Token) (ys : List Token) → cond q (f t ∷ map f ys) (map f ys) ≡ map f (cond q (t ∷ ys) ys)
-    map_cons f true t ys = refl
-    map_cons f false t ys = refl
-
 pub touching_moved : (m n e : ℕ) (old new : Range ℕ) (ts : List Token) → MovedRange m n old new → Between m e ts → e ≤ 2 ^ 64 - 1 → e - m + n ≤ 2 ^ 64 - 1 → touching new (map (moved m n) ts) ≡ map (moved m n) (touching old ts)
 touching_moved m n e old new [] w p b g = refl
-touching_moved m n e old new (t ∷ ts) w p b g =
-    map_first (moved m n) (touches new (moved m n t)) (touches old t) t (touching new (map (moved m n) ts)) (touching old ts)
-    (touches_moved m n e old new t w p.0 p.1.0 b g) (touching_moved m n e old new ts w p.1.1 b g)
-
-kept_choice : (a e : ℕ) (p : Bool) (t : Token) (xs : List Token) → Between a e (t ∷ xs) → Between a e xs → Between a e (cond p (t ∷ xs) xs)
-kept_choice a e true t xs v w = v
-kept_choice a e false t xs v w = w
-
-pub touching_between : (range : Range ℕ) (a e : ℕ) (ts : List Token) → Between a e ts → Between a e (touching range ts)
-touching_between range a e [] w = tt
-touching_between range a e (t ∷ ts) w =
-    let rest = touching_between range a e ts w.1.1 in
-    kept_choice a e (touches range t) t (touching range ts) (w.0, (w.1.0, rest)) rest
+touching_moved m n e old new (t ∷ ts) w p b g = grind (arith, nat_tests, touching_moved m n e old new ts w p.1 b g)
 
 -- ---- behind an edge
 
@@ -345,18 +195,16 @@ shown_after c u x xs ys b s old new w nothing names p q g =
     let y : Context = after (names_after x xs) b.head.kind in
     let alike : shown near u y r ≡ map (moved m n) (shown far u y r) = shown_moved m n far near u y r still left (omega (arith, first.offset, p.counted, tree)) in
     let there : Between m e (shown far u y r) =
-    between_wider far.offset m (far.offset + length (joined r)) e (shown far u y r) (omega (arith, first.offset, p.counted, tree)) (omega (arith, first.offset, p.counted, tree)) (shown_between far u y r left.here) in
+    shown_between m e far u y r (omega (arith, first.offset, p.counted, tree)) (omega (arith, p.counted)) (omega (arith, first.offset, p.counted, tree)) in
     let old_part : touching old (shown c u x (forest (xs ++ b ∷ s))) ≡ touching old (shown far u y r) =
     shown_behind old c u x xs (b ∷ s) (omega (arith, p.ended)) ∙ shown_behind old one u (names_after x xs) (b ∷ []) s (omega (arith, first.offset, p.ended, list_length b [])) in
     let new_part : touching new (shown c u x (forest (ys ++ b ∷ s))) ≡ touching new (shown near u y r) =
     shown_behind new c u x ys (b ∷ s) (omega (arith, q.ended))
     ∙ (shown_behind new two u (names_after x ys) (b ∷ []) s (omega (arith, second.offset, q.ended, list_length b []))
     ∙ ap (λ z. touching new (shown near u (after z b.head.kind) r)) (sym names)) in
-    let few : e ≤ 2 ^ 64 - 1 = p.counted in
-    let few_moved : e - m + n ≤ 2 ^ 64 - 1 = omega (arith, q.counted) in
     record {
-      same = new_part ∙ (ap (touching new) alike ∙ (touching_moved m n e old new (shown far u y r) g there few few_moved ∙ ap (map (moved m n)) (sym old_part)));
-      between = subst (Between m e) (sym old_part) (touching_between old m e (shown far u y r) there);
-      counted = few;
-      counted_moved = few_moved;
+      same = new_part ∙ (ap (touching new) alike ∙ (touching_moved m n e old new (shown far u y r) g there p.counted (omega (arith, q.counted)) ∙ ap (map (moved m n)) (sym old_part)));
+      between = subst (Between m e) (sym old_part) (touching_each (IsBetween m e) (IsBetween m e) old (λ t is hit. is) (shown far u y r) there);
+      counted = p.counted;
+      counted_moved = omega (arith, q.counted);
     }

@@ -3,7 +3,7 @@ use Rattle.std.proofs.Common.{◌≡◌, ℕ, ◌+◌, ◌-◌, ◌^◌, ◌≤�
 use Rattle.std.specs.Prelude.{slice_range}
 use Rattle.std.proofs.Math.Seq.{take-append_seam, drop-append_seam}
 use Rattle.typst_kinds.specs.Head.{Head}
-use Rattle.typst_tree.specs.Tree.{Forest, none, more, Tree, bare, bare_forest, count, joined, places, preorder, text_of}
+use Rattle.typst_tree.specs.Tree.{Forest, none, more, Tree, bare_forest, count, joined, places, preorder, text_of}
 use Rattle.typst_tree.specs.Walks.{is_leaf}
 use Rattle.typst_highlight.specs.declared.context.Context.{Context as Around}
 use Rattle.typst_highlight.specs.declared.tags.Tag.{Tag}
@@ -26,12 +26,8 @@ use Rattle.typst_styles.specs.Styles.{style_of}
 use Rattle.typst_styles.specs.Tokens.{all_tokens, lines, stretch}
 use Rattle.typst_styles.specs.declared.styles.Style.{Style}
 use Rattle.typst_styles.specs.declared.tokens.Token.{Token}
+use Rattle.typst_styles.proofs.EachToken.{piece}
 use Rattle.typst_styles.proofs.TokensByNode.{by_node}
-
--- the tokens of bytes from byte a on that are shown like this
-abbrev pub piece : Option Style → ℕ → List ℕ → List Token
-piece None a bs = []
-piece (Some s) a bs = lines s a 0 bs
 
 -- the tag that the first of some trees is shown by
 abbrev pub tag_by : Around → Option Tag → Tree → Forest → Option Tag
@@ -44,6 +40,19 @@ shown c u x (more h ks r) =
     let t : Tree = tree_of h ks in
     (piece (style_of (tag_by c u t r) (role_of x h.kind (is_end r))) c.offset h.text ++ shown (within c t r) (tag_by c u t r) (below x h.kind) ks)
     ++ shown (past c t (passed c t r)) u (after x h.kind) r
+
+-- those of the text of the first of such trees, of its children, of both, and of the others
+abbrev pub own_piece : Around → Option Tag → Context → Tree → Forest → List Token
+own_piece c u x t r = piece (style_of (tag_by c u t r) (role_of x t.head.kind (is_end r))) c.offset t.head.text
+
+abbrev pub of_kids : Around → Option Tag → Context → Tree → Forest → List Token
+of_kids c u x t r = shown (within c t r) (tag_by c u t r) (below x t.head.kind) t.kids
+
+abbrev pub of_tree : Around → Option Tag → Context → Tree → Forest → List Token
+of_tree c u x t r = own_piece c u x t r ++ of_kids c u x t r
+
+abbrev pub of_later : Around → Option Tag → Context → Tree → Forest → List Token
+of_later c u x t r = shown (past c t (passed c t r)) u (after x t.head.kind) r
 
 -- ---- they are those of the tree's nodes
 
@@ -60,15 +69,6 @@ stretch_piece text a e bs (Some style) s = ap (lines style a 0) s
 no_kids : (text : List ℕ) (root : Tree) (n a : ℕ) (u : Option Tag) (x : Context) (c : Around) (h : Head) (ks : Forest) → is_leaf (tree_of h ks) ≡ true → row text root n a u x ks ≡ shown c u x ks
 no_kids text root n a u x c h none e = refl
 no_kids text root n a u x c h (more g is r) e = absurd (cc)
-
-first_part : (before own kids later rest : List ℕ) → before ++ ((own ++ (kids ++ later)) ++ rest) ≡ before ++ (own ++ ((kids ++ later) ++ rest))
-first_part before own kids later rest = simp append_assoc refl
-
-kids_part : (before own kids later rest : List ℕ) → before ++ ((own ++ (kids ++ later)) ++ rest) ≡ (before ++ own) ++ (kids ++ (later ++ rest))
-kids_part before own kids later rest = simp append_assoc refl
-
-later_part : (before own kids later rest : List ℕ) → before ++ ((own ++ (kids ++ later)) ++ rest) ≡ (before ++ (own ++ kids)) ++ (later ++ rest)
-later_part before own kids later rest = simp append_assoc refl
 
 -- the text has these trees' texts from a byte on
 pub record Holds (text : List ℕ) (f : Forest) (a : ℕ) (before rest : List ℕ) : Type 0 where
@@ -87,18 +87,16 @@ by_walk text root n u x (more h ks r) front back up c before rest s w at =
     let a : ℕ = c.offset in
     let role : Option Role = role_of x h.kind (is_end r) in
     let same : tag_in root n u ≡ tag_by c u t r = ap (λ z. first_tag (spanned z) u) (sym (tag_law root n h ks r front back up c s w)) in
-    let first : text ≡ before ++ (h.text ++ ((joined ks ++ joined r) ++ rest)) = at.whole ∙ first_part before h.text (joined ks) (joined r) rest in
-    let low : text ≡ (before ++ h.text) ++ (joined ks ++ (joined r ++ rest)) = at.whole ∙ kids_part before h.text (joined ks) (joined r) rest in
-    let next : text ≡ (before ++ (h.text ++ joined ks)) ++ (joined r ++ rest) = at.whole ∙ later_part before h.text (joined ks) (joined r) rest in
-    let start = at.at in
-    let limit = at.counted in
-    let own_end : inner a h ≡ a + length h.text = omega (arith, start, limit, text_length text before h.text ((joined ks ++ joined r) ++ rest) first) in
+    let first : text ≡ before ++ (h.text ++ ((joined ks ++ joined r) ++ rest)) = at.whole ∙ simp append_assoc in
+    let low : text ≡ (before ++ h.text) ++ (joined ks ++ (joined r ++ rest)) = at.whole ∙ simp append_assoc in
+    let next : text ≡ (before ++ (h.text ++ joined ks)) ++ (joined r ++ rest) = at.whole ∙ simp append_assoc in
+    let own_end : inner a h ≡ a + length h.text = omega (arith, at.at, at.counted, text_length text before h.text ((joined ks ++ joined r) ++ rest) first) in
     let mine : own text (tag_in root n u) role a h ≡ piece (style_of (tag_by c u t r) role) a h.text =
-    ap (λ z. own text z role a h) same ∙ stretch_piece text a (inner a h) h.text (style_of (tag_by c u t r) role) (slice_here text before h.text ((joined ks ++ joined r) ++ rest) a (inner a h) first start own_end) in
+    ap (λ z. own text z role a h) same ∙ stretch_piece text a (inner a h) h.text (style_of (tag_by c u t r) role) (slice_here text before h.text ((joined ks ++ joined r) ++ rest) a (inner a h) first at.at own_end) in
     let kids_at : Holds text ks (within c t r).offset (before ++ h.text) (joined r ++ rest) = record {
       whole = low;
-      at = omega (arith, start, limit, own_end, length-append before h.text);
-      counted = limit;
+      at = omega (arith, at.at, at.counted, own_end, length-append before h.text);
+      counted = at.counted;
     } in
     let kids : row text root (n + 1) (inner a h) (tag_by c u t r) (below x h.kind) ks ≡ shown (within c t r) (tag_by c u t r) (below x h.kind) ks =
     bool_cases (is_leaf t)
@@ -106,8 +104,8 @@ by_walk text root n u x (more h ks r) front back up c before rest s w at =
     (λ not_so. by_walk text root (n + 1) (tag_by c u t r) (below x h.kind) ks (front ++ t ∷ []) (preorder r ++ back) (Some n) (within c t r) (before ++ h.text) (joined r ++ rest) (stand_below root n h ks r front back up s) (fits_below root n h ks r front back up c s w not_so) kids_at) in
     let rest_at : Holds text r (past c t (passed c t r)).offset (before ++ (h.text ++ joined ks)) rest = record {
       whole = next;
-      at = omega (arith, start, limit, text_length text (before ++ (h.text ++ joined ks)) (joined r) rest next, length-append before (h.text ++ joined ks));
-      counted = limit;
+      at = omega (arith, at.at, at.counted, text_length text (before ++ (h.text ++ joined ks)) (joined r) rest next, length-append before (h.text ++ joined ks));
+      counted = at.counted;
     } in
     let later : row text root (n + (1 + count ks)) (behind a h ks) u (after x h.kind) r ≡ shown (past c t (passed c t r)) u (after x h.kind) r =
     by_walk text root (n + (1 + count ks)) u (after x h.kind) r (front ++ places t) back up (past c t (passed c t r)) (before ++ (h.text ++ joined ks)) rest (stand_behind root n h ks r front back up s) (fits_behind root n h ks r front back up c (passed c t r) s w (passed_here root n h ks r front back up c s w)) rest_at in
@@ -136,10 +134,7 @@ shown_bare c u x (more h ks r) =
     let ends = bare_end r in
     let low = bare_within c t r in
     let next = bare_later c t r in
-    let mine : piece (style_of (tag_by c u (bare t) (bare_forest r)) (role_of x h.kind (is_end (bare_forest r)))) c.offset h.text ≡ piece (style_of (tag_by c u t r) (role_of x h.kind (is_end r))) c.offset h.text =
-    λ i. piece (style_of (first_tag (spanned (same i)) u) (role_of x h.kind (ends i))) c.offset h.text in
-    let kids : shown (within c (bare t) (bare_forest r)) (tag_by c u (bare t) (bare_forest r)) (below x h.kind) (bare_forest ks) ≡ shown (within c t r) (tag_by c u t r) (below x h.kind) ks =
-    (λ i. shown (low i) (first_tag (spanned (same i)) u) (below x h.kind) (bare_forest ks)) ∙ shown_bare (within c t r) (tag_by c u t r) (below x h.kind) ks in
-    let later : shown (past c (bare t) (passed c (bare t) (bare_forest r))) u (after x h.kind) (bare_forest r) ≡ shown (past c t (passed c t r)) u (after x h.kind) r =
-    (λ i. shown (next i) u (after x h.kind) (bare_forest r)) ∙ shown_bare (past c t (passed c t r)) u (after x h.kind) r in
-    λ i. (mine i ++ kids i) ++ later i
+    let kids = shown_bare (within c t r) (tag_by c u t r) (below x h.kind) ks in
+    let later = shown_bare (past c t (passed c t r)) u (after x h.kind) r in
+    (λ i. (piece (style_of (first_tag (spanned (same i)) u) (role_of x h.kind (ends i))) c.offset h.text ++ shown (low i) (first_tag (spanned (same i)) u) (below x h.kind) (bare_forest ks)) ++ shown (next i) u (after x h.kind) (bare_forest r))
+    ∙ (λ i. (own_piece c u x t r ++ kids i) ++ later i)

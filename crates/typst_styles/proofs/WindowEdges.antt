@@ -8,7 +8,7 @@ use Rattle.typst_highlight.specs.Edges.{is_edge}
 use Rattle.typst_highlight.specs.RootEdits.{bytes_of}
 use Rattle.typst_styles.specs.Windows.{BeginsEdge, BeginsOne, EndsEdge, EndsOne, FollowsFeed, HasEdge, IsLineAfter, IsWindow, StartsBefore, StartsBehind, range_of}
 use Rattle.typst_styles.proofs.TokensApart.{list_length}
-use Rattle.typst_styles.proofs.WindowTokens.{bytes_append}
+use Rattle.typst_styles.proofs.EditedKids.{bytes_append}
 
 -- the nodes are those before one, that one, and those after it
 in_parts : (ts : List Tree) (i : ℕ) (d : Tree) → i < length ts → ts ≡ take i ts ++ get_or ts i d ∷ drop (i + 1) ts
@@ -34,13 +34,8 @@ begins_one ts i x limit at l is e s below here = record {
 -- so does one that ends in some bytes before it; there is none in no bytes
 pub begins_before : (kids : Forest) (bytes limit at : ℕ) → (bytes < limit) ⊎ (bytes ≡ 0) → BeginsEdge kids (bytes + 1) at → BeginsEdge kids limit at
 begins_before kids bytes limit at below (inl none) = inl none
-begins_before kids bytes limit at (inl less) (inr one) =
-    let ends = one.ends in
-    inr (record { edge = one.edge; ends = omega (arith, ends, less); here = one.here })
-begins_before kids bytes limit at (inr none) (inr one) =
-    let ends = one.ends in
-    let some = one.edge.some in
-    absurd (omega (arith, ends, some, none))
+begins_before kids bytes limit at (inl less) (inr one) = inr (record { edge = one.edge; ends = omega (arith, one.ends, less); here = one.here })
+begins_before kids bytes limit at (inr none) (inr one) = absurd (omega (arith, one.ends, one.edge.some, none))
 
 -- the first nodes end before a byte, or have none
 pub ended : (ts : List Tree) (i bytes limit : ℕ) → bytes ≡ bytes_of (take i ts) → (0 < i → bytes ≤ limit - 1) → (bytes < limit) ⊎ (bytes ≡ 0)
@@ -68,20 +63,12 @@ bytes_with ts i x l is = bytes_more ts i x l ∙ ap (λ t. bytes_of (take i ts) 
 starts : (root : Tree) (text : List ℕ) (read : Range ℕ) (first start : ℕ) → BeginsEdge root.kids read.start first → start ≤ first → ((start ≡ 0) ⊎ FollowsFeed text start) → ((start ≡ 0) ⊎ StartsBefore root text read start)
 starts root text read first start begins low (inl none) = inl none
 starts root text read first start (inl none) low (inr line) = inl (omega (arith, low, none))
-starts root text read first start (inr one) low (inr line) =
-    let here = one.here in
-    inr (record { edge = one.edge; ends = one.ends; within = omega (arith, low, here); line = line })
+starts root text read first start (inr one) low (inr line) = inr (record { edge = one.edge; ends = one.ends; within = omega (arith, low, one.here); line = line })
 
 ends : (root : Tree) (text : List ℕ) (read : Range ℕ) (last end : ℕ) → EndsEdge root.kids read.end (length text) last → IsLineAfter text last end → ((end ≡ length text) ⊎ StartsBehind root text read end)
 ends root text read last end edge (inl whole) = inl whole
-ends root text read last end (inl whole) (inr line) =
-    let low = line.0 in
-    let within = line.1.0 in
-    inl (omega (arith, whole, low, within))
-ends root text read last end (inr one) (inr line) =
-    let here = one.here in
-    let low = line.0 in
-    inr (record { edge = one.edge; begins = one.begins; behind = omega (arith, here, low); within = line.1.0; line = line.1.1 })
+ends root text read last end (inl whole) (inr line) = inl (omega (arith, whole, line.0, line.1.0))
+ends root text read last end (inr one) (inr line) = inr (record { edge = one.edge; begins = one.begins; behind = omega (arith, one.here, line.0); within = line.1.0; line = line.1.1 })
 
 -- from the start of an edge to the end of another one, and from there to lines
 pub window_is : (root : Tree) (text : List ℕ) (read : Range ℕ) (first last start end : ℕ) → BeginsEdge root.kids read.start first → EndsEdge root.kids read.end (length text) last → start ≤ first → ((start ≡ 0) ⊎ FollowsFeed text start) → IsLineAfter text last end

@@ -21,7 +21,6 @@ returns g c =
     let long : c.extend_from_slice.new.self.len ≡ length c.extend_from_slice.new.self.items = omega arith in
     let count : c.len-count.result ≡ length es = omega arith in
     let within : c.args.to ≤ length es = c.requires.within in
-    let order = c.requires.order in
     let first : length c.bring_forward.new.items ≡ length c.deref_mut-2.result.now = c.bring_forward.auto.items in
     let second : length c.bring_back.new.items ≡ length c.deref_mut-3.result.now = c.bring_back.auto.items in
     let A = take at es in
@@ -32,17 +31,17 @@ returns g c =
     let one : c.deref_mut-3.result.now ≡ c.bring_forward.new.items =
     c.deref_mut-3.ensures.value ∙ written c.bring_forward.new.items c.extend_from_slice.new.self.items c.extend_from_slice.new.self.len (first ∙ all) long in
     let length_one : length c.deref_mut-3.result.now ≡ length c.extend_from_slice.new.self.items = ap length one ∙ first ∙ all in
-    let front : at ≡ length A = sym (length-take-le at es (omega (arith, within, order))) in
+    let front : at ≡ length A = sym (length-take-le at es (omega (arith, within))) in
     let back : length D ≡ length es - at = length-drop at es in
-    let n : c.len-count.result ≡ length A + length D = omega (arith, count, front, back, within, order) in
-    let few : gone ≤ length D = omega (arith, back, within, order) in
+    let n : c.len-count.result ≡ length A + length D = omega (arith, count, front, back, within) in
+    let few : gone ≤ length D = omega (arith, back, within) in
     let b = c.bring_back.ensures ∙ ap (λ us. take (at + length ps) us ++ (drop gone (drop (at + length ps) us) ++ take gone (drop (at + length ps) us))) one in
     let last = put-is A ps D c.deref_mut-2.result.now c.bring_forward.new.items c.bring_back.new.items at c.len-count.result gone both front n few c.bring_forward.ensures b in
     let there : ℕ = c.extend_from_slice.new.self.len in
     let two : take there (c.bring_back.new.items ++ drop (length c.bring_back.new.items) c.deref_mut-3.result.now) ≡ c.bring_back.new.items =
     written c.bring_back.new.items c.deref_mut-3.result.now there second (long ∙ sym length_one) in
     let kept : ℕ = (c.len-count.result + length ps) - gone in
-    let cut : at + gone ≡ c.args.to = omega (arith, order) in
+    let cut : at + gone ≡ c.args.to = omega arith in
     c.truncate.ensures.items
     ∙ ap (λ us. take kept (take there (c.bring_back.new.items ++ drop (length c.bring_back.new.items) us))) (sym c.deref_mut-3.ensures.value)
     ∙ ap (take kept) two ∙ last

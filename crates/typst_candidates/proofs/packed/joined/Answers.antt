@@ -10,5 +10,4 @@ small n k h = let whole = shr_split n k in let low = mod_below n (2 ^ k) (pow_po
 pub returns : goal.returns
 returns c =
     let low = small c.args.low c.args.width c.if-low-width-ne0.false in
-    let width = c.requires in
-    IfSome_then c.word_of.result c.word_of.ensures (λ both e. (low, e ∙ ap (λ m. bit_or m c.args.low) (shl_whole c.args.high 32 c.args.width 64 c.ranges.high.fits (omega (arith, width))) ∙ or_shifted c.args.high c.args.width c.args.low low))
+    IfSome_then c.word_of.result c.word_of.ensures (λ both e. (low, e ∙ ap (λ m. bit_or m c.args.low) (shl_whole c.args.high 32 c.args.width 64 c.ranges.high.fits (omega arith)) ∙ or_shifted c.args.high c.args.width c.args.low low))

@@ -25,32 +25,13 @@ nodes-init c =
       };
     }
 
-pub come-requires : goal.come-requires
-come-requires c = c.nodes.invariant.ready
-
-pub locate-requires-clause-ready : goal.locate-requires-clause-ready
-locate-requires-clause-ready c = c.in-Some.ensures.1.1
-
-pub locate-requires-clause-row : goal.locate-requires-clause-row
-locate-requires-clause-row c = c.in-Some.ensures.1.0
-
-pub returns-then-placed-stretch-clause-count : goal.returns-then-placed-stretch-clause-count
-returns-then-placed-stretch-clause-count c =
-    let s : Search = record { root = c.args.root; stretch = c.args.stretch; near = c.args.near } in
-    let n = c.in-Some.next in
-    let v : Course = course s n.here c.come.new.progress in
-    let before : IsFilled c.args.stretch c.args.root.now n.here.number c.nodes.count c.nodes.room c.args.room.now = subst (λ k. IsFilled c.args.stretch c.args.root.now k c.nodes.count c.nodes.room c.args.room.now) (sym c.in-Some.ensures.0) c.nodes.invariant.put in
-    let late : c.args.stretch.end < offset_of (at c.args.root.now n.here.number) = omega (arith, c.if-placed-stretch.true, c.in_ok-placed.ensures.placed.start) in
-    (put_all c.args.stretch c.args.root.now n.here.number c.nodes.count c.nodes.room c.args.room.now (beyond c.args.stretch c.args.root.now n.here.number late) before).count_is
-
-pub returns-then-placed-stretch-clause-room : goal.returns-then-placed-stretch-clause-room
-returns-then-placed-stretch-clause-room c =
-    let s : Search = record { root = c.args.root; stretch = c.args.stretch; near = c.args.near } in
-    let n = c.in-Some.next in
-    let v : Course = course s n.here c.come.new.progress in
-    let before : IsFilled c.args.stretch c.args.root.now n.here.number c.nodes.count c.nodes.room c.args.room.now = subst (λ k. IsFilled c.args.stretch c.args.root.now k c.nodes.count c.nodes.room c.args.room.now) (sym c.in-Some.ensures.0) c.nodes.invariant.put in
-    let late : c.args.stretch.end < offset_of (at c.args.root.now n.here.number) = omega (arith, c.if-placed-stretch.true, c.in_ok-placed.ensures.placed.start) in
-    (put_all c.args.stretch c.args.root.now n.here.number c.nodes.count c.nodes.room c.args.room.now (beyond c.args.stretch c.args.root.now n.here.number late) before).array_is
+pub returns-then-placed-stretch : goal.returns-then-placed-stretch
+returns-then-placed-stretch c =
+    let n = c.in-Some.next.here.number in
+    let before : IsFilled c.args.stretch c.args.root.now n c.nodes.count c.nodes.room c.args.room.now = subst (λ k. IsFilled c.args.stretch c.args.root.now k c.nodes.count c.nodes.room c.args.room.now) (sym c.in-Some.ensures.0) c.nodes.invariant.put in
+    let late : c.args.stretch.end < offset_of (at c.args.root.now n) = omega (arith, c.if-placed-stretch.true, c.in_ok-placed.ensures.placed.start) in
+    let all = put_all c.args.stretch c.args.root.now n c.nodes.count c.nodes.room c.args.room.now (beyond c.args.stretch c.args.root.now n late) before in
+    record { count = all.count_is; room = all.array_is }
 
 pub plain_record-requires-clause-small : goal.plain_record-requires-clause-small
 plain_record-requires-clause-small c = λ e.
@@ -68,21 +49,6 @@ plain_record-requires-clause-flags c = ap (λ t. flags_of t.head) c.in_ok-placed
 
 pub put_met-count-requires : goal.put_met-count-requires
 put_met-count-requires c = omega (arith, c.nodes.invariant.put.short, met_most c.args.stretch c.args.root.now, c.requires.counted)
-
-pub pass-here-requires-clause-ready : goal.pass-here-requires-clause-ready
-pass-here-requires-clause-ready c = c.in-Some.ensures.1.1
-
-pub pass-here-requires-clause-row : goal.pass-here-requires-clause-row
-pass-here-requires-clause-row c = c.in-Some.ensures.1.0
-
-pub pass-here-requires-clause-childless : goal.pass-here-requires-clause-childless
-pass-here-requires-clause-childless c = c.is_plain.ensures.childless c.if-is_plain.true
-
-pub pass-here-requires-clause-named : goal.pass-here-requires-clause-named
-pass-here-requires-clause-named c = c.in_ok-placed.ensures.name
-
-pub pass-here-requires-clause-ends : goal.pass-here-requires-clause-ends
-pass-here-requires-clause-ends c = c.in_ok-placed.ensures.ends
 
 pub nodes-preserved-then-is_plain : goal.nodes-preserved-then-is_plain
 nodes-preserved-then-is_plain c =
@@ -111,18 +77,6 @@ record-requires c = λ e.
 pub put_met-count-requires-in-Some : goal.put_met-count-requires-in-Some
 put_met-count-requires-in-Some c = omega (arith, c.nodes.invariant.put.short, met_most c.args.stretch c.args.root.now, c.requires.counted)
 
-pub go_on-requires-clause-ready : goal.go_on-requires-clause-ready
-go_on-requires-clause-ready c = c.in-Some.ensures.1.1
-
-pub go_on-requires-clause-row : goal.go_on-requires-clause-row
-go_on-requires-clause-row c = c.in-Some.ensures.1.0
-
-pub go_on-requires-clause-named : goal.go_on-requires-clause-named
-go_on-requires-clause-named c = c.in_ok-placed.ensures.name
-
-pub go_on-requires-clause-ends : goal.go_on-requires-clause-ends
-go_on-requires-clause-ends c = c.in_ok-placed.ensures.ends
-
 pub nodes-preserved : goal.nodes-preserved
 nodes-preserved c =
     let s : Search = record { root = c.args.root; stretch = c.args.stretch; near = c.args.near } in
@@ -139,10 +93,7 @@ nodes-preserved c =
 pub nodes-smaller : goal.nodes-smaller
 nodes-smaller c = omega (arith, c.in_ok-here.ensures.within, c.in_ok-here.ensures.onward, c.in-Some.ensures.0)
 
-pub returns-clause-count : goal.returns-clause-count
-returns-clause-count c =
-    (put_all c.args.stretch c.args.root.now c.nodes.here.number c.nodes.count c.nodes.room c.args.room.now (ended c.args.stretch c.args.root.now c.nodes.here.number c.in_default.ensures) c.nodes.invariant.put).count_is
-
-pub returns-clause-room : goal.returns-clause-room
-returns-clause-room c =
-    (put_all c.args.stretch c.args.root.now c.nodes.here.number c.nodes.count c.nodes.room c.args.room.now (ended c.args.stretch c.args.root.now c.nodes.here.number c.in_default.ensures) c.nodes.invariant.put).array_is
+pub returns : goal.returns
+returns c =
+    let all = put_all c.args.stretch c.args.root.now c.nodes.here.number c.nodes.count c.nodes.room c.args.room.now (ended c.args.stretch c.args.root.now c.nodes.here.number c.in_default.ensures) c.nodes.invariant.put in
+    record { count = all.count_is; room = all.array_is }

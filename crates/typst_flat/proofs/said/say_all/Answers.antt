@@ -7,7 +7,7 @@ use Rattle.typst_tree.specs.Tree.{Tree}
 use Rattle.typst_tree.specs.Linked.{linked}
 use Rattle.typst_tree.specs.Steps.{At}
 use Rattle.typst_flat.specs.Said.{IsWritten, Saying, said_by}
-use Rattle.typst_flat.proofs.Filling.{take_whole}
+use Rattle.std.proofs.lemmas.List.{take_all}
 use Rattle.typst_flat.proofs.said.say_all.Goals as goal
 
 pub loop-diagnostic-preserved : goal.loop-diagnostic-preserved
@@ -29,5 +29,5 @@ returns c = λ says rs ms w.
     let items : List Diagnostic = c.diagnostics-diagnostic-items.result.now in
     let all : length items ≤ c.loop-diagnostic.diagnostic-index = omega arith in
     subst (λ xs. IsWritten (says ++ flat_map (said_by a) xs) c.loop-diagnostic.all c.loop-diagnostic.remarks rs c.loop-diagnostic.messages ms)
-    (take_whole c.loop-diagnostic.diagnostic-index items all ∙ (c.diagnostics-diagnostic-items.ensures ∙ ap (λ (t : Tree). t.head.diagnostics) c.get.ensures))
+    (take_all c.loop-diagnostic.diagnostic-index items all ∙ (c.diagnostics-diagnostic-items.ensures ∙ ap (λ (t : Tree). t.head.diagnostics) c.get.ensures))
     (c.loop-diagnostic.invariant says rs ms w)

@@ -4,7 +4,7 @@ use Rattle.typst_kinds.specs.Diagnostic.{Hint}
 use Rattle.typst_tree.specs.Linked.{linked}
 use Rattle.typst_tree.specs.Steps.{At}
 use Rattle.typst_flat.specs.Said.{IsWritten, Saying, diagnostic_of, end_in, hint_of, severity_code, start_in}
-use Rattle.typst_flat.proofs.Filling.{take_whole}
+use Rattle.std.proofs.lemmas.List.{take_all}
 use Rattle.typst_flat.proofs.Sayings.{longer}
 use Rattle.typst_flat.proofs.said.say_one.Goals as goal
 
@@ -40,5 +40,5 @@ returns c = λ says rs ms w.
     let hints : List Hint = c.hints-hint-items.result.now in
     let all : length hints ≤ c.loop-hint.hint-index = omega arith in
     subst (λ xs. IsWritten (says ++ (diagnostic_of a c.args.diagnostic.now ∷ map (hint_of a) xs)) c.loop-hint.all c.loop-hint.remarks rs c.loop-hint.messages ms)
-    (take_whole c.loop-hint.hint-index hints all ∙ c.hints-hint-items.ensures)
+    (take_all c.loop-hint.hint-index hints all ∙ c.hints-hint-items.ensures)
     (c.loop-hint.invariant says rs ms w)

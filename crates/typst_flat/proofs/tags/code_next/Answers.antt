@@ -2,7 +2,7 @@ use Rattle.std.proofs.Common.{◌≡◌, ◌<◌, ap, ◌∙◌, arith}
 use Rattle.typst_tree.specs.Tree.{forest}
 use Rattle.typst_highlight.specs.Rules.{rule_of}
 use Rattle.typst_highlight.specs.Walk.{joined, name}
-use Rattle.typst_flat.specs.Codes.{fixed_code, tag_code}
+use Rattle.typst_flat.specs.Codes.{fixed_code}
 use Rattle.typst_flat.proofs.FixedCodes.{fixed_name, fixed_tag}
 use Rattle.typst_flat.proofs.tags.code_next.Goals as goal
 
@@ -19,6 +19,3 @@ returns-then-code-lt-ASKS-clause-name c =
     let below : c.fixed_code-code.result < 255 = c.if-code-lt-ASKS.true in
     let told : c.fixed_code-code.result ≡ fixed_code (rule_of node.head.kind) = c.fixed_code-code.ensures ∙ ap (λ k. fixed_code (rule_of k)) c.kind.ensures in
     fixed_name node.head.kind (name (joined c.args.progress.now) node (forest c.args.later.now)) (omega (arith, told, below))
-
-pub returns-clause-code : goal.returns-clause-code
-returns-clause-code c = c.tag_code.ensures ∙ ap tag_code c.in_ok-next.ensures.tag

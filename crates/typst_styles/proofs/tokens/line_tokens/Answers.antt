@@ -1,4 +1,4 @@
-use Rattle.typst_styles.proofs.TokenTurns.{stretch-added}
+use Rattle.typst_styles.proofs.TokenLines.{stretch-added}
 use Rattle.typst_styles.proofs.tokens.line_tokens.Goals as goal
 
 pub loop-index-preserved : goal.loop-index-preserved

@@ -4,11 +4,6 @@ use Rattle.typst_highlight.specs.RootEdits.{bytes_of}
 use Rattle.typst_styles.proofs.WindowEdges.{begins_one, bytes_with}
 use Rattle.typst_styles.proofs.windows.last_edge.Goals as goal
 
-pub loop-back-init : goal.loop-back-init
-loop-back-init c =
-    let all : c.args.count ≡ c.args.count - 0 = omega arith in
-    record { end = c.requires.bytes ∙ ap (λ n. bytes_of (take n c.args.nodes.now)) all; low = omega arith }
-
 pub loop-back-preserved : goal.loop-back-preserved
 loop-back-preserved c =
     let ts = c.args.nodes.now in

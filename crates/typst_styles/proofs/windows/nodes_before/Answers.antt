@@ -3,12 +3,6 @@ use Rattle.typst_tree.specs.Tree.{trees}
 use Rattle.typst_styles.proofs.WindowEdges.{ended}
 use Rattle.typst_styles.proofs.windows.nodes_before.Goals as goal
 
-pub overflow_sub-bytes : goal.overflow_sub-bytes
-overflow_sub-bytes c = omega (arith, c.last_to-end.ensures.boundary.bytes, ap length c.leaf_text.ensures)
-
-pub returns-clause-bytes : goal.returns-clause-bytes
-returns-clause-bytes c = omega (arith, c.last_to-end.ensures.boundary.bytes, ap length c.leaf_text.ensures)
-
 pub returns-clause-below : goal.returns-clause-below
 returns-clause-below c =
     let end = c.last_to-end.result in

@@ -1,13 +1,10 @@
-use Rattle.std.proofs.Common.{◌≡◌, ◌+◌, ◌⊎◌, ℕ, List, inl, length, take, sym, ap, refl, subst, ◌∙◌, arith}
+use Rattle.std.proofs.Common.{◌≡◌, ◌+◌, ◌⊎◌, ℕ, List, length, take, sym, ap, subst, ◌∙◌, arith}
 use Rattle.typst_highlight.specs.RootEdits.{bytes_of}
 use Rattle.typst_tree.specs.Tree.{Forest}
 use Rattle.typst_tree.proofs.Boundaries.{kids_are}
 use Rattle.typst_styles.specs.Windows.{BeginsEdge, EndsEdge, FollowsFeed, IsLineAfter}
 use Rattle.typst_styles.proofs.WindowEdges.{begins_before, window_is}
 use Rattle.typst_styles.proofs.windows.token_window.Goals as goal
-
-pub returns-then-not-is_counted : goal.returns-then-not-is_counted
-returns-then-not-is_counted c = record { start = inl refl; end = inl refl }
 
 pub last_edge-first-requires : goal.last_edge-first-requires
 last_edge-first-requires c =

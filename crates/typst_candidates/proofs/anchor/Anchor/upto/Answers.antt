@@ -4,6 +4,4 @@ use Rattle.typst_candidates.proofs.anchor.Anchor.upto.Goals as goal
 
 pub returns-then-saturating_sub-number : goal.returns-then-saturating_sub-number
 returns-then-saturating_sub-number c = λ es fs h same long.
-    let le = c.if-saturating_sub-number.true in
-    let one = c.saturating_sub.ensures in
-    same-front (c.args.number + 1) es fs c.args.self h (omega (arith, le, one)) same (omega (arith, long))
+    same-front (c.args.number + 1) es fs c.args.self h (omega arith) same (omega (arith, long))

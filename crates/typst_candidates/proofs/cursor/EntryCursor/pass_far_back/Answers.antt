@@ -11,26 +11,16 @@ begun old new span p = ap start_at p.new_is ∙ end-block new.entries new.number
 pub invariant_of-self-2 : goal.invariant_of-self-2
 invariant_of-self-2 c =
     let passes = c.in-Some.ensures.some.0 in
-    let new = c.pass_block_back.new.self in
-    let at = begun c.self.inside.word_cursor new c.in-Some.span passes in
-    let start = c.self.invariant.0 in
-    let same = ap (λ (p : EntryPlace). end_of 0 p.entries) passes.new_is in
-    let fits = c.self.invariant.1 in
-    (omega (arith, at, start), omega (arith, same, fits))
+    let at = begun c.self.inside.word_cursor c.pass_block_back.new.self c.in-Some.span passes in
+    (omega (arith, at), omega (arith, ap (λ (p : EntryPlace). end_of 0 p.entries) passes.new_is))
 
 pub returns : goal.returns
 returns c =
     let passes = c.in-Some.ensures.some.0 in
-    let less = c.in-Some.ensures.some.1 in
-    let new = c.pass_block_back.new.self in
-    let at = begun c.self.inside.word_cursor new c.in-Some.span passes in
-    let start = c.self.invariant.0 in
-    let most = c.saturating_sub-most.ensures in
-    let far = c.saturating_sub.ensures in
     record {
       span = c.in-Some.span;
-      passes = subst (λ (p : EntryPlace). PassesBlock new p c.in-Some.span) c.self.view_is passes;
-      after = omega (arith, at, start, less, most, far);
+      passes = subst (λ (p : EntryPlace). PassesBlock c.pass_block_back.new.self p c.in-Some.span) c.self.view_is passes;
+      after = omega (arith, begun c.self.inside.word_cursor c.pass_block_back.new.self c.in-Some.span passes, c.in-Some.ensures.some.1);
       first = c.in_ok-first.first;
       first_is = sym (c.in_ok-first.ensures.entry ∙ ap entry_after c.copy.ensures.place);
       back_is = refl;

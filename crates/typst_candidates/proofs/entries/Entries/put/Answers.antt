@@ -7,17 +7,14 @@ use Rattle.std.proofs.lemmas.List.{length-append, take-append-le}
 use Rattle.typst_candidates.proofs.Tallies.{fewer}
 use Rattle.typst_candidates.proofs.Rounds.{both-between}
 use Rattle.typst_candidates.proofs.Spans.{Between, between}
-use Rattle.typst_candidates.proofs.Words.{few, put-entries, put-kept, sides, unpacked-length}
+use Rattle.typst_candidates.proofs.Words.{few, put-entries, put-kept, unpacked-length, wides-take}
 use Rattle.typst_candidates.proofs.entries.Entries.put.Goals as goal
 use Rattle.typst_candidates.proofs.entries.Entries.put.Goals.{After-beside, After-deref, After-replace-2}
 
 -- the last entry that goes has a word
 upto : (c : After-deref) → c.args.to + 1 ≤ length c.self.inside.words.items
 upto c =
-    let own = ap (λ (h : Held). length h.entries) c.self.view_is in
-    let long = unpacked-length c.self.inside.words.items c.self.inside.wide.items c.self.invariant.0 in
-    let within = c.requires.within in
-    omega (arith, own, long, within)
+    omega (arith, ap (λ (h : Held). length h.entries) c.self.view_is, unpacked-length c.self.inside.words.items c.self.inside.wide.items c.self.invariant.0)
 
 -- how many entries are beside the words up to the first that goes, and beside those that go
 record Counted (ps : List Packed) (ws : List Entry) (from to first mid : ℕ) : Type 0 where
@@ -33,64 +30,44 @@ counted : (c : After-beside) → c.args.to + 1 ≤ length c.self.inside.words.it
 counted c all =
     let ps = c.self.inside.words.items in
     let ws = c.self.inside.wide.items in
-    let order = c.requires.order in
-    let b = between ps ws (c.args.from + 1) (c.args.to + 1) (omega (arith, order)) all c.self.invariant.0 in
-    let s = sides ps ws (c.args.from + 1) (c.args.to + 1) (omega (arith, order)) c.self.invariant.0 in
+    let b = between ps ws (c.args.from + 1) (c.args.to + 1) (omega arith) all c.self.invariant.0 in
     let first : c.passed_at-first.result ≡ wides (take (c.args.from + 1) ps) = c.passed_at-first.ensures ∙ ap (λ us. wides (take (c.args.from + 1) us)) c.deref-2.ensures.value in
     let mid : c.beside.result ≡ wides (take ((c.args.to + 1) - (c.args.from + 1)) (drop (c.args.from + 1) ps)) =
     c.beside.ensures ∙ ap (λ us. wides (take ((c.args.to + 1) - (c.args.from + 1)) (drop (c.args.from + 1) us))) c.deref.ensures.value in
-    let wide = b.wide in
-    let most = s.within in
-    let few = few ps (c.args.to + 1) in
-    record {
-      upto = all;
-      first_is = first;
-      mid_is = mid;
-      last_is = omega (arith, first, mid, wide);
-      within = omega (arith, first, mid, wide, most);
-      small = omega (arith, first, mid, wide, few);
-      bytes = b;
-    }
+    let last : c.passed_at-first.result + c.beside.result ≡ wides (take (c.args.to + 1) ps) = omega (arith, first, mid, b.wide) in
+    record { upto = all; first_is = first; mid_is = mid; last_is = last; within = omega (arith, last, wides-take ps (c.args.to + 1)); small = omega (arith, last, few ps (c.args.to + 1)); bytes = b }
 
 pub slice_bounds-between-end : goal.slice_bounds-between-end
 slice_bounds-between-end c = let same = ap length c.deref.ensures.value in let all = upto (goal.at.slice_bounds-between-end c).After-deref in omega (arith, same, all)
 
 pub passed_at-first-requires-clause-within : goal.passed_at-first-requires-clause-within
 passed_at-first-requires-clause-within c =
-    let same = ap length c.deref-2.ensures.value in
-    let all = upto (goal.at.passed_at-first-requires-clause-within c).After-deref in
-    let order = c.requires.order in
-    omega (arith, same, all, order)
+    omega (arith, ap length c.deref-2.ensures.value, upto (goal.at.passed_at-first-requires-clause-within c).After-deref)
 
 pub overflow_add-last : goal.overflow_add-last
 overflow_add-last c = let k = counted (goal.at.overflow_add-last c).After-beside (upto (goal.at.overflow_add-last c).After-deref) in let small = k.small in let all = k.upto in omega (arith, small, all)
 
 pub offset_bounds-deref-first : goal.offset_bounds-deref-first
 offset_bounds-deref-first c =
-    let same = ap length c.deref-3.ensures.value in
     let within = (counted (goal.at.offset_bounds-deref-first c).After-beside (upto (goal.at.offset_bounds-deref-first c).After-deref)).within in
-    let there : c.passed_at-first.result ≤ length c.deref-3.result.now = omega (arith, within, same) in
+    let there : c.passed_at-first.result ≤ length c.deref-3.result.now = omega (arith, within, ap length c.deref-3.ensures.value) in
     search rules
 
 pub slice_bounds-lengths-end : goal.slice_bounds-lengths-end
 slice_bounds-lengths-end c =
-    let same = ap length c.deref-3.ensures.value in
     let within = (counted (goal.at.slice_bounds-lengths-end c).After-beside (upto (goal.at.slice_bounds-lengths-end c).After-deref)).within in
-    omega (arith, within, same)
+    omega (arith, within, ap length c.deref-3.ensures.value)
 
 pub replace-requires-clause-within : goal.replace-requires-clause-within
 replace-requires-clause-within c = upto (goal.at.replace-requires-clause-within c).After-deref
 
 pub replace-requires-clause-room : goal.replace-requires-clause-room
 replace-requires-clause-room c =
-    let own = ap (λ (h : Held). length h.entries) c.self.view_is in
     let long = unpacked-length c.self.inside.words.items c.self.inside.wide.items c.self.invariant.0 in
-    let part = ap (λ (h : Held). length h.entries) c.part.view_is in
     let part_long = unpacked-length c.part.inside.words.items c.part.inside.wide.items c.part.invariant.0 in
     let same = ap length c.deref-4.ensures.value in
-    let room = c.requires.room.0 in
     let words = ap (λ (h : Held). h.space.room) c.self.view_is in
-    omega (arith, own, long, part, part_long, same, room, words)
+    omega (arith, ap (λ (h : Held). length h.entries) c.self.view_is, long, ap (λ (h : Held). length h.entries) c.part.view_is, part_long, same, words)
 
 pub replace-requires-2-clause-order : goal.replace-requires-2-clause-order
 replace-requires-2-clause-order c = omega arith
@@ -114,26 +91,23 @@ besides c k =
 
 pub invariant_of-self : goal.invariant_of-self
 invariant_of-self c =
-    let order = c.requires.order in
     let ps = c.self.inside.words.items in
     let front = take (c.args.from + 1) ps in
     let rest = c.part.inside.words.items ++ drop (c.args.to + 1) ps in
     let all = upto (goal.at.invariant_of-self c).After-deref in
     let done = (goal.at.invariant_of-self c).After-replace-2 in
     let few_beside = counted (goal.at.invariant_of-self c).After-beside all in
-    let few = length-take-le (c.args.from + 1) ps (omega (arith, all, order)) in
+    let few = length-take-le (c.args.from + 1) ps (omega (arith, all)) in
     let same : take (c.args.from + 1) c.replace.new.items.items ≡ front = ap (take (c.args.from + 1)) (words done) ∙ take-append-le (c.args.from + 1) front rest (omega (arith, few)) ∙ sym (fewer (c.args.from + 1) (c.args.from + 1) ps (omega arith)) in
-    let long = ap length (words done) in
     let both = length-append front rest in (
       ap wides (words done)
-          ∙ put-kept ps c.part.inside.words.items c.self.inside.wide.items c.part.inside.wide.items (c.args.from + 1) (c.args.to + 1) (omega (arith, order)) all c.self.invariant.0 c.part.invariant.0
+          ∙ put-kept ps c.part.inside.words.items c.self.inside.wide.items c.part.inside.wide.items (c.args.from + 1) (c.args.to + 1) (omega arith) all c.self.invariant.0 c.part.invariant.0
           ∙ sym (ap length (besides done few_beside)),
-      c.upto-self-inside.ensures.same ps c.replace.new.items.items c.self.invariant.1 same (omega (arith, few, long, both)),
+      c.upto-self-inside.ensures.same ps c.replace.new.items.items c.self.invariant.1 same (omega (arith, few, ap length (words done), both)),
     )
 
 pub returns-clause-entries : goal.returns-clause-entries
 returns-clause-entries c =
-    let order = c.requires.order in
     let ps = c.self.inside.words.items in
     let qs = c.part.inside.words.items in
     let ws = c.self.inside.wide.items in
@@ -145,7 +119,7 @@ returns-clause-entries c =
     let b : c.args.to + 1 ≡ suc c.args.to = omega arith in
     ap (λ us. unpacked us c.replace-2.new.items.items) (words done)
     ∙ ap (unpacked (take (c.args.from + 1) ps ++ (qs ++ drop (c.args.to + 1) ps))) (besides done few_beside)
-    ∙ put-entries ps qs ws vs (c.args.from + 1) (c.args.to + 1) (omega (arith, order)) all c.self.invariant.0 c.part.invariant.0
+    ∙ put-entries ps qs ws vs (c.args.from + 1) (c.args.to + 1) (omega arith) all c.self.invariant.0 c.part.invariant.0
     ∙ ap (λ n. take n (unpacked ps ws) ++ (unpacked qs vs ++ drop (c.args.to + 1) (unpacked ps ws))) a
     ∙ ap (λ n. take (suc c.args.from) (unpacked ps ws) ++ (unpacked qs vs ++ drop n (unpacked ps ws))) b
     ∙ ap (λ (h : Held). take (suc c.args.from) h.entries ++ (unpacked qs vs ++ drop (suc c.args.to) h.entries)) c.self.view_is
@@ -161,8 +135,7 @@ returns-clause-gone c =
     let fewer = take (wides few_words) (drop (wides (take (c.args.from + 1) ps)) ws) in
     let words_is : c.spans.result ≡ spans few_words % 2 ^ 64 = c.spans.ensures ∙ ap (λ us. spans (take k (drop (c.args.from + 1) us)) % 2 ^ 64) c.deref.ensures.value in
     let f = c.passed_at-first.result in
-    let mid = n.mid_is in
-    let count : (f + c.beside.result) - f ≡ wides few_words = omega (arith, mid) in
+    let count : (f + c.beside.result) - f ≡ wides few_words = omega arith in
     let wide_is : c.lengths.result ≡ lengths fewer % 2 ^ 64 =
     c.lengths.ensures
     ∙ ap (λ us. lengths (take ((f + c.beside.result) - f) (drop f us)) % 2 ^ 64) c.deref-3.ensures.value

@@ -1,15 +1,11 @@
 use Rattle.std.proofs.Common.{subst, drop, arith}
 use Rattle.typst_candidates.specs.Cursors.{EntryPlace, GoBack}
 use Rattle.typst_candidates.proofs.Blocks.{back-after}
-use Rattle.typst_candidates.proofs.Words.{sides}
+use Rattle.typst_candidates.proofs.Words.{wides-take}
 use Rattle.typst_candidates.proofs.entries.WordCursor.farthest_back.Goals as goal
 
 pub farthest_back-requires : goal.farthest_back-requires
-farthest_back-requires c =
-    let n = c.self.inside.number in
-    let few = (sides c.self.inside.words.now c.self.inside.wide.now n n (omega arith) c.self.invariant.2).within in
-    let passed = c.self.invariant.1 in
-    omega (arith, few, passed)
+farthest_back-requires c = omega (arith, wides-take c.self.inside.words.now c.self.inside.number)
 
 pub returns : goal.returns
 returns c =

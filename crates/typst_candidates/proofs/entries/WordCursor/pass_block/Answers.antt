@@ -7,28 +7,18 @@ use Rattle.typst_candidates.proofs.Words.{unpacked-length}
 use Rattle.typst_candidates.proofs.entries.WordCursor.pass_block.Goals as goal
 
 pub invariant_of-self : goal.invariant_of-self
-invariant_of-self c =
-    let n = c.self.inside.number in
-    let ps = c.self.inside.words.now in
-    let inside = c.self.invariant.0 in
-    let within = c.if-self-lt-BLOCK.false in
-    let long : (n + 16) - n ≡ 16 = omega arith in
-    let none : wides (take 16 (drop n ps)) ≡ 0 = sym (ap (λ k. wides (take k (drop n ps))) long) ∙ c.in_ok-span.ensures.0 in
-    let more = wides-more ps n 16 in
-    let passed = c.self.invariant.1 in
-    (omega (arith, inside, within), omega (arith, more, none, passed), c.self.invariant.2)
+invariant_of-self c = grind (arith, wides-more c.self.inside.words.now c.self.inside.number 16)
 
 pub returns-clause-some : goal.returns-clause-some
 returns-clause-some c =
     let n = c.self.inside.number in
     let ps = c.self.inside.words.now in
     let ws = c.self.inside.wide.now in
-    let inside = c.self.invariant.0 in
     let within = c.if-self-lt-BLOCK.false in
     let long : (n + 16) - n ≡ 16 = omega arith in
     let none : wides (take 16 (drop n ps)) ≡ 0 = sym (ap (λ k. wides (take k (drop n ps))) long) ∙ c.in_ok-span.ensures.0 in
     let sum : c.in_ok-span.span ≡ spans (take 16 (drop n ps)) = c.in_ok-span.ensures.1 ∙ ap (λ k. spans (take k (drop n ps))) long in
-    let fits : n + 16 ≤ length ps = omega (arith, inside, within) in
+    let fits : n + 16 ≤ length ps = omega (arith, within) in
     let b = block-of ps ws n 16 c.in_ok-span.span fits c.self.invariant.2 none sum in
     let count = unpacked-length ps ws c.self.invariant.2 in
     let less = c.if-span-most.false in (

@@ -6,20 +6,7 @@ use Rattle.typst_candidates.proofs.Words.{unpacked-length}
 use Rattle.typst_candidates.proofs.entries.WordCursor.pass_block_back.Goals as goal
 
 pub invariant_of-self : goal.invariant_of-self
-invariant_of-self c =
-    let n = c.self.inside.number in
-    let m = c.in_ok-number.number in
-    let ps = c.self.inside.words.now in
-    let inside = c.self.invariant.0 in
-    let is = c.in_ok-number.ensures.1 in
-    let le = c.in_ok-number.ensures.0 in
-    let long : n - m ≡ 16 = omega (arith, is, le) in
-    let whole : m + 16 ≡ n = omega (arith, is, le) in
-    let none : wides (take 16 (drop m ps)) ≡ 0 = sym (ap (λ k. wides (take k (drop m ps))) long) ∙ c.in_ok-span.ensures.0 in
-    let more = wides-more ps m 16 in
-    let same = ap (λ k. wides (take k ps)) whole in
-    let passed = c.self.invariant.1 in
-    (omega (arith, inside, whole), omega (arith, more, none, passed, same), c.self.invariant.2)
+invariant_of-self c = grind (arith, wides-more c.self.inside.words.now c.in_ok-number.number 16)
 
 pub returns-clause-some : goal.returns-clause-some
 returns-clause-some c =
@@ -27,14 +14,11 @@ returns-clause-some c =
     let m = c.in_ok-number.number in
     let ps = c.self.inside.words.now in
     let ws = c.self.inside.wide.now in
-    let inside = c.self.invariant.0 in
-    let is = c.in_ok-number.ensures.1 in
-    let le = c.in_ok-number.ensures.0 in
-    let long : n - m ≡ 16 = omega (arith, is, le) in
-    let whole : m + 16 ≡ n = omega (arith, is, le) in
+    let long : n - m ≡ 16 = omega arith in
+    let whole : m + 16 ≡ n = omega arith in
     let none : wides (take 16 (drop m ps)) ≡ 0 = sym (ap (λ k. wides (take k (drop m ps))) long) ∙ c.in_ok-span.ensures.0 in
     let sum : c.in_ok-span.span ≡ spans (take 16 (drop m ps)) = c.in_ok-span.ensures.1 ∙ ap (λ k. spans (take k (drop m ps))) long in
-    let fits : m + 16 ≤ length ps = omega (arith, inside, whole) in
+    let fits : m + 16 ≤ length ps = omega (arith, whole) in
     let b = block-of ps ws m 16 c.in_ok-span.span fits c.self.invariant.2 none sum in
     let count = unpacked-length ps ws c.self.invariant.2 in
     let less = c.if-span-most.false in (

@@ -1,36 +1,39 @@
-use Rattle.std.proofs.Common.{◌≡◌, suc, ◌+◌, Some, take, ap, sym, ◌∙◌, arith}
-use Rattle.std.proofs.lemmas.Option.{slice_get-get_or}
+use Rattle.std.proofs.Common.{◌≡◌, ℕ, suc, ◌+◌, ◌<◌, true, List, length, get_or, take, Some, ap, sym, ◌∙◌, arith}
 use Rattle.std.specs.List.{slice_get}
-use Rattle.typst_candidates.specs.Cursors.{EntryPlace, entry_after}
-use Rattle.typst_candidates.specs.Packed.{unpacked, wides}
-use Rattle.typst_candidates.proofs.Words.{passed}
+use Rattle.typst_candidates.specs.declared.entry.Entry.{Entry}
+use Rattle.typst_candidates.specs.declared.packed.Packed.{Packed}
+use Rattle.typst_candidates.specs.Cursors.{is_piece}
+use Rattle.typst_candidates.specs.Packed.{beside, entry_in, holds_piece, span, unpacked, wides}
+use Rattle.typst_candidates.proofs.Words.{at-word, found-at, one-more, piece-held}
 use Rattle.typst_candidates.proofs.entries.WordCursor.pass_piece.Goals as goal
+
+-- a word by which a piece begins
+record Passed (ps : List Packed) (ws : List Entry) (n : ℕ) (p : Packed) : Type 0 where
+  entry : Entry
+  found : slice_get (unpacked ps ws) n ≡ Some entry
+  leads : is_piece entry.kind ≡ true
+  same : wides (take (n + 1) ps) ≡ wides (take n ps)
+  long : span (entry_in p) ≡ entry.step + entry.gap
+
+passed : (ps : List Packed) (ws : List Entry) (n : ℕ) (p : Packed) → n < length ps → p ≡ get_or ps n p → wides ps ≡ length ws → holds_piece (entry_in p) ≡ true → Passed ps ws n p
+passed ps ws n p lt is h piece =
+    let x = piece-held (entry_in p) piece in
+    let held : entry_in (get_or ps n p) ≡ Some x.0 = ap entry_in (sym is) ∙ x.1 in
+    let next : n + 1 ≡ suc n = omega arith in
+    record {
+      entry = x.0;
+      found = found-at ps ws n p lt (omega arith) ∙ ap (λ o. at-word o (slice_get ws (wides (take n ps)))) held;
+      leads = x.2;
+      same = omega (arith, ap (λ m. wides (take m ps)) next, one-more ps n p lt, ap beside held);
+      long = ap span x.1;
+    }
 
 pub invariant_of-self : goal.invariant_of-self
 invariant_of-self c =
-    let ps = c.self.inside.words.now in
-    let n = c.self.inside.number in
-    let p = c.in_ok-word.field-0.now in
-    let within = c.in_ok-word.ensures.lookup.3.0 in
-    let at : slice_get ps n ≡ Some p = slice_get-get_or ps n p within ∙ ap (λ q. Some q) (sym c.in_ok-word.ensures.lookup.1) in
-    let s = passed ps c.self.inside.wide.now n p at c.self.invariant.2 (sym c.is_piece.ensures ∙ c.if-not-is_piece.false) in
-    let one : suc n ≡ n + 1 = omega arith in
-    (omega (arith, within), c.self.invariant.1 ∙ sym s.same ∙ ap (λ m. wides (take m ps)) one, c.self.invariant.2)
+    let s = passed c.self.inside.words.now c.self.inside.wide.now c.self.inside.number c.in_ok-word.field-0.now c.in_ok-word.ensures.lookup.3.0 c.in_ok-word.ensures.lookup.1 c.self.invariant.2 (sym c.is_piece.ensures ∙ c.if-not-is_piece.false) in
+    (omega (arith, c.in_ok-word.ensures.lookup.3.0), c.self.invariant.1 ∙ sym s.same, c.self.invariant.2)
 
 pub returns : goal.returns
 returns c =
-    let ps = c.self.inside.words.now in
-    let ws = c.self.inside.wide.now in
-    let n = c.self.inside.number in
-    let p = c.in_ok-word.field-0.now in
-    let at : slice_get ps n ≡ Some p = slice_get-get_or ps n p c.in_ok-word.ensures.lookup.3.0 ∙ ap (λ q. Some q) (sym c.in_ok-word.ensures.lookup.1) in
-    let s = passed ps ws n p at c.self.invariant.2 (sym c.is_piece.ensures ∙ c.if-not-is_piece.false) in
-    let one : n + 1 ≡ suc n = omega arith in (
-      record {
-        entry = s.entry;
-        entry_is = ap entry_after (sym c.self.view_is) ∙ s.found;
-        leads = s.leads;
-        new_is = ap (λ m. record { entries = unpacked ps ws; number = m }) one ∙ ap (λ (r : EntryPlace). record r { number = suc r.number }) c.self.view_is;
-      },
-      c.span.ensures.value ∙ s.long,
-    )
+    let s = passed c.self.inside.words.now c.self.inside.wide.now c.self.inside.number c.in_ok-word.field-0.now c.in_ok-word.ensures.lookup.3.0 c.in_ok-word.ensures.lookup.1 c.self.invariant.2 (sym c.is_piece.ensures ∙ c.if-not-is_piece.false) in
+    (record { entry = s.entry; entry_is = grind (arith, s.found); leads = s.leads; new_is = grind arith }, c.span.ensures.value ∙ s.long)

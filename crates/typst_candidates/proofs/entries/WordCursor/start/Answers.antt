@@ -6,7 +6,7 @@ use Rattle.typst_candidates.specs.Entries.{end_of}
 use Rattle.typst_candidates.specs.Packed.{lengths, spans, unpacked, wides}
 use Rattle.typst_candidates.proofs.Cursors.{end-within}
 use Rattle.typst_candidates.proofs.Spans.{start-sum}
-use Rattle.typst_candidates.proofs.Words.{sides}
+use Rattle.typst_candidates.proofs.Words.{wides-take}
 use Rattle.typst_candidates.proofs.entries.WordCursor.start.Goals as goal
 
 -- both sums, by the place
@@ -19,11 +19,8 @@ sums : (ps : List Packed) (ws : List Entry) (n passed : ℕ) (p : EntryPlace) �
 sums ps ws n passed p le is all view small =
     let sum = start-sum ps ws n le all in
     let beside = ap (λ m. lengths (take m ws)) is in
-    let here = ap start_at view in
     let whole = ap (λ (q : EntryPlace). end_of 0 q.entries) view in
-    let part = end-within 0 n (unpacked ps ws) in
-    let few = (sides ps ws n n (omega arith) all).within in
-    record { sum = omega (arith, sum, beside, here); fits = omega (arith, sum, beside, part, whole, small); within = omega (arith, few, is) }
+    record { sum = omega (arith, ap start_at view); fits = omega (arith, end-within 0 n (unpacked ps ws)); within = omega (arith, wides-take ps n) }
 
 pub slice_bounds-lengths-end : goal.slice_bounds-lengths-end
 slice_bounds-lengths-end c =
@@ -37,6 +34,4 @@ overflow_add-result c =
 pub returns : goal.returns
 returns c =
     let s = sums c.self.inside.words.now c.self.inside.wide.now c.self.inside.number c.self.inside.passed c.args.self.now c.self.invariant.0 c.self.invariant.1 c.self.invariant.2 c.self.view_is c.requires in
-    let sum = s.sum in
-    let fits = s.fits in
-    omega (arith, sum, fits, c.spans.ensures, c.lengths.ensures)
+    omega (arith, c.spans.ensures, c.lengths.ensures)

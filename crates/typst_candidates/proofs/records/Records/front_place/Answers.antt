@@ -13,10 +13,6 @@ returns-then-reach-at-clause-count c =
     let a = c.self.inside.anchor in
     let h = subst (λ (k : Kept). IsAnchor k.units.entries a) c.self.view_is c.self.invariant.1 in
     let le = c.if-reach-at.true in
-    let order = h.order in
     let is = ap (λ (p : EntryPlace). p.number) c.word_cursor_at.ensures in
-    let same = ap (λ n. front_of at (at - (at - a.start)) (drop n es)) is in
-    let near : at - (at - a.start) ≡ a.start = omega (arith, le, order) in
-    let back = ap (λ s. front_of at s (drop a.number es)) near in
-    let all = front-from es a at h le in
-    omega (arith, is, same, back, all)
+    let near : at - (at - a.start) ≡ a.start = omega (arith, le) in
+    omega (arith, is, ap (λ n. front_of at (at - (at - a.start)) (drop n es)) is, ap (λ s. front_of at s (drop a.number es)) near, front-from es a at h le)

@@ -13,22 +13,18 @@ loop-entry-init c = record {
 
 on : (c : After-max-reach) → PassedOn c.args.self.now.units.entries c.args.from c.next.new.self c.start-start.result c.max-reach.result c.in_ok-further.further
 on c =
-    let end = c.in_ok-end.ensures in
-    let most = c.max-reach.ensures in
-    passed-on c.args.self.now.units.entries c.args.from c.loop-entry.place c.next.new.self c.in-Some.entry c.start-start.result c.in_ok-end.end c.loop-entry.reach c.max-reach.result c.loop-entry.inside c.in_ok-further.further c.loop-entry.invariant.passed c.requires.from c.in-Some.ensures.entry c.in-Some.ensures.place c.start-start.ensures (omega (arith, end)) (omega (arith, most)) (omega (arith, most)) (sym c.in_ok-further.ensures)
+    passed-on c.args.self.now.units.entries c.args.from c.loop-entry.place c.next.new.self c.in-Some.entry c.start-start.result c.in_ok-end.end c.loop-entry.reach c.max-reach.result c.loop-entry.inside c.in_ok-further.further c.loop-entry.invariant.passed c.requires.from c.in-Some.ensures.entry c.in-Some.ensures.place c.start-start.ensures (omega arith) (omega arith) (omega arith) (sym c.in_ok-further.ensures)
 
 less : (c : After-max-reach) → length c.args.self.now.units.entries - c.next.new.self.number < length c.args.self.now.units.entries - c.loop-entry.place.number
 less c =
     let within = (on c).within in
-    let number = ap (λ (p : EntryPlace). p.number) c.in-Some.ensures.place in
-    omega (arith, within, number)
+    omega (arith, within, ap (λ (p : EntryPlace). p.number) c.in-Some.ensures.place)
 
 pub loop-entry-preserved-then-start-window-2 : goal.loop-entry-preserved-then-start-window-2
 loop-entry-preserved-then-start-window-2 c =
     let reached = on (goal.at.loop-entry-preserved-then-start-window-2 c).After-max-reach in
-    let after = reached.passed.after in
     let number = c.number.ensures in
-    let order : c.args.from.number ≤ c.number.result = omega (arith, after, number) in
+    let order : c.args.from.number ≤ c.number.result = omega (arith, number) in
     let is = ap (λ n. record { number = n; start = c.start-start.result; reach = c.max-reach.result; first = c.args.from.first; outer = c.args.from.outer }) number in
     record {
       passed = reached.passed;

@@ -1,34 +1,16 @@
-use Rattle.std.proofs.Common.{◌≡◌, ℕ, ◌+◌, ◌≤◌, ◌^◌, length, take, drop, true, false, Some, ap, sym, subst, ◌∙◌, arith}
-use Rattle.std.specs.List.{slice_get}
-use Rattle.typst_candidates.specs.Cursors.{AreNear, EntryPlace, start_at}
-use Rattle.typst_candidates.specs.Entries.{end_of, is_after, rear_of}
+use Rattle.std.proofs.Common.{◌≡◌, ℕ, take, true, false, ap, sym, ◌∙◌, arith}
+use Rattle.typst_candidates.specs.Cursors.{EntryPlace, start_at}
+use Rattle.typst_candidates.specs.Entries.{is_after, rear_of}
 use Rattle.typst_candidates.proofs.Blocks.{rear-block}
 use Rattle.typst_candidates.proofs.Passes.{rear-none, rear-step, rear-stop}
 use Rattle.typst_candidates.proofs.records.Records.rear.Goals as goal
 
 pub entries-preserved-in-Some : goal.entries-preserved-in-Some
 entries-preserved-in-Some c =
-    let es = c.args.self.now.units.entries in
-    let at = c.args.at in
-    let p = c.entries.place in
     let q = c.pass_far_back.new.self in
-    let inv = c.entries.invariant in
     let passed = c.in-Some.ensures in
-    let is = passed.passes.new_is in
-    let after : is_after at (start_at p) c.entries.back ≡ true = ap (λ (s : ℕ). is_after at s c.entries.back) (sym c.start.ensures) ∙ sym c.is_after.ensures ∙ c.entries-test.true in
-    let same : q.entries ≡ es = sym (ap (λ (r : EntryPlace). r.entries) is) ∙ inv.entries in
-    let number : p.number ≡ q.number + 16 = ap (λ (r : EntryPlace). r.number) is in
-    let fits = passed.passes.within in
-    let long = ap length same in
-    let test : is_after at (end_of 0 (take (q.number + 16) es)) c.entries.back ≡ true =
-    ap (λ us. is_after at (end_of 0 (take (q.number + 16) us)) c.entries.back) (sym inv.entries) ∙ ap (λ n. is_after at (end_of 0 (take n p.entries)) c.entries.back) (sym number) ∙ after in
-    let over = rear-block es at c.entries.back q.number passed.first (subst (λ us. slice_get us q.number ≡ Some passed.first) same passed.first_is) test (subst (λ us. AreNear (take 16 (drop q.number us))) same passed.passes.near)
-    (subst (λ us. at + 2 ^ 4 ≤ end_of 0 (take q.number us)) same passed.after) in
-    record {
-      entries = same;
-      within = omega (arith, fits, long);
-      later = ap (rear_of at 0 0 (take q.number es)) passed.back_is ∙ sym over ∙ ap (λ n. rear_of at 0 0 (take n es) c.entries.back) (sym number) ∙ inv.later;
-    }
+    let over = rear-block q.entries c.args.at c.entries.back q.number passed.first passed.first_is (grind arith) passed.passes.near passed.after in
+    record { entries = grind arith; within = grind arith; later = grind (arith, over) }
 
 pub returns-in_default-back : goal.returns-in_default-back
 returns-in_default-back c =
@@ -37,8 +19,7 @@ returns-in_default-back c =
     let q = c.pass_far_back.new.self in
     let same = c.in_default.ensures in
     let number = ap (λ (r : EntryPlace). r.number) same in
-    let within = inv.within in
-    rear-none es c.args.at c.entries.back q (ap (λ (r : EntryPlace). r.entries) same ∙ inv.entries) (omega (arith, number, within)) c.in_default-back.ensures.entry ∙ ap (λ n. rear_of c.args.at 0 0 (take n es) c.entries.back) number ∙ inv.later
+    rear-none es c.args.at c.entries.back q (ap (λ (r : EntryPlace). r.entries) same ∙ inv.entries) (omega (arith, number)) c.in_default-back.ensures.entry ∙ ap (λ n. rear_of c.args.at 0 0 (take n es) c.entries.back) number ∙ inv.later
 
 pub entries-preserved : goal.entries-preserved
 entries-preserved c =

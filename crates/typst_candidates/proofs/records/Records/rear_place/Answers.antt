@@ -12,12 +12,11 @@ returns-then-go_after-clause-later c =
     let p = c.cursor_from-place.result in
     let q = c.go_after.new.place in
     let most = c.max-most.result in
-    let bound = c.max-most.ensures in
     let last : c.self.inside.back ≡ c.args.self.now.units.back = ap (λ (k : Kept). k.units.back) c.self.view_is in
     let is = ap (λ (r : EntryPlace). r.entries) c.cursor_from-place.ensures in
-    let all : GoBack most (drop p.number p.entries) = back-more (drop p.number p.entries) c.farthest_back.result most (omega (arith, bound)) c.farthest_back.ensures in
+    let all : GoBack most (drop p.number p.entries) = back-more (drop p.number p.entries) c.farthest_back.result most (omega arith) c.farthest_back.ensures in
     let here : GoBack most (drop p.number es) = subst (λ (us : List Entry). GoBack most (drop p.number us)) is all in
     let later : GoBack most (drop q.number es) = back-on es p.number q.number most c.go_after.ensures.on here in
     let same : q.entries ≡ es = c.go_after.ensures.entries ∙ is in
     ap (rear_of c.args.at 0 0 (take q.number es)) (c.back_after-back.ensures ∙ ap (λ b. back_after b q) last)
-    ∙ rear-from es c.args.at c.args.self.now.units.back most q same (c.go_after.ensures.after c.if-go_after.true) later (omega (arith, bound, last))
+    ∙ rear-from es c.args.at c.args.self.now.units.back most q same (c.go_after.ensures.after c.if-go_after.true) later (omega (arith, last))

@@ -14,9 +14,7 @@ returns-in_default c =
 pub later_place-later-requires-clause-order : goal.later_place-later-requires-clause-order
 later_place-later-requires-clause-order c =
     let stands = stands-in-run c.args.place.now c.in-Some.first c.next.new.self c.next.result (sym c.in-Some.ensures) c.next.ensures.entry c.next.ensures.place in
-    let order = stands.order in
-    let number = c.number.ensures in
-    omega (arith, order, number)
+    omega arith
 
 pub later_place-later-requires-clause-run : goal.later_place-later-requires-clause-run
 later_place-later-requires-clause-run c =

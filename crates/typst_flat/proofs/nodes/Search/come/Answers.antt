@@ -1,4 +1,4 @@
-use Rattle.std.proofs.Common.{refl, ap, sym, ◌∙◌, arith, length}
+use Rattle.std.proofs.Common.{refl, sym, ◌∙◌}
 use Rattle.typst_flat.specs.Placed.{Course, course}
 use Rattle.typst_flat.proofs.Placing.{all_come, none_there, stays_back}
 use Rattle.typst_flat.proofs.nodes.Search.come.Goals as goal
@@ -11,12 +11,6 @@ rows-preserved c =
       number = c.rows.invariant.number;
       ready = stays_back v _ c.in-Some-leave.row c.rows.invariant.ready (none_there c.rows.at.nodes.now c.in_default.ensures.cases) w.0 w.1 refl refl refl refl refl;
     }
-
-pub rows-smaller : goal.rows-smaller
-rows-smaller c = omega (arith, ap length c.in-Some-leave.ensures.0)
-
-pub returns-in-Some : goal.returns-in-Some
-returns-in-Some c = (c.rows.invariant.number, (c.in-Some.ensures.cases.0, c.rows.invariant.ready))
 
 pub returns-in_default-leave : goal.returns-in_default-leave
 returns-in_default-leave c =

@@ -9,9 +9,3 @@ returns-clause-placed c =
     let v : Course = course c.args.self c.args.next.here c.args.progress.now in
     let g : PlacedNode = record { node = c.args.next.node; start = c.offset-start.result; end = c.saturating_add-end.result; number = v.number; parent = v.parent; tag = c.in_ok-code.code.code; name = c.in_ok-code.code.name } in
     is_placed v c.args.next.node.now c.args.next.later.now g c.requires.ready c.requires.row refl c.offset-start.ensures (omega (arith, c.saturating_add-end.ensures, c.len.ensures)) refl refl c.in_ok-code.ensures.code
-
-pub returns-clause-name : goal.returns-clause-name
-returns-clause-name c = c.in_ok-code.ensures.name
-
-pub returns-clause-ends : goal.returns-clause-ends
-returns-clause-ends c = omega (arith, c.saturating_add-end.ensures, c.len.ensures, c.offset-start.ensures)

@@ -49,9 +49,3 @@ nodes-preserved c =
       passes = c.nodes.invariant.passes;
       sought = subst (IsSought w c.in-Some.later.now e) size next;
     }
-
-pub returns-then-end-self-clause-ready : goal.returns-then-end-self-clause-ready
-returns-then-end-self-clause-ready c = c.nodes.invariant.sought.stays
-
-pub returns-clause-ready : goal.returns-clause-ready
-returns-clause-ready c = c.nodes.invariant.sought.stays

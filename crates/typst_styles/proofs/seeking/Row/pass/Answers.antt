@@ -1,14 +1,8 @@
 use Rattle.std.proofs.Common.{◌∙◌, ap, refl, arith}
 use Rattle.typst_tree.specs.Linked.{left}
 use Rattle.typst_names.specs.Contexts.{after}
-use Rattle.typst_styles.proofs.SoughtRows.{fewer, left_after, passes, passes_none}
+use Rattle.typst_styles.proofs.SoughtRows.{fewer, left_after, passes}
 use Rattle.typst_styles.proofs.seeking.Row.pass.Goals as goal
-
-pub returns-in_default-clause-passes : goal.returns-in_default-clause-passes
-returns-in_default-clause-passes c = λ root is. passes_none root c.args.self.now c.in_default.ensures.cases is
-
-pub returns-in_default-clause-fewer : goal.returns-in_default-clause-fewer
-returns-in_default-clause-fewer c = λ some. absurd (omega (arith, some, c.in_default.ensures.cases))
 
 pub returns-clause-passes : goal.returns-clause-passes
 returns-clause-passes c =

@@ -1,12 +1,9 @@
-use Rattle.std.proofs.Common.{◌∙◌, length, ap, refl, arith}
+use Rattle.std.proofs.Common.{◌∙◌, length, ap, arith}
 use Rattle.typst_styles.specs.Seeking.{Passes}
 use Rattle.typst_styles.specs.Tokens.{touching}
 use Rattle.typst_styles.proofs.SoughtRows.{takes_none}
 use Rattle.typst_styles.proofs.SoughtSteps.{over, skipped, sought, sought_fewer}
 use Rattle.typst_styles.proofs.seeking.Row.seek.Goals as goal
-
-pub nodes-init : goal.nodes-init
-nodes-init c = record { row = c.requires; left = refl; steps = omega arith }
 
 pub nodes-preserved : goal.nodes-preserved
 nodes-preserved c =
@@ -22,9 +19,6 @@ nodes-preserved c =
       left = c.nodes.invariant.left ∙ (ap (touching range) (is.1 text) ∙ skipped range text root w _ _ _ c.in-Some.ensures.cases.0 (omega (arith, c.end.ensures, c.if-wanted-end.false)));
       steps = omega (arith, less, c.nodes.invariant.steps);
     }
-
-pub nodes-smaller : goal.nodes-smaller
-nodes-smaller c = c.pass.ensures.fewer (omega (arith, ap length c.in-Some.ensures.cases.0))
 
 pub returns-then-wanted-end-clause-seeks : goal.returns-then-wanted-end-clause-seeks
 returns-then-wanted-end-clause-seeks c =
