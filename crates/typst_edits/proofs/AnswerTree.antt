@@ -1,9 +1,8 @@
 -- The tree of an edit's answer.
 use Rattle.std.proofs.Common.{◌≡◌, ℕ, ◌^◌, Bool, true, false, IsTrue, List, ◌++◌, Option, Some, None, refl, ap, sym, ◌∙◌, subst}
-use Rattle.typst_edits.proofs.Words.{nat_le, if◌then◌else◌, CharClasses, Tree, Forest, none, more, bare, bare_forest, put_at, width, Candidate, tree, log, top, of_block, of_pieces, OpensApartLaw, listed, SpanValue, bare_head, part}
+use Rattle.typst_edits.proofs.Words.{nat_le, if◌then◌else◌, CharClasses, Tree, Forest, none, more, bare, bare_forest, put_at, width, Candidate, tree, log, of_block, of_pieces, OpensApartLaw, listed, SpanValue, bare_head, part}
 use Rattle.std.specs.Prelude.{◌-◌}
 use Rattle.typst_tree.specs.Tree.{with_each, synthesized, nodes}
-use Rattle.typst_edits.specs.Frame.{inner}
 use Rattle.typst_kinds.specs.Head.{spanned}
 use Rattle.typst_edits.specs.Answer.IsAnswer.{whole}
 use Rattle.typst_tree.specs.Numbers.{numbered}
@@ -12,8 +11,8 @@ use Rattle.typst_edits.specs.Answer.{numbered_in, file_of}
 use Rattle.typst_edits.specs.AnswerTree.{GivesTreeLaw, AnswerTreeLaw}
 use Rattle.typst_edits.proofs.CandidateWorth.{block-tree, in-order, one-child, reached, tree-inner}
 use Rattle.typst_edits.proofs.CandidatePlaces.{candidate-tree-law}
-use Rattle.typst_edits.proofs.RunCandidates.{inner-candidate-law, root-candidate-law}
-use Rattle.typst_edits.proofs.RunPieces.{inner-pieces-law, root-pieces-law}
+use Rattle.typst_edits.proofs.RunCandidates.{begins-well-law}
+use Rattle.typst_edits.proofs.RunPieces.{pieces-law}
 use Rattle.typst_edits.proofs.Replaced.{put-law}
 pub use Rattle.typst_edits.proofs.Edit.{chosen-of}
 pub use Rattle.std.proofs.lemmas.Option.{same_Some as some-is}
@@ -31,12 +30,9 @@ gives-tree-law apart k front old new rest root c ts same chosen (of_block s past
     let one = one-child k text (width front) (width (front ++ old)) root c chosen block in
     let reaches = reached k text (width front) (width (front ++ old)) root c (in-order front old) same chosen in
     subst (Fits k front old new rest c) (sym is) (block-tree k front old new rest c s past there path one reaches passes)
-gives-tree-law apart k front old new rest root c ts same chosen (of_pieces top i n m past t u pieces path start led end h is) =
-    let well = root-candidate-law k front old new rest root c i n m past t u same chosen pieces (sym path) start led end h in
-    subst (Fits k front old new rest c) (sym is) (root-pieces-law k front old new rest c i n m past t u (sym path) start led end h well)
-gives-tree-law apart k front old new rest root c ts same chosen (of_pieces (inner s levels there name level) i n m past t u pieces path start led end h is) =
-    let well = inner-candidate-law apart k levels front old new rest root s there name level c i n m past t u same chosen pieces (sym path) start led end h in
-    subst (Fits k front old new rest c) (sym is) (inner-pieces-law k levels front old new rest s there name level c i n m past t u well.0 (sym path) start led end h well.1)
+gives-tree-law apart k front old new rest root c ts same chosen (of_pieces r i n m past t u pieces path start led end h is) =
+    let well = begins-well-law apart k front old new rest root r c i n m past t u same chosen pieces (sym path) start led end h in
+    subst (Fits k front old new rest c) (sym is) (pieces-law k front old new rest r c i n m past t u well.0 (sym path) start led end h well.1)
 
 -- ---- a tree with new numbers
 

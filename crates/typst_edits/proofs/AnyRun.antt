@@ -1,6 +1,6 @@
 -- What the entries say of a candidate that is pieces of a run, and a reading that begins with one candidate and serves another one: for any run.
-use Rattle.std.proofs.Common.{◌≡◌, ◌⊎◌, inl, inr, ◌↔◌, ℕ, zero, suc, ◌+◌, ◌-◌, ◌<◌, ◌≤◌, ◌==◌, if◌then◌else◌, min, Bool, true, false, List, ◌++◌, length, take, length-append, Option, None, Some, refl, ap, sym, ◌∙◌, subst, arith, lt_of_not-le, eq-zero-or-pos, pos_of_ne-zero}
-use Rattle.typst_edits.proofs.Words.{eqb-true, eqb-false, take-append-le, Place, moved, CharClasses, Tree, bare, text_of, replaced_at, width, position, Trivia, gap_of, Note, ahead-left, Entry, EntryKind, Candidate, begins, entries_by, units_of, spliced, RunKind, start_of, log, tree, entries_in, front_in, rear_in, IsPieces, text_with, Run, read_as, opened_by, end_by, cut_at, is_over, nodes_now, Agrees, Before, After, PassesPieces, Gives, of_pieces, path_to, bytes_of, TakesNone, ServesMore, listed, StandsAt, AllGo, End, notes_by, IsLast, BeginsAt, FoundRun, reading_on, nodes_by, SaysPiece, PassesRead, Sequence, first_of, first_end, then_of, then_end, then_place, entries_from, run_level, stops_of, end_on, kids_of_run, run_from, StandsBetween, Served, cases_eq}
+use Rattle.std.proofs.Common.{◌≡◌, ◌⊎◌, inl, inr, ◌↔◌, ℕ, zero, suc, ◌+◌, ◌-◌, ◌^◌, ◌<◌, ◌≤◌, ◌==◌, if◌then◌else◌, min, Bool, true, false, List, ◌++◌, length, take, length-append, Option, None, Some, refl, ap, sym, ◌∙◌, subst, arith, lt_of_not-le, eq-zero-or-pos, pos_of_ne-zero}
+use Rattle.typst_edits.proofs.Words.{eqb-true, eqb-false, take-append-le, Place, moved, CharClasses, Tree, bare, text_of, replaced_at, width, position, Trivia, gap_of, Note, ahead-left, Entry, EntryKind, Candidate, begins, entries_by, units_of, spliced, RunKind, start_of, log, tree, entries_in, front_in, rear_in, IsPieces, text_with, Run, read_as, opened_by, end_by, cut_at, is_over, nodes_now, Agrees, Before, After, PassesPieces, PassesJoint, Gives, of_pieces, path_to, bytes_of, TakesNone, ServesMore, listed, StandsAt, AllGo, End, notes_by, IsLast, BeginsAt, FoundRun, reading_on, nodes_by, SaysPiece, PassesRead, Sequence, first_of, first_end, then_of, then_end, then_place, entries_from, run_level, stops_of, end_on, kids_of_run, run_from, StandsBetween, Served, cases_eq}
 use Rattle.typst_language.proofs.Places.{moved-min}
 use Rattle.typst_edits.specs.RunTest.{Reading, read_by, carried_by, byte_after, Ends, LooksFrom, Meets}
 use Rattle.typst_edits.specs.Served.{MeetsOn, PassesOn, reading_of}
@@ -112,13 +112,13 @@ right-of f (inr b) = b
 -- ---- pieces that end at the same place
 
 -- Where as many pieces end is one end, however they are counted.
-pub record SameEnd (q : Sequence) (i n j m : ℕ) : Type 0 where
-  pub value : (then_end i n q).value ≡ (then_end j m q).value
-  pub state : (then_end i n q).state ≡ (then_end j m q).state
-  pub place : then_place i n q ≡ then_place j m q
-  pub taken : (first_end i q).taken + (then_end i n q).taken ≡ (first_end j q).taken + (then_end j m q).taken
+record SameEnd (q : Sequence) (i n j m : ℕ) : Type 0 where
+  value : (then_end i n q).value ≡ (then_end j m q).value
+  state : (then_end i n q).state ≡ (then_end j m q).state
+  place : then_place i n q ≡ then_place j m q
+  taken : (first_end i q).taken + (then_end i n q).taken ≡ (first_end j q).taken + (then_end j m q).taken
 
-pub same-end : (q : Sequence) (i n j m : ℕ) → i + n ≡ j + m → SameEnd q i n j m
+same-end : (q : Sequence) (i n j m : ℕ) → i + n ≡ j + m → SameEnd q i n j m
 same-end q i n j m sum =
     let one = end-split-at q i n in
     let two = end-split-at q j m in
@@ -132,7 +132,7 @@ same-end q i n j m sum =
     }
 
 -- What agrees after them in two texts agrees however they are counted.
-pub meets-too : (r : Sequence) (y x : Place) (e o f g : End (Bool × ℕ)) (t u : Trivia) → y ≡ x → e.value ≡ o.value → e.state ≡ o.state → f.value ≡ g.value → f.state ≡ g.state → MeetsAfter r y e f t u → MeetsAfter r x o g t u
+meets-too : (r : Sequence) (y x : Place) (e o f g : End (Bool × ℕ)) (t u : Trivia) → y ≡ x → e.value ≡ o.value → e.state ≡ o.state → f.value ≡ g.value → f.state ≡ g.state → MeetsAfter r y e f t u → MeetsAfter r x o g t u
 meets-too r y x e o f g t u place value state value_now state_now h =
     let there = subst (λ p. MeetsAfter r p e f t u) place h in
     let two = subst (λ s. MeetsAfter r x (record e { value = o.value; state = s }) f t u) state (subst (λ v. MeetsAfter r x (record e { value = v }) f t u) value there) in
@@ -190,6 +190,11 @@ module _ (k : CharClasses) (front old new rest : List ℕ) (r : Run k (front ++ 
   pub found-by : (c : Candidate) (i n past : ℕ) (t : Trivia) → IsPieces k front old rest r c i n past t → FoundHere c i n past t
   found-by c i n past t p = record { go = p.go; go_on = p.go_on; known = p.known; ends = p.ends; start = p.start; end = p.end }
 
+  pub begins-now : (c : Candidate) (i n past : ℕ) (t : Trivia) → IsPieces k front old rest r c i n past t → position (moved (cut_at r i z) w) ≡ c.start
+  begins-now c i n past t p =
+      let cut = cut_at r i z in
+      byte-at cut now ∙ ap width (take-append-le cut front (new ++ rest) p.early ∙ sym (take-append-le cut front (old ++ rest) p.early)) ∙ sym p.start
+
   -- No pieces end after the text, with their trivia.
   abbrev pub AreWithin : Type 0
   AreWithin = (m : ℕ) → opened_by r z ≤ length text → opened_by r z + ((first_end m q).taken + gap_of (first_end m q).state.known) ≤ length text
@@ -232,6 +237,9 @@ module _ (k : CharClasses) (front old new rest : List ℕ) (r : Run k (front ++ 
     pub behind : (c : Candidate) (i n past : ℕ) (t : Trivia) → IsPieces k front old rest r c i n past t → 0 < n → rear_in k front old rest ≤ number (i + n) ↔ After k front old rest r i n past t
     pub alone_behind : (c : Candidate) (i n past : ℕ) (t : Trivia) → IsPieces k front old rest r c i n past t → n ≡ 0 → rear_in k front old rest ≤ alone ↔ After k front old rest r i n past t
     pub reads : (c : Candidate) (i n past : ℕ) (t : Trivia) → IsPieces k front old rest r c i n past t → Before k front old rest r i → ReadsFrom i
+    -- Where it and new pieces are joined to what follows them, its entries are exchanged for theirs.
+    pub exchanged : width now < 2 ^ 64 - 1 → (c : Candidate) (i n m past : ℕ) (t u : Trivia) → IsPieces k front old rest r c i n past t → PassesJoint k front old new rest r i n m past t u → 0 < i + n → 0 < i + m
+        → units_of (log k now) ≡ spliced (number i) (number (i + n)) (entries_by c.start (notes_by k (read_from i) m)) (units_of (log k text))
 
   -- What is known of one candidate that is pieces of the run.
   pub record Chosen (entry : ℕ) (e : Entered entry) (c : Candidate) (i n past : ℕ) (t : Trivia) : Type 0 where
@@ -241,10 +249,8 @@ module _ (k : CharClasses) (front old new rest : List ℕ) (r : Run k (front ++ 
     pub seat : Seated front old (run_from r) (kids_of_run r) c
     -- However it passes, its pieces are these.
     pub passes : (ts : List Tree) → Gives k front old new rest c ts → ((m : ℕ) × (u : Trivia) × PassesPieces k front old new rest r i n m past t u × (ts ≡ nodes_now r i m u w))
-    -- Where it passes and the pieces after d more are read by themselves, the entries from there on are exchanged.
-    pub units : (first : Candidate) (d left m : ℕ) (u : Trivia) → 0 < d → n ≡ d + left → 0 < left → IsPieces k front old rest r first (i + d) left past t → Before k front old rest r (i + d) → After k front old rest r (i + d) left past t
-        → AllGo (then_of (i + d) m v) → (then_end (i + d) m v).state.known ≡ Some u → PassesPieces k front old new rest r i n (d + m) past t u
-        → units_of (log k now) ≡ spliced (e.number (i + d)) (e.number (i + n)) (entries_by first.start (notes_by k (read_from (i + d)) m)) (units_of (log k text))
+    -- Where pieces pass in its place, they are joined to what follows them.
+    pub joint : (m : ℕ) (u : Trivia) → PassesPieces k front old new rest r i n m past t u → PassesJoint k front old new rest r i n m past t u
 
   -- ---- bytes
 
@@ -450,11 +456,6 @@ module _ (k : CharClasses) (front old new rest : List ℕ) (r : Run k (front ++ 
     rises-by early m j l go =
         omega (arith, byte-is i m, byte-is i j, take-longer (far_by i m) (far_by i j) now (e.further i m j l go) (far-within i j p.early))
 
-    pub begins-now : position (moved (cut_at r i z) w) ≡ c.start
-    begins-now =
-        let cut = cut_at r i z in
-        byte-at cut now ∙ ap width (take-append-le cut front (new ++ rest) p.early ∙ sym (take-append-le cut front (old ++ rest) p.early)) ∙ sym p.start
-
     -- how its entries are exchanged for those of m pieces that are read
     abbrev pub UnitsBy : ℕ → Type 0
     UnitsBy m = units_of (log k now) ≡ spliced (e.number i) (e.number (i + n)) (entries_by c.start (notes_by k (read_from i) m)) (units_of (log k text))
@@ -473,7 +474,7 @@ module _ (k : CharClasses) (front old new rest : List ℕ) (r : Run k (front ++ 
       says_end = e.says (i + n) fits;
       at = cut_at r i z;
       start = p.start;
-      start_now = λ early. begins-now;
+      start_now = λ early. begins-now c i n past t p;
       gives = λ ts. (
         (λ h. (let g = passes ts h in let x = read-by g.0 g.1 g.2 in (g.0, x.0, g.3 ∙ x.1))),
         (λ h. (let g = given-by h.0 h.1 in of_pieces r i n h.0 past t g.behind whole path p.start p.led p.end g.passes (h.2 ∙ sym g.nodes))),
@@ -505,7 +506,7 @@ module _ (k : CharClasses) (front old new rest : List ℕ) (r : Run k (front ++ 
         → units_of (log k now) ≡ spliced x.mid x.to (entries_by first.start (notes_by k x.reading m)) (units_of (log k text))
 
   module _ (entry : ℕ) (e : Entered entry) (root : Tree) (same : bare root ≡ bare (tree k (front ++ (old ++ rest)))) (first c : Candidate) (i j n past n0 past0 : ℕ) (t t0 : Trivia)
-      (a : Chosen entry e c i n past t) (b : Chosen entry e first (i + suc j) n0 past0 t0) (begun : e.number (i + suc j) < front_in k front old rest) where
+      (a : Chosen entry e c i n past t) (b : Chosen entry e first (i + suc j) n0 past0 t0) (begun : e.number (i + suc j) < front_in k front old rest) (big_new : width now < 2 ^ 64 - 1) where
     -- A given number of pieces stand before the reading begins.
     abbrev d : ℕ
     d = suc j
@@ -680,7 +681,24 @@ module _ (k : CharClasses) (front old new rest : List ℕ) (r : Run k (front ++ 
           (let p = to-test m h in
           let ts = nodes_now r i (d + m) p.behind w in
           (ts, of_pieces r i n (d + m) past t p.behind a.whole a.path a.is.start a.is.led a.is.end p.test refl, put m p.behind p.go p.known ∙ ap (λ us. replaced_at c.path first.from c.to us root) p.nodes));
-      units = λ m h some. (let p = to-test m h in a.units rest_of_it d left m p.behind (omega arith) left-is left-some rest-is looks ((e.behind rest_of_it mid left past t rest-is left-some).0 (subst (λ x. rear_in k front old rest ≤ e.number x) (sym sum-is) ((e.behind c i n past t a.is some-n).1 p.test.after))) p.go p.known p.test);
+      units = λ m h some.
+          (let p = to-test m h in
+          let all = a.joint (d + m) p.behind p.test in
+          let was = same-end q i n mid left (sym sum-is) in
+          let ends = same-end v i (d + m) mid m (omega arith) in
+          let joint : PassesJoint k front old new rest r mid left m past t p.behind = record {
+            encloses = all.encloses;
+            first_go = rest-is.go;
+            old_go = rest-is.go_on;
+            new_go = p.go;
+            before = looks;
+            after = (e.behind rest_of_it mid left past t rest-is left-some).0 (subst (λ x. rear_in k front old rest ≤ e.number x) (sym sum-is) ((e.behind c i n past t a.is some-n).1 p.test.after));
+            ends = rest-is.ends;
+            shifted = omega (arith, ends.taken, all.shifted);
+            meets = meets-too q _ _ (then_end i n q) (then_end mid left q) (then_end i (d + m) v) (then_end mid m v) t p.behind was.place was.value was.state ends.value ends.state all.meets;
+          } in
+          e.exchanged big_new rest_of_it mid left m past t p.behind rest-is joint (omega arith) (omega arith)
+          ∙ ap (λ x. spliced (e.number mid) (e.number x) (entries_by first.start (notes_by k (read_from mid) m)) (units_of (log k text))) sum-is);
     }
 
   -- ---- where the reading begins with the candidate
@@ -744,7 +762,7 @@ module _ (k : CharClasses) (front old new rest : List ℕ) (r : Run k (front ++ 
         (λ x. reading_on which levels (carried x) (place x))
 
   module _ (entry : ℕ) (e : Entered entry) (root : Tree) (same : bare root ≡ bare (tree k (front ++ (old ++ rest)))) (first c : Candidate) (i n past n0 past0 : ℕ) (t t0 : Trivia) (a : Chosen entry e c i n past t)
-      (f : FoundRun k front old new rest first which levels entry) (g : FoundRun k front old new rest c which levels entry) (begun : f.from < front_in k front old rest) where
+      (f : FoundRun k front old new rest first which levels entry) (g : FoundRun k front old new rest c which levels entry) (begun : f.from < front_in k front old rest) (big_new : width now < 2 ^ 64 - 1) where
     served-by : (d : ℕ) → Chosen entry e first (i + d) n0 past0 t0 → ServedBy root first c (record { reading = reading_of f; mid = f.from; from = g.from; to = g.to; looks = g.looks; carried_end = g.carried_end })
     served-by zero b =
         let none : i + zero ≡ i = omega arith in
@@ -763,8 +781,8 @@ module _ (k : CharClasses) (front old new rest : List ℕ) (r : Run k (front ++ 
         let from = found-from entry e c i n past t a.is g in
         let to = (ends-are entry e c i n past t a.is g.from g.to g.ends).1 in
         let end = says-once es g.to (e.number (i + n)) g.carried_end (first_end (i + n) q).value g.says_end (e.says (i + n) (fits entry e c i n past t a.is)) to in
-        let looks = looks-are entry e c i n past t a.is g.from g.to g.looks g.looks_from from (some-n entry e root same first c i j n past n0 past0 t t0 a b there) ∙ to in
-        subst (λ x. ServedBy root first c x) (λ x. record { reading = sym reading x; mid = sym mid x; from = sym from x; to = sym to x; looks = sym looks x; carried_end = sym end x }) (later entry e root same first c i j n past n0 past0 t t0 a b there)
+        let looks = looks-are entry e c i n past t a.is g.from g.to g.looks g.looks_from from (some-n entry e root same first c i j n past n0 past0 t t0 a b there big_new) ∙ to in
+        subst (λ x. ServedBy root first c x) (λ x. record { reading = sym reading x; mid = sym mid x; from = sym from x; to = sym to x; looks = sym looks x; carried_end = sym end x }) (later entry e root same first c i j n past n0 past0 t t0 a b there big_new)
 
     -- A reading that begins with one candidate serves each that begins there or earlier.
     pub served : (i0 : ℕ) → Chosen entry e first i0 n0 past0 t0 → c.start ≤ first.start → Served k front old new rest root which levels entry first c f g

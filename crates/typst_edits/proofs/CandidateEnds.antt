@@ -1,6 +1,6 @@
 -- Where a stretch of a run's children ends, and what of the run's pieces begins and ends there.
 use Rattle.std.proofs.Common.{◌≡◌, ℕ, zero, suc, ◌+◌, ◌-◌, ◌<◌, ◌≤◌, max, min, Bool, true, false, not, ◌||◌, ◌&&◌, if◌then◌else◌, List, [], ◌∷◌, ◌++◌, length, drop, length-append, append_assoc, append-nil, Some, refl, ap, sym, ◌∙◌, subst, arith, encode_utf8_all, Option, None, inl, lt_of_not-le, pos_of_ne-zero, inr}
-use Rattle.typst_edits.proofs.Words.{nat_le, nat_lt, nat_tests, ltb-true, lt-ltb, and_parts, same, is_trivia, is_error, Tree, text_of, error_of, leaf_of, Outcome, plain, less, Meaning, Trivia, Point, pending, less-none, Child, laid, first_near, end_near, is_among, ChildRange, begins, clings, is_hash, leads, holds_at, back_past, on_past, with_hash, together, Every, is_over, minds_at, first_place, read_by, onwards_by, GoesOnWell, begins_wrong, after_known, StartsWell, bytes_of, LeadsAt, StandsAt, Sequence, turn_of, first_end, then_end, SyntaxKind, SyntaxMode, Place, moved, CharClasses, Token, Reading, token_at, len_at, at_trivia, Ahead, direct, after_trivia, ahead_by, ahead, text_ahead, hand_at, token_node, plain_node, fault_node, is_raw, has_fields, peek, markup_turn, rules, max_depth, level_at, inner, bracket, inner_run, text_run, made, end_of, start, access_node, hints, message, raw_node, false_from_ne_true, cases_lt}
+use Rattle.typst_edits.proofs.Words.{nat_le, nat_lt, nat_tests, ltb-true, lt-ltb, and_parts, same, is_trivia, is_error, Tree, text_of, error_of, leaf_of, Outcome, plain, less, Meaning, Trivia, Point, pending, less-none, Child, laid, first_near, end_near, is_among, ChildRange, begins, clings, is_hash, leads, holds_at, back_past, on_past, with_hash, together, Every, is_over, minds_at, first_place, read_by, onwards_by, GoesOnWell, begins_wrong, after_known, StartsWell, bytes_of, LeadsAt, StandsAt, Sequence, turn_of, first_end, then_end, SyntaxKind, SyntaxMode, Place, moved, CharClasses, Token, Reading, token_at, len_at, at_trivia, Ahead, direct, after_trivia, ahead_by, ahead, text_ahead, hand_at, token_node, plain_node, fault_node, is_raw, has_fields, peek, markup_turn, rules, max_depth, level_at, inner, bracket, inner_run, text_run, made, end_of, start, access_node, hints, message, raw_node, false_from_ne_true, cases_lt, IsRun, is_text_run, is_block_run, is_end, ends_block}
 use Rattle.std.proofs.lemmas.Bool.{not-false, or_parts}
 use Rattle.typst_candidates.specs.Candidates.{ended, is_sign, around}
 use Rattle.typst_candidates.proofs.Edges.{begins_least as begins-from}
@@ -555,17 +555,13 @@ module _ (r : Sequence) (keeps : (x : Bool × ℕ) (z : Place) (s : Point) → E
   pub quiet-end : (i n : ℕ) → Every Quiet (pending (then_end i n r).state.known)
   quiet-end i n = let e = first_end i r in made-quiet (turn_of r) keeps n e.value (moved e.taken r.place) e.state (made-quiet (turn_of r) keeps i (true, 0) r.place r.point start)
 
-pub text-quiet : (k : CharClasses) (z : Place) (i n : ℕ) → Every Quiet (pending (then_end i n (text_run k z)).state.known)
-text-quiet k z i n =
+pub run-quiet : (k : CharClasses) (r : Sequence) → IsRun k r → (i n : ℕ) → Every Quiet (pending (then_end i n r).state.known)
+run-quiet k r (is_text_run z) i n =
     let l = level_at k max_depth in
     let d = holds-meaning Known_quiet stays (rules k) k max_depth in
-    let r = text_run k z in
-    quiet-end r (λ x w s h. holds-run Known_quiet stays l d (markup_turn true r.stops x) w s h) (holds-run Known_quiet stays l d peek z start tt) i n
-
-pub inner-quiet : (k : CharClasses) (levels : ℕ) (z : Place) (s : Point) (i n : ℕ) → Every Quiet (pending (then_end i n (inner_run k levels z s)).state.known)
-inner-quiet k levels z s i n =
+    quiet-end (text_run k z) (λ x w s h. holds-run Known_quiet stays l d (markup_turn true is_end x) w s h) (holds-run Known_quiet stays l d peek z start tt) i n
+run-quiet k r (is_block_run levels z s) i n =
     let l = inner k levels in
     let d = holds-meaning Known_quiet stays (rules k) k (suc levels) in
-    let r = inner_run k levels z s in
     let b = bracket k levels z s in
-    quiet-end r (λ x w p h. holds-run Known_quiet stays l d (markup_turn true r.stops x) w p h) (holds-run Known_quiet stays l d peek (moved b.taken z) b.state tt) i n
+    quiet-end (inner_run k levels z s) (λ x w p h. holds-run Known_quiet stays l d (markup_turn true ends_block x) w p h) (holds-run Known_quiet stays l d peek (moved b.taken z) b.state tt) i n

@@ -1,6 +1,6 @@
 -- Each candidate that passes is worth its new nodes and entries: a block, pieces of a text's own run, and pieces of a content block.
 use Rattle.std.proofs.Common.{◌≡◌, ℕ, zero, suc, ◌+◌, ◌≤◌, List, [], ◌∷◌, ◌++◌, length, refl, ap, sym, ◌∙◌, subst, arith, Bool, true, false, IsTrue, length-append, take, Option}
-use Rattle.typst_edits.proofs.Words.{slice_get, Tree, forest, trees, inner_of, Forest, none, more, bare, Reaches, At, put_at, trees_forest, CharClasses, moved, position, width, Candidate, is_among, begins, laid, first_near, run_in, candidates_at, tree, parsed, max_depth, log, block_log, with_children, exchanged, Among, alter, replaced, text_with, Passes, put, path_of, blocks_of_text, notes_in, entries_from, token_start, Spot, last_node, unit_at, is_over, Agrees, top, PassesPieces, of_block, of_pieces, text_run, root_run, StandsAt, BeginsWell, end_note, pieces_log, asks_of, pieces, pieces_from, end_from, piece_at, lead, end_at, Note, Trivia, gap_of, top_cuts, candidates, Every, OpensApartLaw, listed, true_from_ne_false}
+use Rattle.typst_edits.proofs.Words.{Tree, forest, trees, inner_of, Forest, none, more, bare, Reaches, put_at, trees_forest, CharClasses, moved, position, width, Candidate, is_among, begins, laid, first_near, run_in, candidates_at, tree, parsed, max_depth, log, block_log, with_children, exchanged, Among, alter, replaced, text_with, Passes, put, path_of, blocks_of_text, notes_in, entries_from, token_start, Spot, last_node, unit_at, is_over, Agrees, top, PassesPieces, of_block, of_pieces, text_run, root_run, StandsAt, BeginsWell, end_note, pieces_log, asks_of, pieces, pieces_from, end_from, piece_at, lead, end_at, Note, Trivia, gap_of, top_cuts, candidates, Every, OpensApartLaw, listed, true_from_ne_false, block_run, token_after}
 use Rattle.typst_edits.specs.Frame.{inner}
 use Rattle.typst_edits.specs.Answer.{Worth, CandidateLaw}
 use Rattle.typst_edits.specs.BlockWorth.{BlockWorthLaw}
@@ -8,14 +8,15 @@ use Rattle.typst_edits.proofs.RunSplice.{block-splice-law, run-splice-law, aroun
 use Rattle.typst_edits.proofs.Replaced.{put-law}
 use Rattle.typst_edits.proofs.Text.{block-law}
 use Rattle.typst_edits.specs.RootWorth.{RootWorthLaw}
-use Rattle.typst_edits.proofs.RunPieces.{joint-of, root-pieces-law, inner-joint-of, inner-pieces-law, take-past, behind-zero}
+use Rattle.typst_edits.proofs.RunPieces.{joins-of, pieces-law, take-past}
 use Rattle.typst_edits.specs.InnerWorth.{InnerWorthLaw}
 use Rattle.typst_edits.proofs.CandidatePlaces.{bare-candidates-law, candidate-places-law}
 use Rattle.typst_edits.proofs.CandidateEnds.{stretch, to-cut}
-use Rattle.typst_edits.proofs.Cuts.{cut-token, text-tokens}
+use Rattle.typst_edits.proofs.Children.{alter-there}
+use Rattle.typst_edits.proofs.Cuts.{tokens-rise}
 use Rattle.typst_edits.proofs.Edit.{among}
 use Rattle.typst_edits.proofs.Every.{every-by}
-use Rattle.typst_edits.proofs.RunCandidates.{inner-candidate-law, cuts-of-text, of-the-root, root-candidate-law}
+use Rattle.typst_edits.proofs.RunCandidates.{begins-well-law, cuts-of-text, of-the-root}
 use Rattle.typst_edits.proofs.MarkupCandidates.{Own, node-every, run-own}
 use Rattle.typst_edits.proofs.NumberedNotes.{go-fewer}
 use Rattle.typst_edits.proofs.RunTrees.{tree-is}
@@ -30,12 +31,6 @@ alter-one : (x : Tree) (i : ℕ) (ts : List Tree) → suc i ≤ length ts → al
 alter-one x i [] e = absurd (omega (arith, e))
 alter-one x zero (t ∷ ts) e = refl
 alter-one x (suc i) (t ∷ ts) e = ap (λ us. t ∷ us) (alter-one x i ts (omega (arith, e)))
-
--- One of several nodes, changed by functions that do the same to each node that is like it.
-alter-there : (P : Tree → Type 0) (f g : Tree → Tree) (n : ℕ) (ts : List Tree) → ((t : Tree) → P t → f t ≡ g t) → At P (slice_get ts n) → alter n f ts ≡ alter n g ts
-alter-there P f g n [] e a = refl
-alter-there P f g zero (t ∷ ts) e a = ap (λ u. u ∷ ts) (e t a)
-alter-there P f g (suc n) (t ∷ ts) e a = ap (λ us. t ∷ us) (alter-there P f g n ts e a)
 
 -- the node at the end of a path is one child exchanged
 put-one : (path : List ℕ) (from : ℕ) (x t : Tree) → Reaches path from (suc from) t → put (path ++ from ∷ []) x t ≡ with_children path from (suc from) (x ∷ []) t
@@ -86,21 +81,22 @@ root-worth-law k front old new rest c i n m past t u path start led end h well o
     let w = text_with front new rest in
     let from = notes_in (asks_of (pieces k i z)) in
     record {
-      is_tree = root-pieces-law k front old new rest c i n m past t u path start led end h well;
+      is_tree = pieces-law k front old new rest top c i n m past t u tt path start led end h well;
       from = from;
       to = from + notes_in (asks_of (pieces_from k i n z));
       part = entries_from (token_start w (end_note k i w)) (pieces_log k i m w).notes;
-      units = run-splice-law k front old new rest i n m past t u (joint-of k front old new rest i n m past t u h well.goes_on) over
+      units = run-splice-law k front old new rest i n m past t u (joins-of k front old new rest top i n m past t u tt h well.goes_on) over
           (over-by k (front ++ (old ++ rest)) (is_over i n (text_run k z)) i m (end_from k i n z).value (end_from k i m w).value h.agrees) big big_new;
     }
 
 pub inner-worth-law : InnerWorthLaw
 inner-worth-law k levels front old new rest s among name level c i n m past t u around path start led end h well big big_new =
     let w = text_with front new rest in
-    let joint = inner-joint-of k levels front old new rest s among name level i n m past t u around h well.goes_on in
-    let whole = around-splice-law k levels front old new rest s i n m past t u among joint big big_new in
+    let own = block_run s levels among name level in
+    let joint = joins-of k front old new rest own i n m past t u around h well.goes_on in
+    let whole = around-splice-law k levels front old new rest s among name level i n m past t u joint big big_new in
     record {
-      is_tree = inner-pieces-law k levels front old new rest s among name level c i n m past t u around path start led end h well;
+      is_tree = pieces-law k front old new rest own c i n m past t u around path start led end h well;
       from = whole.opens;
       to = suc (whole.opens + notes_in (unit_at s (text_with front old rest)).asks);
       part = entries_from (position (moved s.at w)) (block_log (front ++ (new ++ rest)) s (unit_at s w)).notes;
@@ -155,22 +151,21 @@ no-piece k front old new rest root c m past t u same chosen pieces path end h th
     let cuts = cuts-of-text k text in
     let o = of-the-root k text (width front) (width (front ++ old)) root c cuts same chosen pieces path in
     let order = in-order front old in
-    let s = stretch cuts.cuts 0 kids (width front) (width (front ++ old)) o.more order in
+    let own = cuts.own in
+    let s = stretch own.cuts 0 kids (width front) (width (front ++ old)) o.more order in
     let to : c.to ≡ s.to = ap (λ (d : Candidate). d.to) o.is in
     let ends_is : c.end ≡ begins 0 kids s.to = ap (λ (d : Candidate). d.end) o.is in
-    let cut = to-cut cuts.cuts 0 kids (width front) (width (front ++ old)) o.more order (omega (arith, to, ap length there.is, length-append there.left (there.node ∷ there.right), there.here)) in
-    let b = cuts.each c.end (subst (λ b. is_among b cuts.cuts ≡ true) (sym ends_is) cut) in
-    let go = go-fewer (piece_at k) b.index cuts.count (true, 0) z (lead k z).state b.few cuts.go in
+    let cut = to-cut own.cuts 0 kids (width front) (width (front ++ old)) o.more order (omega (arith, to, ap length there.is, length-append there.left (there.node ∷ there.right), there.here)) in
+    let b = own.each c.end (subst (λ b. is_among b own.cuts ≡ true) (sym ends_is) cut) in
+    let go = go-fewer (piece_at k) b.index own.count (true, 0) z (lead k z).state b.few own.go in
     let e = end_at k 0 z in
-    let gap : gap_of e.state.known ≡ t.gap = ap gap_of h.known in
-    let sum : e.taken + gap_of e.state.known ≡ (length front + length old) + past = omega (arith, gap, behind-zero (e.taken + 0) t.gap _ h.ends) in
-    let byte : c.end ≡ width (take (e.taken + gap_of e.state.known) text) = end ∙ sym (ap width (take-past front old rest past (e.taken + gap_of e.state.known) sum)) in
-    absurd (omega (arith, byte, b.is, text-tokens k text 0 b.index b.some go, ap (λ d. width (take d text)) (cut-token b.index (end_at k b.index z) b.some)))
+    let byte : c.end ≡ token_after (root_run k text) 0 = end ∙ sym (ap width (take-past front old rest past (0 + (e.taken + gap_of e.state.known)) (omega (arith, ap gap_of h.known, h.ends)))) in
+    absurd (omega (arith, byte, b.is, tokens-rise k text (root_run k text) 0 b.index b.some go))
 
 -- so their run ends there
 none-over : (k : CharClasses) (front old new rest : List ℕ) (root : Tree) (c : Candidate) (i n m past : ℕ) (t u : Trivia) → bare root ≡ bare (tree k (front ++ (old ++ rest)))
     → Among c (candidates k (front ++ (old ++ rest)) (width front) (width (front ++ old)) root) → c.is_block ≡ false → c.path ≡ [] → c.end ≡ width (front ++ (old ++ take past rest))
-    → PassesPieces k front old new rest (root_run k (front ++ (old ++ rest))) i n m past t u → BeginsWell k (front ++ (old ++ rest)) c i n
+    → PassesPieces k front old new rest (root_run k (front ++ (old ++ rest))) i n m past t u → BeginsWell k (front ++ (old ++ rest)) (root_run k (front ++ (old ++ rest))) c i n
     → i + n ≡ 0 → is_over i n (text_run k (text_with front old rest)) ≡ true
 none-over k front old new rest root c (suc i) n m past t u same chosen pieces path end h well nothing = absurd (omega (arith, nothing))
 none-over k front old new rest root c zero (suc n) m past t u same chosen pieces path end h well nothing = absurd (omega (arith, nothing))
@@ -186,9 +181,9 @@ candidate-law apart k front old new rest root c ts same big big_new chosen (of_b
     let reaches = reached k text (width front) (width (front ++ old)) root c (in-order front old) same chosen in
     subst (Worth k front old new rest c) (sym is) (block-worth-law k front old new rest c s past there path one reaches passes big big_new)
 candidate-law apart k front old new rest root c ts same big big_new chosen (of_pieces top i n m past t u pieces path start led end h is) =
-    let well = root-candidate-law k front old new rest root c i n m past t u same chosen pieces (sym path) start led end h in
+    let well = (begins-well-law apart k front old new rest root top c i n m past t u same chosen pieces (sym path) start led end h).1 in
     let over = none-over k front old new rest root c i n m past t u same chosen pieces (sym path) end h well in
     subst (Worth k front old new rest c) (sym is) (root-worth-law k front old new rest c i n m past t u (sym path) start led end h well over big big_new)
 candidate-law apart k front old new rest root c ts same big big_new chosen (of_pieces (inner s levels there name level) i n m past t u pieces path start led end h is) =
-    let well = inner-candidate-law apart k levels front old new rest root s there name level c i n m past t u same chosen pieces (sym path) start led end h in
+    let well = begins-well-law apart k front old new rest root (inner s levels there name level) c i n m past t u same chosen pieces (sym path) start led end h in
     subst (Worth k front old new rest c) (sym is) (inner-worth-law k levels front old new rest s there name level c i n m past t u well.0 (sym path) start led end h well.1 big big_new)

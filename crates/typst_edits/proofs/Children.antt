@@ -1,14 +1,14 @@
 -- A tree where some pieces of a run are read again: one stretch of the children of the run's node exchanged, of a text's root or of a content block's markup.
 use Rattle.std.proofs.Common.{◌≡◌, inl, inr, ℕ, zero, suc, ◌+◌, ◌<◌, ◌≤◌, Bool, true, false, nat_lt, List, [], ◌++◌, length, drop, length-append, append_assoc, Some, refl, ap, sym, ◌∙◌, subst, arith, ◌-◌, if◌then◌else◌, ◌∷◌, take, codes, append-nil}
-use Rattle.typst_edits.proofs.Words.{SyntaxKind, Place, moved, Tree, forest, trees, inner_of, made_error, CharClasses, is_end, as_at_hand, Hand, Trivia, Point, point_of, state_of, gap_of, pending, hinted, shaped, after_node, encloses, becomes, flush_trivia, close_if, ◌>>=◌, repeat, Outcome, Meaning, Level, plain, less, standing, joined, hand_of, run, wrapped, repeated, left_to, start_point, entered, asked, taken_node, done, hand_asks_of, flushed_state, Tidy, Backs, sane-at, sane-run, sane-meaning, sane-plain, ends, markup_turn, ends_block, markup_reading, rules, max_depth, level_at, start_of, tree, whole, parsed, Settles, with_children, together, read_from, standing_before, nodes_with, exchanged, text_with, Among, alter, replaced, place_from, onwards_from, text_run, given, made, piece_at, AllGo, end_of, lead, pieces, end_at, pieces_from, end_from, chain, End, first_place, read_by, Sequence, turn_of, first_of, first_end, then_of, then_end, then_place, rest_of, same, marked, itself, takes, less-none, inner, look_again, bracket, inner_lead, inner_run, inner_tail, inner_close, content_with, run_at, tail_at, close_at, run_of, body_of, Deep, fill, path_in, Hole, plug, path_of, under, read_in, standing_in, nodes_in, block_with, PassesInnerJoint, onwards_in, blocks_of_text, Spot, last_node, unit_at, SameIn, on_both, standing-joined}
+use Rattle.typst_edits.proofs.Words.{SyntaxKind, Place, moved, Tree, forest, trees, inner_of, made_error, CharClasses, is_end, as_at_hand, Hand, Trivia, Point, point_of, state_of, gap_of, pending, hinted, shaped, after_node, encloses, becomes, flush_trivia, close_if, ◌>>=◌, repeat, Outcome, Meaning, Level, plain, less, standing, joined, hand_of, run, wrapped, repeated, left_to, start_point, entered, asked, taken_node, done, hand_asks_of, flushed_state, Tidy, Backs, sane-run, sane-meaning, sane-plain, ends, markup_turn, ends_block, markup_reading, rules, max_depth, level_at, start_of, tree, whole, parsed, Settles, with_children, together, read_by, standing_by, nodes_after, exchanged, text_with, Among, alter, replaced, onwards_at, text_run, given, made, AllGo, end_of, lead, pieces, end_at, chain, End, first_place, Sequence, turn_of, first_of, first_end, then_of, then_end, then_place, rest_of, same, marked, itself, takes, less-none, inner, look_again, bracket, inner_lead, inner_run, inner_tail, inner_close, content_with, run_at, tail_at, close_at, run_of, body_of, Deep, fill, path_in, Hole, plug, path_of, under, block_with, blocks_of_text, Spot, last_node, unit_at, SameIn, on_both, standing-joined, At, AtPath, kids_of, slice_get, kids_in, kids_of_run, path_to, Run, read_as, top, IsRun, is_text_run, is_block_run, PassesJoint}
 use Rattle.typst_language.specs.Point.{is_nil}
-use Rattle.typst_edits.specs.Children.{ChildrenLaw, BackLaw}
+use Rattle.typst_edits.specs.Children.{ChildrenLaw, NodeLaw, BackLaw}
+use Rattle.typst_edits.specs.Frame.{inner as block_inner}
 use Rattle.typst_edits.specs.Hole.Deep.{bare}
-use Rattle.typst_edits.specs.InnerChildren.{InnerChildrenLaw, InnerBackLaw}
 use Rattle.typst_language.proofs.Backs.{backs-joined}
 use Rattle.typst_edits.proofs.Boundary.{KnownAt, first-of, going-on, known-made}
 use Rattle.typst_edits.proofs.Edit.{trees-of, among, before-same, alter-at, replaced-plug}
-use Rattle.typst_edits.proofs.Joint.{joint-law, onwards-is, text-taking, inner-joint-law, block-taking}
+use Rattle.typst_edits.proofs.Joint.{onwards-is, block-taking, first-now, inner-joint-law, leads-of, is-run, joined-behind, same-start}
 use Rattle.typst_edits.proofs.Turns.{before_trivia, Led, led-joined, drop-front, take-front, less-behind, none-of, Taking, turn-led, fronted-same, none-less}
 use Rattle.typst_edits.proofs.RunTrees.{standing-chain, standing-still, tree-is, run-nodes}
 use Rattle.typst_edits.proofs.Runs.{chain-state, split, split-taken, split-state, end-by-pieces}
@@ -19,7 +19,6 @@ use Rattle.typst_edits.proofs.Content.{Clear, clear-level, Begun, again, content
 use Rattle.typst_edits.proofs.Spots.{Lawful}
 use Rattle.typst_edits.proofs.Law.{inside-level}
 use Rattle.typst_edits.proofs.Text.{content-reads}
-use Rattle.typst_edits.specs.LeadingTrivia.{LeadingTriviaLaw, InnerLeadingTriviaLaw}
 use Rattle.typst_kinds.specs.declared.kind.SyntaxKind.TheVariants as kind
 use Rattle.typst_language.specs.declared.calls.Mark.TheVariants as mark
 use Rattle.typst_language.specs.declared.calls.Block.TheVariants as block
@@ -125,60 +124,34 @@ module _ (r : Sequence) (taking : Taking r.level r.stops) (known : KnownAt r.poi
       let same = ap (λ (s : Point). s.empties) (chain-state (then_of i n r) (plain (tt {0}) f.state)) in
       settled n f.state (then_of i n r) o some (λ none. made-none (turn_of r) n e.value (first_place i r) e.state none) (run-gives i n g h) (omega (arith, few, same))
 
--- ---- the run of a text
+-- ---- what is known of any run
 
-module _ (k : CharClasses) where
-  pub text-known : (z : Place) → KnownAt (lead k z).state
-  unfolding run
-  text-known z = record { trivia = _; is = refl }
+pub top-known : (k : CharClasses) (i : ℕ) (z : Place) → AllGo (pieces k i z) → KnownAt (end_at k i z).state
+top-known k i z g = known-made (level_at k max_depth) is_end i (true, 0) z (lead k z).state (leads-of k (text_run k z) (is_text_run z)).known g
 
-  pub top-known : (i : ℕ) (z : Place) → AllGo (pieces k i z) → KnownAt (end_at k i z).state
-  top-known i z g = known-made (level_at k max_depth) is_end i (true, 0) z (lead k z).state (text-known z) g
-
-  -- What follows takes back no more than stands there.
-  pub behind-back : (i n : ℕ) (z : Place) → (onwards_from k i n z).back ≤ (end_from k i n z).state.empties
-  behind-back i n z =
-      let f = end_from k i n z in
-      let tidy = (sane-at (rules k) k max_depth (repeat (markup_turn true is_end) f.value >>= λ _. flush_trivia)).backs (place_from k i n z) f.state in
-      omega (arith, tidy.back, ap (λ (o : Outcome (Unit {0})). o.back) (onwards-is (text_run k z) i n))
-
-pub children-law : ChildrenLaw
-children-law k front old new rest i n m past t u h some more same =
-    let z = text_with front old rest in
-    let w = text_with front new rest in
-    let kept = joint-law k front old new rest i n m past t u h in
-    let new_first : AllGo (pieces k i w) = subst (λ os. AllGo os) (sym kept.first) h.first_go in
-    let p = read_from k i n z in
-    let q = read_from k i m w in
-    let o = onwards_from k i n z in
-    let v = onwards_from k i m w in
-    let x = kept.behind in
-    let ts = given (pieces k i z) [] in
-    let before = standing_before k i n z in
-    let olds = nodes_with k i n t z in
-    let news = nodes_with k i m u w in
-    let made_tree = λ (us : List Tree). inner_of kind.Markup (forest us) in
-    let was : tree k (front ++ (old ++ rest)) ≡ made_tree (before ++ (olds ++ x.rest)) =
-    tree-is k (front ++ (old ++ rest)) i n h.first_go h.old_go ∙ ap (λ us. made_tree (standing o us)) (given-together (end_from k i n z).state (pieces_from k i n z) ts)
-    ∙ ap made_tree (stretch-is ts x.rest p o t (run-apart (text_run k z) (text-taking k) (text-known k z) i n o some (behind-back k i n z) h.first_go h.old_go) x.hints x.nodes) in
-    let now : tree k (front ++ (new ++ rest)) ≡ made_tree (before ++ (news ++ x.rest)) =
-    tree-is k (front ++ (new ++ rest)) i m new_first h.new_go ∙ ap (λ os. made_tree (standing v (given (pieces_from k i m w) (given os [])))) kept.first
-    ∙ ap (λ us. made_tree (standing v us)) (given-together (end_from k i m w).state (pieces_from k i m w) ts)
-    ∙ ap made_tree (stretch-is ts x.rest q v u (run-apart (text_run k w) (text-taking k) (text-known k w) i m v more (behind-back k i m w) new_first h.new_go) x.hints_now x.nodes_now)
-    ∙ ap (λ b. made_tree (less b ts ++ (news ++ x.rest))) same in
-    let first = length before in
-    record {
-      behind = x.rest;
-      children = ap (λ (y : Tree). trees y.kids) was ∙ trees-of (before ++ (olds ++ x.rest));
-      tree_now = now ∙ ap made_tree (sym (ap (exchanged first (first + length olds) news) (trees-of (before ++ (olds ++ x.rest))) ∙ exchanged-is before olds news x.rest)) ∙ ap (with_children [] first (first + length olds) news) (sym was);
-    }
+-- What follows takes back no more than stands there.
+pub behind-back : (k : CharClasses) (q : Sequence) → IsRun k q → (i n : ℕ) → (onwards_at i n q).back ≤ (then_end i n q).state.empties
+behind-back k q is i n =
+    let leads = leads-of k q is in
+    let f = then_end i n q in
+    let tidy = (sane-run q.level leads.taking.calls_sane leads.taking.blocks_sane (repeat (markup_turn true q.stops) f.value >>= λ _. flush_trivia)).backs (then_place i n q) f.state in
+    omega (arith, tidy.back, ap (λ (o : Outcome (Unit {0})). o.back) (onwards-is q i n))
 
 pub back-law : BackLaw
-back-law k text i n =
-    let z = start_of text in
-    let e = end_at k i z in
-    let tidy = tidy-together (piece_at k) (λ v. (sane-at (rules k) k max_depth (markup_turn true is_end v)).backs) n e.value (moved e.taken z) e.state in
-    record { pieces_back = tidy.back; after_back = behind-back k i n z }
+back-law k q is i n =
+    let leads = leads-of k q is in
+    let e = first_end i q in
+    let tidy = tidy-together (turn_of q) (λ v. (sane-run q.level leads.taking.calls_sane leads.taking.blocks_sane (markup_turn true q.stops v)).backs) n e.value (first_place i q) e.state in
+    record { pieces_back = tidy.back; after_back = behind-back k q is i n }
+
+-- What stands of pieces and of all after them, which has trivia before it.
+pub standing-is : (k : CharClasses) (q : Sequence) → IsRun k q → (i n : ℕ) (t : Trivia) (rest : List Tree) → Settles n (onwards_at i n q) → AllGo (first_of i q) → AllGo (then_of i n q) → (onwards_at i n q).hints ≡ [] → (onwards_at i n q).nodes ≡ t.nodes ++ rest
+    → standing (onwards_at i n q) (given (then_of i n q) (given (first_of i q) [])) ≡ standing_by i n q ++ (nodes_after i n t q ++ rest)
+standing-is k q is i n t rest some g h hints nodes =
+    let leads = leads-of k q is in
+    let ts = given (first_of i q) [] in
+    ap (standing (onwards_at i n q)) (given-together (then_end i n q).state (then_of i n q) ts)
+    ∙ stretch-is ts rest (read_by i n q) (onwards_at i n q) t (run-apart q leads.taking leads.known i n (onwards_at i n q) some (behind-back k q is i n) g h) hints nodes
 
 -- ---- what leaves the nodes before it as they are
 
@@ -396,36 +369,17 @@ with-run h closed lb kids inner-ends i j news = with-plug h (1 ∷ []) i j news 
 
 -- ---- the pieces of a block's run
 
-module _ (k : CharClasses) (levels : ℕ) (c : Spot (Unit {0})) (z : Place) where
-  abbrev run_here : Sequence
-  run_here = run_at k levels c z
-
-  pub run-known : KnownAt run_here.point
-  unfolding run
-  run-known = record { trivia = _; is = refl }
-
-  pub in-behind : (i n : ℕ) → (onwards_in k levels i n c z).back ≤ (then_end i n run_here).state.empties
-  unfolding run
-  in-behind i n =
-      let r = run_here in
-      let f = then_end i n r in
-      let rest = rest_of i n r in
-      let one = (sane k levels (repeat (markup_turn true ends_block) f.value)).backs (then_place i n r) f.state in
-      let two = (sane k levels flush_trivia).backs (moved (((first_end i r).taken + f.taken) + rest.taken) r.place) rest.state in
-      (backs-joined f.state rest (tail_at k levels i n c z) one two).back
-
-  -- what stands in the run, by the pieces and all after them
-  pub kids-are : (i n : ℕ) (t : Trivia) (rest : List Tree) → Settles n (onwards_in k levels i n c z) → AllGo (first_of i run_here) → AllGo (then_of i n run_here) → (onwards_in k levels i n c z).hints ≡ [] → (onwards_in k levels i n c z).nodes ≡ t.nodes ++ rest
-      → standing (tail_at k levels i n c z) (standing (chain (first_of i run_here) (chain (then_of i n run_here) (rest_of i n run_here))) []) ≡ standing_in k levels i n c z ++ (nodes_in k levels i n t c z ++ rest)
-  kids-are i n t rest some g h hints nodes =
-      let os = first_of i run_here in
-      let ps = then_of i n run_here in
-      let q = rest_of i n run_here in
-      let u = tail_at k levels i n c z in
-      let ts = given os [] in
-      ap (standing u) (standing-chain os (chain ps q) [] ∙ standing-chain ps q ts) ∙ sym (standing-joined q u (given ps ts))
-      ∙ ap (standing (joined q u)) (given-together (then_end i n run_here).state ps ts)
-      ∙ stretch-is ts rest (read_in k levels i n c z) (onwards_in k levels i n c z) t (run-apart run_here (block-taking k levels) run-known i n (onwards_in k levels i n c z) some (in-behind i n) g h) hints nodes
+-- what stands in the run, by the pieces and all after them
+pub kids-are : (k : CharClasses) (levels : ℕ) (c : Spot (Unit {0})) (z : Place) (i n : ℕ) (t : Trivia) (rest : List Tree) → (let r = run_at k levels c z in Settles n (onwards_at i n r) → AllGo (first_of i r) → AllGo (then_of i n r) → (onwards_at i n r).hints ≡ [] → (onwards_at i n r).nodes ≡ t.nodes ++ rest
+    → standing (tail_at k levels i n c z) (standing (chain (first_of i r) (chain (then_of i n r) (rest_of i n r))) []) ≡ standing_by i n r ++ (nodes_after i n t r ++ rest))
+kids-are k levels c z i n t rest some g h hints nodes =
+    let r = run_at k levels c z in
+    let os = first_of i r in
+    let ps = then_of i n r in
+    let q = rest_of i n r in
+    let u = tail_at k levels i n c z in
+    ap (standing u) (standing-chain os (chain ps q) [] ∙ standing-chain ps q (given os [])) ∙ sym (standing-joined q u (given ps (given os [])))
+    ∙ standing-is k r (is_block_run levels (moved c.at z) (point_of c.start)) i n t rest some g h hints nodes
 
 -- ---- the law
 
@@ -444,17 +398,17 @@ begun-at k levels text c chosen name left w same some =
     let reads = content-reads k text c chosen levels name left w in
     content-begun (inner k levels) (sane-meaning (rules k) k (suc levels)) (λ b. sane-plain tt) (moved c.at w) (point_of c.start) refl (clear.clear w same) (subst (λ (a : Outcome (Unit {0})). 0 < a.taken) reads some)
 
-pub both-open : (k : CharClasses) (levels : ℕ) (front old new rest : List ℕ) (c : Spot (Unit {0})) (i n m past : ℕ) (t u : Trivia) → Among c (blocks_of_text k (front ++ (old ++ rest)))
-    → PassesInnerJoint k levels front old new rest c i n m past t u → BothOpen k levels (text_with front old rest) (text_with front new rest) c
-both-open k levels front old new rest c i n m past t u chosen h =
+pub both-open : (k : CharClasses) (levels : ℕ) (front old new rest : List ℕ) (c : Spot (Unit {0})) (chosen : Among c (blocks_of_text k (front ++ (old ++ rest)))) (name : c.name ≡ block.Content) (level : max_depth - c.fewer ≡ suc levels) (i n m past : ℕ) (t u : Trivia)
+    → PassesJoint k front old new rest (block_inner c levels chosen name level) i n m past t u → BothOpen k levels (text_with front old rest) (text_with front new rest) c
+both-open k levels front old new rest c chosen name level i n m past t u h =
     let z = text_with front old rest in
     let w = text_with front new rest in
     let s = point_of c.start in
-    let passes = (inner-joint-law k levels front old new rest c i n m past t u chosen h).passes in
-    let begun = begun-at k levels (front ++ (old ++ rest)) c chosen h.pieces.name h.pieces.level in
+    let passes = (inner-joint-law k levels front old new rest c chosen name level i n m past t u h).passes in
+    let begun = begun-at k levels (front ++ (old ++ rest)) c chosen name level in
     record {
-      old_opens = opens-by k levels (moved c.at z) s (begun z (same-here c.before z) (omega (arith, h.pieces.starts, passes.ends)));
-      new_opens = opens-by k levels (moved c.at w) s (begun w (before-same c.before front old new rest h.pieces.looks.before) (omega (arith, h.pieces.starts, passes.shifted)));
+      old_opens = opens-by k levels (moved c.at z) s (begun z (same-here c.before z) (omega (arith, passes.starts, passes.ends)));
+      new_opens = opens-by k levels (moved c.at w) s (begun w (before-same c.before front old new rest h.before.before) (omega (arith, passes.starts, passes.shifted)));
     }
 
 -- a text's tree, by a block's node
@@ -467,22 +421,52 @@ tree-by-block k front old rest c chosen x node =
     let made_tree = λ (ts : List Tree). inner_of kind.Markup (forest ts) in
     ap made_tree (ap (λ (a : Outcome (Unit {0})). a.nodes) l.old) ∙ ap (λ a. made_tree (plug c.hole a)) node
 
-pub inner-children-law : InnerChildrenLaw
-unfolding blocks_of_text tree
-inner-children-law k levels front old new rest c i n m past t u chosen h some more same_back =
+-- a node at the end of a path in a block's hole
+at-kids : (P : Tree → Type 0) (left : List Tree) (x : Tree) (right : List Tree) → P x → At P (slice_get (trees (forest (left ++ x ∷ right))) (length left))
+at-kids P left x right h = subst (λ us. At P (slice_get us (length left))) (sym (trees-of (left ++ x ∷ right))) (at-left left)
+  where
+    at-left : (left : List Tree) → At P (slice_get (left ++ x ∷ right) (length left))
+    at-left [] = h
+    at-left (y ∷ left) = at-left left
+
+at-fill : (P : Tree → Type 0) (path : List ℕ) (d : Deep) (x : Tree) → AtPath P path x → AtPath P (path_in d ++ path) (fill d x)
+at-fill P path bare x h = h
+at-fill P path (under head left d right) x h = at-kids (AtPath P (path_in d ++ path)) left (fill d x) right (at-fill P path d x h)
+
+-- So a block's kids stand in the tree.
+pub block-at : (k : CharClasses) (text : List ℕ) (c : Spot (Unit {0})) → Among c (blocks_of_text k text) → (closed : Bool) (lb : Tree) (kids ends : List Tree) → c.node ≡ block_with closed lb kids ends → AtPath (λ u. kids_of u ≡ kids_in c.node) (path_of c.hole ++ 1 ∷ []) (tree k text)
+block-at k text c chosen closed lb kids ends node =
+    let P = λ (u : Tree). kids_of u ≡ kids in
+    let h = c.hole in
+    let x = block_with closed lb kids ends in
+    let here : AtPath P (path_of h ++ 1 ∷ []) (inner_of kind.Markup (forest (plug h x))) = at-kids (AtPath P (path_in h.deep ++ 1 ∷ [])) h.left (fill h.deep x) h.right (at-fill P (1 ∷ []) h.deep x (trees-of kids)) in
+    subst (λ ts. AtPath (λ u. kids_of u ≡ ts) (path_of h ++ 1 ∷ []) (tree k text)) (sym (ap kids_in node ∙ trees-of kids)) (subst (AtPath P (path_of h ++ 1 ∷ [])) (sym (tree-by-block k [] [] text c chosen x node)) here)
+
+-- What the trees of both texts are: at the run's node one stretch of its children is exchanged.
+record Exchange (k : CharClasses) (front old new rest : List ℕ) (r : Run k (front ++ (old ++ rest))) (i n m : ℕ) (t u : Trivia) : Type 0 where
+  behind : List Tree
+  children : (let q = read_as r (text_with front old rest) in kids_of_run r ≡ standing_by i n q ++ (nodes_after i n t q ++ behind))
+  tree_now : (let q = read_as r (text_with front old rest) in
+      let first = length (standing_by i n q) in
+      tree k (front ++ (new ++ rest)) ≡ with_children (path_to r) first (first + length (nodes_after i n t q)) (nodes_after i m u (read_as r (text_with front new rest))) (tree k (front ++ (old ++ rest))))
+  at : AtPath (λ u. kids_of u ≡ kids_of_run r) (path_to r) (tree k (front ++ (old ++ rest)))
+
+pub node-law : NodeLaw
+unfolding blocks_of_text
+node-law k levels front old new rest c chosen name level i n m past t u h some more same_back =
     let z = text_with front old rest in
     let w = text_with front new rest in
     let s = point_of c.start in
     let y = moved c.at z in
     let v = moved c.at w in
-    let kept = inner-joint-law k levels front old new rest c i n m past t u chosen h in
-    let firsts = first-same k levels front old new rest c i h.pieces.looks in
+    let kept = inner-joint-law k levels front old new rest c chosen name level i n m past t u h in
+    let firsts = first-same k levels front old new rest c i h.before in
     let r = run_at k levels c z in
     let q = run_at k levels c w in
-    let new_first : AllGo (first_of i q) = subst (λ os. AllGo os) (sym firsts.first) h.pieces.first_go in
+    let new_first : AllGo (first_of i q) = subst (λ os. AllGo os) (sym firsts.first) h.first_go in
     let o = parsed k max_depth (front ++ (old ++ rest)) in
     let l = among (Lawful z z o o) c _ chosen (inside-level (rules k) k (inner-ends k) max_depth whole z z (start_point markup_reading)) in
-    let opens = both-open k levels front old new rest c i n m past t u chosen h in
+    let opens = both-open k levels front old new rest c chosen name level i n m past t u h in
     let opens_old = opens.old_opens in
     let lb = opens_old.node in
     let lb_is : opens.new_opens.node ≡ lb = ap last_node (sym opens.new_opens.nodes ∙ ap (λ (a : Outcome (Unit {0})). a.nodes) firsts.opened ∙ opens_old.nodes) in
@@ -490,59 +474,92 @@ inner-children-law k levels front old new rest c i n m past t u chosen h some mo
     let last = tail_at k levels i n c z in
     let shut : InnerApart close = close-quiet k levels ((((first_end i r).taken + (then_end i n r).taken) + (rest_of i n r).taken) + last.taken) last.state r.place in
     let x = kept.behind in
-    let before = standing_in k levels i n c z in
-    let olds = nodes_in k levels i n t c z in
-    let news = nodes_in k levels i m u c w in
-    let tail_old = tail_at k levels i n c z in
+    let before = standing_by i n r in
+    let olds = nodes_after i n t r in
+    let news = nodes_after i m u q in
     let tail_new = tail_at k levels i m c w in
     let chain_old = chain (first_of i r) (chain (then_of i n r) (rest_of i n r)) in
     let chain_new = chain (first_of i q) (chain (then_of i m q) (rest_of i m q)) in
     let old_node = block_with close.value lb (before ++ (olds ++ x.rest)) close.nodes in
-    let new_node = block_with close.value lb (before ++ (news ++ x.rest)) close.nodes in
     let was : (unit_at c z).nodes ≡ old_node ∷ [] =
-    ap (λ (a : Outcome (Unit {0})). a.nodes) kept.was ∙ node-is k levels y s chain_old tail_old close opens_old (pieces-quiet k levels y s i n opens_old h.pieces.first_go h.pieces.old_go) shut
-    ∙ ap (λ ts. block_with close.value lb ts close.nodes ∷ []) (kids-are k levels c z i n t x.rest some h.pieces.first_go h.pieces.old_go x.hints x.nodes) in
+    ap (λ (a : Outcome (Unit {0})). a.nodes) kept.was ∙ node-is k levels y s chain_old last close opens_old (pieces-quiet k levels y s i n opens_old h.first_go h.old_go) shut
+    ∙ ap (λ ts. block_with close.value lb ts close.nodes ∷ []) (kids-are k levels c z i n t x.rest some h.first_go h.old_go x.hints x.nodes) in
     let kids_new : standing tail_new (standing chain_new []) ≡ before ++ (news ++ x.rest) =
-    kids-are k levels c w i m u x.rest more new_first h.pieces.new_go x.hints_now x.nodes_now
-    ∙ ap (λ b. less b (given (first_of i q) []) ++ (news ++ x.rest)) same_back ∙ ap (λ os. less (read_in k levels i n c z).back (given os []) ++ (news ++ x.rest)) firsts.first in
-    let now : (unit_at c w).nodes ≡ new_node ∷ [] =
+    kids-are k levels c w i m u x.rest more new_first h.new_go x.hints_now x.nodes_now
+    ∙ ap (λ b. less b (given (first_of i q) []) ++ (news ++ x.rest)) same_back ∙ ap (λ os. less (read_by i n r).back (given os []) ++ (news ++ x.rest)) firsts.first in
+    let now : (unit_at c w).nodes ≡ block_with close.value lb (before ++ (news ++ x.rest)) close.nodes ∷ [] =
     ap (λ (a : Outcome (Unit {0})). a.nodes) kept.now
     ∙ ap (λ os. (content_with k levels v s (chain os (chain (then_of i m q) (rest_of i m q))) tail_new close).nodes) (sym firsts.first)
-    ∙ node-is k levels v s chain_new tail_new close opens.new_opens (pieces-quiet k levels v s i m opens.new_opens new_first h.pieces.new_go) shut
+    ∙ node-is k levels v s chain_new tail_new close opens.new_opens (pieces-quiet k levels v s i m opens.new_opens new_first h.new_go) shut
     ∙ ap (λ a. block_with close.value a (standing tail_new (standing chain_new [])) close.nodes ∷ []) lb_is ∙ ap (λ ts. block_with close.value lb ts close.nodes ∷ []) kids_new in
-    let node : c.node ≡ old_node = sym (last-is c.front c.node) ∙ ap last_node (sym l.fits.nodes ∙ was) in
-    let node_now : last_node (unit_at c w).nodes ≡ new_node = ap last_node now in
-    let first = length before in
-    let made_tree = λ (ts : List Tree). inner_of kind.Markup (forest ts) in
-    let nodes_old : o.nodes ≡ plug c.hole c.node = ap (λ (a : Outcome (Unit {0})). a.nodes) l.old in
-    let tree_old : made_tree o.nodes ≡ made_tree (plug c.hole old_node) = ap made_tree nodes_old ∙ ap (λ a. made_tree (plug c.hole a)) node in
-    let exchanged_is : with_children (path_of c.hole ++ 1 ∷ []) first (first + length olds) news (made_tree (plug c.hole old_node)) ≡ made_tree (plug c.hole new_node) =
-    with-run c.hole close.value lb (before ++ (olds ++ x.rest)) close.nodes first (first + length olds) news ∙ ap (λ ts. made_tree (plug c.hole (block_with close.value lb ts close.nodes))) (exchanged-is before olds news x.rest) in
     record {
       closed = close.value;
       bracket = lb;
       behind = x.rest;
       ends = close.nodes;
-      node = node;
-      node_now = node_now;
-      tree_now = kept.kept.tree ∙ ap (λ ts. made_tree (replaced (path_of c.hole) (last_node (unit_at c w).nodes) ts)) nodes_old ∙ ap made_tree (replaced-plug c.hole (last_node (unit_at c w).nodes) c.node)
-          ∙ ap (λ a. made_tree (plug c.hole a)) node_now ∙ sym exchanged_is ∙ ap (with_children (path_of c.hole ++ 1 ∷ []) first (first + length olds) news) (sym tree_old);
+      node = sym (last-is c.front c.node) ∙ ap last_node (sym l.fits.nodes ∙ was);
+      node_now = ap last_node now;
     }
 
-pub inner-back-law : InnerBackLaw
-inner-back-law k levels text c i n =
-    let z = start_of text in
-    let r = run_at k levels c z in
-    let e = first_end i r in
-    let tidy = tidy-together (turn_of r) (λ v. (sane k levels (markup_turn true ends_block v)).backs) n e.value (moved e.taken r.place) e.state in
-    record { pieces_back = tidy.back; after_back = in-behind k levels c z i n }
+exchange : (k : CharClasses) (front old new rest : List ℕ) (r : Run k (front ++ (old ++ rest))) (i n m past : ℕ) (t u : Trivia) → PassesJoint k front old new rest r i n m past t u
+    → Settles n (onwards_at i n (read_as r (text_with front old rest))) → Settles m (onwards_at i m (read_as r (text_with front new rest)))
+    → (read_by i m (read_as r (text_with front new rest))).back ≡ (read_by i n (read_as r (text_with front old rest))).back → Exchange k front old new rest r i n m t u
+unfolding blocks_of_text tree
+exchange k front old new rest top i n m past t u h some more same =
+    let z = text_with front old rest in
+    let w = text_with front new rest in
+    let q = text_run k z in
+    let v = text_run k w in
+    let x = joined-behind k front old new rest top i n m past t u h in
+    let first_now = first-now k front old new rest top i h.before h.first_go in
+    let before = standing_by i n q in
+    let olds = nodes_after i n t q in
+    let news = nodes_after i m u v in
+    let made_tree = λ (us : List Tree). inner_of kind.Markup (forest us) in
+    let was : tree k (front ++ (old ++ rest)) ≡ made_tree (before ++ (olds ++ x.rest)) =
+    tree-is k (front ++ (old ++ rest)) i n h.first_go h.old_go ∙ ap made_tree (standing-is k q (is_text_run z) i n t x.rest some h.first_go h.old_go x.hints x.nodes) in
+    let now : tree k (front ++ (new ++ rest)) ≡ made_tree (before ++ (news ++ x.rest)) =
+    tree-is k (front ++ (new ++ rest)) i m first_now h.new_go ∙ ap made_tree (standing-is k v (is_text_run w) i m u x.rest more first_now h.new_go x.hints_now x.nodes_now)
+    ∙ ap (λ b. made_tree (less b (given (first_of i v) []) ++ (news ++ x.rest))) same ∙ ap (λ os. made_tree (less (read_by i n q).back (given os []) ++ (news ++ x.rest))) (same-start k front old new rest top i h.before).first in
+    let first = length before in
+    record {
+      behind = x.rest;
+      children = ap (λ (y : Tree). trees y.kids) was ∙ trees-of (before ++ (olds ++ x.rest));
+      tree_now = now ∙ ap made_tree (sym (ap (exchanged first (first + length olds) news) (trees-of (before ++ (olds ++ x.rest))) ∙ exchanged-is before olds news x.rest)) ∙ ap (with_children [] first (first + length olds) news) (sym was);
+      at = refl;
+    }
+exchange k front old new rest (block_inner c levels chosen name left) i n m past t u h some more same =
+    let z = text_with front old rest in
+    let w = text_with front new rest in
+    let x = node-law k levels front old new rest c chosen name left i n m past t u h some more same in
+    let kept = (inner-joint-law k levels front old new rest c chosen name left i n m past t u h).kept in
+    let o = parsed k max_depth (front ++ (old ++ rest)) in
+    let l = among (Lawful z z o o) c _ chosen (inside-level (rules k) k (inner-ends k) max_depth whole z z (start_point markup_reading)) in
+    let before = standing_by i n (run_at k levels c z) in
+    let olds = nodes_after i n t (run_at k levels c z) in
+    let news = nodes_after i m u (run_at k levels c w) in
+    let kids = before ++ (olds ++ x.behind) in
+    let first = length before in
+    let path = path_of c.hole ++ 1 ∷ [] in
+    let new_node = last_node (unit_at c w).nodes in
+    let made_tree = λ (ts : List Tree). inner_of kind.Markup (forest ts) in
+    let nodes_old : o.nodes ≡ plug c.hole c.node = ap (λ (a : Outcome (Unit {0})). a.nodes) l.old in
+    let exchanged_is : with_children path first (first + length olds) news (made_tree (plug c.hole (block_with x.closed x.bracket kids x.ends))) ≡ made_tree (plug c.hole (block_with x.closed x.bracket (before ++ (news ++ x.behind)) x.ends)) =
+    with-run c.hole x.closed x.bracket kids x.ends first (first + length olds) news ∙ ap (λ ts. made_tree (plug c.hole (block_with x.closed x.bracket ts x.ends))) (exchanged-is before olds news x.behind) in
+    record {
+      behind = x.behind;
+      children = ap kids_in x.node ∙ trees-of kids;
+      tree_now = kept.tree ∙ ap (λ ts. made_tree (replaced (path_of c.hole) new_node ts)) nodes_old ∙ ap made_tree (replaced-plug c.hole new_node c.node)
+          ∙ ap (λ a. made_tree (plug c.hole a)) x.node_now ∙ sym exchanged_is ∙ ap (with_children path first (first + length olds) news) (sym (ap made_tree nodes_old ∙ ap (λ a. made_tree (plug c.hole a)) x.node));
+      at = block-at k (front ++ (old ++ rest)) c chosen x.closed x.bracket kids x.ends x.node;
+    }
 
 -- ---- pieces give the trivia before them first, so the exchange of children is the same without these
 
 -- ---- stretches of nodes
 
--- Several nodes begin with these. (`Leads` of Leading.antt says what a run is read by.)
-pub record Leads (first ts : List Tree) : Type 0 where
+-- Several nodes begin with these.
+pub record StartsWith (first ts : List Tree) : Type 0 where
   pub rest : List Tree
   pub is : ts ≡ first ++ rest
 
@@ -556,7 +573,7 @@ behind-first xs first olds news zs =
     ∙ ap (exchanged (length (xs ++ first)) (length (xs ++ first) + length olds) news) (sym (split olds))
     ∙ exchanged-is (xs ++ first) olds news zs ∙ split news
 
-same-exchange : (xs first os ns zs ts : List Tree) → ts ≡ xs ++ (os ++ zs) → Leads first os → Leads first ns
+same-exchange : (xs first os ns zs ts : List Tree) → ts ≡ xs ++ (os ++ zs) → StartsWith first os → StartsWith first ns
     → exchanged (length xs) (length xs + length os) ns ts ≡ exchanged (length xs + length first) (length xs + length os) (drop (length first) ns) ts
 same-exchange xs first os ns zs ts e o n =
     let i = length xs + length first in
@@ -572,7 +589,7 @@ same-exchange xs first os ns zs ts e o n =
 
 -- The nodes of some pieces without the last, by what all after them takes back, with the trivia after them, begin with the trivia before them.
 pub leads-run : (r : Sequence) → Taking r.level r.stops → KnownAt r.point → (i n back : ℕ) (t : Trivia) → back ≤ (then_end i n r).state.empties → AllGo (first_of i r) → AllGo (then_of i n r) → (then_end i n r).state.known ≡ Some t
-    → Leads (pending (first_end i r).state.known) (less back (read_by i n r).nodes ++ t.nodes)
+    → StartsWith (pending (first_end i r).state.known) (less back (read_by i n r).nodes ++ t.nodes)
 leads-run r taking known i zero back t few g h there = record { rest = []; is = ap (λ ts. ts ++ t.nodes) (none-less back) ∙ sym (ap pending there) ∙ sym (append-nil (pending (first_end i r).state.known)) }
 leads-run r taking known i (suc n) back t few g h there =
     let e = first_end i r in
@@ -586,52 +603,37 @@ leads-run r taking known i (suc n) back t few g h there =
           ∙ append_assoc at.trivia.nodes kept t.nodes ∙ ap (λ v. pending v ++ (kept ++ t.nodes)) (sym at.is);
     }
 
--- ---- the run of a text
+-- ---- the law
 
-pub leading-trivia-law : LeadingTriviaLaw
-leading-trivia-law k front old new rest i n m past t u some h one two back =
+-- One of several nodes, changed by functions that do the same to each node that is like it.
+pub alter-there : (P : Tree → Type 0) (f g : Tree → Tree) (n : ℕ) (ts : List Tree) → ((t : Tree) → P t → f t ≡ g t) → At P (slice_get ts n) → alter n f ts ≡ alter n g ts
+alter-there P f g n [] e a = refl
+alter-there P f g zero (t ∷ ts) e a = ap (λ u. u ∷ ts) (e t a)
+alter-there P f g (suc n) (t ∷ ts) e a = ap (λ us. t ∷ us) (alter-there P f g n ts e a)
+
+-- Two exchanges that are the same of some children are so where these stand.
+with-same : (path : List ℕ) (i j a b : ℕ) (ns us kids : List Tree) → exchanged i j ns kids ≡ exchanged a b us kids → (t : Tree) → AtPath (λ u. kids_of u ≡ kids) path t → with_children path i j ns t ≡ with_children path a b us t
+with-same [] i j a b ns us kids e t h = ap (λ ts. record { head = t.head; kids = forest ts }) (ap (exchanged i j ns) h ∙ e ∙ sym (ap (exchanged a b us) h))
+with-same (n ∷ path) i j a b ns us kids e t h = ap (λ ts. record { head = t.head; kids = forest ts }) (alter-there (AtPath (λ u. kids_of u ≡ kids) path) (with_children path i j ns) (with_children path a b us) n (trees t.kids) (with-same path i j a b ns us kids e) h)
+
+pub children-law : ChildrenLaw
+children-law k front old new rest r i n m past t u h some more same =
     let z = text_with front old rest in
     let w = text_with front new rest in
-    let joint = joint-law k front old new rest i n m past t u h in
-    let kept = children-law k front old new rest i n m past t u h one two back in
-    let trivia = λ (e : End (Bool × ℕ)). pending e.state.known in
-    let same : trivia (end_at k i w) ≡ trivia (end_at k i z) = ap trivia (end-by-pieces i (text_run k w) (text_run k z) some joint.first) in
-    let new_first : AllGo (pieces k i w) = subst (λ os. AllGo os) (sym joint.first) h.first_go in
-    let olds = leads-run (text_run k z) (text-taking k) (text-known k z) i n (onwards_from k i n z).back t (behind-back k i n z) h.first_go h.old_go h.meets.known in
-    let news = subst (λ ts. Leads ts (nodes_with k i m u w)) same (leads-run (text_run k w) (text-taking k) (text-known k w) i m (onwards_from k i m w).back u (behind-back k i m w) new_first h.new_go h.meets.known_now) in
-    let was = tree k (front ++ (old ++ rest)) in
-    let is = same-exchange (standing_before k i n z) (trivia (end_at k i z)) (nodes_with k i n t z) (nodes_with k i m u w) kept.behind (trees was.kids) kept.children olds news in
-    record { trivia_same = ap length same; tree_now = kept.tree_now ∙ ap (λ ts. record { head = was.head; kids = forest ts }) is }
-
--- ---- the run of a content block
-
-pub inner-leading-trivia-law : InnerLeadingTriviaLaw
-inner-leading-trivia-law k levels front old new rest c i n m past t u some chosen h one two back =
-    let z = text_with front old rest in
-    let w = text_with front new rest in
-    let r = run_at k levels c z in
-    let q = run_at k levels c w in
-    let kept = inner-children-law k levels front old new rest c i n m past t u chosen h one two back in
-    let firsts = first-same k levels front old new rest c i h.pieces.looks in
-    let trivia = λ (e : End (Bool × ℕ)). pending e.state.known in
-    let same : trivia (first_end i q) ≡ trivia (first_end i r) = ap trivia (end-by-pieces i q r some firsts.first) in
-    let new_first : AllGo (first_of i q) = subst (λ os. AllGo os) (sym firsts.first) h.pieces.first_go in
-    let xs = standing_in k levels i n c z in
-    let os = nodes_in k levels i n t c z in
-    let ns = nodes_in k levels i m u c w in
-    let olds = leads-run r (block-taking k levels) (run-known k levels c z) i n (onwards_in k levels i n c z).back t (in-behind k levels c z i n) h.pieces.first_go h.pieces.old_go h.meets.known in
-    let news = subst (λ ts. Leads ts ns) same (leads-run q (block-taking k levels) (run-known k levels c w) i m (onwards_in k levels i m c w).back u (in-behind k levels c w i m) new_first h.pieces.new_go h.meets.known_now) in
-    let first = trivia (first_end i r) in
-    let zs = kept.behind in
-    let was = tree-by-block k front old rest c chosen _ kept.node in
-    let kids = xs ++ (os ++ zs) in
-    let with = λ (i j : ℕ) (us : List Tree). with_children (path_of c.hole ++ 1 ∷ []) i j us (inner_of kind.Markup (forest (plug c.hole (block_with kept.closed kept.bracket kids kept.ends)))) in
-    let both : with (length xs) (length xs + length os) ns ≡ with (length xs + length first) (length xs + length os) (drop (length first) ns) =
-    with-run c.hole kept.closed kept.bracket kids kept.ends (length xs) (length xs + length os) ns
-    ∙ ap (λ us. inner_of kind.Markup (forest (plug c.hole (block_with kept.closed kept.bracket us kept.ends)))) (same-exchange xs first os ns zs kids refl olds news)
-    ∙ sym (with-run c.hole kept.closed kept.bracket kids kept.ends (length xs + length first) (length xs + length os) (drop (length first) ns)) in
+    let q = read_as r z in
+    let v = read_as r w in
+    let x = exchange k front old new rest r i n m past t u h some more same in
+    let was = leads-of k q (is-run r z) in
+    let now = leads-of k v (is-run r w) in
+    let trivia : 0 < i → pending (first_end i v).state.known ≡ pending (first_end i q).state.known = λ some. ap (λ (e : End (Bool × ℕ)). pending e.state.known) (end-by-pieces i v q some (same-start k front old new rest r i h.before).first) in
+    let olds = leads-run q was.taking was.known i n (onwards_at i n q).back t (behind-back k q (is-run r z) i n) h.first_go h.old_go h.meets.known in
+    let first_now = first-now k front old new rest r i h.before h.first_go in
+    let news = leads-run v now.taking now.known i m (onwards_at i m v).back u (behind-back k v (is-run r w) i m) first_now h.new_go h.meets.known_now in
     record {
-      trivia_same = ap length same;
-      tree_now = kept.tree_now ∙ ap (with_children (path_of c.hole ++ 1 ∷ []) (length xs) (length xs + length os) ns) was ∙ both
-          ∙ sym (ap (with_children (path_of c.hole ++ 1 ∷ []) (length xs + length first) (length xs + length os) (drop (length first) ns)) was);
+      behind = x.behind;
+      children = x.children;
+      tree_now = x.tree_now;
+      trivia_same = λ some. ap length (trivia some);
+      after_trivia = λ some. x.tree_now ∙ with-same (path_to r) _ _ _ _ _ _ (kids_of_run r) (same-exchange (standing_by i n q) (pending (first_end i q).state.known) (nodes_after i n t q) (nodes_after i m u v) x.behind (kids_of_run r) x.children olds
+          (subst (λ ts. StartsWith ts (nodes_after i m u v)) (trivia some) news)) (tree k (front ++ (old ++ rest))) x.at;
     }

@@ -1,11 +1,12 @@
 -- After more pieces of a run the next token begins further on.
 use Rattle.std.proofs.Common.{◌≡◌, ℕ, zero, suc, ◌+◌, ◌<◌, ◌≤◌, Bool, true, List, length, take, ap, sym, arith, ◌-◌, false, ◌&&◌, ◌||◌, ◌==◌, eq-eqb, ne_eqb, [], ◌∷◌, ◌++◌, map, append_assoc, Some, refl, ◌∙◌, subst}
-use Rattle.typst_edits.proofs.Words.{both_ways, CharClasses, Place, moved, width, gap_of, point_of, Point, peek, Meaning, run, sane-at, ahead-left, moved-sum, markup_turn, rules, max_depth, start_of, log, bracket, run_at, opened_at, inner_end, text_run, token_byte, piece_at, lead, cut_after, of_level, Numbered, SaysOf, AllGo, End, end_at, pieces, start, made, end_of, turn_of, first_of, first_end, Spot, eqb-true, eqb-false, and_left, and_right, or_left, Block, Mark, Note, opens_content, starts, up_to_end, after_first, cuts_in, is_closing, is_among, Among, Every, blocks_of_text, goes, OpensApartLaw, listed, if-true, if-false}
+use Rattle.typst_edits.proofs.Words.{both_ways, CharClasses, Place, moved, width, gap_of, point_of, Point, peek, Meaning, run, sane-at, ahead-left, moved-sum, markup_turn, rules, max_depth, start_of, log, bracket, run_at, opened_at, inner_end, text_run, token_byte, piece_at, lead, cut_after, of_level, Numbered, SaysOf, AllGo, End, end_at, start, made, end_of, turn_of, first_of, first_end, Spot, eqb-true, eqb-false, and_left, and_right, or_left, Block, Mark, Note, opens_content, starts, up_to_end, after_first, cuts_in, is_closing, is_among, Among, Every, blocks_of_text, goes, OpensApartLaw, listed, if-true, if-false, Run, top, read_as, token_after, root_run, IsRun, is_text_run, is_block_run, Sequence}
 use Rattle.typst_edits.specs.NumberedNotes.{CutsLaw, InnerCutsLaw}
 use Rattle.std.proofs.lemmas.Bool.{or_right}
 use Rattle.typst_candidates.specs.Units.{is_piece}
 use Rattle.typst_edits.proofs.BlockRuns.{within, sane as in-sane}
-use Rattle.typst_edits.proofs.Leading.{text-leads, block-leads}
+use Rattle.typst_edits.proofs.Joint.{leads-of}
+use Rattle.typst_edits.specs.Frame.{inner as block_inner}
 use Rattle.typst_edits.proofs.Every.{not-less}
 use Rattle.typst_edits.proofs.Resumed.{further}
 use Rattle.typst_edits.proofs.NumberedNotes.{numbered-inner-law, go-fewer, go-next, turns-within}
@@ -28,8 +29,6 @@ cut-by : (text : List ℕ) (i j : ℕ) (e f : End (Bool × ℕ)) → i < j → t
 cut-by text i j e f l h =
     omega (arith, take-more (cut_after i e) (e.taken + gap_of e.state.known) text (cut-most i e), h, ap (λ d. width (take d text)) (cut-token j f (omega (arith, l))))
 
--- ---- a text's run
-
 -- Pieces end within the text, with their trivia.
 pub ends-within : (k : CharClasses) (text : List ℕ) (i : ℕ) → (let e = end_at k i (start_of text) in e.taken + gap_of e.state.known ≤ length text)
 unfolding run
@@ -37,23 +36,7 @@ ends-within k text i =
     let z = start_of text in
     omega (arith, (sane-at (rules k) k max_depth peek).within z start, turns-within (piece_at k) (within k) i (true, 0) z (lead k z).state)
 
--- After more pieces the next token begins further on, even if none come before.
-pub text-tokens : (k : CharClasses) (text : List ℕ) (i j : ℕ) → i < j → AllGo (pieces k j (start_of text)) → (let z = start_of text in token_byte text (end_at k i z) < token_byte text (end_at k j z))
-unfolding run
-text-tokens k text i j l g =
-    let z = start_of text in
-    let r = text_run k z in
-    let leads = text-leads k z in
-    let e = end_at k i z in
-    let f = end_at k j z in
-    take-longer (e.taken + gap_of e.state.known) (f.taken + gap_of f.state.known) text (further r.level r.stops leads.taking i j (true, 0) r.place r.point leads.known l g) (ends-within k text j)
-
-pub cuts-law : CutsLaw
-cuts-law k text i j l g = let z = start_of text in cut-by text i j (end_at k i z) (end_at k j z) l (text-tokens k text i j l g)
-
--- ---- a content block's run
-
--- With their trivia its pieces take no more than the text has after its bracket.
+-- With their trivia those of a content block take no more than the text has after its bracket.
 inner-room : (k : CharClasses) (levels : ℕ) (text : List ℕ) (c : Spot (Unit {0})) (j : ℕ) → (let z = start_of text in let e = first_end j (run_at k levels c z) in e.taken + gap_of e.state.known ≤ length text - opened_at k levels c z)
 inner-room k levels text c j =
     let z = start_of text in
@@ -68,20 +51,33 @@ pub inner-within : (k : CharClasses) (levels : ℕ) (text : List ℕ) (c : Spot 
     → (let e = inner_end k levels j c (start_of text) in e.taken + gap_of e.state.known ≤ length text)
 inner-within k levels text c j opened = let most = inner-room k levels text c j in omega (arith, most, opened)
 
-pub inner-tokens : (k : CharClasses) (levels : ℕ) (text : List ℕ) (c : Spot (Unit {0})) (i j : ℕ) → i < j → AllGo (first_of j (run_at k levels c (start_of text)))
-    → (let z = start_of text in token_byte text (inner_end k levels i c z) < token_byte text (inner_end k levels j c z))
-unfolding run
-inner-tokens k levels text c i j l g =
-    let z = start_of text in
-    let r = run_at k levels c z in
-    let leads = block-leads k levels (moved c.at z) (point_of c.start) in
+-- After more pieces the next token begins further on, even if none come before: by a bound for where they end.
+tokens-by : (k : CharClasses) (text : List ℕ) (r : Sequence) → IsRun k r → (a i j : ℕ) → i < j → AllGo (first_of j r) → (let e = first_end i r in let f = first_end j r in
+    f.taken + gap_of f.state.known ≤ length text - a → width (take (a + (e.taken + gap_of e.state.known)) text) < width (take (a + (f.taken + gap_of f.state.known)) text))
+tokens-by k text r is a i j l g room =
+    let leads = leads-of k r is in
+    let e = first_end i r in
+    let f = first_end j r in
     let more = further r.level r.stops leads.taking i j (true, 0) r.place r.point leads.known l g in
-    let u = inner_end k levels i c z in
-    let v = inner_end k levels j c z in
-    take-longer (u.taken + gap_of u.state.known) (v.taken + gap_of v.state.known) text (omega (arith, more)) (omega (arith, more, inner-room k levels text c j))
+    take-longer (a + (e.taken + gap_of e.state.known)) (a + (f.taken + gap_of f.state.known)) text (omega (arith, more)) (omega (arith, more, room))
+
+pub tokens-rise : (k : CharClasses) (text : List ℕ) (r : Run k text) (i j : ℕ) → i < j → AllGo (first_of j (read_as r (start_of text))) → token_after r i < token_after r j
+tokens-rise k text top i j l g = tokens-by k text (text_run k (start_of text)) (is_text_run (start_of text)) 0 i j l g (let most = ends-within k text j in omega (arith, most))
+tokens-rise k text (block_inner c levels a n left) i j l g = let z = start_of text in tokens-by k text (run_at k levels c z) (is_block_run levels (moved c.at z) (point_of c.start)) (opened_at k levels c z) i j l g (inner-room k levels text c j)
+
+pub cuts-law : CutsLaw
+cuts-law k text i j l g =
+    let e = λ (m : ℕ). end_at k m (start_of text) in
+    let same : (m : ℕ) → token_after (root_run k text) m ≡ token_byte text (e m) = λ m. ap (λ d. width (take d text)) (omega arith) in
+    cut-by text i j (e i) (e j) l (omega (arith, tokens-rise k text top i j l g, same i, same j))
 
 pub inner-cuts-law : InnerCutsLaw
-inner-cuts-law k levels text c i j l g = let z = start_of text in cut-by text i j (inner_end k levels i c z) (inner_end k levels j c z) l (inner-tokens k levels text c i j l g)
+inner-cuts-law k levels text c i j l g =
+    let z = start_of text in
+    let e = λ (m : ℕ). inner_end k levels m c z in
+    let a = opened_at k levels c z in
+    let same : (m : ℕ) → width (take (a + ((first_end m (run_at k levels c z)).taken + gap_of (first_end m (run_at k levels c z)).state.known)) text) ≡ token_byte text (e m) = λ m. ap (λ d. width (take d text)) (omega arith) in
+    cut-by text i j (e i) (e j) l (omega (arith, tokens-by k text (run_at k levels c z) (is_block_run levels (moved c.at z) (point_of c.start)) a i j l g (inner-room k levels text c j), same i, same j))
 
 -- ---- the cuts of a content block's run are where the tokens after its pieces begin, by the notes of a reading
 

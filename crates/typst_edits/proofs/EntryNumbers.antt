@@ -5,7 +5,7 @@ use Rattle.typst_candidates.specs.Records.{is_opening}
 use Rattle.std.specs.List.{slice_get}
 use Rattle.typst_language.specs.declared.calls.Mark.TheVariants as mark
 use Rattle.typst_edits.proofs.Walk.{first-if as if-on}
-use Rattle.typst_edits.specs.InnerPiecesTest.{front_count, rear_count}
+use Rattle.typst_edits.specs.PiecesTest.{front_count, rear_count}
 use Rattle.typst_candidates.proofs.Nested.{token-of}
 pub use Rattle.std.proofs.lemmas.Option.{same_Some as some-number}
 

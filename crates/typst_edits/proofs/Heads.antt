@@ -1,10 +1,11 @@
 -- An expression that isn't expected gives one error after the trivia, and only such an expression takes back the empty errors before it.
 use Rattle.std.proofs.Common.{◌≡◌, ℕ, zero, suc, ◌<◌, ◌==◌, Bool, true, false, ◌&&◌, nat_lt, List, [], ◌∷◌, ◌++◌, length, drop, length-append, append_assoc, Some, None, refl, ap, sym, ◌∙◌, subst, arith, ◌+◌}
-use Rattle.typst_edits.proofs.Words.{lt-ltb, is_error, SyntaxKind, Place, moved, CharClasses, hint_with, Tree, text_of, error_of, made_error, advised, all_advised, MarkupExpr, Reading, Ask, SameIn, shift, anywhere, too_deep, deeper, is_end, AtHand, as_at_hand, hand_at, Hand, meaning_of, Trivia, Point, pending, point_of, hinted, surprise, peek, eat_making, flush_trivia, note, unexpected, Parser, ◌>>=◌, ◌>>◌, takes, gives, does, next, pick, repeat, calls, Outcome, Meaning, Level, plain, less, standing, joined, repeated, hand_of, hand_asks_of, taken_node, run, sane-run, less-none, moved-sum, on_both, on_if, ends, ends_block, note_piece, markup_turn, markup_head, markup_by, markup_expr, rules, level_at, max_depth, Tidy, Backs, together, inner_run, inner, bracket, inner_lead, run_at, EndsBefore, minds_at, first_place, begins_wrong, after_known, minds, text_run, onwards_from, goes, made, AllGo, end_of, End, asks_of, lead, pieces, end_at, Sequence, turn_of, first_of, first_end, then_of, then_end, then_place, hand-frame, same_in-shift, same_in-first, same_in-second, text_with, AllEndBy, onwards_in, Spot, hinted-append, MarkupHead, both_ways, false_from_ne_true}
-use Rattle.typst_edits.specs.Heads.{Headed, HeadLaw, InnerHeadLaw, MeetsLaw, InnerMeetsLaw, NoneBackLaw, InnerNoneBackLaw, NoneAfterLaw, InnerNoneAfterLaw}
+use Rattle.typst_edits.proofs.Words.{lt-ltb, is_error, SyntaxKind, Place, moved, CharClasses, hint_with, Tree, text_of, error_of, made_error, advised, all_advised, MarkupExpr, Reading, Ask, SameIn, shift, anywhere, too_deep, deeper, is_end, AtHand, as_at_hand, hand_at, Hand, meaning_of, Trivia, Point, pending, point_of, hinted, surprise, peek, eat_making, flush_trivia, note, unexpected, Parser, ◌>>=◌, ◌>>◌, takes, gives, does, next, pick, repeat, calls, Outcome, Meaning, Level, plain, less, standing, joined, repeated, hand_of, hand_asks_of, taken_node, run, sane-run, less-none, moved-sum, on_both, on_if, ends, ends_block, note_piece, markup_turn, markup_head, markup_by, markup_expr, rules, level_at, max_depth, Tidy, Backs, together, inner_run, inner, bracket, inner_lead, run_at, EndsBefore, minds_at, first_place, begins_wrong, after_known, minds, text_run, onwards_at, goes, made, AllGo, end_of, End, asks_of, lead, pieces, end_at, Sequence, turn_of, first_of, first_end, then_of, then_end, then_place, hand-frame, same_in-shift, same_in-first, same_in-second, text_with, AllEndBy, Spot, hinted-append, MarkupHead, both_ways, false_from_ne_true, Run, read_as, top, IsRun, is_text_run, is_block_run, Before, PassesJoint}
+use Rattle.typst_edits.specs.Frame.{inner as block_inner}
+use Rattle.typst_edits.specs.Heads.{HeadLaw, MeetsLaw, InnerMeetsLaw, NoneBackLaw, NoneAfterLaw}
 use Rattle.typst_edits.proofs.Boundary.{KnownAt, turn-goes, first-of, going-on, known-made, made-ends, turn-ends}
-use Rattle.typst_edits.proofs.Children.{tidy-together, back-law, both-open, inner-back-law}
-use Rattle.typst_edits.proofs.Joint.{known-is, text-taking, block-taking, ends-alike, inner-joint-law, onwards-is, joint-law}
+use Rattle.typst_edits.proofs.Children.{tidy-together, back-law, both-open}
+use Rattle.typst_edits.proofs.Joint.{known-is, ends-alike, onwards-is, first-now, leads-of, is-run, joined-behind}
 use Rattle.typst_edits.proofs.Turns.{none-less, none-of, drop-front, before_trivia, same-judged, led-joined, turn_tail, turn_at, one-turn, stopped-back, led-behind, Taking, turn-led}
 use Rattle.typst_edits.proofs.Outcomes.{hints-first}
 use Rattle.typst_edits.proofs.RunTrees.{standing-still}
@@ -296,34 +297,29 @@ module _ (l : Level) (stops : SyntaxKind → Bool) (taking : Taking l stops)
 
 -- ---- the laws
 
-module _ (r : Sequence) (taking : Taking r.level r.stops)
-    (wrong : (g h : Reading) (e : ℕ) (a : Bool) (z : Place) (t : Trivia) (x : Bool × ℕ) → minds (markup_head x.0 x.1 (hand_at r.level.classes h (Some t) z).kind) ≡ true → Erring t (r.level.deeper (MarkupExpr x.0 x.1) z (before_trivia g h e a t)))
-    (known : KnownAt r.point) where
-  pub headed : (i n : ℕ) → AllGo (first_of i r) → AllGo (then_of i n r) → Headed r i n
-  headed i n g h =
-      let e = first_end i r in
-      let f = then_end i n r in
-      let first_known = known-made r.level r.stops i (true, 0) r.place r.point known g in
-      let then_known = known-made r.level r.stops n e.value (first_place i r) e.state first_known h in
-      let p = pieces-facts r.level r.stops taking wrong n e.value (first_place i r) e.state first_known h in
-      let o = onward-facts r.level r.stops taking wrong f.value (then_place i n r) f.state then_known in
-      record { first = p.0; pieces_back = p.1; next = o.0; after_back = o.1 }
-
-  -- where its pieces begin with one that minds errors
-  pub lone-piece : (i : ℕ) → AllGo (first_of i r) → AllGo (then_of i 1 r) → minds_at r (first_place i r) (first_end i r) ≡ true → MindsAlone (first_end i r).state (turn_of r (first_end i r).value (first_place i r) (first_end i r).state)
-  lone-piece i g h mind =
-      let e = first_end i r in
-      minds-alone r.level r.stops taking wrong e.value (first_place i r) e.state (known-made r.level r.stops i (true, 0) r.place r.point known g) h.0 mind
+-- an expression of a run that minds errors gives the trivia and one error
+run-wrong : (k : CharClasses) (r : Sequence) → IsRun k r → (g h : Reading) (e : ℕ) (a : Bool) (z : Place) (t : Trivia) (x : Bool × ℕ) → minds (markup_head x.0 x.1 (hand_at r.level.classes h (Some t) z).kind) ≡ true → Erring t (r.level.deeper (MarkupExpr x.0 x.1) z (before_trivia g h e a t))
+unfolding run
+run-wrong k r (is_text_run z) = erring-call k 255
+run-wrong k r (is_block_run levels z s) = erring-call k levels
 
 pub head-law : HeadLaw
-unfolding run
-head-law k z i n g h =
-    headed (text_run k z) (text-taking k) (erring-call k 255) (record { trivia = _; is = refl }) i n g h
+head-law k r is i n g h =
+    let leads = leads-of k r is in
+    let e = first_end i r in
+    let f = then_end i n r in
+    let first_known = known-made r.level r.stops i (true, 0) r.place r.point leads.known g in
+    let then_known = known-made r.level r.stops n e.value (first_place i r) e.state first_known h in
+    let p = pieces-facts r.level r.stops leads.taking (run-wrong k r is) n e.value (first_place i r) e.state first_known h in
+    let o = onward-facts r.level r.stops leads.taking (run-wrong k r is) f.value (then_place i n r) f.state then_known in
+    record { first = p.0; pieces_back = p.1; next = o.0; after_back = o.1 }
 
-pub inner-head-law : InnerHeadLaw
-unfolding run
-inner-head-law k levels z s i n g h =
-    headed (inner_run k levels z s) (block-taking k levels) (erring-call k levels) (record { trivia = _; is = refl }) i n g h
+-- where its pieces begin with one that minds errors
+pub lone-piece : (k : CharClasses) (r : Sequence) → IsRun k r → (i : ℕ) → AllGo (first_of i r) → AllGo (then_of i 1 r) → minds_at r (first_place i r) (first_end i r) ≡ true → MindsAlone (first_end i r).state (turn_of r (first_end i r).value (first_place i r) (first_end i r).state)
+lone-piece k r is i g h mind =
+    let leads = leads-of k r is in
+    let e = first_end i r in
+    minds-alone r.level r.stops leads.taking (run-wrong k r is) e.value (first_place i r) e.state (known-made r.level r.stops i (true, 0) r.place r.point leads.known g) h.0 mind
 
 pub meets-law : MeetsLaw
 meets-law k z i n f t u g h well known known_now value = record {
@@ -331,7 +327,7 @@ meets-law k z i n f t u g h well known known_now value = record {
   known_now = known_now;
   value = value;
   over = λ o kind. ends-alike f.value.1 (then_end i n (text_run k z)).value.1 kind;
-  errors = λ o m. absurd (both_ways _ ((head-law k z i n g h).next (well o) o) m);
+  errors = λ o m. absurd (both_ways _ ((head-law k (text_run k z) (is_text_run z) i n g h).next (well o) o) m);
 }
 
 pub inner-meets-law : InnerMeetsLaw
@@ -340,21 +336,8 @@ inner-meets-law k levels z s i n f t u g h well known known_now value nesting = 
   known_now = known_now;
   value = value;
   over = λ o kind. ap (λ a. ends ends_block a kind) (nesting o);
-  errors = λ o m. absurd (both_ways _ ((inner-head-law k levels z s i n g h).next (well o) o) m);
+  errors = λ o m. absurd (both_ways _ ((head-law k (inner_run k levels z s) (is_block_run levels z s) i n g h).next (well o) o) m);
 }
-
--- The law of the piece that minds errors, of a text's run and of a content block's.
-pub text-lone : (k : CharClasses) (z : Place) (i : ℕ) → (let r = text_run k z in AllGo (first_of i r) → AllGo (then_of i 1 r) → minds_at r (first_place i r) (first_end i r) ≡ true
-    → MindsAlone (first_end i r).state (turn_of r (first_end i r).value (first_place i r) (first_end i r).state))
-unfolding run
-text-lone k z i g h mind =
-    lone-piece (text_run k z) (text-taking k) (erring-call k 255) (record { trivia = _; is = refl }) i g h mind
-
-pub inner-lone : (k : CharClasses) (levels : ℕ) (z : Place) (s : Point) (i : ℕ) → (let r = inner_run k levels z s in AllGo (first_of i r) → AllGo (then_of i 1 r) → minds_at r (first_place i r) (first_end i r) ≡ true
-    → MindsAlone (first_end i r).state (turn_of r (first_end i r).value (first_place i r) (first_end i r).state))
-unfolding run
-inner-lone k levels z s i g h mind =
-    lone-piece (inner_run k levels z s) (block-taking k levels) (erring-call k levels) (record { trivia = _; is = refl }) i g h mind
 
 -- ---- the expression at which pieces that are read again begin is the same in both texts, so what they take back is the same too
 
@@ -406,21 +389,6 @@ module _ (k : CharClasses) (front old new rest : List ℕ) where
       let place : moved d.taken w ≡ moved e.taken w = ap (λ (a : End (Bool × ℕ)). moved a.taken w) same in
       record { ends = same; minds = minds-same l d e (moved e.taken z) (moved d.taken w) same (ap (λ p. (hand_of l p e.state).kind) place ∙ kind) }
 
-pub none-back-law : NoneBackLaw
-none-back-law k front old new rest zero n m past t u h well =
-    let z = text_with front old rest in
-    let w = text_with front new rest in
-    record { back = omega (arith, (back-law k (front ++ (old ++ rest)) 0 n).pieces_back, lead-empties k z); back_now = omega (arith, (back-law k (front ++ (new ++ rest)) 0 m).pieces_back, lead-empties k w) }
-none-back-law k front old new rest (suc i) n m past t u h well =
-    let w = text_with front new rest in
-    let some : 0 < suc i = omega arith in
-    let new_first : AllGo (pieces k (suc i) w) = subst (λ os. AllGo os) (sym (joint-law k front old new rest (suc i) n m past t u h).first) h.first_go in
-    let mild = (well some).1 in
-    record {
-      back = (head-law k (text_with front old rest) (suc i) n h.first_go h.old_go).pieces_back mild;
-      back_now = (head-law k w (suc i) m new_first h.new_go).pieces_back ((text-minds k front old new rest (suc i) some h.first_go (h.before some)).minds ∙ mild);
-    }
-
 -- ---- a content block's run
 
 block-empties : (k : CharClasses) (levels : ℕ) (c : Spot (Unit {0})) (z : Place) → (bracket k levels (moved c.at z) (point_of c.start)).state.empties ≡ 0 → (run_at k levels c z).point.empties ≡ 0
@@ -450,40 +418,41 @@ module _ (k : CharClasses) (levels : ℕ) (front old new rest : List ℕ) (c : S
       let place : first_place (suc i) q ≡ moved e.taken (moved b.taken w) = ap (λ (a : End (Bool × ℕ)). moved a.taken q.place) same ∙ ap (λ (a : Outcome (Unit {0})). moved e.taken (moved a.taken w)) f.opened in
       record { ends = same; minds = minds-same l d e (first_place (suc i) r) (first_place (suc i) q) same (ap (λ p. (hand_of l p e.state).kind) place ∙ kind) }
 
-pub inner-none-back-law : InnerNoneBackLaw
-inner-none-back-law k levels front old new rest c zero n m past t u chosen h well =
-    let z = text_with front old rest in
-    let w = text_with front new rest in
-    let opens = both-open k levels front old new rest c 0 n m past t u chosen h in
-    record {
-      back = omega (arith, (inner-back-law k levels (front ++ (old ++ rest)) c 0 n).pieces_back, block-empties k levels c z opens.old_opens.empties);
-      back_now = omega (arith, (inner-back-law k levels (front ++ (new ++ rest)) c 0 m).pieces_back, block-empties k levels c w opens.new_opens.empties);
-    }
-inner-none-back-law k levels front old new rest c (suc i) n m past t u chosen h well =
+-- ---- any run
+
+pub run-minds : (k : CharClasses) (front old new rest : List ℕ) (r : Run k (front ++ (old ++ rest))) (i : ℕ) → 0 < i → AllGo (first_of i (read_as r (text_with front old rest))) → Before k front old rest r i → Minds i (read_as r (text_with front old rest)) (read_as r (text_with front new rest))
+run-minds k front old new rest top i some go looks = text-minds k front old new rest i some go (looks some)
+run-minds k front old new rest (block_inner c levels a b l) i some go looks = block-minds k levels front old new rest c i some go looks
+
+-- No error stands where a run begins.
+record Empty (q v : Sequence) : Type 0 where
+  was : q.point.empties ≡ 0
+  now : v.point.empties ≡ 0
+
+begins-empty : (k : CharClasses) (front old new rest : List ℕ) (r : Run k (front ++ (old ++ rest))) (i n m past : ℕ) (t u : Trivia) → PassesJoint k front old new rest r i n m past t u → Empty (read_as r (text_with front old rest)) (read_as r (text_with front new rest))
+begins-empty k front old new rest top i n m past t u h = record { was = lead-empties k (text_with front old rest); now = lead-empties k (text_with front new rest) }
+begins-empty k front old new rest (block_inner c levels a b l) i n m past t u h =
+    let opens = both-open k levels front old new rest c a b l i n m past t u h in
+    record { was = block-empties k levels c (text_with front old rest) opens.old_opens.empties; now = block-empties k levels c (text_with front new rest) opens.new_opens.empties }
+
+pub none-back-law : NoneBackLaw
+none-back-law k front old new rest r zero n m past t u h well =
+    let e = begins-empty k front old new rest r 0 n m past t u h in
+    let q = read_as r (text_with front old rest) in
+    let v = read_as r (text_with front new rest) in
+    record { back = omega (arith, (back-law k q (is-run r (text_with front old rest)) 0 n).pieces_back, e.was); back_now = omega (arith, (back-law k v (is-run r (text_with front new rest)) 0 m).pieces_back, e.now) }
+none-back-law k front old new rest r (suc i) n m past t u h well =
     let some : 0 < suc i = omega arith in
-    let s = point_of c.start in
-    let w = text_with front new rest in
-    let new_first : AllGo (first_of (suc i) (run_at k levels c w)) = subst (λ os. AllGo os) (sym (first-same k levels front old new rest c (suc i) h.pieces.looks).first) h.pieces.first_go in
     let mild = (well some).1 in
     record {
-      back = (inner-head-law k levels (moved c.at (text_with front old rest)) s (suc i) n h.pieces.first_go h.pieces.old_go).pieces_back mild;
-      back_now = (inner-head-law k levels (moved c.at w) s (suc i) m new_first h.pieces.new_go).pieces_back ((block-minds k levels front old new rest c (suc i) some h.pieces.first_go h.pieces.looks).minds ∙ mild);
+      back = (head-law k (read_as r (text_with front old rest)) (is-run r (text_with front old rest)) (suc i) n h.first_go h.old_go).pieces_back mild;
+      back_now = (head-law k (read_as r (text_with front new rest)) (is-run r (text_with front new rest)) (suc i) m (first-now k front old new rest r (suc i) h.before h.first_go) h.new_go).pieces_back ((run-minds k front old new rest r (suc i) some h.first_go h.before).minds ∙ mild);
     }
 
--- ---- after the pieces
-
 pub none-behind-law : NoneAfterLaw
-none-behind-law k front old new rest i n m past t u h well =
+none-behind-law k front old new rest r i n m past t u h well =
     let z = text_with front old rest in
-    let heads = head-law k z i n h.first_go h.old_go in
-    let back_of = λ (o : Outcome (Unit {0})). o.back in
-    let was : (onwards_from k i n z).back ≡ 0 = ap back_of (onwards-is (text_run k z) i n) ∙ heads.after_back (λ over. heads.next (well over) over) in
-    record { back = was; back_now = (joint-law k front old new rest i n m past t u h).behind.back ∙ was }
-
-pub inner-none-behind-law : InnerNoneAfterLaw
-inner-none-behind-law k levels front old new rest c i n m past t u chosen h well =
-    let z = text_with front old rest in
-    let heads = inner-head-law k levels (moved c.at z) (point_of c.start) i n h.pieces.first_go h.pieces.old_go in
-    let back_of = λ (o : Outcome (Unit {0})). o.back in
-    let was : (onwards_in k levels i n c z).back ≡ 0 = ap back_of (onwards-is (run_at k levels c z) i n) ∙ heads.after_back (λ over. heads.next (well over) over) in
-    record { back = was; back_now = (inner-joint-law k levels front old new rest c i n m past t u chosen h).behind.back ∙ was }
+    let q = read_as r z in
+    let heads = head-law k q (is-run r z) i n h.first_go h.old_go in
+    let was : (onwards_at i n q).back ≡ 0 = ap (λ (o : Outcome (Unit {0})). o.back) (onwards-is q i n) ∙ heads.after_back (λ over. heads.next (well over) over) in
+    record { back = was; back_now = (joined-behind k front old new rest r i n m past t u h).back ∙ was }

@@ -1,29 +1,26 @@
 -- A candidate that isn't at the root is pieces of a content block's run.
 use Rattle.std.proofs.Common.{◌≡◌, ℕ, ◌<◌, ◌==◌, Bool, true, false, ◌&&◌, if◌then◌else◌, List, [], ◌∷◌, ◌++◌, length, Some, refl, ap, sym, subst, arith, zero, suc, ◌+◌, ◌-◌, length-append, take, ◌∙◌}
-use Rattle.typst_edits.proofs.Words.{eqb-true, CharClasses, Tree, text_of, forest, trees, bare, inner_of, width, Mark, Note, opens_content, starts, up_to_end, after_first, cuts_in, top_cuts, log, max_depth, start_of, parsed, tree, Among, text_with, Hole, Deep, fill, path_in, plug, path_of, listed, Spot, kind_of, block_head, seconds_of_text, IsOf, Stems, from_unit, from_second, take-append_seam, is_block, Head, moved, start_at, Block, run, gap_of, point_of, texts, Child, laid, child_at, Candidate, candidates, inner, bracket, run_at, opened_at, InnerPiecesOfLaw, Every, is_over, under, inner_end, inner_both, block_run, kids_in, markup_from, blocks_of_text, opening_child, token_byte, goes, OpensApartLaw, AllGo, End, turn_of, first_of, first_end}
+use Rattle.typst_edits.proofs.Words.{eqb-true, CharClasses, Tree, text_of, forest, trees, bare, inner_of, width, Mark, Note, opens_content, starts, up_to_end, after_first, cuts_in, top_cuts, log, max_depth, parsed, tree, Among, Hole, Deep, fill, path_in, plug, path_of, listed, Spot, kind_of, block_head, seconds_of_text, IsOf, Stems, from_unit, from_second, take-append_seam, is_block, Head, start_at, Block, texts, Child, laid, child_at, Candidate, candidates, inner, InnerPiecesOfLaw, Every, under, block_run, blocks_of_text, opening_child, OpensApartLaw}
 use Rattle.typst_edits.specs.CandidateRuns.{InnerPiecesOf}
 use Rattle.typst_edits.specs.Hole.Deep.{bare as alone}
 use Rattle.typst_edits.proofs.BlockPlaces.{hole-same, second-place}
 use Rattle.typst_edits.proofs.BlockTest.{never-second}
 use Rattle.typst_edits.proofs.Walk.{left_text, deep_text}
 use Rattle.typst_edits.proofs.CandidatePlaces.{bare-candidates-law}
-use Rattle.typst_edits.proofs.MarkupCandidates.{block-head, Covers, of-run}
-use Rattle.typst_edits.proofs.RootRuns.{is-cut, HasPieces, has-pieces}
-use Rattle.typst_edits.proofs.Cuts.{inner-tokens}
+use Rattle.typst_edits.proofs.MarkupCandidates.{block-head, Covers}
+use Rattle.typst_edits.proofs.RootRuns.{has-pieces}
 use Rattle.typst_edits.proofs.Deepest.{some-level}
 use Rattle.typst_edits.proofs.Edit.{among, trees-of}
-use Rattle.typst_edits.proofs.RunCandidates.{OfBlock, of-block, joined-trees, lies, parted-in, plain-shape, seat-of}
-use Rattle.typst_edits.proofs.Leading.{Plain, block-leads, turn-over}
+use Rattle.typst_edits.proofs.RunCandidates.{run-of, joined-trees, lies, seat-of}
+use Rattle.typst_edits.proofs.Leading.{Plain, plain-block}
 use Rattle.typst_edits.proofs.Every.{some_or}
 use Rattle.typst_edits.proofs.MarkupPlaces.{InContent, in-tree, of-content}
-use Rattle.typst_edits.proofs.OneReading.{end-split-at}
-use Rattle.typst_edits.proofs.Resumed.{block-markup, known-after}
 use Rattle.typst_edits.proofs.RunTrees.{tree-is}
 use Rattle.typst_edits.proofs.Standing.{standing-law}
 use Rattle.typst_edits.proofs.StartBytes.{start-plug, start-same}
 use Rattle.typst_edits.proofs.Positions.{NoMarkup, no-wrong}
 use Rattle.typst_edits.proofs.Children.{tree-by-block}
-use Rattle.typst_edits.proofs.Widths.{width-append, early-by as sooner}
+use Rattle.typst_edits.proofs.Widths.{width-append}
 use Rattle.typst_language.specs.declared.calls.Block.TheVariants as block
 use Rattle.typst_language.specs.declared.calls.Mark.TheVariants as mark
 use Rattle.typst_kinds.specs.declared.kind.SyntaxKind.TheVariants as kind
@@ -146,65 +143,6 @@ candidate-in k text rs re root c same chosen pieces other =
     let content = of-content ns rs re c.path (p.child.start + length p.child.node.head.text) (trees p.child.node.kids) c (0 + length (deep_text p.deep)) p.node.head.kind p.child.node.head.kind p.own in
     in-block k text rs re c p.deep p.node p.is p.inner p.step p.path_is p.child p.there p.covers content
 
--- ---- the block's run
-
--- Where no further piece goes on, the run ends.
-inner-over : (k : CharClasses) (levels : ℕ) (text : List ℕ) (s : Spot (Unit {0})) (n : ℕ) → (let r = run_at k levels s (start_of text) in let e = first_end n r in
-    AllGo (first_of n r) → goes (turn_of r e.value (moved e.taken r.place) e.state) ≡ false → is_over 0 n r ≡ true)
-unfolding run
-inner-over k levels text s n g stopped =
-    let z = start_of text in
-    let r = run_at k levels s z in
-    let e = first_end n r in
-    turn-over r (block-leads k levels (moved s.at z) (point_of s.start)) e.value (moved e.taken r.place) e.state (known-after r (block-markup k levels (moved s.at z) (point_of s.start)) n g) stopped
-
--- ---- the pieces
-
-inner-token : (k : CharClasses) (levels : ℕ) (text : List ℕ) (s : Spot (Unit {0})) (i : ℕ) → (let z = start_of text in let e = first_end i (run_at k levels s z) in
-    token_byte text (inner_end k levels i s z) ≡ width (take (opened_at k levels s z + (e.taken + gap_of e.state.known)) text))
-inner-token k levels text s i =
-    let z = start_of text in
-    let e = first_end i (run_at k levels s z) in
-    let a = opened_at k levels s z in
-    let same : (a + e.taken) + gap_of e.state.known ≡ a + (e.taken + gap_of e.state.known) = omega arith in
-    ap (λ d. width (take d text)) same
-
--- where its run begins
-from-is : (k : CharClasses) (levels : ℕ) (text : List ℕ) (s : Spot (Unit {0})) → markup_from k levels text s ≡ width (take (opened_at k levels s (start_of text)) text)
-from-is k levels text s =
-    let a = opened_at k levels s (start_of text) in
-    let same : a + 0 ≡ a = omega arith in
-    ap (λ d. width (take d text)) same
-
--- The pieces of a block's run that a candidate is.
-pieces-of : (k : CharClasses) (levels : ℕ) (front old rest : List ℕ) (s : Spot (Unit {0})) (there : Among s (blocks_of_text k (front ++ (old ++ rest)))) (name : s.name ≡ block.Content) (level : max_depth - s.fewer ≡ suc levels) (c : Candidate)
-    → OfBlock k levels front old rest s c → HasPieces k front old rest (block_run s levels there name level) c
-pieces-of k levels front old rest s there name level c b =
-    let text = front ++ (old ++ rest) in
-    let z = text_with front old rest in
-    let q = run_at k levels s z in
-    let from = markup_from k levels text s in
-    let own = b.own in
-    let token = λ (i : ℕ). token_byte text (inner_end k levels i s z) in
-    let begin = from-is k levels text s in
-    let before = sooner (opened_at k levels s z) front (old ++ rest) (subst (λ d. d < width front) begin b.starts) in
-    has-pieces k front old rest (block_run s levels there name level) c c.path own.cuts from (kids_in s.node) (of-run (width front) (width (front ++ old)) c.path from (kids_in s.node) own.cuts c b.chosen) (record {
-      count = own.count;
-      go = own.go;
-      over = inner-over k levels text s own.count own.go own.over;
-      known = known-after q (block-markup k levels (moved s.at z) (point_of s.start));
-      byte = token;
-      at = inner-token k levels text s;
-      each = λ d h. is-cut text (λ i. inner_end k levels i s z) own.count d (own.is.each d h);
-      rises = inner-tokens k levels text s;
-      end = λ i n. token_byte text (inner_both k levels i n s z);
-      ends = λ i n j sum. sym (ap (λ (e : End (Bool × ℕ)). token_byte text (record e { taken = opened_at k levels s z + e.taken })) (end-split-at q i n)) ∙ ap token sum;
-      parted = λ i n g. parted-in k levels front old rest s there name level b.some i n g.trivia g.first_go g.go_on g.known own;
-      starts = begin;
-      before = omega (arith, before);
-      all = omega (arith, b.ends);
-    })
-
 -- ---- the law
 
 name-is : (b : Block) → kind_of b ≡ kind.ContentBlock → b ≡ block.Content
@@ -262,10 +200,11 @@ module _ (apart : OpensApartLaw) (k : CharClasses) (front old rest : List ℕ) (
     by-level levels level =
         let some = (seat-of k whole_text s there full).some in
         let first = length (left_text b.hole) + length b.node.head.text in
-        let step : b.step ≡ 1 = second-alone b.node (subst Plain of.node (plain-shape k levels whole_text s there name level some)) first b.step b.child b.there b.covers.inner b.content.markup in
+        let step : b.step ≡ 1 = second-alone b.node (subst Plain of.node (plain-block k levels whole_text s there name level some)) first b.step b.child b.there b.covers.inner b.content.markup in
         let path : c.path ≡ path_of s.hole ++ 1 ∷ [] = b.path_is ∙ ap (λ p. p ++ b.step ∷ []) (sym of.path) ∙ ap (λ i. path_of s.hole ++ i ∷ []) step in
-        let o = of-block apart k levels front old rest root s there name level c same chosen pieces path in
-        let p = pieces-of k levels front old rest s there name level c o in
+        let own = block_run s levels there name level in
+        let o = run-of apart k front old rest root own c same chosen pieces path in
+        let p = has-pieces k front old rest own c o in
         let head : s.node.head ≡ block_head s.name = ap (λ (t : Tree). t.head) of.node ∙ of.head in
         record {
           s = s;
@@ -274,7 +213,7 @@ module _ (apart : OpensApartLaw) (k : CharClasses) (front old rest : List ℕ) (
           name = name;
           level = level;
           path = path;
-          around = o.around;
+          around = o.encloses;
           byte = ap (λ q. start_at q 0 root) (but-last (path_of s.hole) 1 c.path path) ∙ unit-byte k front old rest root s there same head ∙ place;
           i = p.i;
           n = p.n;

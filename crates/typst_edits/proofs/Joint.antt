@@ -1,9 +1,11 @@
 -- The law of an edit inside some pieces of a run that leaves other trivia or other errors after them: of a text's run and of a content block's.
 use Rattle.std.proofs.Common.{◌≡◌, inl, inr, ◌⊎◌, ℕ, zero, suc, Bool, true, false, ◌&&◌, if◌then◌else◌, Some, refl, ap, sym, ◌∙◌, subst, ◌+◌, ◌<◌, List, ◌++◌, length, drop, ne_eqb, [], ◌∷◌, arith}
-use Rattle.typst_edits.proofs.Words.{SyntaxKind, Place, moved, Reading, SameIn, Ask, is_end, Hand, hand_at, len_at, Trivia, Point, point_of, forgot, flush_trivia, close_if, ◌>>=◌, repeat, does, Outcome, Meaning, joined, run, plain, entered, left, same_mode, hand_of, hand_asks_of, renewed, taken_node, hand-frame, sane-run, sane-at, sane-meaning, sane-block, sane-plain, ends, markup_turn, markup_head, markup_reading, ends_block, minds, onwards, passed, text_run, place_from, onwards_from, End, made, end_of, AllGo, chain, piece_at, lead, pieces, end_at, pieces_from, end_from, rest_from, tail, whole_of, Sequence, turn_of, first_of, first_end, then_of, then_end, then_place, rest_of, Tree, text_of, CharClasses, MarkupExpr, meaning_of, rules, level_at, max_depth, text_with, Passes, same, is_error, Newlines, after_node, after_shape, encloses, itself, takes, same_in-shift, same_in-first, same_in-second, moved-sum, inner, look_again, bracket, inner_run, content_with, run_at, tail_at, close_at, onwards_in, onwards_past, left_past, ended, unit_at, onwards_by, Rests}
-use Rattle.typst_edits.specs.Joint.{is_over_at, Meets, Exchanged, JointLaw}
-use Rattle.typst_edits.specs.InnerJoint.{InnerJointLaw}
+use Rattle.typst_edits.proofs.Words.{SyntaxKind, Place, moved, Reading, SameIn, Ask, is_end, Hand, hand_at, len_at, Trivia, Point, point_of, forgot, flush_trivia, close_if, ◌>>=◌, repeat, does, Outcome, Meaning, joined, run, plain, entered, left, same_mode, hand_of, hand_asks_of, renewed, taken_node, hand-frame, sane-run, sane-at, sane-meaning, sane-block, sane-plain, ends, markup_turn, markup_head, markup_reading, ends_block, minds, onwards, passed, text_run, place_from, onwards_at, End, made, end_of, AllGo, chain, piece_at, lead, pieces, end_at, pieces_from, end_from, rest_from, tail, whole_of, Sequence, turn_of, first_of, first_end, then_of, then_end, then_place, rest_of, Tree, text_of, CharClasses, MarkupExpr, meaning_of, rules, level_at, max_depth, text_with, Passes, same, is_error, Newlines, after_node, after_shape, encloses, itself, takes, same_in-shift, same_in-first, same_in-second, moved-sum, inner, look_again, bracket, inner_run, content_with, run_at, tail_at, close_at, onwards_past, left_past, ended, unit_at, onwards_by, Rests, peek, start, Stands, Run, read_as, top, IsRun, is_text_run, is_block_run, PassesJoint, Before, opened_by}
+use Rattle.typst_edits.specs.Frame.{inner as block_inner}
+use Rattle.typst_edits.specs.Joins.{InnerJointLaw, JointLaw}
+use Rattle.typst_edits.specs.Joint.{is_over_at, Meets, Exchanged}
 use Rattle.typst_language.proofs.Rests.{Restful}
+use Rattle.typst_edits.proofs.Boundary.{KnownAt}
 use Rattle.typst_edits.proofs.Content.{reading-is}
 use Rattle.typst_edits.proofs.Turns.{after_trivia, SameJudged, before_trivia, kind-behind, Fronted, drop-front, Takes, same-renewed, asks-behind, fronted-behind, stopped-alike, hand-seen, Taking, fronted-same, takes-expr, KnownFlush, flush-known}
 use Rattle.std.proofs.Math.Bool.{and-false as none-and}
@@ -147,10 +149,6 @@ exchanged t u us o n c f h =
 
 -- ---- everything after some pieces of a run
 
--- with the trivia after it
-abbrev pub onwards_at : ℕ → ℕ → Sequence → Outcome (Unit {0})
-onwards_at i n r = let o = rest_of i n r in joined o (run r.level flush_trivia (moved (((first_end i r).taken + (then_end i n r).taken) + o.taken) r.place) o.state)
-
 pub onwards-is : (r : Sequence) (i n : ℕ) → onwards_at i n r ≡ onwards_by i n r
 unfolding run
 onwards-is r i n = let o = rest_of i n r in ap (λ p. joined o (run r.level flush_trivia p o.state)) (moved-three (first_end i r).taken (then_end i n r).taken o.taken r.place)
@@ -204,8 +202,8 @@ joint-law k front old new rest i n m past t u h =
     let v = place_from k i m w in
     let old_at = (length front + length old) + past in
     let new_at = (length front + length new) + past in
-    let there : moved t.gap y ≡ moved old_at z = sym (moved-three (end_at k i z).taken e.taken t.gap z) ∙ ap (λ a. moved a z) h.ends in
-    let here : moved u.gap v ≡ moved new_at w = sym (moved-three (end_at k i w).taken j.taken u.gap w) ∙ ap (λ a. moved a w) h.shifted in
+    let there : moved t.gap y ≡ moved old_at z = sym (moved-three (end_at k i z).taken e.taken t.gap z) ∙ ap (λ a. moved a z) (omega (arith, h.ends)) in
+    let here : moved u.gap v ≡ moved new_at w = sym (moved-three (end_at k i w).taken j.taken u.gap w) ∙ ap (λ a. moved a w) (omega (arith, h.shifted)) in
     let shown = same_in-at _ _ _ _ _ there here (after-same _ past old_at new_at front old new rest refl refl h.after) in
     let all = met (text_run k z) (text-taking k) y v e j t u h.meets (text-read k i n z) (text-read k i m w) shown in
     let behind = exchanged t u t.nodes (onwards (text_run k z) e.value y e.state) (onwards (text_run k z) j.value v j.state) _ all.one all.two in
@@ -215,7 +213,7 @@ joint-law k front old new rest i n m past t u h =
       was = whole-is k (front ++ (old ++ rest)) ∙ ap (λ o. whole_of (lead k z) o (tail k o.taken o.state z)) (split (text_run k z) (within k) i n h.first_go h.old_go);
       now = whole-is k (front ++ (new ++ rest)) ∙ ap (λ o. whole_of (lead k w) o (tail k o.taken o.state w)) (split (text_run k w) (within k) i m new_first h.new_go)
           ∙ ap (λ os. (let o = chain os (chain (pieces_from k i m w) (rest_from k i m w)) in whole_of (lead k w) o (tail k o.taken o.state w))) f.pieces_same;
-      behind = subst (λ o. Exchanged t u o (onwards_from k i m w)) (sym (onwards-is (text_run k z) i n)) (subst (λ o. Exchanged t u (onwards_by i n (text_run k z)) o) (sym (onwards-is (text_run k w) i m)) behind);
+      behind = subst (λ o. Exchanged t u o (onwards_at i m (text_run k w))) (sym (onwards-is (text_run k z) i n)) (subst (λ o. Exchanged t u (onwards_by i n (text_run k z)) o) (sym (onwards-is (text_run k w) i m)) behind);
     }
 
 -- with nothing known of the trivia after it
@@ -305,7 +303,7 @@ content-forgets k levels z s r behind close =
 
 pub inner-joint-law : InnerJointLaw
 unfolding run
-inner-joint-law k levels front old new rest c i n m past t u among h =
+inner-joint-law k levels front old new rest c among name level i n m past t u h =
     let z0 = text_with front old rest in
     let w0 = text_with front new rest in
     let z = moved c.at z0 in
@@ -315,8 +313,8 @@ inner-joint-law k levels front old new rest c i n m past t u among h =
     let q = run_at k levels c w0 in
     let b = bracket k levels z s in
     let d = bracket k levels w s in
-    let first_is : first_of i q ≡ first_of i r = (inner-first-same k levels front old new rest c i h.pieces.looks).first in
-    let new_first : AllGo (first_of i q) = subst (λ os. AllGo os) (sym first_is) h.pieces.first_go in
+    let first_is : first_of i q ≡ first_of i r = (inner-first-same k levels front old new rest c i h.before).first in
+    let new_first : AllGo (first_of i q) = subst (λ os. AllGo os) (sym first_is) h.first_go in
     let fe = first_end i r in
     let ff = first_end i q in
     let e = then_end i n r in
@@ -335,13 +333,13 @@ inner-joint-law k levels front old new rest c i n m past t u among h =
     let there : moved t.gap y ≡ moved old_at z0 = ap (moved t.gap) (moved-four c.at b.taken fe.taken e.taken z0) ∙ sym (moved-sum ((c.at + b.taken) + (fe.taken + e.taken)) t.gap z0) ∙ ap (λ a. moved a z0) h.ends in
     let here : moved u.gap v ≡ moved new_at w0 = ap (moved u.gap) (moved-four c.at d.taken ff.taken j.taken w0) ∙ sym (moved-sum ((c.at + d.taken) + (ff.taken + j.taken)) u.gap w0) ∙ ap (λ a. moved a w0) h.shifted in
     let on = onwards_past k levels i n t c z0 in
-    let all = same_in-at _ _ _ _ _ there here (after-same _ past old_at new_at front old new rest refl refl h.looks.inside) in
+    let all = same_in-at _ _ _ _ _ there here (after-same _ past old_at new_at front old new rest refl refl h.after.inside) in
     let read_old = block-read k levels i n z s in
     let read_new = block-read k levels i m w s in
     let all_met = met r (block-taking k levels) y v e j t u h.meets read_old read_new (same_in-first on.asks _ (moved t.gap y) (moved u.gap v) all) in
     -- all after the pieces, with the trivia before the closing bracket
-    let is_old : onwards_in k levels i n c z0 ≡ onwards r e.value y es = onwards-is r i n in
-    let is_new : onwards_in k levels i m c w0 ≡ onwards r j.value v js = onwards-is q i m in
+    let is_old : onwards_at i n (run_at k levels c z0) ≡ onwards r e.value y es = onwards-is r i n in
+    let is_new : onwards_at i m (run_at k levels c w0) ≡ onwards r j.value v js = onwards-is q i m in
     let behind = exchanged t u t.nodes (onwards r e.value y es) (onwards r j.value v js) on all_met.one all_met.two in
     let took_old : rest_old.taken + tail_old.taken ≡ t.gap + on.taken = ap (λ (o : Outcome (Unit {0})). o.taken) is_old ∙ all_met.one.taken in
     let took_new : rest_new.taken + tail_new.taken ≡ u.gap + on.taken = ap (λ (o : Outcome (Unit {0})). o.taken) is_new ∙ all_met.two.taken in
@@ -370,10 +368,10 @@ inner-joint-law k levels front old new rest c i n m past t u among h =
     ∙ shut-same k levels y2 v2 tail_old.state tail_new.state read_tail read_tail_new flush_old flush_new (subst (λ (o : Outcome Bool). SameIn o.asks y2 v2) close_old last)
     ∙ sym (ap (λ (o : Outcome Bool). forgets o) close_old) in
     -- the block
-    let reads = content-reads k (front ++ (old ++ rest)) c among levels h.pieces.name h.pieces.level in
+    let reads = content-reads k (front ++ (old ++ rest)) c among levels name level in
     let ended_of = λ (o : Outcome (Unit {0})). ended o in
-    let was = reads z0 ∙ ap ended_of (content-split k levels z s i n h.pieces.first_go h.pieces.old_go) in
-    let mine = reads w0 ∙ ap ended_of (content-split k levels w s i m new_first h.pieces.new_go) in
+    let was = reads z0 ∙ ap ended_of (content-split k levels z s i n h.first_go h.old_go) in
+    let mine = reads w0 ∙ ap ended_of (content-split k levels w s i m new_first h.new_go) in
     let now = mine
     ∙ ap (λ os. content_with k levels w s (chain os (chain (then_of i m q) rest_new)) tail_new (close_at k levels i m c w0)) first_is
     ∙ content-forgets k levels w s (chain (first_of i r) (chain (then_of i m q) rest_new)) tail_new close_new
@@ -386,17 +384,56 @@ inner-joint-law k levels front old new rest c i n m past t u among h =
     ∙ ap (λ a. d.taken + (a + (tail_new.taken + (close_at k levels i m c w0).taken))) (split-taken q i m)
     ∙ ap (λ (o : Outcome Bool). d.taken + (((ff.taken + j.taken) + rest_new.taken) + (tail_new.taken + o.taken))) close_is in
     let passes : Passes front old new rest c (past + left_past k levels i n t c z0) = record {
-      starts = h.pieces.starts;
+      starts = h.encloses.starts;
       ends = omega (arith, old_taken, h.ends, took_old);
-      goes_on = h.goes_on;
-      before = h.pieces.looks.before;
-      after = h.looks.behind;
+      goes_on = omega (arith, old_taken, h.ends, took_old, h.encloses.ends);
+      before = h.before.before;
+      after = h.after.behind;
       shifted = omega (arith, new_taken, h.shifted, took_new);
     } in
     record {
       was = was;
       now = now;
-      behind = subst (λ o. Exchanged t u o (onwards_in k levels i m c w0)) (sym is_old) (subst (λ o. Exchanged t u (onwards r e.value y es) o) (sym is_new) behind);
+      behind = subst (λ o. Exchanged t u o (onwards_at i m (run_at k levels c w0))) (sym is_old) (subst (λ o. Exchanged t u (onwards r e.value y es) o) (sym is_new) behind);
       passes = passes;
       kept = block-law k front old new rest c _ among passes;
     }
+
+-- ---- any run
+
+-- WHAT A RUN IS READ BY: how it is read, and what stands where it begins is known.
+pub record Leads (r : Sequence) : Type 0 where
+  pub taking : Taking r.level r.stops
+  pub stands : Stands r.place r.point.known
+  pub known : KnownAt r.point
+
+pub leads-of : (k : CharClasses) (r : Sequence) → IsRun k r → Leads r
+unfolding run
+leads-of k r (is_text_run z) = record { taking = text-taking k; stands = ((sane-at (rules k) k max_depth peek).kept z start tt).known; known = record { trivia = _; is = refl } }
+leads-of k r (is_block_run levels z s) = record {
+  taking = block-taking k levels;
+  stands = ((sane k levels peek).kept (moved (bracket k levels z s).taken z) (bracket k levels z s).state tt).known;
+  known = record { trivia = _; is = refl };
+}
+
+pub is-run : {k : CharClasses} {text : List ℕ} (r : Run k text) (z : Place) → IsRun k (read_as r z)
+is-run top z = is_text_run z
+is-run (block_inner c levels a n l) z = is_block_run levels (moved c.at z) (point_of c.start)
+
+-- A run begins alike in both texts, up to pieces before which all looks end before the stretch.
+pub record SameStart (k : CharClasses) (front old new rest : List ℕ) (r : Run k (front ++ (old ++ rest))) (i : ℕ) : Type 0 where
+  pub first : first_of i (read_as r (text_with front new rest)) ≡ first_of i (read_as r (text_with front old rest))
+  pub opened : opened_by r (text_with front new rest) ≡ opened_by r (text_with front old rest)
+
+pub same-start : (k : CharClasses) (front old new rest : List ℕ) (r : Run k (front ++ (old ++ rest))) (i : ℕ) → Before k front old rest r i → SameStart k front old new rest r i
+same-start k front old new rest top i looks = record { first = (first-same k i (text_with front old rest) (text_with front new rest) (λ l. before-same _ front old new rest (looks l))).pieces_same; opened = refl }
+same-start k front old new rest (block_inner c levels a b l) i looks = let f = inner-first-same k levels front old new rest c i looks in record { first = f.first; opened = ap (λ (o : Outcome (Unit {0})). c.at + o.taken) f.opened }
+
+pub first-now : (k : CharClasses) (front old new rest : List ℕ) (r : Run k (front ++ (old ++ rest))) (i : ℕ) → Before k front old rest r i → AllGo (first_of i (read_as r (text_with front old rest))) → AllGo (first_of i (read_as r (text_with front new rest)))
+first-now k front old new rest r i looks go = subst (λ os. AllGo os) (sym (same-start k front old new rest r i looks).first) go
+
+-- everything after the joint
+pub joined-behind : (k : CharClasses) (front old new rest : List ℕ) (r : Run k (front ++ (old ++ rest))) (i n m past : ℕ) (t u : Trivia) → PassesJoint k front old new rest r i n m past t u
+    → Exchanged t u (onwards_at i n (read_as r (text_with front old rest))) (onwards_at i m (read_as r (text_with front new rest)))
+joined-behind k front old new rest top i n m past t u h = (joint-law k front old new rest i n m past t u h).behind
+joined-behind k front old new rest (block_inner c levels a b l) i n m past t u h = (inner-joint-law k levels front old new rest c a b l i n m past t u h).behind

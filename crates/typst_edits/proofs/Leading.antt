@@ -1,22 +1,23 @@
 -- Where the pieces of a run begin among the nodes that it gives.
-use Rattle.std.proofs.Common.{◌≡◌, ℕ, zero, suc, ◌+◌, ◌-◌, ◌<◌, ◌≤◌, Bool, true, false, ◌&&◌, nat_lt, List, [], ◌∷◌, ◌++◌, length, take, drop, length-append, append_assoc, append-nil, Option, None, Some, refl, ap, sym, ◌∙◌, subst, arith, codes}
-use Rattle.typst_edits.proofs.Words.{lt-ltb, nil_from_length, Place, moved, CharClasses, Tree, forest, trees, text_of, inner_of, made_error, width, as_at_hand, hand_at, utf8_ahead, Trivia, Point, point_of, gap_of, pending, turns_wrong, itself, keeps, peek, flush_trivia, does, repeat, Outcome, Meaning, plain, less, standing, joined, repeated, start_point, entered, hand_of, asked, run, Tidy, Backs, Stands, Sane, sane-run, sane-meaning, sane-block, texts, texts-append, texts-one, texts-first, text-shaped, text-add, Holds, kept-joined, less-none, moved-sum, ends, markup_turn, markup_reading, rules, max_depth, level_at, start_of, whole, tree, parsed, inner, look_first, look_again, bracket, inner_run, run_at, opened_at, tail_at, close_at, Settles, together, read_from, standing_before, nodes_with, Among, Every, inner_end, inner_both, standing_in, nodes_in, block_with, onwards_in, text_run, onwards_from, bytes_of, LeadsAt, opening_child, token_byte, both, LeadingInner, Leading, blocks_of_text, goes, given, made, start, AllGo, End, end_of, chain, pieces, end_at, pieces_from, end_from, rest_from, tail, Sequence, turn_of, first_of, first_end, then_of, then_end, then_place, rest_of, Spot, last_node, unit_at, ended, true_from_ne_false, both_ways}
+use Rattle.std.proofs.Common.{inr, ◌≡◌, ℕ, zero, suc, ◌+◌, ◌-◌, ◌<◌, ◌≤◌, Bool, true, false, ◌&&◌, nat_lt, List, [], ◌∷◌, ◌++◌, length, take, drop, length-append, append_assoc, append-nil, Option, None, Some, refl, ap, sym, ◌∙◌, subst, arith, codes}
+use Rattle.typst_edits.proofs.Words.{lt-ltb, nil_from_length, Place, moved, CharClasses, Tree, forest, trees, text_of, inner_of, made_error, width, as_at_hand, hand_at, utf8_ahead, Trivia, Point, point_of, gap_of, pending, turns_wrong, itself, keeps, peek, flush_trivia, does, repeat, Outcome, Meaning, plain, less, joined, repeated, start_point, entered, hand_of, asked, run, Tidy, Backs, Stands, Sane, sane-run, texts, texts-append, texts-one, texts-first, text-shaped, text-add, Holds, kept-joined, less-none, moved-sum, ends, markup_turn, markup_reading, rules, max_depth, start_of, whole, parsed, look_first, look_again, bracket, run_at, tail_at, close_at, Settles, together, standing_by, nodes_after, Among, Every, block_with, onwards_at, text_run, bytes_of, LeadsAt, opening_child, LeadingInner, blocks_of_text, goes, given, made, AllGo, End, end_of, chain, Sequence, turn_of, first_of, first_end, then_of, then_end, then_place, rest_of, Spot, last_node, unit_at, ended, true_from_ne_false, both_ways, Run, read_as, top, is_text_run, is_block_run, is_over, opened_by, markup_from, run_from, token_after, token_past, TakesSome, kids_in, kids_of_run, passed, onwards}
 use Rattle.typst_language.proofs.Leaves.{Keeps, blank-nil}
-use Rattle.typst_edits.specs.Leading.{is_over, LeadingLaw, LeadingInnerLaw}
+use Rattle.typst_edits.specs.Frame.{inner as block_inner}
+use Rattle.typst_edits.specs.Leading.{LeadingLaw, LeadingInnerLaw}
 use Rattle.typst_kinds.specs.declared.kind.SyntaxKind.TheVariants as kind
 use Rattle.typst_language.specs.declared.calls.Block.TheVariants as block
 use Rattle.typst_language.specs.Syntax.Op.{takes as takes_token}
 use Rattle.typst_edits.proofs.BlockRuns.{sane as in-sane, content-split}
 use Rattle.typst_edits.proofs.Blocks.{ends as block-ends, last-is}
 use Rattle.typst_edits.proofs.Boundary.{KnownAt, turn-goes, known-made}
-use Rattle.typst_edits.proofs.Children.{Fronts, fronts-joined, turn-fronts, pieces-front, given-together, tidy-together, stretch-is, back-law, run-apart, text-known, opens-by, node-is, pieces-quiet, close-quiet, kids-are, inner-back-law, begun-at}
+use Rattle.typst_edits.proofs.Children.{Fronts, Opens, fronts-joined, turn-fronts, pieces-front, given-together, tidy-together, standing-is, behind-back, opens-by, node-is, pieces-quiet, close-quiet, kids-are, begun-at}
 use Rattle.typst_edits.proofs.Edit.{among, trees-of}
 use Rattle.typst_edits.proofs.Content.{same-here}
 use Rattle.typst_edits.proofs.Fronts.{Full, full-append, full-less}
-use Rattle.typst_edits.proofs.Joint.{block-taking, onwards-fronted, text-taking}
+use Rattle.typst_edits.proofs.Joint.{Leads, block-taking, is-run, leads-of, onwards-fronted}
 use Rattle.typst_edits.proofs.Spots.{Lawful}
 use Rattle.typst_edits.proofs.Law.{inside-level}
-use Rattle.typst_edits.proofs.Turns.{before_trivia, drop-front, less-behind, Taking, stopped}
+use Rattle.typst_edits.proofs.Turns.{Fronted, before_trivia, drop-front, less-behind, stopped}
 use Rattle.typst_edits.proofs.Runs.{repeated-chain, chain-state, chain-taken, moved-three}
 use Rattle.typst_edits.proofs.RunTrees.{standing-none, tree-is}
 use Rattle.typst_edits.proofs.Walk.{width-encodes}
@@ -78,28 +79,6 @@ module _ {A : Type 0} (m : A → Meaning (Bool × A)) (keeps : (x : A) → Keeps
       let os = made m n o.value.1 y o.state in
       let first = keeps x z s h in
       kept-joined z o (together (end_of o.value.1 o.state os).state os) first (kept-together n o.value.1 y o.state first.known) (tidy-together m backs n o.value.1 y o.state)
-
--- WHAT A RUN IS READ BY: how it is read, and what stands where it begins is known.
-pub record Leads (r : Sequence) : Type 0 where
-  pub taking : Taking r.level r.stops
-  pub stands : Stands r.place r.point.known
-  pub known : KnownAt r.point
-
-pub text-leads : (k : CharClasses) (z : Place) → Leads (text_run k z)
-unfolding run
-text-leads k z = record {
-  taking = text-taking k;
-  stands = ((sane-run (level_at k max_depth) (sane-meaning (rules k) k max_depth) (sane-block (rules k) k max_depth) peek).kept z start tt).known;
-  known = record { trivia = _; is = refl };
-}
-
-pub block-leads : (k : CharClasses) (levels : ℕ) (z : Place) (s : Point) → Leads (inner_run k levels z s)
-unfolding run
-block-leads k levels z s = record {
-  taking = block-taking k levels;
-  stands = ((in-sane k levels peek).kept (moved (bracket k levels z s).taken z) (bracket k levels z s).state tt).known;
-  known = record { trivia = _; is = refl };
-}
 
 module _ (r : Sequence) (leads : Leads r) where
   abbrev pub turn : Bool × ℕ → Meaning (Bool × (Bool × ℕ))
@@ -254,54 +233,6 @@ module _ (r : Sequence) (leads : Leads r) where
 none-behind : (ts rest us : List Tree) → us ≡ ts ++ rest → us ≡ ts → rest ≡ []
 none-behind ts rest us e d = let sum = length-append ts rest in let one = ap length e in let two = ap length d in nil_from_length rest (omega (arith, sum, one, two))
 
--- ---- a text's run
-
-module _ (k : CharClasses) (text : List ℕ) (i n : ℕ) (t : Trivia) (g : AllGo (pieces k i (start_of text))) (h : AllGo (pieces_from k i n (start_of text))) (known : (end_from k i n (start_of text)).state.known ≡ Some t)
-    (some : Settles n (onwards_from k i n (start_of text))) where
-  abbrev z0 : Place
-  z0 = start_of text
-
-  text-is : Leading k text i n t
-  text-is =
-      let r = text_run k z0 in
-      let leads = text-leads k z0 in
-      let o = onwards_from k i n z0 in
-      let p = read_from k i n z0 in
-      let e = end_at k i z0 in
-      let f = end_from k i n z0 in
-      let ts = given (pieces k i z0) [] in
-      let front = onwards-fronted (text_run k z0) (text-taking k) i n t known in
-      let back = (back-law k text i n).after_back in
-      let apart = run-apart r (text-taking k) (text-known k z0) i n o some back g h in
-      let before = standing_before k i n z0 in
-      let olds = nodes_with k i n t z0 in
-      let made_tree = λ (us : List Tree). inner_of kind.Markup (forest us) in
-      let was : tree k text ≡ made_tree (before ++ (olds ++ front.rest)) =
-      tree-is k text i n g h ∙ ap (λ us. made_tree (standing o us)) (given-together f.state (pieces_from k i n z0) ts) ∙ ap made_tree (stretch-is ts front.rest p o t apart front.hints front.nodes) in
-      let kids = trees (tree k text).kids in
-      let children : kids ≡ before ++ (olds ++ front.rest) = ap (λ (y : Tree). trees y.kids) was ∙ trees-of (before ++ (olds ++ front.rest)) in
-      let rest = rest_from k i n z0 in
-      let last = tail k ((e.taken + f.taken) + rest.taken) rest.state z0 in
-      let tidy = (sane-run (level_at k max_depth) leads.taking.calls_sane leads.taking.blocks_sane flush_trivia).backs (moved ((e.taken + f.taken) + rest.taken) z0) rest.state in
-      let none : 0 ≡ width (take 0 text) = sym width-none in
-      let behind-zero : 0 + bytes_of (before ++ olds) ≡ bytes_of (before ++ olds) = omega arith in
-      let at_first : token_byte text e ≡ width (take (0 + (e.taken + gap_of e.state.known)) text) = ap (λ d. width (take d text)) (omega arith) in
-      let at_next : token_byte text (both k i n z0) ≡ width (take (0 + ((e.taken + f.taken) + gap_of f.state.known)) text) = ap (λ d. width (take d text)) (omega arith) in
-      let there = λ (over : is_over i n r ≡ true). ap (λ w. (joined rest (run (level_at k max_depth) flush_trivia w rest.state)).nodes) (moved-three e.taken f.taken rest.taken z0)
-      ∙ rest-over r leads f.value (then_place i n r) f.state t known over in
-      record {
-        behind = front.rest;
-        children = children;
-        onwards = front.nodes;
-        ends = sym behind-zero ∙ ends-at r leads text 0 refl i n g h 0 (token_byte text (both k i n z0)) o.back t known none at_next back;
-        first = λ l. first-leads r leads text 0 refl i n g h 0 (token_byte text e) kids front.rest o.back t.nodes none at_first l back children;
-        next = λ go. next-leads r leads text 0 refl i n g h 0 (token_byte text (both k i n z0)) kids front.rest t last known none at_next tidy go back front.nodes children;
-        last = λ over. none-behind t.nodes front.rest o.nodes front.nodes (there over);
-      }
-
-pub leading-law : LeadingLaw
-leading-law k text i n t g h known some = text-is k text i n t g h known some
-
 -- ---- a content block's run
 
 -- Its bracket holds the same if it is an error.
@@ -331,11 +262,12 @@ record Held (text : List ℕ) (c : Spot (Unit {0})) (from : ℕ) (kids : List Tr
   plain : NoMarkup bracket
   plain_end : Every NoMarkup closing
 
-module _ (k : CharClasses) (levels : ℕ) (text : List ℕ) (c : Spot (Unit {0})) (i n : ℕ) (t : Trivia) (chosen : Among c (blocks_of_text k text)) (name : c.name ≡ block.Content) (left : max_depth - c.fewer ≡ suc levels)
-    (takes : 0 < (unit_at c (start_of text)).taken) (g : AllGo (first_of i (run_at k levels c (start_of text)))) (h : AllGo (then_of i n (run_at k levels c (start_of text))))
-    (known : (then_end i n (run_at k levels c (start_of text))).state.known ≡ Some t) (some : Settles n (onwards_in k levels i n c (start_of text))) where
+module _ (k : CharClasses) (levels : ℕ) (text : List ℕ) (c : Spot (Unit {0})) (chosen : Among c (blocks_of_text k text)) (name : c.name ≡ block.Content) (left : max_depth - c.fewer ≡ suc levels) (takes : 0 < (unit_at c (start_of text)).taken) where
   abbrev z1 : Place
   z1 = start_of text
+
+  abbrev r1 : Sequence
+  r1 = run_at k levels c z1
 
   -- The bracket holds what it takes.
   bracket-text : (let y = moved c.at z1 in let o = bracket k levels y (point_of c.start) in texts o.nodes ≡ utf8_ahead o.taken y)
@@ -346,25 +278,30 @@ module _ (k : CharClasses) (levels : ℕ) (text : List ℕ) (c : Spot (Unit {0})
       let second = (in-sane k levels peek).kept y (look_first k levels y s).state ((in-sane k levels peek).kept y s tt).known in
       ((in-sane k levels (does (takes_token false itself))).kept y (entered markup_reading (look_again k levels y s).state) second.known).text
 
-  abbrev kids_of : List Tree → List Tree
-  kids_of rest = standing_in k levels i n c z1 ++ (nodes_in k levels i n t c z1 ++ rest)
+  opens : Opens k levels (moved c.at z1) (point_of c.start)
+  opens = opens-by k levels (moved c.at z1) (point_of c.start) (begun-at k levels text c chosen name left z1 (same-here c.before z1) takes)
+
+  -- No error stands before its run.
+  pub no-errors : r1.point.empties ≡ 0
+  unfolding run
+  no-errors = opens.empties
 
   -- the block's node
-  node-of : (rest : List Tree) → (onwards_in k levels i n c z1).hints ≡ [] → (onwards_in k levels i n c z1).nodes ≡ t.nodes ++ rest → Held text c (width (take (opened_at k levels c z1) text)) (kids_of rest)
+  node-of : (i n : ℕ) (t : Trivia) (rest : List Tree) → AllGo (first_of i r1) → AllGo (then_of i n r1) → Settles n (onwards_at i n r1) → (onwards_at i n r1).hints ≡ [] → (onwards_at i n r1).nodes ≡ t.nodes ++ rest
+      → Held text c (markup_from k levels text c) (standing_by i n r1 ++ (nodes_after i n t r1 ++ rest))
   unfolding blocks_of_text
-  node-of rest hints nodes =
+  node-of i n t rest g h some hints nodes =
       let s = point_of c.start in
       let y = moved c.at z1 in
-      let r = run_at k levels c z1 in
       let o = parsed k max_depth text in
       let l = among (Lawful z1 z1 o o) c _ chosen (inside-level (rules k) k (block-ends k) max_depth whole z1 z1 (start_point markup_reading)) in
-      let opens = opens-by k levels y s (begun-at k levels text c chosen name left z1 (same-here c.before z1) takes) in
       let close = close_at k levels i n c z1 in
       let last = tail_at k levels i n c z1 in
-      let shut = close-quiet k levels ((((first_end i r).taken + (then_end i n r).taken) + (rest_of i n r).taken) + last.taken) last.state r.place in
-      let was : (unit_at c z1).nodes ≡ block_with close.value opens.node (kids_of rest) close.nodes ∷ [] =
+      let m = ((first_end i r1).taken + (then_end i n r1).taken) + (rest_of i n r1).taken in
+      let shut = close-quiet k levels (m + last.taken) last.state r1.place in
+      let was : (unit_at c z1).nodes ≡ block_with close.value opens.node (standing_by i n r1 ++ (nodes_after i n t r1 ++ rest)) close.nodes ∷ [] =
       ap (λ (a : Outcome (Unit {0})). a.nodes) (content-reads k text c chosen levels name left z1 ∙ ap (λ (a : Outcome (Unit {0})). ended a) (content-split k levels y s i n g h))
-      ∙ node-is k levels y s (chain (first_of i r) (chain (then_of i n r) (rest_of i n r))) last close opens (pieces-quiet k levels y s i n opens g h) shut
+      ∙ node-is k levels y s (chain (first_of i r1) (chain (then_of i n r1) (rest_of i n r1))) last close opens (pieces-quiet k levels y s i n opens g h) shut
       ∙ ap (λ ts. block_with close.value opens.node ts close.nodes ∷ []) (kids-are k levels c z1 i n t rest some g h hints nodes) in
       let long : length (text_of (opening_child close.value opens.node)) ≡ length (utf8_ahead (bracket k levels y s).taken y) = opening-text close.value opens.node ∙ ap length (sym (texts-one opens.node) ∙ sym (ap texts opens.nodes) ∙ bracket-text) in
       record {
@@ -374,55 +311,76 @@ module _ (k : CharClasses) (levels : ℕ) (text : List ℕ) (c : Spot (Unit {0})
         opening = omega (arith, long, bytes-on text c.at (bracket k levels y s).taken);
         node = sym (last-is c.front c.node) ∙ ap last_node (sym l.fits.nodes ∙ was);
         plain = bracket-plain k levels y s opens.node opens.nodes;
-        plain_end = (let m = ((first_end i r).taken + (then_end i n r).taken) + (rest_of i n r).taken in close-plain k levels m (m + last.taken) (rest_of i n r).state r.place r.place);
+        plain_end = close-plain k levels m (m + last.taken) (rest_of i n r1).state r1.place r1.place;
       }
+
+  -- without a piece before
+  abbrev known : KnownAt r1.point
+  known = (leads-of k r1 (is_block_run levels (moved c.at z1) (point_of c.start))).known
+
+  abbrev front : Fronted known.trivia known.trivia.nodes (onwards_at 0 0 r1) (onwards r1 (true, 0) (moved known.trivia.gap (then_place 0 0 r1)) (passed known.trivia r1.point))
+  front = onwards-fronted r1 (block-taking k levels) 0 0 known.trivia known.is
+
+  held : Held text c (markup_from k levels text c) (standing_by 0 0 r1 ++ (nodes_after 0 0 known.trivia r1 ++ front.rest))
+  held = node-of 0 0 known.trivia front.rest tt tt (inr (omega (arith, behind-back k r1 (is_block_run levels (moved c.at z1) (point_of c.start)) 0 0, no-errors))) front.hints front.nodes
 
   -- which of its children is markup
   pub plain-block : Plain c.node
-  plain-block =
-      let front = onwards-fronted (run_at k levels c z1) (block-taking k levels) i n t known in
-      let held = node-of front.rest front.hints front.nodes in
-      record { closed = held.closed; bracket = held.bracket; kids = kids_of front.rest; closing = held.closing; node = held.node; first = held.plain; last = held.plain_end }
+  plain-block = record { closed = held.closed; bracket = held.bracket; kids = _; closing = held.closing; node = held.node; first = held.plain; last = held.plain_end }
 
-  block-is : LeadingInner k levels text c i n t
-  block-is =
-      let r = run_at k levels c z1 in
-      let o = onwards_in k levels i n c z1 in
-      let e = first_end i r in
-      let f = then_end i n r in
-      let front = onwards-fronted (run_at k levels c z1) (block-taking k levels) i n t known in
-      let back = (inner-back-law k levels text c i n).after_back in
-      let rest = rest_of i n r in
-      let last = tail_at k levels i n c z1 in
-      let kids = kids_of front.rest in
-      let held = node-of front.rest front.hints front.nodes in
-      let a = opened_at k levels c z1 in
-      let from = width (take a text) in
-      let there : r.place ≡ moved a z1 = sym (moved-sum c.at (bracket k levels (moved c.at z1) (point_of c.start)).taken z1) in
-      let u = inner_end k levels i c z1 in
-      let v = inner_both k levels i n c z1 in
-      let at_first : token_byte text u ≡ width (take (a + (e.taken + gap_of e.state.known)) text) = ap (λ d. width (take d text)) (omega arith) in
-      let at_next : token_byte text v ≡ width (take (a + ((e.taken + f.taken) + gap_of f.state.known)) text) = ap (λ d. width (take d text)) (omega arith) in
-      let tidy = (in-sane k levels flush_trivia).backs (moved ((e.taken + f.taken) + rest.taken) r.place) rest.state in
-      let over_nodes = λ (over : is_over i n r ≡ true). ap (λ w. (joined rest (run (inner k levels) flush_trivia w rest.state)).nodes) (moved-three e.taken f.taken rest.taken r.place)
-      ∙ rest-over r (block-leads k levels (moved c.at z1) (point_of c.start)) f.value (then_place i n r) f.state t known over in
-      record {
-        closed = held.closed;
-        bracket = held.bracket;
-        kids = kids;
-        closing = held.closing;
-        node = held.node;
-        from = from;
-        begins = ap (λ d. width (take d text)) (omega arith);
-        opening = held.opening;
-        behind = front.rest;
-        children = refl;
-        onwards = front.nodes;
-        ends = ends-at r (block-leads k levels (moved c.at z1) (point_of c.start)) text a there i n g h from (token_byte text v) o.back t known refl at_next back;
-        first = λ l. first-leads r (block-leads k levels (moved c.at z1) (point_of c.start)) text a there i n g h from (token_byte text u) kids front.rest o.back t.nodes refl at_first l back refl;
-        next = λ go. next-leads r (block-leads k levels (moved c.at z1) (point_of c.start)) text a there i n g h from (token_byte text v) kids front.rest t last known refl at_next tidy go back front.nodes refl;
-        last = λ over. none-behind t.nodes front.rest o.nodes front.nodes (over_nodes over);
-      }
+  pub node-shape : LeadingInner k levels text c
+  node-shape = record {
+    closed = held.closed;
+    bracket = held.bracket;
+    closing = held.closing;
+    node = held.node ∙ ap (λ ts. block_with held.closed held.bracket ts held.closing) (sym (ap kids_in held.node ∙ trees-of _));
+    opening = held.opening;
+  }
 
 pub leading-inner-law : LeadingInnerLaw
-leading-inner-law k levels text c i n t chosen name left takes g h known some = block-is k levels text c i n t chosen name left takes g h known some
+leading-inner-law k levels text c chosen name left takes = node-shape k levels text c chosen name left takes
+
+-- ---- any run
+
+pub place-of : {k : CharClasses} {text : List ℕ} (r : Run k text) (z : Place) → (read_as r z).place ≡ moved (opened_by r z) z
+place-of top z = refl
+place-of {k} {text} (block_inner c levels a n l) z = sym (moved-sum c.at (bracket k levels (moved c.at z) (point_of c.start)).taken z)
+
+pub from-is : {k : CharClasses} {text : List ℕ} (r : Run k text) → run_from r ≡ width (take (opened_by r (start_of text)) text)
+from-is top = sym width-none
+from-is (block_inner c levels a n l) = refl
+
+-- its nodes, by its pieces and all after them
+children-are : (k : CharClasses) (text : List ℕ) (r : Run k text) (i n : ℕ) (t : Trivia) (rest : List Tree) → TakesSome r → (let q = read_as r (start_of text) in AllGo (first_of i q) → AllGo (then_of i n q) → Settles n (onwards_at i n q) → (onwards_at i n q).hints ≡ []
+    → (onwards_at i n q).nodes ≡ t.nodes ++ rest → kids_of_run r ≡ standing_by i n q ++ (nodes_after i n t q ++ rest))
+children-are k text top i n t rest takes g h some hints nodes =
+    let z = start_of text in
+    ap (λ (y : Tree). trees y.kids) (tree-is k text i n g h ∙ ap (λ us. inner_of kind.Markup (forest us)) (standing-is k (text_run k z) (is_text_run z) i n t rest some g h hints nodes)) ∙ trees-of _
+children-are k text (block_inner c levels chosen name left) i n t rest takes g h some hints nodes = ap kids_in (node-of k levels text c chosen name left takes i n t rest g h some hints nodes).node ∙ trees-of _
+
+pub leading-law : LeadingLaw
+leading-law k text r i n t takes g h known some =
+    let z = start_of text in
+    let q = read_as r z in
+    let leads = leads-of k q (is-run r z) in
+    let o = onwards_at i n q in
+    let e = first_end i q in
+    let f = then_end i n q in
+    let rest = rest_of i n q in
+    let front = onwards-fronted q leads.taking i n t known in
+    let back = behind-back k q (is-run r z) i n in
+    let children = children-are k text r i n t front.rest takes g h some front.hints front.nodes in
+    let at = (e.taken + f.taken) + rest.taken in
+    let last = run q.level flush_trivia (moved at q.place) rest.state in
+    let tidy = (sane-run q.level leads.taking.calls_sane leads.taking.blocks_sane flush_trivia).backs (moved at q.place) rest.state in
+    let there = λ (over : is_over i n q ≡ true). ap (λ w. (joined rest (run q.level flush_trivia w rest.state)).nodes) (moved-three e.taken f.taken rest.taken q.place)
+    ∙ rest-over q leads f.value (then_place i n q) f.state t known over in
+    record {
+      behind = front.rest;
+      children = children;
+      onwards = front.nodes;
+      ends = ends-at q leads text (opened_by r z) (place-of r z) i n g h (run_from r) (token_past r i n) o.back t known (from-is r) refl back;
+      first = λ l. first-leads q leads text (opened_by r z) (place-of r z) i n g h (run_from r) (token_after r i) (kids_of_run r) front.rest o.back t.nodes (from-is r) refl l back children;
+      next = λ go. next-leads q leads text (opened_by r z) (place-of r z) i n g h (run_from r) (token_past r i n) (kids_of_run r) front.rest t last known (from-is r) refl tidy go back front.nodes children;
+      last = λ over. none-behind t.nodes front.rest o.nodes front.nodes (there over);
+    }

@@ -1,6 +1,6 @@
 -- What is logged of pieces that are read again: of any run.
 use Rattle.std.proofs.Common.{◌≡◌, ℕ, zero, suc, ◌+◌, Bool, false, List, [], ◌∷◌, ◌++◌, Some, refl, ap, sym, ◌∙◌, subst, arith}
-use Rattle.typst_edits.proofs.Words.{map-append, Place, moved, look, token, Ask, shift, looked, at_trivia, no_log, logged, Outcome, hand_asks_of, start_point, run, Trivia, point_of, peek, moved-sum, max_depth, markup_reading, inner_lead, run_at, own_of, text_run, read_again, SamePieces, End, asks_of, lead, end_at, Sequence, first_end, then_of}
+use Rattle.typst_edits.proofs.Words.{map-append, Place, moved, look, token, Ask, shift, looked, at_trivia, no_log, logged, Outcome, hand_asks_of, start_point, run, Trivia, point_of, peek, moved-sum, max_depth, markup_reading, inner_lead, run_at, own_of, text_run, read_again, SamePieces, End, asks_of, lead, end_at, Sequence, first_end, then_of, is_text_run, is_block_run}
 use Rattle.typst_kinds.specs.declared.mode.SyntaxMode.TheVariants as mode
 use Rattle.typst_language.proofs.Logs.{logged-shift}
 use Rattle.typst_edits.specs.InnerPiecesLog.{asks_again, InnerPiecesLogLaw}
@@ -10,7 +10,7 @@ use Rattle.typst_edits.proofs.Joint.{block-read, known-read, text-read, ReadAs}
 use Rattle.typst_edits.proofs.RunSplice.{hand-direct}
 use Rattle.typst_edits.proofs.Outcomes.{shift-twice}
 use Rattle.typst_edits.proofs.Known.{Reached}
-use Rattle.typst_edits.proofs.Resumed.{text-reached, block-reached, resume-law, inner-resume-law}
+use Rattle.typst_edits.proofs.Resumed.{text-reached, block-reached, resume-law}
 
 -- pieces that are the same except for the trivia before the first
 pub same-asks : (t : Trivia) (os cs : List (Outcome (Bool × (Bool × ℕ)))) → SamePieces t os cs → asks_of os ≡ shift t.gap (asks_of cs)
@@ -57,7 +57,7 @@ module _ (r : Sequence) (ls : List Ask) (j m lv : ℕ) (t : Trivia) where
 pub pieces-log-law : PiecesLogLaw
 pieces-log-law k z zero m t some g h known none = absurd (omega (arith, some))
 pieces-log-law k z (suc j) m t some g h known none =
-    again-log (text_run k z) (lead k z).asks j m max_depth t (resume-law k z (suc j) m t g h known none) (text-read k (suc j) 0 z) known (text-reached k z (suc j))
+    again-log (text_run k z) (lead k z).asks j m max_depth t (resume-law k (text_run k z) (is_text_run z) (suc j) m t g h known none) (text-read k (suc j) 0 z) known (text-reached k z (suc j))
     ∙ ap (λ p. logged max_depth p no_log ((lead k p).asks ++ asks_of (read_again (suc j) m t (text_run k z)))) (sym (moved-sum (end_at k (suc j) z).taken t.gap z))
 
 pub inner-pieces-log-law : InnerPiecesLogLaw
@@ -65,4 +65,4 @@ inner-pieces-log-law k levels c z zero m t some g h known none = absurd (omega (
 inner-pieces-log-law k levels c z (suc j) m t some g h known none =
     let y = moved c.at z in
     let s = point_of c.start in
-    again-log (run_at k levels c z) (inner_lead k levels y s).asks j m (suc levels) t (inner-resume-law k levels y s (suc j) m t g h known none) (block-read k levels (suc j) 0 y s) known (block-reached k levels y s (suc j))
+    again-log (run_at k levels c z) (inner_lead k levels y s).asks j m (suc levels) t (resume-law k (run_at k levels c z) (is_block_run levels y s) (suc j) m t g h known none) (block-read k levels (suc j) 0 y s) known (block-reached k levels y s (suc j))

@@ -1,31 +1,32 @@
 -- What code finds of a candidate that is pieces of a run, a content block's or a text's, by the numbers of its entries and a reading from its first token on.
 use Rattle.std.proofs.Common.{◌≡◌, ◌↔◌, ℕ, zero, suc, ◌+◌, ◌-◌, ◌<◌, ◌≤◌, Bool, true, false, List, [], ◌∷◌, ◌++◌, length, take, Some, refl, ap, sym, ◌∙◌, subst, arith}
-use Rattle.typst_edits.proofs.Words.{Place, moved, CharClasses, Tree, bare, width, position, Note, shift, Outcome, start_point, entered, run, itself, takes, does, peek, no_log, logged, markup_reading, Trivia, gap_of, pending, point_of, moved-sum, Candidate, units_of, spliced, max_depth, log, tree, first_look, look_first, look_again, bracket, inner_lead, run_at, opened_at, EndsBefore, Among, text_with, Run, top, cut_at, is_over, Agrees, PassesPieces, Gives, of_block, of_pieces, Before, candidates, path_of, OpensApartLaw, first_place, minds_at, block_run, Around, inner_end, inner_both, InOrderLaw, read_alone, level_in, end_alone, InnerPart, TakesNone, fresh, blocks_of_text, made, AllGo, End, asks_of, pieces, end_at, pieces_from, piece_at, lead, turn_of, first_of, first_end, then_of, then_end, Sequence, Spot, entries_from, notes_in, token_start, of_level, cut_after, root_run, text_run, end_note, pieces_log, both_ways, PieceNote}
+use Rattle.typst_edits.proofs.Words.{Place, moved, CharClasses, Tree, bare, width, position, Note, shift, Outcome, start_point, entered, run, itself, takes, does, peek, no_log, logged, markup_reading, Trivia, gap_of, pending, point_of, moved-sum, Candidate, units_of, spliced, max_depth, log, tree, first_look, look_first, look_again, bracket, inner_lead, run_at, opened_at, EndsBefore, Among, text_with, Run, top, cut_at, is_over, Agrees, PassesPieces, Gives, of_block, of_pieces, Before, candidates, path_of, OpensApartLaw, first_place, minds_at, block_run, Around, inner_end, inner_both, InOrderLaw, level_in, InnerPart, TakesNone, fresh, blocks_of_text, made, AllGo, End, asks_of, pieces, end_at, pieces_from, piece_at, lead, turn_of, first_of, first_end, then_of, then_end, Spot, entries_from, notes_in, token_start, of_level, cut_after, root_run, text_run, end_note, pieces_log, both_ways, PieceNote, is_block_run}
 use Rattle.typst_grammar.specs.Pieces.{given}
 use Rattle.typst_edits.specs.Frame.{inner as block_inner, inner}
-use Rattle.typst_edits.specs.InnerPiecesTest.{InnerEntriesLaw, InnerReadLaw, InnerOnceLaw, InnerTestLaw, InnerPartLaw, InnerUnitsLaw}
+use Rattle.typst_edits.specs.InnerPiecesTest.{InnerEntriesLaw, InnerOnceLaw, InnerTestLaw, InnerPartLaw, InnerUnitsLaw}
 use Rattle.typst_edits.specs.RunBytes.{both_end}
 use Rattle.typst_language.specs.declared.calls.Block.TheVariants as block
 use Rattle.typst_edits.specs.InnerJoint.{BeginsPast}
-use Rattle.typst_edits.proofs.RunCandidates.{no-errors, inner-candidate-law, root-candidate-law}
+use Rattle.typst_edits.proofs.Leading.{no-errors}
+use Rattle.typst_edits.proofs.OpensApart.{opens-apart-law}
+use Rattle.typst_edits.proofs.RunCandidates.{begins-well-law, none-before}
 use Rattle.typst_edits.proofs.PiecesLog.{inner-pieces-log-law}
 use Rattle.typst_edits.proofs.RunSplice.{inner-splice-law, run-splice-law}
 use Rattle.typst_edits.proofs.Outcomes.{shift-zero}
-use Rattle.typst_edits.proofs.Heads.{lead-empties}
 use Rattle.typst_edits.proofs.EntryNumbers.{numbers-of}
-use Rattle.typst_edits.proofs.Resumed.{block-markup, bracket-gap, inner-count-law, start-asks, start-known, start-same, start-goes, text-markup, then-known}
+use Rattle.typst_edits.proofs.Resumed.{bracket-gap, count-law, markup-of, start-asks, start-known, start-same, start-goes, then-known}
 use Rattle.typst_edits.proofs.RunBytes.{inner-decision-law, text-note, text-both, text-count, text-token, reaches, reaches-too, begins-past, begins-past-too, trivia-end}
-use Rattle.typst_edits.proofs.OneReading.{block-seen, block-sees, block-clear, takes-some, text-seen, text-clear}
-use Rattle.typst_edits.proofs.ReadAlone.{Rereads, first-goes, begun, alike, goes-there, gives-to, reads-to}
-use Rattle.typst_edits.proofs.RunPieces.{take-past}
+use Rattle.typst_edits.proofs.Joint.{first-now}
+use Rattle.typst_edits.proofs.OneReading.{block-seen, block-sees, takes-some, text-seen}
+use Rattle.typst_edits.proofs.ReadAlone.{Rereads, begun, alike, goes-there, gives-to, reads-to}
+use Rattle.typst_edits.proofs.RunPieces.{take-past, takes-of}
 use Rattle.typst_edits.proofs.Seen.{end-shift}
 use Rattle.typst_edits.proofs.Widths.{width-append, short}
-use Rattle.typst_edits.proofs.BlockRuns.{first-same, pieces-same}
-use Rattle.typst_edits.specs.PiecesTest.{CutOnceLaw, RunEntriesLaw, RunReadLaw, RunGives, RunGivesLaw, RunPartLaw}
+use Rattle.typst_edits.proofs.BlockRuns.{first-same}
+use Rattle.typst_edits.specs.PiecesTest.{CutOnceLaw, ReadLaw, RunEntriesLaw, RunGives, RunGivesLaw, RunPartLaw, end_alone, read_alone}
 use Rattle.typst_edits.proofs.Content.{tail-none}
 use Rattle.typst_edits.proofs.Boundary.{looks_in, each-ends, made-add, go-add}
 use Rattle.typst_edits.proofs.Cuts.{cuts-law}
-use Rattle.typst_edits.proofs.Edit.{before-same}
 use Rattle.typst_edits.proofs.NumberedNotes.{number-law}
 use Rattle.typst_edits.proofs.Splice.{count-made}
 use Rattle.typst_edits.proofs.Looks.{ending, looks-first, looks-second}
@@ -76,7 +77,7 @@ first-before k levels front old rest s zero note starts looks g more none =
 first-before k levels front old rest s (suc j) note starts looks g more none =
     let v = inner_end k levels (suc j) s (text_with front old rest) in
     subst (λ j. j ≤ width front) (sym (more (omega arith)))
-    (short (v.taken + gap_of v.state.known) front (old ++ rest) (token-before k levels front old rest s (suc j) (omega arith) looks (takes-some k levels front old old rest s (suc j) (omega arith) g)))
+    (short (v.taken + gap_of v.state.known) front (old ++ rest) (token-before k levels front old rest s (suc j) (omega arith) looks (takes-some k (run_at k levels s (text_with front old rest)) (is_block_run levels (moved s.at (text_with front old rest)) (point_of s.start)) (suc j) (omega arith) g)))
 
 -- ---- the law
 
@@ -116,29 +117,24 @@ module _ (k : CharClasses) (levels : ℕ) (front old new rest : List ℕ) (s : S
   unfolding run
   begins-none looks clear = ap (λ (o : Outcome (Unit {0})). o.state.empties) (first-same k levels front old new rest s 0 looks).opened ∙ clear
 
-  pub rereads : Rereads k front old new rest (block_run s levels chosen name level)
-  rereads =
-      let y = moved s.at w in
-      let t = point_of s.start in
-      record {
-        place = sym (moved-sum s.at (bracket k levels y t).taken w);
-        opened = λ i looks. ap (λ (o : Outcome (Unit {0})). s.at + o.taken) (first-same k levels front old new rest s i looks).opened;
-        first = λ i looks. (first-same k levels front old new rest s i looks).first;
-        none = λ i some g looks none. block-clear k levels front old new rest s i some g looks none;
-        markup = block-markup k levels y t;
-        start_known = start-known k levels y t;
-        start_same = λ clear looks m go. start-same k levels y t m (λ minds. begins-none looks clear) go;
-        start_goes = λ clear looks m go. start-goes k levels y t m (λ minds. begins-none looks clear) go;
-      }
+-- What a run gives to readings of its pieces.
+pub rereads : (k : CharClasses) (front old new rest : List ℕ) (r : Run k (front ++ (old ++ rest))) → Rereads k front old new rest r
+rereads k front old new rest top = record { start_known = refl; start_same = λ clear looks m go. refl; start_goes = λ clear looks m go. go }
+rereads k front old new rest (block_inner s levels chosen name level) =
+    let y = moved s.at (text_with front new rest) in
+    let t = point_of s.start in
+    let empty = begins-none k levels front old new rest s chosen name level in
+    record {
+      start_known = start-known k levels y t;
+      start_same = λ clear looks m go. start-same k levels y t m (λ minds. empty looks clear) go;
+      start_goes = λ clear looks m go. start-goes k levels y t m (λ minds. empty looks clear) go;
+    }
 
-pub inner-read-law : InnerReadLaw
-inner-read-law k levels front old new rest s chosen name level i n m past t ts g h known sum around none looks behind =
-    let own = block_run s levels chosen name level in
-    let clear = no-errors k levels (front ++ (old ++ rest)) s chosen name level (omega (arith, around.starts, around.ends)) in
-    let again = rereads k levels front old new rest s chosen name level in (
-      (λ reads. (let x = gives-to k front old new rest own again i n past t ts g clear none looks m h known sum behind (record { go = reads.go; ends = reads.ends; agrees = reads.agrees; nodes = reads.nodes }) in record { behind = x.behind; passes = x.passes; are = x.are })),
-      (λ gives. (let x = reads-to k front old new rest own again i n past t ts g clear none looks m (record { behind = gives.behind; passes = gives.passes; are = gives.are }) in record { go = x.go; ends = x.ends; agrees = x.agrees; nodes = x.nodes })),
-    )
+pub read-law : ReadLaw
+read-law k front old new rest r i n m past t ts g h known sum encloses none looks behind =
+    let again = rereads k front old new rest r in
+    let clear = none-before k (front ++ (old ++ rest)) r (takes-of k front old rest r encloses) in
+    ((λ reads. gives-to k front old new rest r again i n past t ts g clear none looks m h known sum behind reads), (λ gives. reads-to k front old new rest r again i n past t ts g clear none looks m gives))
 
 pub inner-once-law : InnerOnceLaw
 inner-once-law k levels front old new rest s chosen name level i n m j past ts us g around none looks one two =
@@ -148,16 +144,17 @@ inner-once-law k levels front old new rest s chosen name level i n m j past ts u
     let x = (first_end i (run_at k levels s z)).value in
     let clear = no-errors k levels (front ++ (old ++ rest)) s chosen name level (omega (arith, around.starts, around.ends)) in
     let own = block_run s levels chosen name level in
-    let again = rereads k levels front old new rest s chosen name level in
-    let g_now = first-goes k front old new rest own again i looks g in
+    let again = rereads k front old new rest own in
+    let g_now = first-now k front old new rest own i looks g in
+    let markup = markup-of k (run_at k levels s w) (is_block_run levels (moved s.at w) (point_of s.start)) in
     let go = goes-there k front old new rest own again i m g clear none looks one.go in
     let go_too = goes-there k front old new rest own again i j g clear none looks two.go in
-    let u = then-known (run_at k levels s w) again.markup i m g_now go in
-    let v = then-known (run_at k levels s w) again.markup i j g_now go_too in
+    let u = then-known (run_at k levels s w) markup i m g_now go in
+    let v = then-known (run_at k levels s w) markup i j g_now go_too in
     let b = alike k front old new rest own again i m u.trivia g clear none looks go u.is in
     let d = alike k front old new rest own again i j v.trivia g clear none looks go_too v.is in
-    let same : m ≡ j = inner-count-law k levels (moved s.at w) (point_of s.start) i m j g_now go go_too (omega (arith, b.sum, d.sum, one.ends, two.ends, ap gap_of u.is, ap gap_of v.is)) in
-    (same, one.nodes ∙ ap (λ c. given (read_alone k levels x c (moved a w)) [] ++ pending (end_alone k levels x c (moved a w)).state.known) same ∙ sym two.nodes)
+    let same : m ≡ j = count-law k (run_at k levels s w) (is_block_run levels (moved s.at w) (point_of s.start)) i m j g_now go go_too (omega (arith, b.sum, d.sum, one.ends, two.ends, ap gap_of u.is, ap gap_of v.is)) in
+    (same, one.nodes ∙ ap (λ c. given (read_alone (run_at k levels s w) x c (moved a w)) [] ++ pending (end_alone (run_at k levels s w) x c (moved a w)).state.known) same ∙ sym two.nodes)
 
 -- ---- a candidate
 
@@ -185,7 +182,7 @@ well apart k levels front old rest root s chosen name level c i n past t same ca
       shifted = sum;
       agrees = agrees-itself own (is_over i n p) n (then_end i n p).value some;
     } in
-    let b = inner-candidate-law apart k levels front old old rest root s chosen name level c i n n past t t same candidate pieces path start led end stays in
+    let b = begins-well-law apart k front old old rest root own c i n n past t t same candidate pieces path start led end stays in
     (b.0, (λ l minds. absurd (both_ways (minds_at p (first_place i p) (first_end i p)) (b.1.starts l).1 minds)))
   where
     agrees-itself : {text : List ℕ} (r : Run k text) (over : Bool) (m : ℕ) (x : Bool × ℕ) → 0 < m → Agrees r over m x x
@@ -200,7 +197,7 @@ inner-test-law ordered apart k levels front old new rest root s chosen name leve
     let more : 0 < i + n = omega (arith, some) in
     let fine = well apart k levels front old rest root s chosen name level c i n past t same candidate pieces path start led end some g h known sum in
     let read = λ (a : EndsBefore k levels front old rest s i) (b : BeginsPast k levels front old rest s i n past t).
-    (let f = fine a b in inner-read-law k levels front old new rest s chosen name level i n m past t ts g h known sum f.0 f.1 a b) in
+    (let f = fine a b in read-law k front old new rest own i n m past t ts g h known sum f.0 f.1 a b) in
     record {
       entries = e;
       passes = λ first last reads.
@@ -221,7 +218,8 @@ inner-part-law k levels front old new rest s chosen name level (suc j) m some g 
     let w = text_with front new rest in
     let p = run_at k levels s z in
     let q = run_at k levels s w in
-    let b = begun k front old new rest (block_run s levels chosen name level) (rereads k levels front old new rest s chosen name level) j g none looks in
+    let own = block_run s levels chosen name level in
+    let b = begun k front old new rest own (rereads k front old new rest own) j g none looks in
     let e = first_end i q in
     let taken = ap (λ (v : End (Bool × ℕ)). v.taken) b.same in
     let gap_was = ap (λ (v : End (Bool × ℕ)). gap_of v.state.known) b.same in
@@ -249,11 +247,11 @@ first-part k levels front old new rest s chosen name level m around looks go =
     let count : s.at + b ≡ a = omega (arith, opened) in
     let place : q.place ≡ moved a w = sym (moved-sum s.at b w) ∙ ap (λ n. moved n w) count in
     let clear = no-errors k levels (front ++ (old ++ rest)) s chosen name level (omega (arith, around.starts, around.ends)) in
-    let same : then_of 0 m q ≡ read_alone k levels x m q.place = start-same k levels (moved s.at w) (point_of s.start) m (λ minds. begins-none k levels front old new rest s chosen name level looks clear) go in
+    let same : then_of 0 m q ≡ read_alone q x m q.place = start-same k levels (moved s.at w) (point_of s.start) m (λ minds. begins-none k levels front old new rest s chosen name level looks clear) go in
     let lead = (inner_lead k levels (moved s.at w) (point_of s.start)).asks in
-    let asks = λ (v : Place). (first_look (level_in k levels) v).asks ++ asks_of (read_alone k levels x m v) in
+    let asks = λ (v : Place). (first_look (level_in k levels) v).asks ++ asks_of (read_alone q x m v) in
     let own : lead ++ shift 0 (asks_of (then_of 0 m q)) ≡ asks q.place =
-    ap (λ us. lead ++ us) (shift-zero (asks_of (then_of 0 m q))) ∙ ap (λ os. lead ++ asks_of os) same ∙ ap (λ us. us ++ asks_of (read_alone k levels x m q.place)) (start-asks k levels (moved s.at w) (point_of s.start)) in
+    ap (λ us. lead ++ us) (shift-zero (asks_of (then_of 0 m q))) ∙ ap (λ os. lead ++ asks_of os) same ∙ ap (λ us. us ++ asks_of (read_alone q x m q.place)) (start-asks k levels (moved s.at w) (point_of s.start)) in
     record {
       log_is = ap (logged (suc levels) q.place no_log) own ∙ ap (λ v. logged (suc levels) v no_log (asks v)) place;
       token = ap (λ g. position (moved g (moved (opened_at k levels s w + 0) w))) (bracket-gap k levels (moved s.at w) (point_of s.start)) ∙ ap (λ j. position (moved j w)) (omega (arith, count));
@@ -262,8 +260,8 @@ first-part k levels front old new rest s chosen name level m around looks go =
 pub inner-units-law : InnerUnitsLaw
 inner-units-law k levels front old new rest s chosen name level i n m past t u some h none big big_new e =
     let never : (j a : ℕ) → i + j ≡ 0 → a ≡ 0 = λ j a l. absurd (omega (arith, some, l)) in
-    let v = inner-splice-law k levels front old new rest s i n m past t u chosen h (never n t.gap) (never m u.gap) big big_new in
-    let part = inner-part-law k levels front old new rest s chosen name level i m some h.pieces.first_go none h.pieces.looks h.pieces.new_go in
+    let v = inner-splice-law k levels front old new rest s chosen name level i n m past t u h (never n t.gap) (never m u.gap) big big_new in
+    let part = inner-part-law k levels front old new rest s chosen name level i m some h.first_go none h.before h.new_go in
     v ∙ (λ a. spliced (sym e.number a) (sym e.number_end a) (entries_from (part.token a) (part.log_is a).notes) (units_of (log k (front ++ (old ++ rest)))))
 
 -- ---- the entries at its ends
@@ -309,36 +307,6 @@ run-entries-law ordered k front old rest i n past t g h known sum big =
 pub cut-once-law : CutOnceLaw
 cut-once-law k text i j g h e = neither i j (λ l. (let c = cuts-law k text i j l h in omega (arith, c, e))) (λ l. (let c = cuts-law k text j i l g in omega (arith, c, e)))
 
--- ---- the pieces that are read
-
-module _ (k : CharClasses) (front old new rest : List ℕ) where
-  abbrev text_w : Place
-  text_w = text_with front new rest
-
-  abbrev q : Sequence
-  q = text_run k text_w
-
-  pub text-rereads : Rereads k front old new rest (root_run k (front ++ (old ++ rest)))
-  text-rereads = record {
-    place = refl;
-    opened = λ i looks. refl;
-    first = λ i looks. (pieces-same k i (text_with front old rest) text_w (λ l. before-same _ front old new rest (looks l))).pieces_same;
-    none = λ i some g looks none. text-clear k front old new rest i some g (looks some) none;
-    markup = text-markup k text_w;
-    start_known = refl;
-    start_same = λ clear looks m go. refl;
-    start_goes = λ clear looks m go. go;
-  }
-
-pub run-read-law : RunReadLaw
-run-read-law k front old new rest i n m past t ts g h known sum none looks behind =
-    let own = root_run k (front ++ (old ++ rest)) in
-    let again = text-rereads k front old new rest in
-    let clear = lead-empties k (text_with front old rest) in (
-      (λ reads. (let x = gives-to k front old new rest own again i n past t ts g clear none looks m h known (omega (arith, sum)) behind (record { go = reads.go; ends = reads.ends; agrees = reads.agrees; nodes = reads.nodes }) in record { behind = x.behind; passes = x.passes; are = x.are })),
-      (λ gives. (let x = reads-to k front old new rest own again i n past t ts g clear none looks m (record { behind = gives.behind; passes = gives.passes; are = gives.are }) in record { go = x.go; ends = x.ends; agrees = x.agrees; nodes = x.nodes })),
-    )
-
 -- ---- a candidate of the run
 
 pub run-gives-law : RunGivesLaw
@@ -348,7 +316,7 @@ run-gives-law k front old new rest root c ts same among pieces at_root = (to, (�
     to (of_block s past is a b h e) = absurd (let d : true ≡ false = sym is ∙ pieces in cc)
     to (of_pieces (inner s levels a name left) i n m past t u is path start led end h e) = absurd (tail-none (path_of s.hole) 1 (path ∙ at_root))
     to (of_pieces top i n m past t u is path start led end h e) =
-        let well = root-candidate-law k front old new rest root c i n m past t u same among pieces at_root start led end h in
+        let well = (begins-well-law opens-apart-law k front old new rest root top c i n m past t u same among pieces at_root start led end h).1 in
         record {
           i = i;
           n = n;

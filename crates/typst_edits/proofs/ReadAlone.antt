@@ -1,13 +1,16 @@
 -- Pieces of a run that are read by themselves on a new text are those that the run has there: for any run.
 use Rattle.std.proofs.Common.{◌≡◌, ℕ, zero, suc, ◌+◌, ◌<◌, if◌then◌else◌, ne_eqb, Bool, true, List, [], ◌∷◌, ◌++◌, length, drop, Some, refl, ap, sym, ◌∙◌, subst, arith}
-use Rattle.typst_edits.proofs.Words.{Place, moved, CharClasses, Tree, Outcome, Trivia, Point, gap_of, pending, hinted, moved-sum, drop-all, together, text_with, Run, read_as, opened_by, cut_at, end_by, is_over, nodes_now, Agrees, Before, After, PassesPieces, first_place, TakesNone, fresh, read_again, made, AllGo, End, end_of, Sequence, turn_of, first_of, first_end, then_of, then_end}
+use Rattle.typst_edits.proofs.Words.{Place, moved, CharClasses, Tree, Outcome, Trivia, Point, gap_of, pending, hinted, moved-sum, drop-all, together, text_with, Run, read_as, opened_by, cut_at, end_by, is_over, nodes_now, Agrees, Before, After, first_place, TakesNone, fresh, read_again, AllGo, End, end_of, Sequence, first_of, first_end, then_of, then_end}
 use Rattle.typst_edits.specs.OneReading.{again_end}
+use Rattle.typst_edits.specs.PiecesTest.{GivesPieces, ReadsPieces, end_alone, read_alone}
 use Rattle.typst_grammar.specs.Pieces.{given}
 use Rattle.typst_edits.proofs.Turns.{none-less}
 use Rattle.typst_edits.proofs.Children.{given-together}
-use Rattle.typst_edits.proofs.OneReading.{gives-again-law}
+use Rattle.typst_edits.proofs.Joint.{first-now, is-run, same-start}
+use Rattle.typst_edits.proofs.Leading.{place-of}
+use Rattle.typst_edits.proofs.OneReading.{gives-again-law, still-clear}
 use Rattle.typst_edits.proofs.RunPieces.{cut-some}
-use Rattle.typst_edits.proofs.Resumed.{ReadsMarkup, known-after, then-known, stand-too, fresh-after}
+use Rattle.typst_edits.proofs.Resumed.{ReadsMarkup, known-after, markup-of, then-known, stand-too, fresh-after}
 
 -- ---- the nodes of pieces
 
@@ -33,12 +36,8 @@ module _ (k : CharClasses) (front old new rest : List ℕ) (r : Run k (front ++ 
   abbrev q : Sequence
   q = read_as r w
 
-  -- a reading from a place on
-  abbrev pub made_at : ℕ → Bool × ℕ → Place → List (Outcome (Bool × (Bool × ℕ)))
-  made_at m x y = made (turn_of q) m x y (fresh q.level y)
-
-  abbrev pub ended_at : ℕ → Bool × ℕ → Place → End (Bool × ℕ)
-  ended_at m x y = end_of x (fresh q.level y) (made_at m x y)
+  abbrev markup : ReadsMarkup q
+  markup = markup-of k q (is-run r w)
 
   -- where the pieces after the first i begin, and what is carried there
   abbrev at_cut : ℕ → Place
@@ -47,17 +46,12 @@ module _ (k : CharClasses) (front old new rest : List ℕ) (r : Run k (front ++ 
   abbrev carried : ℕ → Bool × ℕ
   carried i = (first_end i p).value
 
-  -- WHAT A RUN GIVES: it begins at the same place in both texts if the looks before it end before the stretch, so its first pieces are the same; and its pieces, read from their first token on, are those that stand there.
+  -- WHAT A RUN GIVES: its pieces, read by themselves from where it begins, are those that stand there.
   pub record Rereads : Type 0 where
-    pub place : q.place ≡ moved (opened_by r w) w
-    pub opened : (i : ℕ) → Before k front old rest r i → opened_by r w ≡ opened_by r z
-    pub first : (i : ℕ) → Before k front old rest r i → first_of i q ≡ first_of i p
-    pub none : (i : ℕ) → 0 < i → AllGo (first_of i p) → Before k front old rest r i → TakesNone i p → TakesNone i q
-    pub markup : ReadsMarkup q
     -- where the run begins, and no errors stand before it
     pub start_known : q.point.known ≡ (fresh q.level q.place).known
-    pub start_same : p.point.empties ≡ 0 → Before k front old rest r 0 → (m : ℕ) → AllGo (then_of 0 m q) → then_of 0 m q ≡ made_at m (true, 0) q.place
-    pub start_goes : p.point.empties ≡ 0 → Before k front old rest r 0 → (m : ℕ) → AllGo (made_at m (true, 0) q.place) → AllGo (then_of 0 m q)
+    pub start_same : p.point.empties ≡ 0 → Before k front old rest r 0 → (m : ℕ) → AllGo (then_of 0 m q) → then_of 0 m q ≡ read_alone q (true, 0) m q.place
+    pub start_goes : p.point.empties ≡ 0 → Before k front old rest r 0 → (m : ℕ) → AllGo (read_alone q (true, 0) m q.place) → AllGo (then_of 0 m q)
 
   module _ (s : Rereads) where
     -- what begins after i pieces, in the new text
@@ -71,67 +65,64 @@ module _ (k : CharClasses) (front old new rest : List ℕ) (r : Run k (front ++ 
       pub cut : cut_at r i z ≡ opened_by r z + ((first_end i p).taken + gap_of (first_end i p).state.known)
       pub place : moved trivia.gap (first_place i q) ≡ moved (cut_at r i z) w
 
-    pub first-goes : (i : ℕ) → Before k front old rest r i → AllGo (first_of i p) → AllGo (first_of i q)
-    first-goes i looks g = subst (λ os. AllGo os) (sym (s.first i looks)) g
-
     pub begun : (j : ℕ) → AllGo (first_of (suc j) p) → TakesNone (suc j) p → Before k front old rest r (suc j) → Begun (suc j)
     begun j g none looks =
         let i = suc j in
-        let at = known-after q s.markup i (first-goes i looks g) in
+        let at = known-after q markup i (first-now k front old new rest r i looks g) in
         let t = at.trivia in
-        let same : first_end i q ≡ first_end i p = ap (end_of (true, 0) p.point) (s.first i looks) in
-        let opened = s.opened i looks in
+        let same : first_end i q ≡ first_end i p = ap (end_of (true, 0) p.point) (same-start k front old new rest r i looks).first in
+        let opened = (same-start k front old new rest r i looks).opened in
         let e = first_end i q in
         let taken = ap (λ (v : End (Bool × ℕ)). v.taken) same in
         let gap = ap gap_of (sym (ap (λ (v : End (Bool × ℕ)). v.state.known) same) ∙ at.is) in
         let cut : cut_at r i z ≡ opened_by r z + ((first_end i p).taken + gap_of (first_end i p).state.known) = cut-some r i z (omega arith) in
         let count : (opened_by r w + e.taken) + t.gap ≡ opened_by r z + ((first_end i p).taken + gap_of (first_end i p).state.known) = omega (arith, opened, taken, gap) in
-        let steps : moved ((opened_by r w + e.taken) + t.gap) w ≡ moved t.gap (first_place i q) = moved-sum (opened_by r w + e.taken) t.gap w ∙ ap (moved t.gap) (moved-sum (opened_by r w) e.taken w ∙ ap (moved e.taken) (sym s.place)) in
+        let steps : moved ((opened_by r w + e.taken) + t.gap) w ≡ moved t.gap (first_place i q) = moved-sum (opened_by r w + e.taken) t.gap w ∙ ap (moved t.gap) (moved-sum (opened_by r w) e.taken w ∙ ap (moved e.taken) (sym (place-of r w))) in
         record {
           trivia = t;
           opened = opened;
           same = same;
           known = at.is;
-          go = first-goes i looks g;
-          none = s.none i (omega arith) g looks none;
+          go = first-now k front old new rest r i looks g;
+          none = still-clear k front old new rest r i (omega arith) g looks none;
           cut = cut;
           place = sym steps ∙ ap (λ n. moved n w) (count ∙ sym cut);
         }
 
     -- where the run itself begins
     start-place : Before k front old rest r 0 → q.place ≡ at_cut 0
-    start-place looks = let opened = s.opened 0 looks in s.place ∙ ap (λ n. moved n w) (omega (arith, opened))
+    start-place looks = let opened = (same-start k front old new rest r 0 looks).opened in place-of r w ∙ ap (λ n. moved n w) (omega (arith, opened))
 
     -- pieces of the new text's run and those that are read from the place on, with what is carried there
     pub record Alike (i m : ℕ) (u : Trivia) : Type 0 where
-      pub go : AllGo (made_at m (carried i) (at_cut i))
-      pub sum : (let e = ended_at m (carried i) (at_cut i) in end_by r i m u w ≡ cut_at r i z + (e.taken + gap_of e.state.known))
-      pub value : (then_end i m q).value ≡ (ended_at m (carried i) (at_cut i)).value
-      pub nodes : nodes_now r i m u w ≡ given (made_at m (carried i) (at_cut i)) [] ++ pending (ended_at m (carried i) (at_cut i)).state.known
+      pub go : AllGo (read_alone q (carried i) m (at_cut i))
+      pub sum : (let e = end_alone q (carried i) m (at_cut i) in end_by r i m u w ≡ cut_at r i z + (e.taken + gap_of e.state.known))
+      pub value : (then_end i m q).value ≡ (end_alone q (carried i) m (at_cut i)).value
+      pub nodes : nodes_now r i m u w ≡ given (read_alone q (carried i) m (at_cut i)) [] ++ pending (end_alone q (carried i) m (at_cut i)).state.known
 
     pub alike : (i m : ℕ) (u : Trivia) → AllGo (first_of i p) → p.point.empties ≡ 0 → (0 < i → TakesNone i p) → Before k front old rest r i → AllGo (then_of i m q) → (then_end i m q).state.known ≡ Some u → Alike i m u
     alike zero zero u g clear none looks go known =
         let behind : (fresh q.level (at_cut 0)).known ≡ Some u = ap (λ y. (fresh q.level y).known) (sym (start-place looks)) ∙ sym s.start_known ∙ known in
-        record { go = tt; sum = omega (arith, s.opened 0 looks, ap gap_of behind); value = refl; nodes = sym (ap pending behind) }
+        record { go = tt; sum = omega (arith, (same-start k front old new rest r 0 looks).opened, ap gap_of behind); value = refl; nodes = sym (ap pending behind) }
     alike zero (suc n) u g clear none looks go known =
         let m = suc n in
         let x : Bool × ℕ = (true, 0) in
         let place = start-place looks in
         let same = s.start_same clear looks m go in
-        let os : then_of 0 m q ≡ made_at m x (at_cut 0) = same ∙ ap (made_at m x) place in
-        let ends : then_end 0 m q ≡ ended_at m x (at_cut 0) = ap (end_of x q.point) same ∙ ap (ended_at m x) place in
+        let os : then_of 0 m q ≡ read_alone q x m (at_cut 0) = same ∙ ap (read_alone q x m) place in
+        let ends : then_end 0 m q ≡ end_alone q x m (at_cut 0) = ap (end_of x q.point) same ∙ ap (end_alone q x m) place in
         let taken = ap (λ (v : End (Bool × ℕ)). v.taken) ends in
-        let behind : (ended_at m x (at_cut 0)).state.known ≡ Some u = ap (λ (v : End (Bool × ℕ)). v.state.known) (sym ends) ∙ known in
+        let behind : (end_alone q x m (at_cut 0)).state.known ≡ Some u = ap (λ (v : End (Bool × ℕ)). v.state.known) (sym ends) ∙ known in
         record {
           go = subst (λ us. AllGo us) os go;
-          sum = omega (arith, s.opened 0 looks, taken, ap gap_of behind);
+          sum = omega (arith, (same-start k front old new rest r 0 looks).opened, taken, ap gap_of behind);
           value = ap (λ (v : End (Bool × ℕ)). v.value) ends;
-          nodes = ap (λ ts. ts ++ u.nodes) (given-nodes (then_end 0 m q).state (then_of 0 m q)) ∙ ap (λ us. given us [] ++ u.nodes) os ∙ ap (λ ts. given (made_at m x (at_cut 0)) [] ++ ts) (sym (ap pending behind));
+          nodes = ap (λ ts. ts ++ u.nodes) (given-nodes (then_end 0 m q).state (then_of 0 m q)) ∙ ap (λ us. given us [] ++ u.nodes) os ∙ ap (λ ts. given (read_alone q x m (at_cut 0)) [] ++ ts) (sym (ap pending behind));
         }
     alike (suc j) zero u g clear none looks go known =
         let i = suc j in
         let b = begun j g (none (omega arith)) looks in
-        let new = ap (λ y. (fresh q.level y).known) (sym b.place) ∙ fresh-after q s.markup i b.trivia b.known in
+        let new = ap (λ y. (fresh q.level y).known) (sym b.place) ∙ fresh-after q markup i b.trivia b.known in
         record {
           go = tt;
           sum = omega (arith, b.opened, b.cut, ap (λ (v : End (Bool × ℕ)). v.taken) b.same, ap (λ (v : End (Bool × ℕ)). gap_of v.state.known) b.same, ap gap_of known, ap gap_of new);
@@ -146,48 +137,37 @@ module _ (k : CharClasses) (front old new rest : List ℕ) (r : Run k (front ++ 
         let y = moved b.trivia.gap (first_place i q) in
         let ga = gives-again-law k (front ++ (old ++ rest)) r w i m b.trivia u (omega arith) (omega arith) b.go go b.known b.none in
         let value : (first_end i q).value ≡ x = ap (λ (v : End (Bool × ℕ)). v.value) b.same in
-        let os : read_again i m b.trivia q ≡ made_at m x (at_cut i) = ap (λ v. made_at m v y) value ∙ ap (made_at m x) b.place in
-        let ends : again_end i m b.trivia q ≡ ended_at m x (at_cut i) = ap (λ v. ended_at m v y) value ∙ ap (ended_at m x) b.place in
+        let os : read_again i m b.trivia q ≡ read_alone q x m (at_cut i) = ap (λ v. read_alone q v m y) value ∙ ap (read_alone q x m) b.place in
+        let ends : again_end i m b.trivia q ≡ end_alone q x m (at_cut i) = ap (λ v. end_alone q v m y) value ∙ ap (end_alone q x m) b.place in
         let taken = ap (λ (v : End (Bool × ℕ)). v.taken) b.same in
         let gap_was = ap (λ (v : End (Bool × ℕ)). gap_of v.state.known) b.same in
         let taken_now = ap (λ (v : End (Bool × ℕ)). v.taken) ends in
-        let behind : (ended_at m x (at_cut i)).state.known ≡ Some u = ap (λ (v : End (Bool × ℕ)). v.state.known) (sym ends) ∙ ap (λ (v : Point). v.known) (sym ga.state) ∙ known in
+        let behind : (end_alone q x m (at_cut i)).state.known ≡ Some u = ap (λ (v : End (Bool × ℕ)). v.state.known) (sym ends) ∙ ap (λ (v : Point). v.known) (sym ga.state) ∙ known in
         record {
           go = subst (λ us. AllGo us) os ga.go;
           sum = omega (arith, b.opened, b.cut, taken, gap_was, ap gap_of b.known, ga.taken, taken_now, ap gap_of behind);
           value = ga.value ∙ ap (λ (v : End (Bool × ℕ)). v.value) ends;
           nodes = ga.nodes ∙ ap (λ ts. ts ++ u.nodes) (given-nodes (again_end i m b.trivia q).state (read_again i m b.trivia q)) ∙ ap (λ us. given us [] ++ u.nodes) os
-              ∙ ap (λ ts. given (made_at m x (at_cut i)) [] ++ ts) (sym (ap pending behind));
+              ∙ ap (λ ts. given (read_alone q x m (at_cut i)) [] ++ ts) (sym (ap pending behind));
         }
 
-    pub goes-there : (i m : ℕ) → AllGo (first_of i p) → p.point.empties ≡ 0 → (0 < i → TakesNone i p) → Before k front old rest r i → AllGo (made_at m (carried i) (at_cut i)) → AllGo (then_of i m q)
-    goes-there zero m g clear none looks go = s.start_goes clear looks m (subst (λ y. AllGo (made_at m (true, 0) y)) (sym (start-place looks)) go)
+    pub goes-there : (i m : ℕ) → AllGo (first_of i p) → p.point.empties ≡ 0 → (0 < i → TakesNone i p) → Before k front old rest r i → AllGo (read_alone q (carried i) m (at_cut i)) → AllGo (then_of i m q)
+    goes-there zero m g clear none looks go = s.start_goes clear looks m (subst (λ y. AllGo (read_alone q (true, 0) m y)) (sym (start-place looks)) go)
     goes-there (suc j) m g clear none looks go =
         let i = suc j in
         let b = begun j g (none (omega arith)) looks in
         let y = moved b.trivia.gap (first_place i q) in
-        let os : read_again i m b.trivia q ≡ made_at m (carried i) (at_cut i) = ap (λ v. made_at m v y) (ap (λ (v : End (Bool × ℕ)). v.value) b.same) ∙ ap (made_at m (carried i)) b.place in
-        stand-too q s.markup i m b.trivia (subst (λ us. AllGo us) (sym os) go) b.known b.none
+        let os : read_again i m b.trivia q ≡ read_alone q (carried i) m (at_cut i) = ap (λ v. read_alone q v m y) (ap (λ (v : End (Bool × ℕ)). v.value) b.same) ∙ ap (read_alone q (carried i) m) b.place in
+        stand-too q markup i m b.trivia (subst (λ us. AllGo us) (sym os) go) b.known b.none
 
     -- ---- the reading of a candidate's pieces
 
-    module _ (i n past : ℕ) (t : Trivia) (ts : List Tree) (g : AllGo (first_of i p)) (clear : p.point.empties ≡ 0) (none : 0 < i → TakesNone i p) (looks : Before k front old rest r i) where
+    module _ (i n past : ℕ) (t : Trivia) (ts : List Tree) (g : AllGo (first_of i p)) (clear : p.point.empties ≡ 0) (none : 0 < i → TakesNone i p) (looks : Before k front old rest r i) (m : ℕ) where
       -- If m pieces are read by themselves, end and agree, these are their nodes.
-      pub record ReadsTo (m : ℕ) : Type 0 where
-        pub go : AllGo (made_at m (carried i) (at_cut i))
-        pub ends : (let e = ended_at m (carried i) (at_cut i) in cut_at r i z + (e.taken + gap_of e.state.known) ≡ (length front + length new) + past)
-        pub agrees : Agrees r (is_over i n p) m (then_end i n p).value (ended_at m (carried i) (at_cut i)).value
-        pub nodes : ts ≡ given (made_at m (carried i) (at_cut i)) [] ++ pending (ended_at m (carried i) (at_cut i)).state.known
-
-      pub record GivesTo (m : ℕ) : Type 0 where
-        pub behind : Trivia
-        pub passes : PassesPieces k front old new rest r i n m past t behind
-        pub are : ts ≡ nodes_now r i m behind w
-
-      pub gives-to : (m : ℕ) → AllGo (then_of i n p) → (then_end i n p).state.known ≡ Some t → end_by r i n t z ≡ (length front + length old) + past → After k front old rest r i n past t → ReadsTo m → GivesTo m
-      gives-to m h known sum behind reads =
+      pub gives-to : AllGo (then_of i n p) → (then_end i n p).state.known ≡ Some t → end_by r i n t z ≡ (length front + length old) + past → After k front old rest r i n past t → ReadsPieces k front old new rest r i n m past ts → GivesPieces k front old new rest r i n m past t ts
+      gives-to h known sum behind reads =
           let go = goes-there i m g clear none looks reads.go in
-          let u = then-known q s.markup i m (first-goes i looks g) go in
+          let u = then-known q markup i m (first-now k front old new rest r i looks g) go in
           let a = alike i m u.trivia g clear none looks go u.is in
           record {
             behind = u.trivia;
@@ -206,8 +186,8 @@ module _ (k : CharClasses) (front old new rest : List ℕ) (r : Run k (front ++ 
             are = reads.nodes ∙ sym a.nodes;
           }
 
-      pub reads-to : (m : ℕ) → GivesTo m → ReadsTo m
-      reads-to m gives =
+      pub reads-to : GivesPieces k front old new rest r i n m past t ts → ReadsPieces k front old new rest r i n m past ts
+      reads-to gives =
           let a = alike i m gives.behind g clear none looks gives.passes.new_go gives.passes.known_now in
           record {
             go = a.go;

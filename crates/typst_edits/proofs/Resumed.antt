@@ -1,12 +1,11 @@
 -- Pieces that are read again from their first token are those that stood there, and their number follows from where they end.
 use Rattle.std.proofs.Common.{◌≡◌, ℕ, zero, suc, ◌+◌, ◌<◌, ◌&&◌, Bool, true, false, nat_lt, List, [], ◌∷◌, ◌++◌, None, Some, refl, ap, sym, ◌∙◌, subst, arith}
-use Rattle.typst_edits.proofs.Words.{ltb-true, lt-ltb, and_parts, SyntaxKind, Place, moved, CharClasses, is_end, as_at_hand, at_trivia, hand_at, Trivia, Point, gap_of, no_newlines, peek, Outcome, Meaning, Level, start_point, asked, hand_of, run, hand-takes, moved-sum, ends, ends_block, markup_turn, markup_head, markup_reading, rules, level_at, max_depth, inner, bracket, inner_lead, inner_run, first_place, minds_at, read_alone, end_alone, minds, text_run, goes, fresh, read_again, SamePiece, SamePieces, made, AllGo, end_of, lead, start, Sequence, turn_of, first_of, first_end, then_of, then_end}
-use Rattle.typst_edits.specs.Resumed.{Resumes, ResumeLaw, InnerResumeLaw, CountsOnce, CountLaw, InnerCountLaw}
+use Rattle.typst_edits.proofs.Words.{ltb-true, lt-ltb, and_parts, SyntaxKind, Place, moved, CharClasses, is_end, as_at_hand, at_trivia, hand_at, Trivia, Point, gap_of, no_newlines, peek, Outcome, Meaning, Level, start_point, asked, hand_of, run, hand-takes, moved-sum, ends, ends_block, markup_turn, markup_head, markup_reading, rules, level_at, max_depth, inner, bracket, inner_lead, inner_run, first_place, minds_at, minds, text_run, goes, fresh, read_again, SamePiece, SamePieces, made, AllGo, end_of, lead, start, Sequence, turn_of, first_of, first_end, then_of, then_end, IsRun, is_text_run, is_block_run}
+use Rattle.typst_edits.specs.Resumed.{ResumeLaw, CountLaw}
 use Rattle.typst_edits.proofs.BlockModes.{hand-first}
 use Rattle.typst_edits.proofs.Boundary.{KnownAt, first-of, turn-known, going-on, known-made}
-use Rattle.typst_edits.proofs.Children.{text-known}
 use Rattle.typst_edits.proofs.Every.{neither}
-use Rattle.typst_edits.proofs.Joint.{block-read, block-taking, known-is, known-read, text-read, text-taking, ReadAs, judged-alike}
+use Rattle.typst_edits.proofs.Joint.{block-read, block-taking, known-is, known-read, text-read, text-taking, ReadAs, judged-alike, leads-of}
 use Rattle.typst_edits.proofs.Turns.{kind-behind, Led, before_trivia, takes-turn, end-by, Taking, turn-led}
 use Rattle.typst_edits.proofs.Known.{Reached, Reaches, reached-run, reached-meaning}
 
@@ -193,12 +192,6 @@ module _ (r : Sequence) (a : ReadsMarkup r) where
   pub then-known : (i m : ℕ) → AllGo (first_of i r) → AllGo (then_of i m r) → KnownAt (then_end i m r).state
   then-known i m g h = let e = first_end i r in known-made r.level r.stops m e.value (first_place i r) e.state (known-after i g) h
 
-  resumes : Resumes r
-  resumes i m t g h known none = let e = first_end i r in resumed r.level r.stops a.taking m e.value (first_place i r) t e.state known (a.read i) (a.reached i) h none
-
-  counts : CountsOnce r
-  counts i m n g h j same = let e = first_end i r in counted r.level r.stops a.taking m n e.value (first_place i r) e.state (known-after i g) h j same
-
   -- Pieces that go on where they are read again do so where they stood.
   pub stand-too : (i m : ℕ) (t : Trivia) → AllGo (read_again i m t r) → (first_end i r).state.known ≡ Some t → (minds_at r (first_place i r) (first_end i r) ≡ true → (first_end i r).state.empties ≡ 0) → AllGo (then_of i m r)
   stand-too i m t h known none = let e = first_end i r in goes-too r.level r.stops a.taking m e.value (first_place i r) t e.state known (a.read i) (a.reached i) h none
@@ -225,24 +218,21 @@ block-reached k levels z s i =
     let b = bracket k levels z s in
     reached-made k (λ x. run l (markup_turn true ends_block x)) (λ x. reached-run l reach (markup_turn true ends_block x)) i (true, 0) r.place r.point (reached-run l reach peek (moved b.taken z) b.state tt)
 
-pub text-markup : (k : CharClasses) (z : Place) → ReadsMarkup (text_run k z)
-text-markup k z = record { taking = text-taking k; known = text-known k z; read = λ i. text-read k i 0 z; reached = text-reached k z }
-
-pub block-markup : (k : CharClasses) (levels : ℕ) (z : Place) (s : Point) → ReadsMarkup (inner_run k levels z s)
-unfolding run
-block-markup k levels z s = record { taking = block-taking k levels; known = record { trivia = _; is = refl }; read = λ i. block-read k levels i 0 z s; reached = block-reached k levels z s }
+pub markup-of : (k : CharClasses) (r : Sequence) → IsRun k r → ReadsMarkup r
+markup-of k r (is_text_run z) = record { taking = text-taking k; known = (leads-of k r (is_text_run z)).known; read = λ i. text-read k i 0 z; reached = text-reached k z }
+markup-of k r (is_block_run levels z s) = record { taking = block-taking k levels; known = (leads-of k r (is_block_run levels z s)).known; read = λ i. block-read k levels i 0 z s; reached = block-reached k levels z s }
 
 pub resume-law : ResumeLaw
-resume-law k z = resumes (text_run k z) (text-markup k z)
-
-pub inner-resume-law : InnerResumeLaw
-inner-resume-law k levels z s = resumes (inner_run k levels z s) (block-markup k levels z s)
+resume-law k r is i m t g h known none =
+    let a = markup-of k r is in
+    let e = first_end i r in
+    resumed r.level r.stops a.taking m e.value (first_place i r) t e.state known (a.read i) (a.reached i) h none
 
 pub count-law : CountLaw
-count-law k z = counts (text_run k z) (text-markup k z)
-
-pub inner-count-law : InnerCountLaw
-inner-count-law k levels z s = counts (inner_run k levels z s) (block-markup k levels z s)
+count-law k r is i m n g h j same =
+    let a = markup-of k r is in
+    let e = first_end i r in
+    counted r.level r.stops a.taking m n e.value (first_place i r) e.state (known-after r a i g) h j same
 
 module _ (k : CharClasses) (levels : ℕ) (z : Place) (s : Point) where
   abbrev first_place_of : Place
@@ -307,8 +297,7 @@ module _ (k : CharClasses) (levels : ℕ) (z : Place) (s : Point) where
       goes-both (inner k levels) ends_block (block-taking k levels) m (true, 0) first_place_of t p fresh_start known at.is start-read fresh-read (block-reached k levels z s 0) fresh-reached none fresh-none g
 
 -- More pieces that are read by themselves end further on.
-pub alone-further : (k : CharClasses) (levels : ℕ) (m n : ℕ) (x : Bool × ℕ) (y : Place) → m < n → AllGo (read_alone k levels x n y)
-    → (let e = end_alone k levels x m y in let f = end_alone k levels x n y in e.taken + gap_of e.state.known < f.taken + gap_of f.state.known)
+pub alone-further : (k : CharClasses) (r : Sequence) → IsRun k r → (m n : ℕ) (x : Bool × ℕ) (y : Place) → m < n → AllGo (made (turn_of r) n x y (fresh r.level y))
+    → (let s = fresh r.level y in let e = end_of x s (made (turn_of r) m x y s) in let f = end_of x s (made (turn_of r) n x y s) in e.taken + gap_of e.state.known < f.taken + gap_of f.state.known)
 unfolding run
-alone-further k levels m n x y some g =
-    further (inner k levels) ends_block (block-taking k levels) m n x y (fresh (inner k levels) y) (record { trivia = _; is = refl }) some g
+alone-further k r is m n x y some g = further r.level r.stops (markup-of k r is).taking m n x y (fresh r.level y) (record { trivia = _; is = refl }) some g

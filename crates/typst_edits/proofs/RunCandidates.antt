@@ -1,30 +1,29 @@
 -- A candidate among the nodes of a run begins well, by what the run's pieces give: at the top of a text's tree and in a content block.
-use Rattle.std.proofs.Common.{◌≡◌, ◌↔◌, ℕ, suc, ◌+◌, ◌<◌, ◌≤◌, true, false, List, length, Option, Some, ap, sym, ◌∙◌, subst, arith, inl, inr, zero, ◌==◌, ne_eqb, Bool, [], ◌++◌, take, refl, ◌-◌, if◌then◌else◌, ◌∷◌, length-append, append_assoc, None}
-use Rattle.typst_edits.proofs.Words.{moved, Place, Tree, none, trees, bare, Forest, more, forest, text_of, inner_of, Trivia, pending, gap_of, point_of, Candidate, begins, is_among, of_run, Child, laid, child_at, run_in, Every, is_over, cut_at, minds_at, first_place, GoesOnWell, StartsWell, StandsAt, AllGo, End, piece_at, lead, pieces, end_at, pieces_from, end_from, Sequence, turn_of, first_of, first_end, then_of, then_end, CharClasses, width, Outcome, run, after_first, top_cuts, cuts_in, max_depth, start_of, tree, log, Settles, standing_before, Among, text_with, text_run, onwards_from, both, token_byte, LeadsAt, bytes_of, opening_child, LeadingInner, of_level, cut_after, goes, listed, inner_head, Note, texts, candidates, run_at, opened_at, fill, path_of, under, standing_in, nodes_in, block_with, inner_end, inner_both, onwards_in, block_run, Around, kids_in, markup_from, blocks_of_text, OpensApartLaw, Spot, unit_at}
+use Rattle.std.proofs.Common.{◌≡◌, ◌↔◌, ℕ, suc, ◌+◌, ◌<◌, ◌≤◌, true, false, List, length, Option, Some, ap, sym, ◌∙◌, subst, arith, inl, inr, zero, Bool, [], ◌++◌, take, refl, ◌-◌, ◌∷◌, length-append, append_assoc, None}
+use Rattle.typst_edits.proofs.Words.{Tree, none, trees, bare, Forest, more, forest, text_of, inner_of, Trivia, pending, gap_of, Candidate, begins, is_among, of_run, Child, laid, child_at, run_in, Every, is_over, first_place, GoesOnWell, StartsWell, StandsAt, AllGo, End, lead, pieces, end_at, Sequence, turn_of, first_of, first_end, then_of, then_end, CharClasses, width, Outcome, after_first, top_cuts, cuts_in, max_depth, start_of, tree, log, Settles, standing_by, Among, text_with, onwards_at, bytes_of, opening_child, of_level, cut_after, goes, listed, inner_head, Note, texts, candidates, opened_at, fill, path_of, under, block_with, inner_end, block_run, Around, kids_in, markup_from, blocks_of_text, OpensApartLaw, Spot, unit_at, Run, top, read_as, opened_by, path_to, token_after, token_past, run_from, kids_of_run, TakesSome, Encloses, IsRun, root_run}
 use Rattle.typst_tree.specs.Tree.{joined}
-use Rattle.typst_edits.proofs.Boundary.{KnownAt, looks_in, each-ends, made-add, go-add, known-made}
-use Rattle.typst_edits.proofs.CandidateEnds.{Quiet, stretch, GivesAt, GivesOne, Parted, begun, parted, text-quiet, inner-quiet}
-use Rattle.typst_edits.proofs.Heads.{MindsAlone, text-lone, inner-lone, lead-empties}
+use Rattle.typst_edits.proofs.Boundary.{looks_in, each-ends, made-add, go-add, known-made}
+use Rattle.typst_edits.proofs.CandidateEnds.{stretch, GivesAt, GivesOne, Parted, Quiet, begun, parted, run-quiet}
+use Rattle.typst_edits.proofs.Heads.{lead-empties, lone-piece}
 use Rattle.typst_edits.proofs.MarkupCandidates.{OfStretch, of-run}
 use Rattle.typst_edits.proofs.MarkupPlaces.{InMarkup, at-second, own-run}
 use Rattle.typst_edits.proofs.NumberedNotes.{go-fewer, numbered-run-law}
 use Rattle.typst_candidates.specs.Candidates as candidate
-use Rattle.typst_edits.specs.CandidateEnds.{RootCandidateLaw}
+use Rattle.typst_edits.specs.CandidateEnds.{BeginsWellLaw}
+use Rattle.typst_edits.specs.Frame.{inner}
 use Rattle.typst_edits.proofs.CandidatePlaces.{bare-candidates-law}
-use Rattle.typst_edits.proofs.Children.{back-law, text-known, run-known, opens-by, inner-back-law, tree-by-block, begun-at}
+use Rattle.typst_edits.proofs.Children.{behind-back, tree-by-block}
 use Rattle.typst_edits.proofs.Edit.{among, trees-of}
-use Rattle.typst_edits.proofs.Cuts.{CutOf, starts-are, behind-are, few-go, BlockCuts, cuts-of-block}
-use Rattle.typst_edits.proofs.Joint.{onwards-is}
-use Rattle.typst_edits.proofs.Leading.{leading-law, Plain, leading-inner-law, plain-block}
-use Rattle.typst_edits.proofs.RunPieces.{take-past, behind-zero, cut-is}
+use Rattle.typst_edits.proofs.Cuts.{BlockCuts, CutsAre, behind-are, cut-token, cuts-of-block, few-go, starts-are}
+use Rattle.typst_edits.proofs.Joint.{is-run, leads-of, onwards-is}
+use Rattle.typst_edits.proofs.Leading.{leading-law, no-errors, node-shape}
+use Rattle.typst_edits.proofs.RunPieces.{cut-some, take-past, takes-of}
 use Rattle.typst_edits.proofs.RunTrees.{tree-is}
 use Rattle.typst_edits.proofs.Widths.{width-append, early-by as sooner, late-by as further}
 use Rattle.typst_kinds.specs.declared.kind.SyntaxKind.TheVariants as kind
 use Rattle.typst_language.specs.declared.calls.Block.TheVariants as block
-use Rattle.typst_edits.specs.InnerCandidates.{InnerCandidateLaw}
-use Rattle.typst_edits.proofs.Blocks.{ends}
-use Rattle.typst_edits.proofs.Content.{same-here}
-use Rattle.typst_edits.proofs.Walk.{left_text, spot-place, length-texts}
+use Rattle.typst_edits.proofs.Walk.{left_text, length-texts, spot-place, width-encodes}
+use Rattle.typst_grammar.proofs.Whole.{leaves}
 
 -- ---- one more piece
 
@@ -40,27 +39,6 @@ module _ (r : Sequence) (i : ℕ) where
       ap (λ j. first_end j r) one ∙ made-add (turn_of r) (looks_in r) (each-ends r) i 1 (true, 0) r.place r.point
 
 -- ---- pieces among the nodes
-
--- by the byte where they begin, and where n of them end
-module _ (r : Sequence) (cuts : List ℕ) (from : ℕ) (kids : List Tree) (i at : ℕ) (end : ℕ → ℕ) (known : KnownAt r.point) (go : AllGo (first_of i r))
-    (gives : (n : ℕ) (t : Trivia) → AllGo (then_of i n r) → (then_end i n r).state.known ≡ Some t → (0 < i → 0 < n) → GivesAt r from kids i n t at (end n)) (none : end 0 ≡ at)
-    (quiet : Every Quiet (pending (then_end i 1 r).state.known)) (cut : AllGo (then_of i 1 r) → is_among (end 1) cuts ≡ true)
-    (alone : AllGo (then_of i 1 r) → minds_at r (first_place i r) (first_end i r) ≡ true → MindsAlone (first_end i r).state (turn_of r (first_end i r).value (first_place i r) (first_end i r).state)) where
-  one-goes : (n : ℕ) → AllGo (then_of i n r) → 0 < n → AllGo (then_of i 1 r)
-  one-goes n h some = let e = first_end i r in go-fewer (turn_of r) 1 n e.value (moved e.taken r.place) e.state (omega (arith, some)) h
-
-  -- One piece more ends at a cut.
-  gives-one : (n : ℕ) → AllGo (then_of i n r) → 0 < n → GivesOne r cuts from kids i at
-  gives-one n h some =
-      let e = first_end i r in
-      let one = one-goes n h some in
-      let first = known-made r.level r.stops i (true, 0) r.place r.point known go in
-      let t = known-made r.level r.stops 1 e.value (moved e.taken r.place) e.state first one in
-      record { trivia = t.trivia; end = end 1; gives = gives 1 t.trivia one t.is (λ l. omega arith); quiet = subst (λ (u : Option Trivia). Every Quiet (pending u)) t.is quiet; cut = cut one }
-
-  pub run-parted : (n : ℕ) (t : Trivia) → AllGo (then_of i n r) → (then_end i n r).state.known ≡ Some t → Parted r cuts from kids i n at (end n)
-  run-parted n t h known_end =
-      parted r cuts from kids i n at (end n) t known_end (gives n t h known_end) (λ l e. ap end e ∙ none) (λ l some. gives-one n h some) (λ l some mind. alone (one-goes n h some) mind)
 
 -- ---- the candidate
 
@@ -89,74 +67,108 @@ well r cuts from kids rs re path c i n at end order o p led start_is end_is =
       last = λ over. to_is ∙ b.last over;
     }
 
--- ---- the cuts of a text's run
+-- ---- the cuts of a run
 
-pub record TopCuts (k : CharClasses) (text : List ℕ) : Type 0 where
+-- the token after some pieces begins at a byte
+pub record IsCut (byte : ℕ → ℕ) (count b : ℕ) : Type 0 where
+  pub index : ℕ
+  pub some : 0 < index
+  pub few : index ≤ count
+  pub is : b ≡ byte index
+
+pub record RunCuts (k : CharClasses) (text : List ℕ) (r : Run k text) : Type 0 where
   pub count : ℕ
   pub cuts : List ℕ
-  pub go : AllGo (pieces k count (start_of text))
-  pub over : (let e = end_at k count (start_of text) in goes (piece_at k e.value (moved e.taken (start_of text)) e.state) ≡ false)
-  pub each : (b : ℕ) → is_among b cuts ≡ true → CutOf text (λ i. end_at k i (start_of text)) count b
-  are : top_cuts (listed (log k text).notes) ≡ Some cuts
-  has : (j : ℕ) → 0 < j → AllGo (pieces k j (start_of text)) → is_among (width (take (cut_after j (end_at k j (start_of text))) text)) cuts ≡ true
+  pub go : AllGo (first_of count (read_as r (start_of text)))
+  -- After the last of its pieces none goes on.
+  pub over : (let q = read_as r (start_of text) in let e = first_end count q in goes (turn_of q e.value (first_place count q) e.state) ≡ false)
+  pub each : (b : ℕ) → is_among b cuts ≡ true → IsCut (token_after r) count b
+  pub has : (j : ℕ) → 0 < j → AllGo (first_of j (read_as r (start_of text))) → is_among (token_after r j) cuts ≡ true
+
+-- where pieces end so, with their trivia, the token after them begins
+module _ (k : CharClasses) (text : List ℕ) (r : Run k text) (e : ℕ → End (Bool × ℕ)) (same : (i : ℕ) → (let f = first_end i (read_as r (start_of text)) in (e i).taken + gap_of (e i).state.known ≡ opened_by r (start_of text) + (f.taken + gap_of f.state.known))) where
+  cut-byte : (i : ℕ) → 0 < i → width (take (cut_after i (e i)) text) ≡ token_after r i
+  cut-byte i some = ap (λ d. width (take d text)) (cut-token i (e i) some ∙ same i)
+
+  abbrev run-cuts : (count : ℕ) (cuts : List ℕ) → CutsAre text e count cuts → AllGo (first_of count (read_as r (start_of text))) → (let q = read_as r (start_of text) in let f = first_end count q in goes (turn_of q f.value (first_place count q) f.state) ≡ false) → RunCuts k text r
+  run-cuts count cuts is go over = (let q = read_as r (start_of text) in record {
+    count = count;
+    cuts = cuts;
+    go = go;
+    over = over;
+    each = λ b h. (let c = is.each b h in record { index = c.index; some = c.some; few = c.few; is = c.is ∙ cut-byte c.index c.some });
+    has = λ j some g. subst (λ b. is_among b cuts ≡ true) (cut-byte j some) (is.has j some (few-go (turn_of q) count j (true, 0) q.place q.point g over));
+  })
+
+pub record TopCuts (k : CharClasses) (text : List ℕ) : Type 0 where
+  pub own : RunCuts k text (root_run k text)
+  are : top_cuts (listed (log k text).notes) ≡ Some own.cuts
 
 pub cuts-of-text : (k : CharClasses) (text : List ℕ) → TopCuts k text
 cuts-of-text k text =
     let n = numbered-run-law k text in
-    let z = start_of text in
-    let e = λ (i : ℕ). end_at k i z in
+    let e = λ (i : ℕ). end_at k i (start_of text) in
     let ns = listed (log k text).notes in
     let b = behind-are text e n.count (of_level max_depth ns) n.all n.each in
-    record {
-      count = n.count;
-      cuts = b.cuts;
-      go = n.go;
-      over = n.over;
-      each = b.is.each;
-      are = ap after_first (starts-are text e max_depth 0 ns n.each) ∙ b.are;
-      has = λ j some go. b.is.has j some (few-go (piece_at k) n.count j (true, 0) z (lead k z).state go n.over);
-    }
+    record { own = run-cuts k text top e (λ i. omega arith) n.count b.cuts b.is n.go n.over; are = ap after_first (starts-are text e max_depth 0 ns n.each) ∙ b.are }
 
--- ---- what its pieces give
+-- ---- pieces among the nodes
 
-settles : (k : CharClasses) (text : List ℕ) (i n : ℕ) → (0 < i → 0 < n) → Settles n (onwards_from k i n (start_of text))
-settles k text zero zero some = inr (omega (arith, (back-law k text 0 0).after_back, lead-empties k (start_of text)))
-settles k text zero (suc n) some = inl (omega arith)
-settles k text (suc i) n some = inl (some (omega arith))
+pub none-before : (k : CharClasses) (text : List ℕ) (r : Run k text) → TakesSome r → (read_as r (start_of text)).point.empties ≡ 0
+none-before k text top takes = lead-empties k (start_of text)
+none-before k text (inner c levels chosen name left) takes = no-errors k levels text c chosen name left takes
 
-module _ (k : CharClasses) (text : List ℕ) (i : ℕ) (g : AllGo (pieces k i (start_of text))) where
-  abbrev z0 : Place
-  z0 = start_of text
+settles : (k : CharClasses) (text : List ℕ) (r : Run k text) → TakesSome r → (i n : ℕ) → (0 < i → 0 < n) → Settles n (onwards_at i n (read_as r (start_of text)))
+settles k text r takes zero zero some = inr (omega (arith, behind-back k (read_as r (start_of text)) (is-run r (start_of text)) 0 0, none-before k text r takes))
+settles k text r takes zero (suc n) some = inl (omega arith)
+settles k text r takes (suc i) n some = inl (some (omega arith))
 
-  abbrev run0 : Sequence
-  run0 = text_run k z0
+module _ (k : CharClasses) (text : List ℕ) (r : Run k text) (takes : TakesSome r) (cuts : RunCuts k text r) (i : ℕ) (go : AllGo (first_of i (read_as r (start_of text)))) where
+  abbrev q : Sequence
+  q = read_as r (start_of text)
 
-  abbrev kids : List Tree
-  kids = trees (tree k text).kids
+  abbrev is : IsRun k q
+  is = is-run r (start_of text)
 
-  abbrev start0 : ℕ
-  start0 = token_byte text (end_at k i z0)
-
-  gives-at : (n : ℕ) (t : Trivia) → AllGo (pieces_from k i n z0) → (end_from k i n z0).state.known ≡ Some t → (0 < i → 0 < n) → GivesAt run0 0 kids i n t start0 (token_byte text (both k i n z0))
+  gives-at : (n : ℕ) (t : Trivia) → AllGo (then_of i n q) → (then_end i n q).state.known ≡ Some t → (0 < i → 0 < n) → GivesAt q (run_from r) (kids_of_run r) i n t (token_after r i) (token_past r i n)
   gives-at n t h known some =
-      let led = leading-law k text i n t g h known (settles k text i n some) in
+      let led = leading-law k text r i n t takes go h known (settles k text r takes i n some) in
       record {
-        before = standing_before k i n z0;
-        back = (onwards_from k i n z0).back;
+        before = standing_by i n q;
+        back = (onwards_at i n q).back;
         behind = led.behind;
         children = led.children;
-        few = (back-law k text i n).after_back;
-        ends = omega (arith, led.ends);
-        onwards = ap (λ (o : Outcome (Unit {0})). o.nodes) (sym (onwards-is (text_run k z0) i n)) ∙ led.onwards;
+        few = behind-back k q is i n;
+        ends = led.ends;
+        onwards = ap (λ (o : Outcome (Unit {0})). o.nodes) (sym (onwards-is q i n)) ∙ led.onwards;
         first = led.first;
         next = led.next;
         last = led.last;
       }
 
-  pub pieces-parted : (n : ℕ) (t : Trivia) (cuts : TopCuts k text) → AllGo (pieces_from k i n z0) → (end_from k i n z0).state.known ≡ Some t → Parted run0 cuts.cuts 0 kids i n start0 (token_byte text (both k i n z0))
-  pieces-parted n t cuts h known =
-      run-parted run0 cuts.cuts 0 kids i start0 (λ n. token_byte text (both k i n z0)) (text-known k z0) g gives-at (let u = end_at k i z0 in let sum : (u.taken + 0) + gap_of u.state.known ≡ u.taken + gap_of u.state.known = omega arith in ap (λ d. width (take d text)) sum) (text-quiet k z0 i 1)
-      (λ h. ap (λ (u : End (Bool × ℕ)). is_among (token_byte text u) cuts.cuts) (sym (more-ends run0 i)) ∙ cuts.has (suc i) (omega arith) (more-goes run0 i g h)) (text-lone k z0 i g) n t h known
+  one-goes : (n : ℕ) → AllGo (then_of i n q) → 0 < n → AllGo (then_of i 1 q)
+  one-goes n h some = let e = first_end i q in go-fewer (turn_of q) 1 n e.value (first_place i q) e.state (omega (arith, some)) h
+
+  -- One piece more ends at a cut.
+  gives-one : (n : ℕ) → AllGo (then_of i n q) → 0 < n → GivesOne q cuts.cuts (run_from r) (kids_of_run r) i (token_after r i)
+  gives-one n h some =
+      let e = first_end i q in
+      let one = one-goes n h some in
+      let first = known-made q.level q.stops i (true, 0) q.place q.point (leads-of k q is).known go in
+      let t = known-made q.level q.stops 1 e.value (first_place i q) e.state first one in
+      let byte = λ (u : End (Bool × ℕ)). width (take (opened_by r (start_of text) + (u.taken + gap_of u.state.known)) text) in
+      record {
+        trivia = t.trivia;
+        end = token_past r i 1;
+        gives = gives-at 1 t.trivia one t.is (λ l. omega arith);
+        quiet = subst (λ (u : Option Trivia). Every Quiet (pending u)) t.is (run-quiet k q is i 1);
+        cut = ap (λ u. is_among (byte u) cuts.cuts) (sym (more-ends q i)) ∙ cuts.has (suc i) (omega arith) (more-goes q i go one);
+      }
+
+  pub run-parted : (n : ℕ) (t : Trivia) → AllGo (then_of i n q) → (then_end i n q).state.known ≡ Some t → Parted q cuts.cuts (run_from r) (kids_of_run r) i n (token_after r i) (token_past r i n)
+  run-parted n t h known =
+      let none : token_past r i 0 ≡ token_after r i = ap (λ d. width (take d text)) (omega arith) in
+      parted q cuts.cuts (run_from r) (kids_of_run r) i n (token_after r i) (token_past r i n) t known (gives-at n t h known) (λ l e. ap (token_past r i) e ∙ none) (λ l some. gives-one n h some) (λ l some mind. lone-piece k q is i go (one-goes n h some) mind)
 
 -- ---- the candidate
 
@@ -164,7 +176,7 @@ pub head-none : (k : CharClasses) (text : List ℕ) → length (tree k text).hea
 head-none k text = ap (λ (t : Tree). length t.head.text) (tree-is k text 0 0 tt tt)
 
 pub of-the-root : (k : CharClasses) (text : List ℕ) (rs re : ℕ) (root : Tree) (c : Candidate) (cuts : TopCuts k text) → bare root ≡ bare (tree k text) → Among c (candidate.candidates (listed (log k text).notes) rs re root) → c.is_block ≡ false → c.path ≡ []
-    → OfStretch rs re [] 0 (trees (tree k text).kids) cuts.cuts c
+    → OfStretch rs re [] 0 (trees (tree k text).kids) cuts.own.cuts c
 of-the-root k text rs re root c cuts same chosen pieces path =
     let was = tree k text in
     let ns = listed (log k text).notes in
@@ -172,24 +184,7 @@ of-the-root k text rs re root c cuts same chosen pieces path =
     let there : Among c (candidate.candidates ns rs re was) = subst (λ cs. Among c cs) (bare-candidates-law ns rs re root was same) chosen in
     let own = among _ c _ there (own-run ns rs re [] (top_cuts ns) 0 was (ap (λ (t : Tree). t.head.is_inner) (tree-is k text 0 0 tt tt))) pieces path in
     let at : 0 + length was.head.text ≡ 0 = omega (arith, head-none k text) in
-    of-run rs re [] 0 ts cuts.cuts c (subst (λ run. Among c (of_run rs re [] 0 ts run)) cuts.are (subst (λ b. Among c (of_run rs re [] b ts (top_cuts ns))) at own))
-
-pub root-candidate-law : RootCandidateLaw
-root-candidate-law k front old new rest root c i n m past t u same chosen pieces path start led end h =
-    let text = front ++ (old ++ rest) in
-    let z = text_with front old rest in
-    let rs = width front in
-    let re = width (front ++ old) in
-    let kids = trees (tree k text).kids in
-    let cuts = cuts-of-text k text in
-    let e = end_at k i z in
-    let f = both k i n z in
-    let gap : gap_of f.state.known ≡ t.gap = ap gap_of h.known in
-    let sum : f.taken + gap_of f.state.known ≡ (length front + length old) + past = ap (λ d. f.taken + d) gap ∙ behind-zero f.taken t.gap _ h.ends in
-    let w = well (text_run k z) cuts.cuts 0 kids rs re [] c i n (token_byte text e) (token_byte text f) (omega (arith, width-append front old)) (of-the-root k text rs re root c cuts same chosen pieces path)
-    (pieces-parted k text i h.first_go n t cuts h.old_go h.known) led (λ l. start ∙ ap (λ d. width (take d text)) (cut-is (i == 0) (e.taken + gap_of e.state.known) (ne_eqb i 0 (omega (arith, l)))))
-    (end ∙ sym (ap width (take-past front old rest past (f.taken + gap_of f.state.known) sum))) in
-    record { starts = w.starts; goes_on = w.goes_on; first = w.first; next = w.next; last = w.last }
+    of-run rs re [] 0 ts cuts.own.cuts c (subst (λ run. Among c (of_run rs re [] 0 ts run)) cuts.are (subst (λ b. Among c (of_run rs re [] b ts (top_cuts ns))) at own))
 
 -- ---- where a block's node stands
 
@@ -222,35 +217,6 @@ pub record Seat (text : List ℕ) (s : Spot (Unit {0})) : Type 0 where
 
 pub seat-of : (k : CharClasses) (text : List ℕ) (s : Spot (Unit {0})) → Among s (blocks_of_text k text) → 0 < length (text_of s.node) → Seat text s
 seat-of k text c chosen full = let p = spot-place k text c chosen in record { some = p.some full; left_is = p.left full; both = p.both full }
-
--- ---- what stands in its node
-
-module _ (k : CharClasses) (levels : ℕ) (text : List ℕ) (c : Spot (Unit {0})) (chosen : Among c (blocks_of_text k text)) (name : c.name ≡ block.Content) (left : max_depth - c.fewer ≡ suc levels) (some : 0 < (unit_at c (start_of text)).taken) where
-  -- the trivia where its run begins
-  record FirstTrivia : Type 0 where
-    trivia : Trivia
-    is : (then_end 0 0 (run_at k levels c (start_of text))).state.known ≡ Some trivia
-
-  first-trivia : FirstTrivia
-  unfolding run
-  first-trivia = record { trivia = _; is = refl }
-
-  -- no error stands before its run
-  pub no-errors : (then_end 0 0 (run_at k levels c (start_of text))).state.empties ≡ 0
-  unfolding blocks_of_text run
-  no-errors =
-      let z = start_of text in
-      (opens-by k levels (moved c.at z) (point_of c.start) (begun-at k levels text c chosen name left z (same-here c.before z) some)).empties
-
-  -- its bracket, its markup with the children of its run, and what stands after that
-  node-shape : LeadingInner k levels text c 0 0 first-trivia.trivia
-  node-shape =
-      leading-inner-law k levels text c 0 0 first-trivia.trivia chosen name left some tt tt first-trivia.is (inr (omega (arith, (inner-back-law k levels text c 0 0).after_back, no-errors)))
-
-  -- Of these only the second is markup.
-  pub plain-shape : Plain c.node
-  plain-shape =
-      plain-block k levels text c 0 0 first-trivia.trivia chosen name left some tt tt first-trivia.is (inr (omega (arith, (inner-back-law k levels text c 0 0).after_back, no-errors)))
 
 -- ---- a candidate among its markup's children
 
@@ -305,6 +271,7 @@ of-block apart k levels front old rest root s chosen name level c same candidate
     let full : 0 < length (text_of s.node) = omega (arith, width-append front old, m.starts, m.ends, in_node.from, in_node.to, held) in
     let seat = seat-of k text s chosen full in
     let shape = node-shape k levels text s chosen name level seat.some in
+    let from = markup_from k levels text s in
     let at = width (take s.at text) in
     let here : 0 + length (left_text hole) ≡ at = omega (arith, seat.left_is) in
     let cuts = cuts-of-block apart k levels text s chosen name level in
@@ -313,118 +280,66 @@ of-block apart k levels front old rest root s chosen name level c same candidate
     let apart_text : (front ++ old) ++ rest ≡ text = append_assoc front old rest in
     let behind = further (s.at + (unit_at s (start_of text)).taken) (front ++ old) rest (subst (λ xs. re < width (take (s.at + (unit_at s (start_of text)).taken) xs)) (sym apart_text) late) in
     let in_shape = subst (λ x. InMarkup ns rs re at x c) shape.node (subst (λ a. InMarkup ns rs re a s.node c) here m) in
-    let run = in-markup ns rs re at shape.from shape.closed shape.bracket shape.kids shape.closing c in_shape shape.opening in
-    let inner_kids : shape.kids ≡ kids_in s.node = sym (ap kids_in shape.node ∙ trees-of shape.kids) in
+    let run = in-markup ns rs re at from shape.closed shape.bracket (kids_in s.node) shape.closing c in_shape shape.opening in
     record {
       around = record { starts = sooner s.at front (old ++ rest) early; ends = omega (arith, length-append front old, behind) };
       some = seat.some;
-      starts = subst (λ a. a < rs) shape.begins run.starts;
-      ends = subst (λ a. re < a + bytes_of (kids_in s.node)) shape.begins (subst (λ ts. re < shape.from + bytes_of ts) inner_kids run.ends);
+      starts = run.starts;
+      ends = run.ends;
       own = cuts;
-      chosen = subst (λ o. Among c (of_run rs re c.path (markup_from k levels text s) (kids_in s.node) o)) cuts.are
-          (subst (λ a. Among c (of_run rs re c.path a (kids_in s.node) (cuts_in at ns))) shape.begins (subst (λ ts. Among c (of_run rs re c.path shape.from ts (cuts_in at ns))) inner_kids run.own));
+      chosen = subst (λ o. Among c (of_run rs re c.path from (kids_in s.node) o)) cuts.are run.own;
     }
 
--- ---- it begins well
+-- ---- any run
 
--- After one more piece the next token begins at a cut.
-one-cut : (k : CharClasses) (levels : ℕ) (text : List ℕ) (s : Spot (Unit {0})) (at i : ℕ) (b : BlockCuts k levels text s at) → (let r = run_at k levels s (start_of text) in AllGo (first_of i r) → AllGo (then_of i 1 r)
-    → is_among (token_byte text (inner_both k levels i 1 s (start_of text))) b.cuts ≡ true)
-one-cut k levels text s at i b g h =
-    let r = run_at k levels s (start_of text) in
-    let byte = λ (e : End (Bool × ℕ)). width (take ((opened_at k levels s (start_of text) + e.taken) + gap_of e.state.known) text) in
-    ap (λ (u : End (Bool × ℕ)). is_among (byte u) b.cuts) (sym (more-ends r i)) ∙ b.is.has (suc i) (omega arith) (b.all (suc i) (more-goes r i g h))
+-- Together the children of a text's tree are its bytes.
+pub kids-bytes : (k : CharClasses) (text : List ℕ) → bytes_of (trees (tree k text).kids) ≡ width text
+kids-bytes k text =
+    let t = tree k text in
+    omega (arith, ap length (leaves k text), width-encodes text, length-append t.head.text (joined t.kids), head-none k text, ap length (joined-trees t.kids))
 
-module _ (k : CharClasses) (levels : ℕ) (front old rest : List ℕ) (s : Spot (Unit {0})) (chosen : Among s (blocks_of_text k (front ++ (old ++ rest)))) (name : s.name ≡ block.Content) (level : max_depth - s.fewer ≡ suc levels)
-    (some : 0 < (unit_at s (start_of (front ++ (old ++ rest)))).taken) (i n : ℕ) (t : Trivia) (first_go : AllGo (first_of i (run_at k levels s (text_with front old rest)))) (old_go : AllGo (then_of i n (run_at k levels s (text_with front old rest))))
-    (known : (then_end i n (run_at k levels s (text_with front old rest))).state.known ≡ Some t) where
-  abbrev whole_text : List ℕ
-  whole_text = front ++ (old ++ rest)
+-- A candidate is a stretch of a run's nodes, which are around the stretch that is replaced.
+pub record OfRun (k : CharClasses) (front old rest : List ℕ) (r : Run k (front ++ (old ++ rest))) (c : Candidate) : Type 0 where
+  pub encloses : Encloses k front old rest r
+  pub cuts : RunCuts k (front ++ (old ++ rest)) r
+  pub stretch : OfStretch (width front) (width (front ++ old)) (path_to r) (run_from r) (kids_of_run r) cuts.cuts c
+  pub before : opened_by r (text_with front old rest) ≤ length front
+  pub all : width (front ++ old) ≤ run_from r + bytes_of (kids_of_run r)
 
-  abbrev z : Place
-  z = start_of whole_text
-
-  abbrev r : Sequence
-  r = run_at k levels s z
-
-  abbrev from : ℕ
-  from = markup_from k levels whole_text s
-
-  abbrev inner_kids : List Tree
-  inner_kids = kids_in s.node
-
-  -- where their first token begins, in bytes
-  abbrev begin : ℕ
-  begin = token_byte whole_text (inner_end k levels i s z)
-
-  -- where the pieces begin and end, in bytes
-  start-byte : (at : ℕ) → at ≡ width (take (cut_at (block_run s levels chosen name level) i (text_with front old rest)) whole_text) → 0 < i → at ≡ begin
-  start-byte at is l =
-      let e = first_end i r in
-      let a = opened_at k levels s z in
-      let sum : a + (e.taken + gap_of e.state.known) ≡ (a + e.taken) + gap_of e.state.known = omega arith in
-      is ∙ ap (λ b. width (take (a + (if b then 0 else e.taken + gap_of e.state.known)) whole_text)) (ne_eqb i 0 (λ e. absurd (omega (arith, l, e)))) ∙ ap (λ d. width (take d whole_text)) sum
-
-  end-byte : (at past : ℕ) → (inner_both k levels i n s z).taken + t.gap ≡ (length front + length old) + past → at ≡ width (front ++ (old ++ take past rest)) → at ≡ token_byte whole_text (inner_both k levels i n s z)
-  end-byte at past ends is =
-      let f = inner_both k levels i n s z in
-      let sum : f.taken + gap_of f.state.known ≡ (length front + length old) + past = ap (λ v. f.taken + gap_of v) known ∙ ends in
-      is ∙ sym (ap width (take-past front old rest past (f.taken + gap_of f.state.known) sum))
-
-  none-there : token_byte whole_text (inner_both k levels i 0 s z) ≡ begin
-  none-there =
-      let e = first_end i r in
-      let a = opened_at k levels s z in
-      let sum : (a + (e.taken + 0)) + gap_of e.state.known ≡ (a + e.taken) + gap_of e.state.known = omega arith in
-      ap (λ d. width (take d whole_text)) sum
-
-  -- Pieces there, or none after others, separate what follows them from what is before them.
-  inner-settles : (j l : ℕ) → (0 < j → 0 < l) → Settles l (onwards_in k levels j l s z)
-  inner-settles zero zero f =
-      inr (omega (arith, (inner-back-law k levels whole_text s 0 0).after_back, no-errors k levels whole_text s chosen name level some))
-  inner-settles zero (suc l) f = inl (omega arith)
-  inner-settles (suc j) l f = inl (f (omega arith))
-
-  -- what the pieces after the first i give, by the children that lead
-  gives-by : (l : ℕ) (v : Trivia) → LeadingInner k levels whole_text s i l v → GivesAt r from inner_kids i l v begin (token_byte whole_text (inner_both k levels i l s z))
-  gives-by l v led =
-      let same : led.kids ≡ inner_kids = sym (ap kids_in led.node ∙ trees-of led.kids) in
-      let a = token_byte whole_text (inner_both k levels i l s z) in
-      record {
-        before = standing_in k levels i l s z;
-        back = (onwards_in k levels i l s z).back;
-        behind = led.behind;
-        children = sym same ∙ led.children;
-        few = (inner-back-law k levels whole_text s i l).after_back;
-        ends = ap (λ b. b + bytes_of (standing_in k levels i l s z ++ nodes_in k levels i l v s z)) (sym led.begins) ∙ led.ends;
-        onwards = ap (λ (o : Outcome (Unit {0})). o.nodes) (sym (onwards-is (run_at k levels s z) i l)) ∙ led.onwards;
-        first = λ more. subst (λ b. LeadsAt b inner_kids begin (length (standing_in k levels i l s z) + length (pending (first_end i r).state.known))) led.begins
-            (subst (λ ts. LeadsAt led.from ts begin (length (standing_in k levels i l s z) + length (pending (first_end i r).state.known))) same (led.first more));
-        next = λ over. subst (λ b. LeadsAt b inner_kids a (length (standing_in k levels i l s z) + length (nodes_in k levels i l v s z))) led.begins
-            (subst (λ ts. LeadsAt led.from ts a (length (standing_in k levels i l s z) + length (nodes_in k levels i l v s z))) same (led.next over));
-        last = led.last;
-      }
-
-  -- what they say of the block's children
-  pub parted-in : (own : BlockCuts k levels whole_text s (width (take s.at whole_text))) → Parted r own.cuts from inner_kids i n begin (token_byte whole_text (inner_both k levels i n s z))
-  parted-in own =
-      run-parted r own.cuts from inner_kids i begin (λ l. token_byte whole_text (inner_both k levels i l s z)) (run-known k levels s z) first_go
-      (λ l v h is f. gives-by l v (leading-inner-law k levels whole_text s i l v chosen name level some first_go h is (inner-settles i l f))) none-there (inner-quiet k levels (moved s.at z) (point_of s.start) i 1)
-      (one-cut k levels whole_text s (width (take s.at whole_text)) i own first_go) (inner-lone k levels (moved s.at z) (point_of s.start) i first_go) n t old_go known
-
-pub inner-candidate-law : OpensApartLaw → InnerCandidateLaw
-inner-candidate-law apart k levels front old new rest root s chosen name level c i n m past t u same candidate pieces path start led end h =
+pub run-of : OpensApartLaw → (k : CharClasses) (front old rest : List ℕ) (root : Tree) (r : Run k (front ++ (old ++ rest))) (c : Candidate) → bare root ≡ bare (tree k (front ++ (old ++ rest)))
+    → Among c (candidates k (front ++ (old ++ rest)) (width front) (width (front ++ old)) root) → c.is_block ≡ false → c.path ≡ path_to r → OfRun k front old rest r c
+run-of apart k front old rest root top c same chosen pieces path =
     let text = front ++ (old ++ rest) in
-    let b = of-block apart k levels front old rest root s chosen name level c same candidate pieces path in
+    let cuts = cuts-of-text k text in
+    record {
+      encloses = tt;
+      cuts = cuts.own;
+      stretch = of-the-root k text (width front) (width (front ++ old)) root c cuts same chosen pieces path;
+      before = omega arith;
+      all = omega (arith, kids-bytes k text, ap width (append_assoc front old rest), width-append (front ++ old) rest);
+    }
+run-of apart k front old rest root (inner s levels chosen_too name level) c same chosen pieces path =
+    let text = front ++ (old ++ rest) in
+    let b = of-block apart k levels front old rest root s chosen_too name level c same chosen pieces path in
+    let kids = kids_in s.node in
     let from = markup_from k levels text s in
-    let inner_kids = kids_in s.node in
-    let rs = width front in
-    let re = width (front ++ old) in
-    let order : rs ≤ re = (let w = width-append front old in omega (arith, w)) in
-    let r = run_at k levels s (start_of text) in
-    let w = well r b.own.cuts from inner_kids rs re c.path c i n (token_byte text (inner_end k levels i s (start_of text))) (token_byte text (inner_both k levels i n s (start_of text))) order (of-run rs re c.path from inner_kids b.own.cuts c b.chosen)
-    (parted-in k levels front old rest s chosen name level b.some i n t h.first_go h.old_go h.known b.own) led (λ l. start-byte k levels front old rest s chosen name level b.some i n t h.first_go h.old_go h.known c.start start l)
-    (end-byte k levels front old rest s chosen name level b.some i n t h.first_go h.old_go h.known c.end past h.ends end) in (
-      b.around,
-      record { starts = w.starts; goes_on = w.goes_on; first = w.first; next = w.next; last = w.last },
-    )
+    let before = sooner (opened_at k levels s (text_with front old rest)) front (old ++ rest) b.starts in
+    record {
+      encloses = b.around;
+      cuts = run-cuts k text (block_run s levels chosen_too name level) (λ i. inner_end k levels i s (start_of text)) (λ i. omega arith) b.own.count b.own.cuts b.own.is b.own.go b.own.over;
+      stretch = subst (λ p. OfStretch (width front) (width (front ++ old)) p from kids b.own.cuts c) path (of-run (width front) (width (front ++ old)) c.path from kids b.own.cuts c b.chosen);
+      before = omega (arith, before);
+      all = omega (arith, b.ends);
+    }
+
+pub begins-well-law : OpensApartLaw → BeginsWellLaw
+begins-well-law apart k front old new rest root r c i n m past t u same chosen pieces path start led end h =
+    let text = front ++ (old ++ rest) in
+    let z = text_with front old rest in
+    let q = read_as r z in
+    let o = run-of apart k front old rest root r c same chosen pieces path in
+    let stop = opened_by r z + (((first_end i q).taken + (then_end i n q).taken) + gap_of (then_end i n q).state.known) in
+    let w = well q o.cuts.cuts (run_from r) (kids_of_run r) (width front) (width (front ++ old)) (path_to r) c i n (token_after r i) (token_past r i n) (omega (arith, width-append front old)) o.stretch
+    (run-parted k text r (takes-of k front old rest r o.encloses) o.cuts i h.first_go n t h.old_go h.known) led (λ l. start ∙ ap (λ d. width (take d text)) (cut-some r i z l))
+    (end ∙ sym (ap width (take-past front old rest past stop (omega (arith, ap gap_of h.known, h.ends))))) in
+    (o.encloses, record { starts = w.starts; goes_on = w.goes_on; first = w.first; next = w.next; last = w.last })

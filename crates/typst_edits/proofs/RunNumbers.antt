@@ -1,12 +1,13 @@
 -- The entries of a run, by their numbers: of a text's run and of a content block's.
 use Rattle.std.proofs.Common.{◌≡◌, ℕ, suc, ◌+◌, ◌≤◌, ◌==◌, Bool, true, false, List, [], append-nil, refl, ap, sym, ◌∙◌, subst, arith, ◌-◌, ◌<◌, ◌∷◌, ◌++◌, length, drop, length-append, append_assoc, Some}
-use Rattle.typst_edits.proofs.Words.{eqb-true, eqb-false, moved, Place, CharClasses, Note, Meaning, hand_of, run, moved-sum, entries_by, IsRising, ends, max_depth, start_of, log, entries_in, SaysBlock, is_over, InOrderLaw, text_run, of_level, NumberedInner, goes, listed, number_of, RunNumbersLaw, number_in, InnerNumbersLaw, cut_of, cut_in, AllGo, End, pieces, piece_at, end_at, lead, asks_of, Sequence, turn_of, first_of, first_end, then_end, Block, shift, point_of, closing_of, run_at, Among, inner_end, blocks_of_text, BeginsAt, notes_in, Spot}
+use Rattle.typst_edits.proofs.Words.{eqb-true, eqb-false, moved, Place, CharClasses, Note, Meaning, hand_of, run, moved-sum, entries_by, IsRising, ends, max_depth, start_of, log, entries_in, SaysBlock, is_over, InOrderLaw, text_run, of_level, NumberedInner, goes, listed, number_of, RunNumbersLaw, number_in, InnerNumbersLaw, cut_of, cut_in, AllGo, End, pieces, piece_at, end_at, lead, asks_of, Sequence, turn_of, first_of, first_end, then_end, Block, shift, point_of, closing_of, run_at, Among, inner_end, blocks_of_text, BeginsAt, notes_in, Spot, is_text_run, is_block_run}
 use Rattle.typst_edits.specs.NumberedNotes.{NumberedRun}
 use Rattle.typst_edits.proofs.BlockTest.{BlockEntries, block-entries, units-listed}
 use Rattle.typst_edits.proofs.Boundary.{looks_in, each-ends, made-add, first-of, going-on, known-made}
 use Rattle.typst_edits.proofs.Cuts.{cuts-law, inner-cuts-law, few-go}
 use Rattle.typst_edits.proofs.FoundPieces.{NoteAt, RunAmong, FoundPieces, found-pieces, says-by, closing, own-none, head-same, tail-same}
-use Rattle.typst_edits.proofs.Leading.{Leads, text-leads, turn-over, block-leads}
+use Rattle.typst_edits.proofs.Joint.{Leads, leads-of}
+use Rattle.typst_edits.proofs.Leading.{turn-over}
 use Rattle.typst_edits.proofs.Nested.{nested-law}
 use Rattle.typst_edits.proofs.NumberedNotes.{go-fewer, go-next, number-law, numbered-run-law, NestedNumbers, nested-numbers, level-long}
 use Rattle.typst_edits.proofs.RunBytes.{text-note, text-count, asks_before, asks_first, inner_run_mark as run_mark, opened, inner_asks_by as asks_by, block-asks, inner-decision-law, cut-here}
@@ -86,7 +87,7 @@ module _ (ordered : InOrderLaw) (k : CharClasses) (text : List ℕ) where
   text-over : (i m : ℕ) → i + m ≤ n.count → is_over i m (text_run k (start_of text)) ≡ (i + m == n.count)
   unfolding run
   text-over i m l =
-      over-at (text_run k (start_of text)) (text-leads k (start_of text)) n.count i m n.go n.over l
+      over-at (text_run k (start_of text)) (leads-of k (text_run k (start_of text)) (is_text_run (start_of text))) n.count i m n.go n.over l
 
 pub run-numbers-law : InOrderLaw → RunNumbersLaw
 run-numbers-law ordered k text =
@@ -242,7 +243,7 @@ module _ (ordered : InOrderLaw) (k : CharClasses) (levels : ℕ) (text : List �
   block-over : (i m : ℕ) → i + m ≤ inner_n.count → is_over i m (run_at k levels s z0) ≡ (i + m == inner_n.count)
   unfolding run
   block-over i m l =
-      over-at (run_at k levels s z0) (block-leads k levels (moved s.at z0) (point_of s.start)) inner_n.count i m inner_n.go inner_n.over l
+      over-at (run_at k levels s z0) (leads-of k (run_at k levels s z0) (is_block_run levels (moved s.at z0) (point_of s.start))) inner_n.count i m inner_n.go inner_n.over l
 
 pub inner-numbers-law : InOrderLaw → InnerNumbersLaw
 inner-numbers-law ordered k levels text s chosen name left =

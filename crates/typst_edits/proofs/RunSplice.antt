@@ -1,6 +1,6 @@
 -- The units of a text with an edit inside a block, and inside some pieces of a run, its own or a content block's.
 use Rattle.std.proofs.Common.{◌≡◌, ℕ, suc, ◌+◌, ◌≤◌, List, [], ◌∷◌, ◌++◌, length, ap, sym, ◌∙◌, subst, arith, ◌==◌, inl, inr, zero, ◌-◌, ◌<◌, ◌^◌, Bool, true, map, append_assoc, Some, refl, ◌&&◌, if◌then◌else◌, false, None, eq-zero-or-pos}
-use Rattle.typst_edits.proofs.Words.{units_of, spliced, moved, Place, position, width, Ask, shift, SameIn, shift_one, marked, looked, no_log, logged, Outcome, start_point, hand_of, hand_asks_of, repeated, run, state_of, Trivia, Point, gap_of, point_of, markup_reading, ends, rules, max_depth, whole, parsed, log, level_at, start_of, text_with, AllEndBy, AllBeginIn, Noting, noting, notes_in, entries_from, token_start, block_log, closing, Spot, unit_at, lowered, lower, map-append, same, Entry, CharClasses, Look, look, no_look, is_end, AtHand, Hand, as_at_hand, hand_at, len_at, at_trivia, column_look, column_asks, ahead, asks_by, ahead_asks, hand_asks, peek, sane-at, AllFrom, passed, onwards, text_run, place_from, onwards_from, asked_past, end_note, OverAt, run_mark, start, AllGo, asks_of, chain, lead, pieces, end_at, pieces_from, end_from, rest_from, tail, whole_of, Sequence, turn_of, first_of, first_end, then_of, then_end, then_place, rest_of, note_at, looks_next, own_of, token, same_in-shift, same_in-first, same_in-second, moved-sum, inner, look_first, look_again, bracket, inner_lead, inner_run, content_with, run_at, tail_at, close_at, onwards_past, left_past, hand-ends}
+use Rattle.typst_edits.proofs.Words.{units_of, spliced, moved, Place, position, width, Ask, shift, SameIn, shift_one, marked, looked, no_log, logged, Outcome, start_point, hand_of, hand_asks_of, repeated, run, state_of, Trivia, Point, gap_of, point_of, markup_reading, ends, rules, max_depth, whole, parsed, log, level_at, start_of, text_with, AllEndBy, AllBeginIn, Noting, noting, notes_in, entries_from, token_start, block_log, closing, Spot, unit_at, lowered, lower, map-append, same, Entry, CharClasses, Look, look, no_look, is_end, AtHand, Hand, as_at_hand, hand_at, len_at, at_trivia, column_look, column_asks, ahead, asks_by, ahead_asks, hand_asks, peek, sane-at, AllFrom, passed, onwards, text_run, place_from, onwards_at, asked_past, end_note, OverAt, run_mark, start, AllGo, asks_of, chain, lead, pieces, end_at, pieces_from, end_from, rest_from, tail, whole_of, Sequence, turn_of, first_of, first_end, then_of, then_end, then_place, rest_of, note_at, looks_next, own_of, token, same_in-shift, same_in-first, same_in-second, moved-sum, inner, look_first, look_again, bracket, inner_lead, inner_run, content_with, run_at, tail_at, close_at, onwards_past, left_past, hand-ends}
 use Rattle.typst_edits.specs.BlockSplice.{BlockSpliceLaw}
 use Rattle.typst_edits.specs.RunSplice.{next_looks, own_asks, RunSpliceLaw}
 use Rattle.typst_edits.specs.InnerSplice.{end_note_in, pieces_log_in, InnerSpliceLaw, AroundSpliceLaw}
@@ -116,7 +116,7 @@ module _ (k : CharClasses) where
 
   -- up to some pieces, of them, and after them
   reading-asks : (text : List ℕ) (i n : ℕ) → (let z = start_of text in AllGo (pieces k i z) → AllGo (pieces_from k i n z)
-      → (parsed k max_depth text).asks ≡ run_mark ∷ (((lead k z).asks ++ asks_of (pieces k i z)) ++ shift (end_at k i z).taken (asks_of (pieces_from k i n z) ++ shift (end_from k i n z).taken (onwards_from k i n z).asks)))
+      → (parsed k max_depth text).asks ≡ run_mark ∷ (((lead k z).asks ++ asks_of (pieces k i z)) ++ shift (end_at k i z).taken (asks_of (pieces_from k i n z) ++ shift (end_from k i n z).taken (onwards_at i n (text_run k z)).asks)))
   reading-asks text i n g h =
       let z = start_of text in
       let os = pieces k i z in
@@ -133,7 +133,7 @@ module _ (k : CharClasses) where
 
   -- all that is asked after the note where i pieces end
   abbrev pub all_asks : ℕ → ℕ → Place → List Ask
-  all_asks i n z = next_looks k i z ++ shift (end_at k i z).taken (asks_of (pieces_from k i n z) ++ shift (end_from k i n z).taken (onwards_from k i n z).asks)
+  all_asks i n z = next_looks k i z ++ shift (end_at k i z).taken (asks_of (pieces_from k i n z) ++ shift (end_from k i n z).taken (onwards_at i n (text_run k z)).asks)
 
   -- The note where pieces end, and the looks after it, are those of any run.
   note-is : (i : ℕ) (z : Place) → note_at (text_run k z) start i ≡ end_note k i z
@@ -171,7 +171,7 @@ module _ (k : CharClasses) where
       → run_mark ∷ ((lead k z).asks ++ asks_of (pieces k i z)) ≡ first ++ noting p ∷ next_looks k i z → (parsed k max_depth text).asks ≡ first ++ noting p ∷ all_asks i n z)
   cut-asks text i n first p g h is =
       let z = start_of text in
-      let more = shift (end_at k i z).taken (asks_of (pieces_from k i n z) ++ shift (end_from k i n z).taken (onwards_from k i n z).asks) in
+      let more = shift (end_at k i z).taken (asks_of (pieces_from k i n z) ++ shift (end_from k i n z).taken (onwards_at i n (text_run k z)).asks) in
       reading-asks text i n g h ∙ ap (λ u. u ++ more) is ∙ append_assoc first (noting p ∷ next_looks k i z) more
 
   -- ---- the token after pieces
@@ -180,7 +180,7 @@ module _ (k : CharClasses) where
   record Tail (i n : ℕ) (z : Place) (t : Trivia) (end : ℕ) (last : List Ask) : Type 0 where
     known : (end_from k i n z).state.known ≡ Some t
     ends : ((end_at k i z).taken + (end_from k i n z).taken) + t.gap ≡ end
-    asks : hand_asks_of (level_at k max_depth) (place_from k i n z) (end_from k i n z).state ++ (onwards_from k i n z).asks ≡ shift t.gap last
+    asks : hand_asks_of (level_at k max_depth) (place_from k i n z) (end_from k i n z).state ++ (onwards_at i n (text_run k z)).asks ≡ shift t.gap last
 
   -- after pieces, of which there is one at least
   side : (i n : ℕ) (z : Place) (t : Trivia) (end : ℕ) (last : List Ask) → AllGo (pieces_from k i n z) → Tail i n z t end last → 0 < i + n
@@ -191,7 +191,7 @@ module _ (k : CharClasses) where
       let e = end_at k i z in
       let f = end_from k i n z in
       let looks = hand_asks_of (level_at k max_depth) (place_from k i n z) f.state in
-      let on = (onwards_from k i n z).asks in
+      let on = (onwards_at i n (text_run k z)).asks in
       let both = e.taken + f.taken in
       let late : lifted 0 0 (shift both looks) ++ shift both on ≡ shift end last =
       ap (λ u. u ++ shift both on) (lifted-none (shift both looks)) ∙ sym (map-append (shift_one both) looks on) ∙ ap (shift both) a.asks ∙ shift-twice both t.gap last ∙ ap (λ d. shift d last) a.ends in
@@ -209,7 +209,7 @@ module _ (k : CharClasses) where
   side-start text t end last a none begun begun_last =
       let z = start_of text in
       let ls = (lead k z).asks in
-      let on = (onwards_from k 0 0 z).asks in
+      let on = (onwards_at 0 0 (text_run k z)).asks in
       let hand = hand_asks_of (level_at k max_depth) (place_from k 0 0 z) (end_from k 0 0 z).state in
       let same : t.gap ≡ end = omega (arith, a.ends) in
       let all_last : hand ++ on ≡ shift end last = a.asks ∙ ap (λ d. shift d last) same in
@@ -289,24 +289,24 @@ run-splice-law k front old new rest i n m past t u h over over_new big big_new =
     -- the token after the old pieces, and after the new ones
     let hand_old : hand_asks_of l y s ≡ looked t.gap seen ∷ [] = hand-asks l y t.gap s (record { held = held; trivia = t; known = h.meets.known; gap = refl }) in
     let hand_new = hand-asks l v u.gap q (record { held = (text-read k i m w).held; trivia = u; known = h.meets.known_now; gap = refl }) in
-    let on_old : (onwards_from k i n z).asks ≡ shift t.gap asks = (onwards-fronted (text_run k z) (text-taking k) i n t h.meets.known).asks in
-    let on_new : (onwards_from k i m w).asks ≡ shift u.gap asks = kept.behind.asks_now ∙ ap (shift u.gap) (unshifted t.gap kept.behind.looks asks (sym kept.behind.asks ∙ on_old)) in
+    let on_old : (onwards_at i n (text_run k z)).asks ≡ shift t.gap asks = (onwards-fronted (text_run k z) (text-taking k) i n t h.meets.known).asks in
+    let on_new : (onwards_at i m (text_run k w)).asks ≡ shift u.gap asks = kept.behind.asks_now ∙ ap (shift u.gap) (unshifted t.gap kept.behind.looks asks (sym kept.behind.asks ∙ on_old)) in
     let b = onwards-begin r x (moved t.gap y) (passed t s) in
     let first_old : asks ≡ looked 0 seen ∷ b.more = b.is ∙ ap (λ ls. ls ++ b.more) (hand-asks l (moved t.gap y) 0 (passed t s) knows_passed) in
     let c = onwards-begin (text_run k w) (end_from k i m w).value v q in
-    let first_new : (onwards_from k i m w).asks ≡ looked u.gap (token_look l (moved u.gap v)) ∷ c.more =
+    let first_new : (onwards_at i m (text_run k w)).asks ≡ looked u.gap (token_look l (moved u.gap v)) ∷ c.more =
     ap (λ (o : Outcome (Unit {0})). o.asks) (onwards-is (text_run k w) i m) ∙ c.is ∙ ap (λ ls. ls ++ c.more) hand_new in
     let same_seen : token_look l (moved u.gap v) ≡ seen = ap first_look (sym first_new ∙ on_new) ∙ first-shift u.gap asks ∙ ap first_look first_old in
     let none : (d : ℕ) → looked d seen ∷ shift d asks ≡ shift d last = λ d. ap (λ a. looked a seen ∷ shift d asks) (omega arith) in
     let tail_old : Tail k i n z t end last = record {
       known = h.meets.known;
-      ends = h.ends;
-      asks = ap (λ ls. ls ++ (onwards_from k i n z).asks) hand_old ∙ ap (λ ls. looked t.gap seen ∷ ls) on_old ∙ none t.gap;
+      ends = omega (arith, h.ends);
+      asks = ap (λ ls. ls ++ (onwards_at i n (text_run k z)).asks) hand_old ∙ ap (λ ls. looked t.gap seen ∷ ls) on_old ∙ none t.gap;
     } in
     let tail_new : Tail k i m w u stop last = record {
       known = h.meets.known_now;
-      ends = h.shifted;
-      asks = ap (λ ls. ls ++ (onwards_from k i m w).asks) hand_new ∙ ap (λ a. looked u.gap a ∷ (onwards_from k i m w).asks) same_seen ∙ ap (λ ls. looked u.gap seen ∷ ls) on_new ∙ none u.gap;
+      ends = omega (arith, h.shifted);
+      asks = ap (λ ls. ls ++ (onwards_at i m (text_run k w)).asks) hand_new ∙ ap (λ a. looked u.gap a ∷ (onwards_at i m (text_run k w)).asks) same_seen ∙ ap (λ ls. looked u.gap seen ∷ ls) on_new ∙ none u.gap;
     } in
     let first_begins = subst (AllBeginIn past rest) first_old h.after in
     let begins : AllBeginIn past rest last = (first_begins.0, first_begins.1, h.after) in
@@ -459,12 +459,12 @@ start-known r zero (suc n) t h e = absurd (omega (arith, e))
 -- ---- the laws
 
 pub around-splice-law : AroundSpliceLaw
-around-splice-law k levels front old new rest c i n m past t u among h =
-    block-splice-law k front old new rest c _ among (inner-joint-law k levels front old new rest c i n m past t u among h).passes
+around-splice-law k levels front old new rest c among name level i n m past t u h =
+    block-splice-law k front old new rest c _ among (inner-joint-law k levels front old new rest c among name level i n m past t u h).passes
 
 pub inner-splice-law : InnerSpliceLaw
 unfolding log
-inner-splice-law k levels front old new rest c i n m past t u among h none none_new big big_new =
+inner-splice-law k levels front old new rest c among name level i n m past t u h none none_new big big_new =
     let z0 = text_with front old rest in
     let w0 = text_with front new rest in
     let z = moved c.at z0 in
@@ -473,8 +473,8 @@ inner-splice-law k levels front old new rest c i n m past t u among h none none_
     let f = c.fewer in
     let end = (length front + length old) + past in
     let stop = (length front + length new) + past in
-    let kept = inner-joint-law k levels front old new rest c i n m past t u among h in
-    let same = first-same k levels front old new rest c i h.pieces.looks in
+    let kept = inner-joint-law k levels front old new rest c among name level i n m past t u h in
+    let same = first-same k levels front old new rest c i h.before in
     let r = run_at k levels c z0 in
     let q = run_at k levels c w0 in
     let b = bracket k levels z s in
@@ -484,7 +484,7 @@ inner-splice-law k levels front old new rest c i n m past t u among h none none_
     let j = first_end i q in
     let x = then_end i n r in
     let v = then_end i m q in
-    let new_first : AllGo (first_of i q) = subst (λ os. AllGo os) (sym same.first) h.pieces.first_go in
+    let new_first : AllGo (first_of i q) = subst (λ os. AllGo os) (sym same.first) h.first_go in
     let close = close_at k levels i n c z0 in
     let tail_old = tail_at k levels i n c z0 in
     let tail_new = tail_at k levels i m c w0 in
@@ -516,9 +516,9 @@ inner-splice-law k levels front old new rest c i n m past t u among h none none_
     ap (λ ls. ls ++ rest_asks) (begun_new.is ∙ ap (λ ls. ls ++ begun_new.more) hand_new) in
     let same_seen : token_look l (moved u.gap o) ≡ seen = ap first_look (sym first_new ∙ behind_new) ∙ first-shift u.gap asks ∙ ap first_look first_old in
     let hand_now : hand_asks_of l o v.state ≡ looked u.gap seen ∷ [] = hand_new ∙ ap (λ a. looked u.gap a ∷ []) same_seen in
-    let first_begins = subst (AllBeginIn past rest) first_old h.looks.inside in
+    let first_begins = subst (AllBeginIn past rest) first_old h.after.inside in
     let begins : AllBeginIn past rest last =
-    looks-both (in-rest past rest) (lowered f (looked 0 seen ∷ asks)) (shift left c.after) (looks-lowered (in-rest past rest) f (looked 0 seen ∷ asks) (first_begins.0, first_begins.1, h.looks.inside)) (begins-further past left rest c.after h.looks.behind) in
+    looks-both (in-rest past rest) (lowered f (looked 0 seen ∷ asks)) (shift left c.after) (looks-lowered (in-rest past rest) f (looked 0 seen ∷ asks) (first_begins.0, first_begins.1, h.after.inside)) (begins-further past left rest c.after h.after.behind) in
     -- where the pieces and the block end
     let at = c.at + b.taken in
     let at_new = c.at + d.taken in
@@ -532,18 +532,18 @@ inner-splice-law k levels front old new rest c i n m past t u among h none none_
     let ls_new = (inner_lead k levels w s).asks in
     let here : (at + (e.taken + x.taken)) + gap_of x.state.known ≡ end = ap (λ a. (at + (e.taken + x.taken)) + gap_of a) h.meets.known ∙ h.ends in
     let here_new : (at_new + (j.taken + v.taken)) + gap_of v.state.known ≡ stop = ap (λ a. (at_new + (j.taken + v.taken)) + gap_of a) h.meets.known_now ∙ h.shifted in
-    let side_old = side-in r b.state ls max_depth at f z0 more_old end last i n h.pieces.old_go late_old here (λ a. plain-in k levels z s t (start-known r i n t h.meets.known a) (none a)) in
-    let side_new = side-in q d.state ls_new max_depth at_new f w0 more_new stop last i m h.pieces.new_go late_new here_new (λ a. plain-in k levels w s u (start-known q i m u h.meets.known_now a) (none_new a)) in
+    let side_old = side-in r b.state ls max_depth at f z0 more_old end last i n h.old_go late_old here (λ a. plain-in k levels z s t (start-known r i n t h.meets.known a) (none a)) in
+    let side_new = side-in q d.state ls_new max_depth at_new f w0 more_new stop last i m h.new_go late_new here_new (λ a. plain-in k levels w s u (start-known q i m u h.meets.known_now a) (none_new a)) in
     let alike = same-at max_depth front old new rest past last big big_new begins in
     -- what is asked before them
-    let cuts = inner-cut r b.state ls i (inner-lead-bare k levels z s) h.pieces.first_go in
+    let cuts = inner-cut r b.state ls i (inner-lead-bare k levels z s) h.first_go in
     let shown : 0 < i → SameIn (ls ++ asks_of (first_of i r)) (moved b.taken z) (moved b.taken w) = λ some.
-    same_in-at _ _ _ _ _ (sym (moved-sum c.at b.taken z0)) (sym (moved-sum c.at b.taken w0)) (same_in-shift at _ z0 w0 (before-same _ front old new rest (h.pieces.looks.before_run some))) in
+    same_in-at _ _ _ _ _ (sym (moved-sum c.at b.taken z0)) (sym (moved-sum c.at b.taken w0)) (same_in-shift at _ z0 w0 (before-same _ front old new rest (h.before.before_run some))) in
     let first_by : first_of i (seq_by k levels b w) ≡ first_of i r = ap (λ (a : Outcome (Unit {0})). first_of i (seq_by k levels a w)) (sym same.opened) ∙ same.first in
     let p = note_at r b.state i in
     let once : Again k levels i cuts.early p w d = subst (Again k levels i cuts.early p w) (sym same.opened) (inner-again k levels i z w b cuts first_by shown) in
     let opens = asks_before k levels z s in
-    let opens_new : asks_before k levels w s ≡ opens = before-again k levels z w s (same_in-shift c.at _ z0 w0 (before-same _ front old new rest h.pieces.looks.opens)) same.opened in
+    let opens_new : asks_before k levels w s ≡ opens = before-again k levels z w s (same_in-shift c.at _ z0 w0 (before-same _ front old new rest h.before.opens)) same.opened in
     let at_same : at_new ≡ at = ap (λ (a : Outcome (Unit {0})). c.at + a.taken) same.opened in
     let first = c.before ++ (lifted c.at f opens ++ lifted at f cuts.early) in
     let note = lifted_note at f p in
@@ -561,8 +561,8 @@ inner-splice-law k levels front old new rest c i n m past t u among h none none_
     ∙ whole-cut c.at f d.taken j.taken v.taken c.before (asks_before k levels w s) cuts.early (looks_next q ls_new i) (asks_of (then_of i m q)) _ (shift (stop + left) c.after) _ p once.is
     ∙ (λ v. (c.before ++ (lifted c.at f (opens_new v) ++ lifted (at_same v) f cuts.early)) ++ noting (lifted_note (at_same v) f p) ∷ (own_new ++ more_new)) in
     let early : AllEndBy (length front) first =
-    looks-both (ending (length front)) c.before _ h.pieces.looks.before (looks-both (ending (length front)) (lifted c.at f opens) (lifted at f cuts.early) (looks-lowered (looks-shifted (ending (length front)) c.at) f opens h.pieces.looks.opens)
-    (looks-lowered (looks-shifted (ending (length front)) at) f cuts.early (cuts.ends (length front) at h.pieces.looks.before_run))) in
+    looks-both (ending (length front)) c.before _ h.before.before (looks-both (ending (length front)) (lifted c.at f opens) (lifted at f cuts.early) (looks-lowered (looks-shifted (ending (length front)) c.at) f opens h.before.opens)
+    (looks-lowered (looks-shifted (ending (length front)) at) f cuts.early (cuts.ends (length front) at h.before.before_run))) in
     let note_new : lifted_note at_new f (note_at q d.state i) ≡ note = ap (λ a. lifted_note a f (note_at q d.state i)) at_same ∙ ap (lifted_note at f) once.note in
     -- in numbers
     let pieces = asks_of (first_of i r) in
@@ -575,7 +575,7 @@ inner-splice-law k levels front old new rest c i n m past t u among h none none_
     let own_is : notes_in own ≡ notes_in own_pieces =
     lifted-count at f (own_of r ls i n) ∙ count-append (looks_next r ls i) _ ∙ ap (λ a. a + notes_in (shift e.taken own_pieces)) (inner-next-none r b.state ls i (inner-lead-bare k levels z s)) ∙ omega (arith, count-shift e.taken own_pieces) in
     let log_is : logged max_depth w0 no_log own_new ≡ pieces_log_in k levels i m c w0 =
-    logged-lowered max_depth f at_new w0 no_log (own_of q ls_new i m) ∙ ap (λ a. logged a (moved at_new w0) no_log (own_of q ls_new i m)) h.pieces.level ∙ ap (λ a. logged (suc levels) a no_log (own_of q ls_new i m)) (moved-sum c.at d.taken w0) in
+    logged-lowered max_depth f at_new w0 no_log (own_of q ls_new i m) ∙ ap (λ a. logged a (moved at_new w0) no_log (own_of q ls_new i m)) level ∙ ap (λ a. logged (suc levels) a no_log (own_of q ls_new i m)) (moved-sum c.at d.taken w0) in
     splice-texts k front old new rest first note (lifted_note at_new f (note_at q d.state i)) own (own ++ more_old) own_new (own_new ++ more_new) (entries_at max_depth z0 end last) (back_at max_depth z0 end last) from (notes_in own_pieces)
     was now note_new early side_old (side-by max_depth _ _ _ _ _ _ _ _ alike.entries alike.back side_new) from_is own_is
     ∙ ap (λ a. spliced from (from + notes_in own_pieces) (entries_from (token_start w0 (end_note_in k levels i c w0)) a.notes) (units_of (log k (front ++ (old ++ rest))))) log_is

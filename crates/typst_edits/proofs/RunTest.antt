@@ -1,33 +1,34 @@
 -- What the entries say of a run, and what is found of a candidate that is pieces of it: of a text's run and of a content block's.
 use Rattle.std.proofs.Common.{◌≡◌, ℕ, suc, ◌+◌, ◌-◌, ◌<◌, ◌≤◌, List, [], ◌∷◌, ◌++◌, length, take, ap, sym, ◌∙◌, arith, ◌↔◌, zero, ◌^◌, ◌==◌, ne_eqb, Bool, true, false, Some, refl, subst, if◌then◌else◌, drop, length-append, append_assoc, pos_of_ne-zero}
-use Rattle.typst_edits.proofs.Words.{take-append-le, append_cancel_right, CharClasses, width, position, Note, State, opening_of, max_depth, start_of, level_at, log, tree, entries_in, front_in, rear_in, entries_alone, Among, text_with, AllBeginIn, path_of, blocks_of_text, listed, number_of, RunNumbersLaw, number_in, InnerNumbersLaw, InnerNumbers, cut_of, RunNumbers, cut_in, notes_in, token_start, entries_from, Spot, unit_at, Place, moved, Tree, bare, is_end, no_log, logged, run, Trivia, gap_of, point_of, moved-sum, Entry, Candidate, units_of, entries_by, spliced, candidates, IsPieces, RootPiecesOfLaw, InnerPiecesOfLaw, Run, top, cut_at, is_over, nodes_now, Agrees, Before, After, PassesPieces, Gives, of_block, of_pieces, first_place, InOrderLaw, text_run, asked_past, cut_after, TakesNone, fresh, root_run, end_note, pieces_log, OverAt, notes_by, BeginsAt, IsLast, reading_on, nodes_by, PassesRead, made, AllGo, asks_of, start, lead, pieces, end_at, pieces_from, end_from, Sequence, turn_of, first_of, first_end, then_of, then_end, take-append_seam, start_at, Block, closing_of, first_look, bracket, inner_run, run_at, EndsBefore, inner_end, left_past, PassesInnerJoint, block_run, Around, level_in, InnerPart, OpensApartLaw, true_from_ne_false}
+use Rattle.typst_edits.proofs.Words.{take-append-le, append_cancel_right, CharClasses, width, position, Note, State, opening_of, max_depth, start_of, log, tree, entries_in, front_in, rear_in, entries_alone, Among, text_with, AllBeginIn, path_of, blocks_of_text, listed, number_of, RunNumbersLaw, number_in, InnerNumbersLaw, InnerNumbers, cut_of, RunNumbers, cut_in, notes_in, token_start, entries_from, Spot, unit_at, Place, moved, Tree, bare, no_log, logged, Trivia, gap_of, point_of, moved-sum, Entry, Candidate, units_of, entries_by, spliced, candidates, IsPieces, RootPiecesOfLaw, InnerPiecesOfLaw, Run, top, cut_at, is_over, nodes_now, Agrees, Before, After, PassesPieces, Gives, of_block, of_pieces, first_place, InOrderLaw, text_run, asked_past, cut_after, TakesNone, fresh, root_run, end_note, pieces_log, OverAt, notes_by, BeginsAt, IsLast, reading_on, nodes_by, PassesRead, made, AllGo, asks_of, start, lead, pieces, end_at, pieces_from, end_from, Sequence, turn_of, first_of, first_end, then_of, then_end, take-append_seam, start_at, closing_of, first_look, bracket, inner_run, run_at, EndsBefore, inner_end, left_past, block_run, Around, level_in, InnerPart, OpensApartLaw, true_from_ne_false, is_text_run, is_block_run, PassesJoint}
 use Rattle.typst_edits.specs.Frame.{inner}
 use Rattle.typst_edits.specs.RunTest.{RunTestLaw, FoundInner, InnerRunTestLaw}
-use Rattle.typst_edits.specs.InnerPiecesTest.{InnerEntries, GivesInner, read_alone as inner_read_alone}
+use Rattle.typst_edits.specs.InnerPiecesTest.{InnerEntries}
 use Rattle.typst_edits.proofs.BlockPlaces.{hole-same, split-same}
 use Rattle.typst_edits.proofs.Bytes.{decision-law}
 use Rattle.typst_edits.proofs.EntryNumbers.{some-number}
 use Rattle.typst_edits.proofs.Walk.{spot-place}
 use Rattle.typst_candidates.proofs.Walks.{rear-most}
-use Rattle.typst_edits.specs.PiecesTest.{RunEntries, read_alone, end_alone}
+use Rattle.typst_edits.specs.PiecesTest.{GivesPieces, RunEntries, read_alone}
 use Rattle.typst_edits.specs.RunTest.LooksFrom.{nothing, closing as from_closing}
 use Rattle.typst_edits.proofs.Content.{tail-none}
-use Rattle.typst_edits.proofs.AnyRun.{entries-listed, AreWithin, found-by, room-by, ReadsFrom, Entered, passes-too, Read, UnitsBy, given-by, begins-now, found, looks_by, Span, Found, one-span, none-last, read-by}
+use Rattle.typst_edits.proofs.AnyRun.{entries-listed, AreWithin, found-by, room-by, ReadsFrom, Entered, passes-too, Read, UnitsBy, given-by, begins-now, read_from, found, looks_by, Span, Found, one-span, none-last, read-by}
 use Rattle.typst_edits.proofs.Children.{top-known}
 use Rattle.typst_edits.proofs.Cuts.{cuts-law, ends-within, inner-cuts-law, inner-within}
 use Rattle.typst_edits.proofs.EmptyRuns.{empty-text-law}
 use Rattle.typst_edits.proofs.Outcomes.{shift-zero}
 use Rattle.typst_edits.proofs.PiecesLog.{pieces-log-law}
 use Rattle.typst_edits.proofs.Splice.{count-made}
-use Rattle.typst_edits.proofs.PiecesTest.{run-entries-law, run-part-law, text-rereads as rereads, rereads as inner-rereads, first-part, inner-entries-law, inner-part-law}
-use Rattle.typst_edits.proofs.ReadAlone.{first-goes, begun, alike, goes-there}
+use Rattle.typst_edits.proofs.PiecesTest.{run-entries-law, run-part-law, rereads, first-part, inner-entries-law, inner-part-law}
+use Rattle.typst_edits.proofs.Joint.{first-now}
+use Rattle.typst_edits.proofs.ReadAlone.{begun, alike, goes-there}
 use Rattle.typst_edits.proofs.Heads.{lead-empties}
-use Rattle.typst_edits.proofs.Resumed.{block-markup, count-law, further, inner-count-law, alone-further, known-after, then-known}
-use Rattle.typst_edits.proofs.BlockRuns.{within}
-use Rattle.typst_edits.proofs.RunCandidates.{root-candidate-law, no-errors, inner-candidate-law}
-use Rattle.typst_edits.proofs.RunPieces.{behind-zero, cut-is, cut-some, joint-of, block-taken, inner-joint-of}
+use Rattle.typst_edits.proofs.Resumed.{count-law, alone-further, known-after, markup-of, then-known}
+use Rattle.typst_edits.proofs.Leading.{no-errors}
+use Rattle.typst_edits.proofs.OpensApart.{opens-apart-law}
+use Rattle.typst_edits.proofs.RunCandidates.{begins-well-law}
+use Rattle.typst_edits.proofs.RunPieces.{behind-zero, cut-is, cut-some, joins-of, block-taken}
 use Rattle.typst_edits.proofs.Widths.{width-append, take-same, take-longer}
-use Rattle.typst_edits.proofs.Joint.{text-taking}
 use Rattle.typst_edits.proofs.BlockTest.{Key, Numbers, numbers, byte-at, alone-same, entries-same, says-same}
 use Rattle.typst_edits.proofs.EmptyBlocks.{end-still, empty-block-law}
 use Rattle.typst_edits.proofs.RunSplice.{around-splice-law, inner-splice-law}
@@ -76,12 +77,6 @@ same-home k text s r levels more there too level level_too room room_too v w byt
 
 -- ---- entries and counts
 
--- More pieces that are read by themselves end further on.
-pub text-further : (k : CharClasses) (m n : ℕ) (x : Bool × ℕ) (y : Place) → m < n → AllGo (read_alone k x n y) → (let e = end_alone k x m y in let f = end_alone k x n y in e.taken + gap_of e.state.known < f.taken + gap_of f.state.known)
-unfolding run
-text-further k m n x y some g =
-    further (level_at k max_depth) is_end (text-taking k) m n x y (fresh (level_at k max_depth) y) (record { trivia = _; is = refl }) some g
-
 -- ---- the reading by itself
 
 module _ (k : CharClasses) (front old new rest : List ℕ) where
@@ -111,7 +106,7 @@ module _ (k : CharClasses) (front old new rest : List ℕ) where
       ∙ ap (λ ls. entries_by (position w) (listed (logged max_depth w no_log ((lead k w).asks ++ ls)).notes)) (shift-zero (asks_of (pieces_from k 0 m w)))
   part-is (suc j) m g alone looks go =
       let i = suc j in
-      let b = begun k front old new rest own (rereads k front old new rest) j g (alone (omega arith)) looks in
+      let b = begun k front old new rest own (rereads k front old new rest own) j g (alone (omega arith)) looks in
       let x = (first_end i now).value in
       let cut = moved (cut_at own i z) w in
       let place = moved-sum (first_end i now).taken b.trivia.gap w ∙ b.place in
@@ -178,13 +173,22 @@ module _ (in_order : InOrderLaw) (k : CharClasses) (front old new rest : List �
 
     pub reads-from : Before k front old rest top_run i → ReadsFrom k front old new rest top_run of.Text max_depth i
     reads-from looks =
-        let again = rereads k front old new rest in
+        let again = rereads k front old new rest top_run in
         let clear = lead-empties k (text_with front old rest) in
         record {
           go = λ m h. goes-there k front old new rest top_run again i m p.go clear p.none looks h;
-          known = λ m go. then-known (text_run k (text_with front new rest)) again.markup i m (first-goes k front old new rest top_run again i looks p.go) go;
+          known = λ m go. then-known (text_run k (text_with front new rest)) (markup-of k (text_run k (text_with front new rest)) (is_text_run (text_with front new rest))) i m (first-now k front old new rest top_run i looks p.go) go;
           alike = λ m u go is. (let a = alike k front old new rest top_run again i m u p.go clear p.none looks go is in record { go = a.go; sum = a.sum; value = a.value; nodes = a.nodes });
         }
+
+    pub exchanged-units : width (front ++ (new ++ rest)) < 2 ^ 64 - 1 → (m : ℕ) (u : Trivia) → PassesJoint k front old new rest top_run i n m past t u → (i + n ≡ 0 → OverAt k i n begin) → (i + m ≡ 0 → OverAt k i n begin)
+        → units_of (log k (front ++ (new ++ rest))) ≡ spliced (number_of k text i) (number_of k text (i + n)) (entries_by c.start (notes_by k (read_from k front old new rest top_run of.Text max_depth i) m)) (units_of (log k text))
+    exchanged-units big_new m u joint over over_new =
+        let e = notes in
+        let there = read_from k front old new rest top_run of.Text max_depth i in
+        let part = part-is k front old new rest i m p.go p.none joint.before joint.new_go ∙ ap (λ a. entries_by a (notes_by k there m)) (begins-now k front old new rest top_run of.Text max_depth c i n past t p) in
+        run-part-law k front old new rest i n m past t u joint over over_new big big_new e
+        ∙ (λ a. spliced (e.from a) (to-is a) (part a) (units_of (log k text)))
 
   unfoldable pub entered : Entered k front old new rest top_run of.Text max_depth 0
   entered = record {
@@ -204,13 +208,14 @@ module _ (in_order : InOrderLaw) (k : CharClasses) (front old new rest : List �
     met = λ m x y h block. absurd (let no : of.Text ≡ of.Block = block in cc);
     alone = length es;
     alone_from = λ to. nothing (length es) r.last refl (omega arith);
-    further = λ i m j l go. (let more = text-further k m j (first_end i whole).value (moved (cut_at top_run i begin) (text_with front new rest)) l go in omega (arith, more));
+    further = λ i m j l go. (let more = alone-further k (text_run k (text_with front new rest)) (is_text_run (text_with front new rest)) m j (first_end i whole).value (moved (cut_at top_run i begin) (text_with front new rest)) l go in omega (arith, more));
     within = within-text;
-    counts = count-law k begin;
+    counts = count-law k whole (is_text_run begin);
     before = before-is;
     behind = behind-is;
     alone_behind = none-behind;
     reads = reads-from;
+    exchanged = λ big_new c i n m past t u p joint some more. exchanged-units c i n past t p big_new m u joint (λ none. absurd (omega (arith, none, some))) (λ none. absurd (omega (arith, none, more)));
   }
 
   -- ---- a candidate
@@ -231,16 +236,12 @@ module _ (in_order : InOrderLaw) (k : CharClasses) (front old new rest : List �
     units-are : width (front ++ (new ++ rest)) < 2 ^ 64 - 1 → (m : ℕ) → Read k front old new rest top_run of.Text max_depth 0 entered c i n past t p m → UnitsBy k front old new rest top_run of.Text max_depth 0 entered c i n past t p m
     unfolding entered
     units-are big_new m h =
-        let e = notes c i n past t p in
         let g = given-by k front old new rest top_run of.Text max_depth 0 entered c i n past t p m h in
         let u = g.behind in
-        let well = root-candidate-law k front old new rest root c i n m past t u same among no_block at_root p.start p.led p.end g.passes in
-        let joint = joint-of k front old new rest i n m past t u g.passes well.goes_on in
+        let well = (begins-well-law opens-apart-law k front old new rest root top c i n m past t u same among no_block at_root p.start p.led p.end g.passes).1 in
+        let joint = joins-of k front old new rest top i n m past t u tt g.passes well.goes_on in
         let over : n ≡ 0 → OverAt k i n was_at = λ none. (let alone = p.empty none in subst (λ j. is_over i j whole ≡ true) (sym none) (subst (λ j. is_over j 0 whole ≡ true) (sym alone.0) alone.1)) in
-        let there = reading_on of.Text max_depth (end_at k i was_at).value (moved (cut_at top_run i was_at) (text_with front new rest)) in
-        let part = part-is k front old new rest i m p.go p.none g.passes.before g.passes.new_go ∙ ap (λ a. entries_by a (notes_by k there m)) (begins-now k front old new rest top_run of.Text max_depth 0 entered c i n past t p) in
-        run-part-law k front old new rest i n m past t u joint (λ none. over (omega (arith, none))) (λ none. stops (omega (arith, none)) _ g.passes.agrees) big big_new e
-        ∙ (λ a. spliced (e.from a) (to-is c i n past t p a) (part a) (units_of (log k text)))
+        exchanged-units c i n past t p big_new m u joint (λ none. over (omega (arith, none))) (λ none. stops (omega (arith, none)) _ g.passes.agrees)
       where
         stops : m ≡ 0 → (y : Bool × ℕ) → Agrees top_run (is_over i n whole) m (end_from k i n was_at).value y → OverAt k i n was_at
         stops z y h = true_from_ne_false (is_over i n whole) (λ e. (let more = (subst (λ b. Agrees top_run b m (end_from k i n was_at).value y) e h).0 in omega (arith, z, more)))
@@ -391,10 +392,10 @@ module _ (ordered : InOrderLaw) (k : CharClasses) (levels : ℕ) (front old new 
     pub inner-reads-from : Before k front old rest here i → ReadsFrom k front old new rest here of.Block (suc levels) i
     inner-reads-from looks =
         let clear = no-errors k levels inner_text s there name level (omega (arith, around.starts, around.ends)) in
-        let again = inner-rereads k levels front old new rest s there name level in
+        let again = rereads k front old new rest here in
         record {
           go = λ m h. goes-there k front old new rest here again i m is.go clear is.none looks h;
-          known = λ m go. then-known (run_at k levels s inner_w) again.markup i m (first-goes k front old new rest here again i looks is.go) go;
+          known = λ m go. then-known (run_at k levels s inner_w) (markup-of k (run_at k levels s inner_w) (is_block_run levels (moved s.at inner_w) (point_of s.start))) i m (first-now k front old new rest here i looks is.go) go;
           alike = λ m u go known. (let a = alike k front old new rest here again i m u is.go clear is.none looks go known in record { go = a.go; sum = a.sum; value = a.value; nodes = a.nodes });
         }
 
@@ -406,12 +407,41 @@ module _ (ordered : InOrderLaw) (k : CharClasses) (levels : ℕ) (front old new 
       let over = (is.empty refl).1 in
       let e = empty-block-law k levels front old rest s past t there name level over is.known in
       let end = closing in
-      let far : end.far ≡ past + left_past k levels 0 0 t s inner_z = omega (arith, end.ends, block-taken k levels front old old rest s there name level 0 0 past t tt tt is.known is.ends) in
+      let far : end.far ≡ past + left_past k levels 0 0 t s inner_z = omega (arith, end.ends, block-taken k levels front old rest s there name level 0 0 past t tt tt is.known is.ends) in
       let early = is.early in
       let fits = room-by k front old new rest here of.Block (suc levels) inner-within-text c 0 0 past t (found-by k front old new rest here of.Block (suc levels) c 0 0 past t is) (omega (arith, early)) in (
         (λ l. e.after (omega (arith, end-still k levels (moved s.at inner_z) (point_of s.start) t is.known over), omega (arith, fits), tt) (subst (λ p. AllBeginIn p rest s.after) far (end.late.0 l))),
         (λ h. end.late.1 (subst (λ p. AllBeginIn p rest s.after) (sym far) h.behind)),
       )
+
+  -- ---- the entries that are exchanged
+
+  part-of : (i m : ℕ) → (0 < i → TakesNone i q) → AllGo (first_of i q) → EndsBefore k levels front old rest s i → AllGo (then_of i m (run_at k levels s inner_w)) → InnerPart k levels front old new rest s (cut_at here i inner_z) i m
+  part-of zero m none g looks go = first-part k levels front old new rest s there name level m around looks go
+  part-of (suc j) m none g looks go = inner-part-law k levels front old new rest s there name level (suc j) m (omega arith) g (none (omega arith)) looks go
+
+  module _ (c : Candidate) (i n m past : ℕ) (t u : Trivia) (is : IsPieces k front old rest (block_run s levels there name level) c i n past t) (h : PassesJoint k front old new rest (block_run s levels there name level) i n m past t u) (big_new : width (front ++ (new ++ rest)) < 2 ^ 64 - 1) where
+    -- where pieces stand in both texts, those of the pieces
+    pub pieces-units : 0 < i + n → 0 < i + m → units_of (log k (front ++ (new ++ rest))) ≡ spliced (number_in k levels inner_text s i) (number_in k levels inner_text s (i + n)) (entries_by c.start (notes_by k (read_from k front old new rest here of.Block (suc levels) i) m)) (units_of (log k inner_text))
+    pieces-units some more =
+        let splice = inner-splice-law k levels front old new rest s there name level i n m past t u h (λ e. absurd (omega (arith, e, some))) (λ e. absurd (omega (arith, e, more))) big big_new in
+        let part = part-of i m is.none is.go h.before h.new_go in
+        let y = moved (cut_at here i inner_z) inner_w in
+        let notes = (logged (suc levels) y no_log ((first_look (level_in k levels) y).asks ++ asks_of (read_alone (run_at k levels s inner_w) (first_end i q).value m y))).notes in
+        let inner_own = ap (λ b. entries_from b notes) (begins-now k front old new rest here of.Block (suc levels) c i n past t is) ∙ entries-listed c.start notes in
+        let was = units_of (log k inner_text) in
+        let to : number_in k levels inner_text s i + notes_in (asks_of (then_of i n q)) ≡ number_in k levels inner_text s (i + n) = sym (number-sum i n) in
+        splice ∙ (λ j. spliced (number_in k levels inner_text s i) (to j) (entries_from (part.token j) (part.log_is j).notes) was) ∙ ap (λ ps. spliced (number_in k levels inner_text s i) (number_in k levels inner_text s (i + n)) ps was) inner_own
+
+    -- and in any case those of the block
+    block-units : units_of (log k (front ++ (new ++ rest))) ≡ spliced v.opens v.closes (entries_alone k (suc levels) block.Content v.mode (moved s.at inner_w)) (units_of (log k inner_text))
+    block-units =
+        let whole = around-splice-law k levels front old new rest s there name level i n m past t u h big big_new in
+        let opens : whole.opens ≡ v.opens = omega (arith, whole.number, v.before) in
+        let to : suc (whole.opens + notes_in (unit_at s inner_z).asks) ≡ v.closes = omega (arith, opens, closing.last) in
+        let alike = alone-same k front old new rest s there h.before.before in
+        let part = entries-same k front old new rest s alike ∙ (λ j. entries_alone k (level j) (name j) (v.mode_is j) (moved s.at inner_w)) in
+        whole.units ∙ (λ j. spliced (opens j) (to j) (part j) (units_of (log k inner_text)))
 
   unfoldable pub inner-entered : Entered k front old new rest here of.Block (suc levels) (suc v.opens)
   inner-entered = record {
@@ -426,49 +456,20 @@ module _ (ordered : InOrderLaw) (k : CharClasses) (levels : ℕ) (front old new 
     not_last = v.not_last;
     says = v.says;
     cuts = λ i j l go. (let less = inner-cuts-law k levels inner_text s i j l go in let one = inner-byte-is i in let two = inner-byte-is j in omega (arith, less, one, two));
-    known = known-after q (block-markup k levels (moved s.at inner_z) (point_of s.start));
+    known = known-after q (markup-of k q (is_block_run levels (moved s.at inner_z) (point_of s.start)));
     meets = λ m x y h. h refl;
     met = λ m x y h is. h;
     alone = v.closes;
     alone_from = λ to. from_closing v.closes v.last refl v.closing;
-    further = λ i m j l go. (let more = alone-further k levels m j (first_end i q).value (moved (cut_at here i inner_z) inner_w) l go in omega (arith, more));
+    further = λ i m j l go. (let more = alone-further k (run_at k levels s inner_w) (is_block_run levels (moved s.at inner_w) (point_of s.start)) m j (first_end i q).value (moved (cut_at here i inner_z) inner_w) l go in omega (arith, more));
     within = inner-within-text;
-    counts = inner-count-law k levels (moved s.at inner_z) (point_of s.start);
+    counts = count-law k q (is_block_run levels (moved s.at inner_z) (point_of s.start));
     before = inner-before-is;
     behind = inner-behind-is;
     alone_behind = inner-none-behind;
     reads = inner-reads-from;
+    exchanged = λ big_new c i n m past t u is h some more. pieces-units c i n m past t u is h big_new some more;
   }
-
-  -- ---- the entries that are exchanged
-
-  part-of : (i m : ℕ) → (0 < i → TakesNone i q) → AllGo (first_of i q) → EndsBefore k levels front old rest s i → AllGo (then_of i m (run_at k levels s inner_w)) → InnerPart k levels front old new rest s (cut_at here i inner_z) i m
-  part-of zero m none g looks go = first-part k levels front old new rest s there name level m around looks go
-  part-of (suc j) m none g looks go = inner-part-law k levels front old new rest s there name level (suc j) m (omega arith) g (none (omega arith)) looks go
-
-  module _ (c : Candidate) (i n m past : ℕ) (t u : Trivia) (is : IsPieces k front old rest (block_run s levels there name level) c i n past t) (h : PassesInnerJoint k levels front old new rest s i n m past t u) (big_new : width (front ++ (new ++ rest)) < 2 ^ 64 - 1) where
-    -- where pieces stand in both texts, those of the pieces
-    pieces-units : 0 < n → 0 < m → UnitsBy k front old new rest here of.Block (suc levels) (suc v.opens) inner-entered c i n past t is m
-    unfolding inner-entered
-    pieces-units some more =
-        let splice = inner-splice-law k levels front old new rest s i n m past t u there h (λ e. absurd (omega (arith, e, some))) (λ e. absurd (omega (arith, e, more))) big big_new in
-        let part = part-of i m is.none is.go h.pieces.looks h.pieces.new_go in
-        let y = moved (cut_at here i inner_z) inner_w in
-        let notes = (logged (suc levels) y no_log ((first_look (level_in k levels) y).asks ++ asks_of (inner_read_alone k levels (first_end i q).value m y))).notes in
-        let inner_own = ap (λ b. entries_from b notes) (begins-now k front old new rest here of.Block (suc levels) (suc v.opens) inner-entered c i n past t is) ∙ entries-listed c.start notes in
-        let was = units_of (log k inner_text) in
-        let to : number_in k levels inner_text s i + notes_in (asks_of (then_of i n q)) ≡ number_in k levels inner_text s (i + n) = sym (number-sum i n) in
-        splice ∙ (λ j. spliced (number_in k levels inner_text s i) (to j) (entries_from (part.token j) (part.log_is j).notes) was) ∙ ap (λ ps. spliced (number_in k levels inner_text s i) (number_in k levels inner_text s (i + n)) ps was) inner_own
-
-    -- and in any case those of the block
-    block-units : units_of (log k (front ++ (new ++ rest))) ≡ spliced v.opens v.closes (entries_alone k (suc levels) block.Content v.mode (moved s.at inner_w)) (units_of (log k inner_text))
-    block-units =
-        let whole = around-splice-law k levels front old new rest s i n m past t u there h big big_new in
-        let opens : whole.opens ≡ v.opens = omega (arith, whole.number, v.before) in
-        let to : suc (whole.opens + notes_in (unit_at s inner_z).asks) ≡ v.closes = omega (arith, opens, closing.last) in
-        let alike = alone-same k front old new rest s there h.pieces.looks.before in
-        let part = entries-same k front old new rest s alike ∙ (λ j. entries_alone k (level j) (name j) (v.mode_is j) (moved s.at inner_w)) in
-        whole.units ∙ (λ j. spliced (opens j) (to j) (part j) (units_of (log k inner_text)))
 
 -- ---- a candidate
 
@@ -494,7 +495,7 @@ module _ (apart : OpensApartLaw) (ordered : InOrderLaw) (numbered : InnerNumbers
       → ts ≡ nodes_now (block_run q more too name_too level_too) j m u (text_with front new rest) → Passing k front old new rest c (home_of levels s) numbers_of.closes i n ts
   unfolding inner-entered
   by-block more q too name_too level_too j d m far a u ts path_too g led_too h made =
-      let beside = (inner-candidate-law apart k more front old new rest root q too name_too level_too c j d m far a u same chosen is (sym path_too) g.start led_too g.end h).0 in
+      let beside = (begins-well-law apart k front old new rest root (block_run q more too name_too level_too) c j d m far a u same chosen is (sym path_too) g.start led_too g.end h).0 in
       let one = length-append front (old ++ rest) in
       let starts = around.starts in
       let starts_too = beside.starts in
@@ -503,8 +504,8 @@ module _ (apart : OpensApartLaw) (ordered : InOrderLaw) (numbered : InnerNumbers
       let alike : home_of levels s ≡ home_of more q = same-home k whole_text s q levels more there too level level_too (omega (arith, starts, one)) (omega (arith, starts_too, one)) numbers_of inner_w byte in
       let spans = one-span k front old new rest inner_own of.Block (suc levels) (suc numbers_of.opens) entries_of c i n past t (found-by k front old new rest inner_own of.Block (suc levels) c i n past t p) j d far a
       (subst (λ (x : Home). FoundBy k front old rest c x j d far a) (sym alike) g) (omega (arith, p.early)) in
-      let given : GivesInner k more front old new rest q too name_too level_too j d m far a ts = record { behind = u; passes = h; are = made } in
-      let here : GivesInner k more front old new rest q too name_too level_too i n m past t ts = subst (λ (x : Span). GivesInner k more front old new rest q too name_too level_too x.i x.n m x.past x.trivia ts) (sym spans) given in
+      let given : GivesPieces k front old new rest (block_run q more too name_too level_too) j d m far a ts = record { behind = u; passes = h; are = made } in
+      let here : GivesPieces k front old new rest (block_run q more too name_too level_too) i n m past t ts = subst (λ (x : Span). GivesPieces k front old new rest (block_run q more too name_too level_too) x.i x.n m x.past x.trivia ts) (sym spans) given in
       let is_too = pieces-too k levels more front old rest s q there name level too name_too level_too c i n past t alike p in
       let read = read-by k front old new rest (block_run q more too name_too level_too) of.Block (suc more) (suc inner_w.opens) (inner-entered ordered k more front old new rest q too name_too level_too beside inner_w big) c i n past t is_too m here.behind here.passes in
       let pass : Passing k front old new rest c (home_of more q) inner_w.closes i n ts = (m, read.0, here.are ∙ read.1) in
@@ -528,10 +529,10 @@ module _ (apart : OpensApartLaw) (ordered : InOrderLaw) (numbered : InnerNumbers
       (x.0, g.behind, g.passes, x.2 ∙ sym g.nodes)
 
   module _ (big_new : width (front ++ (new ++ rest)) < 2 ^ 64 - 1) where
-    joint : (m : ℕ) (u : Trivia) → PassesPieces k front old new rest inner_own i n m past t u → PassesInnerJoint k levels front old new rest s i n m past t u
+    joint : (m : ℕ) (u : Trivia) → PassesPieces k front old new rest inner_own i n m past t u → PassesJoint k front old new rest (block_run s levels there name level) i n m past t u
     joint m u h =
-        let well = inner-candidate-law apart k levels front old new rest root s there name level c i n m past t u same chosen is path p.start p.led p.end h in
-        inner-joint-of k levels front old new rest s there name level i n m past t u around h well.1.goes_on
+        let well = begins-well-law apart k front old new rest root inner_own c i n m past t u same chosen is path p.start p.led p.end h in
+        joins-of k front old new rest inner_own i n m past t u around h well.1.goes_on
 
     -- A candidate without a piece begins at the run's last entry.
     some-piece : (IsLast (entries_in k (front ++ (old ++ rest))) (entries_of.number i) → ⊥) → 0 < n
@@ -552,7 +553,9 @@ module _ (apart : OpensApartLaw) (ordered : InOrderLaw) (numbered : InnerNumbers
           run = found k front old new rest inner_own of.Block (suc levels) (suc numbers_of.opens) entries_of c i n past t p inner-own-pieces is (sym path)
               (λ m h some. (let here = some refl in
               let g = given-by k front old new rest inner_own of.Block (suc levels) (suc numbers_of.opens) entries_of c i n past t p m h in
-              pieces-units ordered k levels front old new rest s there name level around numbers_of big c i n m past t g.behind p (joint m g.behind g.passes) big_new (some-piece here.0) here.1));
+              let pieces = some-piece here.0 in
+              let some_new = here.1 in
+              entries_of.exchanged big_new c i n m past t g.behind p (joint m g.behind g.passes) (omega (arith, pieces)) (omega (arith, some_new))));
           at = s.at;
           start = byte;
           start_now = byte-at s.at (front ++ (new ++ rest)) ∙ ap width (take-append-le s.at front (new ++ rest) (omega (arith, starts)) ∙ sym (take-append-le s.at front (old ++ rest) (omega (arith, starts)))) ∙ sym byte;

@@ -1,6 +1,6 @@
 -- A text's tree and log, where pieces of its run are exchanged.
 use Rattle.std.proofs.Common.{◌≡◌, ℕ, ◌+◌, Bool, true, false, List, [], ◌∷◌, ◌++◌, append_assoc, append-nil, refl, ap, sym, ◌∙◌, arith}
-use Rattle.typst_edits.proofs.Words.{map-append, Tree, forest, inner_of, Place, CharClasses, Ask, shift, no_log, logged, Outcome, plain, less, standing, joined, run, Level, Point, gap_of, state_of, hinted, less-none, max_depth, start_of, parsed, tree, log, level_at, text_with, onwards_from, text_run, given, run_mark, start, AllGo, End, end_of, asks_of, chain, lead, pieces, end_at, pieces_from, end_from, rest_from, tail, whole_of, peek, marked, run_of, standing-joined}
+use Rattle.typst_edits.proofs.Words.{map-append, Tree, forest, inner_of, Place, CharClasses, Ask, shift, no_log, logged, Outcome, plain, less, standing, joined, run, Level, Point, gap_of, state_of, hinted, less-none, max_depth, start_of, parsed, tree, log, level_at, text_with, onwards_at, text_run, given, run_mark, start, AllGo, End, end_of, asks_of, chain, lead, pieces, end_at, pieces_from, end_from, rest_from, tail, whole_of, peek, marked, run_of, standing-joined}
 use Rattle.typst_edits.specs.RunTrees.{tree_by, RunTreeLaw}
 use Rattle.typst_kinds.specs.declared.kind.SyntaxKind.TheVariants as kind
 pub use Rattle.typst_grammar.proofs.Heads.{standing-none}
@@ -68,7 +68,7 @@ pub chain-last : (ls : List Ask) (x : Bool × ℕ) (s : Point) (os : List (Outco
 chain-last ls x s os q t = chained-asks ls x x s s os [] q t ∙ ap (λ u. (ls ++ asks_of os) ++ shift (end_of x s os).taken u) (shift-zero (q.asks ++ shift q.taken t.asks))
 
 -- a text's tree, by its pieces and all after them
-pub tree-is : (k : CharClasses) (text : List ℕ) (i n : ℕ) → (let z = start_of text in AllGo (pieces k i z) → AllGo (pieces_from k i n z) → tree k text ≡ tree_by (pieces k i z) (pieces_from k i n z) (onwards_from k i n z))
+pub tree-is : (k : CharClasses) (text : List ℕ) (i n : ℕ) → (let z = start_of text in AllGo (pieces k i z) → AllGo (pieces_from k i n z) → tree k text ≡ tree_by (pieces k i z) (pieces_from k i n z) (onwards_at i n (text_run k z)))
 unfolding tree
 tree-is k text i n g h =
     let z = start_of text in

@@ -1,6 +1,6 @@
 -- The names that many of these proofs cite, passed on from one place. Declares nothing.
 pub use Rattle.std.proofs.Math.Seq.{drop-append-add, take-append_seam}
-pub use Rattle.std.proofs.lemmas.Bool.{and_left, and_parts, and_right, both_ways, cases_Bool, cases_eq, cases_lt, eqb-false, eqb-true, false_from_ne_true, ltb-false, or_left, true_from_ne_false}
+pub use Rattle.std.proofs.lemmas.Bool.{and_left, and_parts, and_right, both_ways, cases_Bool, cases_eq, cases_lt, eqb-false, eqb-true, false_from_ne_true, or_left, true_from_ne_false}
 pub use Rattle.std.proofs.lemmas.Bool.{cond-true as if-true, cond-false as if-false}
 pub use Rattle.std.proofs.lemmas.Bool.Decides.{nat_tests}
 pub use Rattle.std.proofs.lemmas.List.{append_cancel_left, append_cancel_right, drop-append-le, drop-map, length-map, map-append, nil_from_length, take-append-drop, take-append-le, take-map}
@@ -108,28 +108,27 @@ pub use Rattle.typst_edits.specs.BlockSplice.{block_log, closing}
 pub use Rattle.typst_edits.specs.BlockTest.{SaysBlock, entries_alone, entries_in, front_in, rear_in}
 pub use Rattle.typst_edits.specs.Bytes.{highest, lowest}
 pub use Rattle.typst_edits.specs.CandidateRuns.{InnerPiecesOfLaw, IsPieces, RootPiecesOfLaw}
-pub use Rattle.typst_edits.specs.Children.{Settles, exchanged, nodes_with, read_from, standing_before, together, with_children}
+pub use Rattle.typst_edits.specs.Children.{Settles, block_with, exchanged, kids_in, kids_of_run, with_children}
 pub use Rattle.typst_edits.specs.Edit.{AllBeginIn, AllEndBy, Among, Passes, alter, put, replaced, text_with}
 pub use Rattle.typst_edits.specs.Edit.Among.{that, this}
 pub use Rattle.typst_edits.specs.EmptyRuns.{IsEmpty}
 pub use Rattle.typst_edits.specs.Every.{Every}
 pub use Rattle.typst_edits.specs.Frame.{After, Agrees, Before, Gives, PassesPieces, Run, cut_at, end_by, is_over, nodes_now, of_block, of_pieces, opened_by, path_to, read_as, top}
-pub use Rattle.typst_edits.specs.Heads.{GoesOnWell, StartsWell, after_known, begins_wrong, first_place, minds_at, onwards_by, read_by}
+pub use Rattle.typst_edits.specs.Heads.{GoesOnWell, StartsWell, after_known, begins_wrong, first_place, minds_at, onwards_by}
 pub use Rattle.typst_edits.specs.Hole.{Deep, Hole, after_nodes, between_parens, change_hole, changed_deep, fill, first_hole, in_node, in_nodes, lack_hole, path_in, path_of, plug, stub, warned_head, wrap_hole, wrap_in, wrap_past}
 pub use Rattle.typst_edits.specs.Hole.Deep.{under}
 pub use Rattle.typst_edits.specs.InOrder.{InOrderLaw}
 pub use Rattle.typst_edits.specs.InnerBytes.{inner_both, inner_end}
-pub use Rattle.typst_edits.specs.InnerChildren.{block_with, nodes_in, read_in, standing_in}
-pub use Rattle.typst_edits.specs.InnerJoint.{PassesInnerJoint, left_past, onwards_in, onwards_past}
-pub use Rattle.typst_edits.specs.InnerPieces.{Around, block_run, kids_in, markup_from}
-pub use Rattle.typst_edits.specs.InnerPiecesTest.{InnerPart, end_alone, level_in, read_alone}
+pub use Rattle.typst_edits.specs.InnerJoint.{IsRun, is_block_run, is_text_run, left_past, onwards_past}
+pub use Rattle.typst_edits.specs.InnerPiecesTest.{InnerPart, level_in}
 pub use Rattle.typst_edits.specs.InnerSplice.{looks_next, note_at, own_of}
-pub use Rattle.typst_edits.specs.Joint.{PassesJoint, minds, onwards, onwards_from, passed, place_from, text_run}
+pub use Rattle.typst_edits.specs.Joins.{Around, Encloses, PassesJoint}
+pub use Rattle.typst_edits.specs.Joint.{minds, onwards, passed, place_from, text_run}
 pub use Rattle.typst_edits.specs.JointBytes.{asked_past}
-pub use Rattle.typst_edits.specs.KeptNodes.{StandsBetween, kids_of_run, run_from}
+pub use Rattle.typst_edits.specs.KeptNodes.{StandsBetween}
 pub use Rattle.typst_edits.specs.Laws.{block_at}
 unfoldable pub use Rattle.typst_edits.specs.Laws.{blocks_of_text}
-pub use Rattle.typst_edits.specs.Leading.{Leading, LeadingInner, LeadsAt, both, bytes_of, opening_child, token_byte}
+pub use Rattle.typst_edits.specs.Leading.{Leading, LeadingInner, LeadsAt, TakesSome, bytes_of, markup_from, opening_child, run_from, token_after, token_byte, token_past}
 pub use Rattle.typst_edits.specs.Looks.{AllFrom}
 pub use Rattle.typst_edits.specs.Lost.{is_opening, opened}
 pub use Rattle.typst_edits.specs.Named.{Named}
@@ -142,14 +141,14 @@ pub use Rattle.typst_edits.specs.PieceNotes.{listed}
 pub use Rattle.typst_edits.specs.Replaced.{Begins}
 pub use Rattle.typst_edits.specs.Resumed.{SamePiece, SamePieces, fresh, read_again}
 pub use Rattle.typst_edits.specs.Rising.{Rising}
-pub use Rattle.typst_edits.specs.RootPieces.{BeginsWell, StandsAt, root_run}
+pub use Rattle.typst_edits.specs.RunPieces.{BeginsWell, StandsAt, block_run, root_run}
 pub use Rattle.typst_edits.specs.RunBytes.{PieceNote}
 pub use Rattle.typst_edits.specs.RunNumbers.{InnerNumbers, InnerNumbersLaw, RunNumbers, RunNumbersLaw, cut_in, cut_of, number_in, number_of}
 pub use Rattle.typst_edits.specs.RunSplice.{OverAt, end_note, pieces_log}
 pub use Rattle.typst_edits.specs.RunTest.{BeginsAt, FoundRun, IsLast, PassesRead, SaysPiece, nodes_by, notes_by, reading_on}
 pub use Rattle.typst_edits.specs.RunTrees.{given, run_mark}
 pub use Rattle.typst_edits.specs.Runs.{AllGo, End, after_pieces, asks_of, chain, end_at, end_from, end_of, lead, made, piece_at, pieces, pieces_from, rest_from, start, tail, whole_of}
-pub use Rattle.typst_edits.specs.Sequence.{Sequence, first_end, first_of, rest_of, then_end, then_of, then_place, turn_of}
+pub use Rattle.typst_edits.specs.Sequence.{Sequence, first_end, first_of, rest_of, then_end, then_of, then_place, turn_of, onwards_at, read_by, standing_by, nodes_after, trivia_before, together}
 pub use Rattle.typst_edits.specs.Served.{Served}
 pub use Rattle.typst_edits.specs.Splice.{AllNotedBy, Noting, entries_from, notes_in, noting, token_start}
 pub use Rattle.typst_edits.specs.Spot.{Fits, Spot, after_spot, around, block_head, closed_spot, ended, here_spot, kind_of, last_node, lower, lowered, rehole, sunk_spot, then_spot, unit_at, valued}

@@ -12,10 +12,10 @@ use Rattle.typst_edits.specs.Answer.{candidates}
 use Rattle.typst_edits.specs.Edit.{Among, text_with}
 use Rattle.typst_edits.specs.Frame.{Run, read_as, cut_at, is_over, end_by}
 use Rattle.typst_edits.specs.Hole.{path_of}
-use Rattle.typst_edits.specs.InnerPieces.{block_run, Around}
 use Rattle.typst_edits.specs.Laws.{blocks_of_text}
 use Rattle.typst_edits.specs.OneReading.{TakesNone}
-use Rattle.typst_edits.specs.RootPieces.{root_run}
+use Rattle.typst_edits.specs.Joins.{Around}
+use Rattle.typst_edits.specs.RunPieces.{root_run, block_run}
 use Rattle.typst_edits.specs.Runs.{AllGo}
 use Rattle.typst_edits.specs.Sequence.{first_of, then_of, then_end}
 use Rattle.typst_edits.specs.Spot.{Spot}

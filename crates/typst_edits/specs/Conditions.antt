@@ -8,7 +8,6 @@ use Rattle.typst_grammar.specs.Grammar.{start_of, tree}
 use Rattle.typst_grammar.specs.Examples.{text}
 use Rattle.typst_edits.specs.Examples.{most, least}
 use Rattle.typst_edits.specs.Hole.{path_of}
-use Rattle.typst_edits.specs.Joint.{onwards_from}
 use Rattle.typst_edits.specs.Laws.{blocks_of_text}
 use Rattle.typst_edits.specs.Lost.{lost_of_text}
 use Rattle.typst_edits.specs.RunExamples.{lengths}
@@ -16,6 +15,8 @@ use Rattle.typst_edits.specs.RunTrees.{given}
 use Rattle.typst_edits.specs.Runs.{pieces, end_at, pieces_from, end_from, lead, asks_of}
 use Rattle.typst_edits.specs.Spot.{unit_at}
 use Rattle.typst_edits.specs.Walk.{Step, walk_to}
+use Rattle.typst_edits.specs.Sequence.{onwards_at}
+use Rattle.typst_edits.specs.Joint.{text_run}
 
 -- the kinds of the nodes at the top of a text's tree
 abbrev pub kinds : CharClasses → List ℕ → List SyntaxKind
@@ -34,7 +35,7 @@ pub record Conditions (beyond : CharClasses) : Type 0 where
   pub step_starts : map (λ (s : Step). s.start) (walk_to 2 (by_law beyond) (codes "@a[") (codes "b") (codes "] c")) ≡ 0 ∷ 2 ∷ []
   -- a look before: `a~b`, and an `x` put in after the first piece, which looked at the tilde; nothing is read in its place
   pub ahead_seen : most ((lead (by_law beyond) (start_of (codes "a~b"))).asks ++ asks_of (pieces (by_law beyond) 1 (start_of (codes "a~b")))) ≡ 2
-  pub ahead_after : least (onwards_from (by_law beyond) 1 0 (start_of (codes "a~b"))).asks ≡ 0
+  pub ahead_after : least (onwards_at 1 0 (text_run (by_law beyond) (start_of (codes "a~b")))).asks ≡ 0
   pub ahead_ends : map (λ s. (end_at (by_law beyond) 1 (start_of s)).taken) (codes "a~b" ∷ codes "ax~b" ∷ []) ≡ 1 ∷ 2 ∷ []
   pub ahead_value : (end_at (by_law beyond) 1 (start_of (codes "ax~b"))).value ≡ (end_at (by_law beyond) 1 (start_of (codes "a~b"))).value
   pub ahead_state : (end_at (by_law beyond) 1 (start_of (codes "ax~b"))).state ≡ (end_at (by_law beyond) 1 (start_of (codes "a~b"))).state
@@ -56,8 +57,8 @@ pub record Conditions (beyond : CharClasses) : Type 0 where
   pub error_value : (end_from (by_law beyond) 0 1 (start_of (codes "xy ]"))).value ≡ (end_from (by_law beyond) 0 2 (start_of (codes "x# ]"))).value
   pub error_old : (end_from (by_law beyond) 0 2 (start_of (codes "x# ]"))).state.empties ≡ 1
   pub error_new : (end_from (by_law beyond) 0 1 (start_of (codes "xy ]"))).state.empties ≡ 0
-  pub error_back : (onwards_from (by_law beyond) 0 2 (start_of (codes "x# ]"))).back ≡ 1
-  pub error_none : (onwards_from (by_law beyond) 0 1 (start_of (codes "xy ]"))).back ≡ 0
+  pub error_back : (onwards_at 0 2 (text_run (by_law beyond) (start_of (codes "x# ]")))).back ≡ 1
+  pub error_none : (onwards_at 0 1 (text_run (by_law beyond) (start_of (codes "xy ]")))).back ≡ 0
   -- a block's end: `@a[b]`, and a bracket in place of the `b`
   pub block_ends : map (λ c. (unit_at c (start_of (codes "@a[]]"))).taken) (blocks_of_text (by_law beyond) (codes "@a[b]")) ≡ 2 ∷ []
   pub block_old : kinds (by_law beyond) (codes "@a[b]") ≡ kind.Ref ∷ []

@@ -11,7 +11,6 @@ use Rattle.typst_candidates.specs.Candidates.{Candidate}
 use Rattle.typst_grammar.specs.Grammar.{max_depth}
 use Rattle.typst_grammar.specs.Markup.{ends}
 use Rattle.typst_edits.specs.BlockRuns.{run_at, opened_at, EndsBefore}
-use Rattle.typst_edits.specs.Children.{together}
 use Rattle.typst_edits.specs.Edit.{Among, text_with, AllEndBy, AllBeginIn, Passes}
 use Rattle.typst_edits.specs.Hole.{path_of}
 use Rattle.typst_edits.specs.InnerJoint.{BeginsPast}
@@ -19,7 +18,7 @@ use Rattle.typst_edits.specs.Joint.{text_run}
 use Rattle.typst_edits.specs.JointBytes.{asked_past}
 use Rattle.typst_edits.specs.Laws.{blocks_of_text}
 use Rattle.typst_edits.specs.Runs.{AllGo, asks_of, lead, pieces}
-use Rattle.typst_edits.specs.Sequence.{Sequence, first_of, first_end, then_of, then_end, then_place}
+use Rattle.typst_edits.specs.Sequence.{Sequence, first_of, first_end, then_of, then_end, then_place, together}
 use Rattle.typst_edits.specs.Spot.{Spot, last_node, unit_at}
 
 -- A run of a text is its own, or that of a content block which isn't the deepest and is in no reading that was given up.

@@ -7,16 +7,14 @@ use Rattle.typst_lines.specs.Classes.{CharClasses}
 use Rattle.typst_language.specs.Point.{Trivia, Point, pending}
 use Rattle.typst_language.specs.Meaning.{Outcome, hand_of}
 use Rattle.typst_grammar.specs.Markup.{markup_head}
-use Rattle.typst_edits.specs.BlockRuns.{inner_run, run_at}
-use Rattle.typst_edits.specs.Children.{together, read_from}
-use Rattle.typst_edits.specs.Edit.{Among, text_with}
-use Rattle.typst_edits.specs.InnerChildren.{read_in}
-use Rattle.typst_edits.specs.InnerJoint.{onwards_in, PassesInnerJoint}
-use Rattle.typst_edits.specs.Joint.{minds, onwards, onwards_from, is_over_at, Meets, text_run, PassesJoint}
-use Rattle.typst_edits.specs.Laws.{blocks_of_text}
+use Rattle.typst_edits.specs.BlockRuns.{inner_run}
+use Rattle.typst_edits.specs.Joins.{PassesJoint}
+use Rattle.typst_edits.specs.Edit.{text_with}
+use Rattle.typst_edits.specs.Frame.{Run, read_as}
+use Rattle.typst_edits.specs.InnerJoint.{IsRun}
+use Rattle.typst_edits.specs.Joint.{minds, onwards, is_over_at, Meets, text_run}
 use Rattle.typst_edits.specs.Runs.{AllGo, End}
-use Rattle.typst_edits.specs.Sequence.{Sequence, first_of, first_end, then_of, then_end, then_place}
-use Rattle.typst_edits.specs.Spot.{Spot}
+use Rattle.typst_edits.specs.Sequence.{Sequence, first_of, first_end, then_of, then_end, then_place, onwards_at, read_by}
 
 -- whether several nodes begin with an error
 abbrev pub begins_wrong : List Tree → Bool
@@ -30,10 +28,6 @@ minds_at r z e = minds (markup_head e.value.0 e.value.1 (hand_of r.level z e.sta
 -- where the first i pieces of a run end
 abbrev pub first_place : ℕ → Sequence → Place
 first_place i r = moved (first_end i r).taken r.place
-
--- the n pieces after the first i, as one outcome
-abbrev pub read_by : ℕ → ℕ → Sequence → Outcome (Unit {0})
-read_by i n r = together (then_end i n r).state (then_of i n r)
 
 -- everything after the n pieces that follow the first i, as one outcome
 abbrev pub onwards_by : ℕ → ℕ → Sequence → Outcome (Unit {0})
@@ -52,12 +46,9 @@ pub record Headed (r : Sequence) (i n : ℕ) : Type 0 where
   pub next : begins_wrong (after_known (then_end i n r).state (onwards_by i n r).nodes) ≡ false → is_over_at r (then_place i n r) (then_end i n r) ≡ false → minds_at r (then_place i n r) (then_end i n r) ≡ false
   pub after_back : (is_over_at r (then_place i n r) (then_end i n r) ≡ false → minds_at r (then_place i n r) (then_end i n r) ≡ false) → (onwards_by i n r).back ≡ 0
 
--- The law of heads, of a text's run and of a content block's.
+-- The law of heads.
 abbrev pub HeadLaw : Type 0
-HeadLaw = (k : CharClasses) (z : Place) (i n : ℕ) → AllGo (first_of i (text_run k z)) → AllGo (then_of i n (text_run k z)) → Headed (text_run k z) i n
-
-abbrev pub InnerHeadLaw : Type 0
-InnerHeadLaw = (k : CharClasses) (levels : ℕ) (z : Place) (s : Point) (i n : ℕ) → AllGo (first_of i (inner_run k levels z s)) → AllGo (then_of i n (inner_run k levels z s)) → Headed (inner_run k levels z s) i n
+HeadLaw = (k : CharClasses) (r : Sequence) → IsRun k r → (i n : ℕ) → AllGo (first_of i r) → AllGo (then_of i n r) → Headed r i n
 
 -- ---- an edit
 
@@ -72,13 +63,8 @@ StartsWell i n r = 0 < i → (0 < n) × (minds_at r (first_place i r) (first_end
 
 -- The law of what pieces take back: where an edit inside some pieces passes the test of the joint, and the first of these takes no errors back or nothing stands before them, neither they nor the new ones take anything back.
 abbrev pub NoneBackLaw : Type 0
-NoneBackLaw = (k : CharClasses) (front old new rest : List ℕ) (i n m past : ℕ) (t u : Trivia) → PassesJoint k front old new rest i n m past t u
-    → StartsWell i n (text_run k (text_with front old rest)) → NoneBack (read_from k i n (text_with front old rest)) (read_from k i m (text_with front new rest))
-
-abbrev pub InnerNoneBackLaw : Type 0
-InnerNoneBackLaw = (k : CharClasses) (levels : ℕ) (front old new rest : List ℕ) (c : Spot (Unit {0})) (i n m past : ℕ) (t u : Trivia) → Among c (blocks_of_text k (front ++ (old ++ rest)))
-    → PassesInnerJoint k levels front old new rest c i n m past t u → StartsWell i n (run_at k levels c (text_with front old rest))
-    → NoneBack (read_in k levels i n c (text_with front old rest)) (read_in k levels i m c (text_with front new rest))
+NoneBackLaw = (k : CharClasses) (front old new rest : List ℕ) (r : Run k (front ++ (old ++ rest))) (i n m past : ℕ) (t u : Trivia) → PassesJoint k front old new rest r i n m past t u
+    → StartsWell i n (read_as r (text_with front old rest)) → NoneBack (read_by i n (read_as r (text_with front old rest))) (read_by i m (read_as r (text_with front new rest)))
 
 -- where an expression follows, its first node is no error
 abbrev pub GoesOnWell : ℕ → ℕ → Sequence → Type 0
@@ -86,13 +72,8 @@ GoesOnWell i n r = is_over_at r (then_place i n r) (then_end i n r) ≡ false �
 
 -- The law of what is taken back after pieces: where such an edit passes the test of the joint, what comes after them takes nothing back in either text.
 abbrev pub NoneAfterLaw : Type 0
-NoneAfterLaw = (k : CharClasses) (front old new rest : List ℕ) (i n m past : ℕ) (t u : Trivia) → PassesJoint k front old new rest i n m past t u
-    → GoesOnWell i n (text_run k (text_with front old rest)) → NoneBack (onwards_from k i n (text_with front old rest)) (onwards_from k i m (text_with front new rest))
-
-abbrev pub InnerNoneAfterLaw : Type 0
-InnerNoneAfterLaw = (k : CharClasses) (levels : ℕ) (front old new rest : List ℕ) (c : Spot (Unit {0})) (i n m past : ℕ) (t u : Trivia) → Among c (blocks_of_text k (front ++ (old ++ rest)))
-    → PassesInnerJoint k levels front old new rest c i n m past t u → GoesOnWell i n (run_at k levels c (text_with front old rest))
-    → NoneBack (onwards_in k levels i n c (text_with front old rest)) (onwards_in k levels i m c (text_with front new rest))
+NoneAfterLaw = (k : CharClasses) (front old new rest : List ℕ) (r : Run k (front ++ (old ++ rest))) (i n m past : ℕ) (t u : Trivia) → PassesJoint k front old new rest r i n m past t u
+    → GoesOnWell i n (read_as r (text_with front old rest)) → NoneBack (onwards_at i n (read_as r (text_with front old rest))) (onwards_at i m (read_as r (text_with front new rest)))
 
 -- The law of what has to agree: where no error follows pieces of a text's run, they and others agree if what is carried does where an expression follows.
 abbrev pub MeetsLaw : Type 0

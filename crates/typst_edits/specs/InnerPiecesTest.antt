@@ -1,44 +1,38 @@
 -- What code finds of a candidate that is pieces in a content block.
-use Rattle.std.specs.Prelude.{◌≡◌, ◌↔◌, ℕ, suc, ◌+◌, ◌-◌, ◌<◌, ◌≤◌, ◌^◌, Bool, false, List, [], ◌∷◌, ◌++◌, length, take, Some}
-use Rattle.typst_lines.specs.Place.{Place, moved}
+use Rattle.std.specs.Prelude.{◌≡◌, ◌↔◌, ℕ, suc, ◌+◌, ◌-◌, ◌<◌, ◌≤◌, ◌^◌, false, List, [], ◌∷◌, ◌++◌, length, take, Some}
+use Rattle.typst_lines.specs.Place.{moved}
 use Rattle.typst_lines.specs.Classes.{CharClasses}
 use Rattle.typst_tree.specs.Tree.{Tree, bare}
 use Rattle.typst_tokens.specs.Sight.{width, position}
 use Rattle.typst_language.specs.Log.{no_log, logged}
 use Rattle.typst_language.specs.declared.calls.Block.TheVariants as block
-use Rattle.typst_language.specs.Meaning.{Outcome, Level}
-use Rattle.typst_language.specs.Point.{Trivia, gap_of, pending}
+use Rattle.typst_language.specs.Meaning.{Level}
+use Rattle.typst_language.specs.Point.{Trivia, gap_of}
 use Rattle.typst_candidates.specs.Candidates.{Candidate}
-use Rattle.typst_candidates.specs.Entries.{units_of, spliced, front_of, rear_of}
+use Rattle.typst_candidates.specs.Entries.{units_of, spliced}
 use Rattle.typst_grammar.specs.declared.part.RunKind.TheVariants as of
 use Rattle.typst_grammar.specs.Grammar.{max_depth, log, tree}
-use Rattle.typst_grammar.specs.Pieces.{run_level, stops_of, first_look, pieces_on, end_on, given}
+use Rattle.typst_grammar.specs.Pieces.{run_level, first_look}
 use Rattle.typst_edits.specs.Answer.{candidates}
 use Rattle.typst_edits.specs.BlockRuns.{run_at, EndsBefore}
 use Rattle.typst_edits.specs.Edit.{Among, text_with}
-use Rattle.typst_edits.specs.Frame.{cut_at, is_over, nodes_now, Agrees, PassesPieces, Gives}
+use Rattle.typst_edits.specs.Frame.{cut_at, Gives}
 use Rattle.typst_edits.specs.Hole.{path_of}
 use Rattle.typst_edits.specs.InnerBytes.{inner_end, inner_both}
-use Rattle.typst_edits.specs.InnerJoint.{BeginsPast, PassesInnerJoint}
-use Rattle.typst_edits.specs.InnerPieces.{block_run, Around}
+use Rattle.typst_edits.specs.InnerJoint.{BeginsPast}
+use Rattle.typst_edits.specs.Joins.{Around, PassesJoint}
+use Rattle.typst_edits.specs.RunPieces.{block_run}
 use Rattle.typst_edits.specs.InnerSplice.{end_note_in, pieces_log_in}
 use Rattle.typst_edits.specs.Laws.{blocks_of_text}
 use Rattle.typst_edits.specs.OneReading.{TakesNone}
+use Rattle.typst_edits.specs.PiecesTest.{GivesPieces, ReadsPieces, front_count, read_alone, rear_count}
 use Rattle.typst_edits.specs.RunBytes.{PieceNote}
-use Rattle.typst_edits.specs.Runs.{AllGo, End, asks_of}
-use Rattle.typst_edits.specs.Sequence.{first_of, first_end, then_of, then_end}
+use Rattle.typst_edits.specs.Runs.{AllGo, asks_of}
+use Rattle.typst_edits.specs.Sequence.{first_of, first_end, then_of}
 use Rattle.typst_edits.specs.Splice.{notes_in, token_start, entries_from}
 use Rattle.typst_edits.specs.Spot.{Spot}
 
 -- ---- the entries at its ends
-
--- how many of a text's first entries stand at a byte or before it with all looks up to them
-abbrev pub front_count : CharClasses → List ℕ → ℕ → ℕ
-front_count k text at = front_of at 0 (units_of (log k text)).entries
-
--- the number of the first entry of a text after which all looks begin at a byte or after it
-abbrev pub rear_count : CharClasses → List ℕ → ℕ → ℕ
-rear_count k text at = let u = units_of (log k text) in rear_of at 0 0 u.entries u.back
 
 -- The notes where the n pieces after the first i of a block's run begin and end: their tokens begin where the pieces and what comes after them do, and their numbers among all notes decide the test of looks.
 pub record InnerEntries (k : CharClasses) (levels : ℕ) (front old rest : List ℕ) (s : Spot (Unit {0})) (i n past : ℕ) (t : Trivia) : Type 0 where
@@ -70,47 +64,12 @@ InnerEntriesLaw = (k : CharClasses) (levels : ℕ) (front old rest : List ℕ) (
 abbrev pub level_in : CharClasses → ℕ → Level
 level_in k levels = run_level k (suc levels) of.Block
 
--- m pieces of it from a place on, with what is carried there
-abbrev pub read_alone : CharClasses → ℕ → Bool × ℕ → ℕ → Place → List (Outcome (Bool × (Bool × ℕ)))
-read_alone k levels x m z = pieces_on (level_in k levels) (stops_of of.Block) x m z
-
--- where they end
-abbrev pub end_alone : CharClasses → ℕ → Bool × ℕ → ℕ → Place → End (Bool × ℕ)
-end_alone k levels x m z = end_on (level_in k levels) (stops_of of.Block) x m z
-
--- Where a candidate's pieces begin in both texts m pieces are read of the new one by themselves, with what is carried there; they end, with their trivia, a given number of characters past the stretch, agree with the old ones there, and these are their nodes.
-pub record ReadsInner (k : CharClasses) (levels : ℕ) (front old new rest : List ℕ) (s : Spot (Unit {0})) (among : Among s (blocks_of_text k (front ++ (old ++ rest)))) (name : s.name ≡ block.Content) (level : max_depth - s.fewer ≡ suc levels)
-    (i n m past : ℕ) (ts : List Tree) : Type 0 where
-  pub go : (let a = cut_at (block_run s levels among name level) i (text_with front old rest) in let x = (first_end i (run_at k levels s (text_with front old rest))).value in
-      AllGo (read_alone k levels x m (moved a (text_with front new rest))))
-  pub ends : (let a = cut_at (block_run s levels among name level) i (text_with front old rest) in let x = (first_end i (run_at k levels s (text_with front old rest))).value in
-      let e = end_alone k levels x m (moved a (text_with front new rest)) in a + (e.taken + gap_of e.state.known) ≡ (length front + length new) + past)
-  pub agrees : (let a = cut_at (block_run s levels among name level) i (text_with front old rest) in let q = run_at k levels s (text_with front old rest) in
-      Agrees (block_run s levels among name level) (is_over i n q) m (then_end i n q).value (end_alone k levels (first_end i q).value m (moved a (text_with front new rest))).value)
-  pub nodes : (let a = cut_at (block_run s levels among name level) i (text_with front old rest) in let x = (first_end i (run_at k levels s (text_with front old rest))).value in
-      let z = moved a (text_with front new rest) in ts ≡ given (read_alone k levels x m z) [] ++ pending (end_alone k levels x m z).state.known)
-
--- Pieces pass the test, and these are their nodes.
-pub record GivesInner (k : CharClasses) (levels : ℕ) (front old new rest : List ℕ) (s : Spot (Unit {0})) (among : Among s (blocks_of_text k (front ++ (old ++ rest)))) (name : s.name ≡ block.Content) (level : max_depth - s.fewer ≡ suc levels)
-    (i n m past : ℕ) (t : Trivia) (ts : List Tree) : Type 0 where
-  pub behind : Trivia
-  pub passes : PassesPieces k front old new rest (block_run s levels among name level) i n m past t behind
-  pub are : ts ≡ nodes_now (block_run s levels among name level) i m behind (text_with front new rest)
-
--- The law of a reading of pieces in a content block: where the block is around the stretch, the old ones go on past it and take back no errors, and the test of looks passes, pieces that are read by themselves pass exactly if they end and agree, and their nodes are what they give.
-abbrev pub InnerReadLaw : Type 0
-InnerReadLaw = (k : CharClasses) (levels : ℕ) (front old new rest : List ℕ) (s : Spot (Unit {0})) (among : Among s (blocks_of_text k (front ++ (old ++ rest)))) (name : s.name ≡ block.Content) (level : max_depth - s.fewer ≡ suc levels)
-    (i n m past : ℕ) (t : Trivia) (ts : List Tree) → AllGo (first_of i (run_at k levels s (text_with front old rest))) → AllGo (then_of i n (run_at k levels s (text_with front old rest)))
-    → (let e = inner_both k levels i n s (text_with front old rest) in e.state.known ≡ Some t → e.taken + t.gap ≡ (length front + length old) + past
-    → Around front old rest s → (0 < i → TakesNone i (run_at k levels s (text_with front old rest))) → EndsBefore k levels front old rest s i → BeginsPast k levels front old rest s i n past t
-    → ReadsInner k levels front old new rest s among name level i n m past ts ↔ GivesInner k levels front old new rest s among name level i n m past t ts)
-
 -- The law of one end: no two numbers of pieces are read by themselves that pass.
 abbrev pub InnerOnceLaw : Type 0
 InnerOnceLaw = (k : CharClasses) (levels : ℕ) (front old new rest : List ℕ) (s : Spot (Unit {0})) (among : Among s (blocks_of_text k (front ++ (old ++ rest)))) (name : s.name ≡ block.Content) (level : max_depth - s.fewer ≡ suc levels)
     (i n m j past : ℕ) (ts us : List Tree) → AllGo (first_of i (run_at k levels s (text_with front old rest))) → Around front old rest s
     → (0 < i → TakesNone i (run_at k levels s (text_with front old rest))) → EndsBefore k levels front old rest s i
-    → ReadsInner k levels front old new rest s among name level i n m past ts → ReadsInner k levels front old new rest s among name level i n j past us → (m ≡ j) × (ts ≡ us)
+    → ReadsPieces k front old new rest (block_run s levels among name level) i n m past ts → ReadsPieces k front old new rest (block_run s levels among name level) i n j past us → (m ≡ j) × (ts ≡ us)
 
 -- ---- a candidate
 
@@ -120,11 +79,11 @@ pub record InnerTest (k : CharClasses) (levels : ℕ) (front old new rest : List
   pub entries : InnerEntries k levels front old rest s i n past t
   -- where the numbers of its entries and the pieces that are read pass, it does
   pub passes : length entries.begins.earlier < front_count k (front ++ (old ++ rest)) (width front) → rear_count k (front ++ (old ++ rest)) (width (front ++ old)) ≤ length entries.ends.earlier
-      → ReadsInner k levels front old new rest s among name level i n m past ts → Gives k front old new rest c ts
+      → ReadsPieces k front old new rest (block_run s levels among name level) i n m past ts → Gives k front old new rest c ts
   -- and where it passes, they do
-  pub front_too : GivesInner k levels front old new rest s among name level i n m past t ts → length entries.begins.earlier < front_count k (front ++ (old ++ rest)) (width front)
-  pub rear_too : GivesInner k levels front old new rest s among name level i n m past t ts → rear_count k (front ++ (old ++ rest)) (width (front ++ old)) ≤ length entries.ends.earlier
-  pub reads_too : GivesInner k levels front old new rest s among name level i n m past t ts → ReadsInner k levels front old new rest s among name level i n m past ts
+  pub front_too : GivesPieces k front old new rest (block_run s levels among name level) i n m past t ts → length entries.begins.earlier < front_count k (front ++ (old ++ rest)) (width front)
+  pub rear_too : GivesPieces k front old new rest (block_run s levels among name level) i n m past t ts → rear_count k (front ++ (old ++ rest)) (width (front ++ old)) ≤ length entries.ends.earlier
+  pub reads_too : GivesPieces k front old new rest (block_run s levels among name level) i n m past t ts → ReadsPieces k front old new rest (block_run s levels among name level) i n m past ts
 
 -- The law of what code finds of pieces in a content block: for a candidate that begins and ends where some do, with at least one piece, the numbers of its entries and the pieces that are read say whether it passes, and which nodes it gives.
 abbrev pub InnerTestLaw : Type 0
@@ -141,7 +100,7 @@ InnerTestLaw = (k : CharClasses) (levels : ℕ) (front old new rest : List ℕ) 
 -- What is logged of pieces in a block after others is what is logged of them where they are read by themselves, and the token of the note before them begins there.
 pub record InnerPart (k : CharClasses) (levels : ℕ) (front old new rest : List ℕ) (s : Spot (Unit {0})) (a i m : ℕ) : Type 0 where
   pub log_is : (let y = moved a (text_with front new rest) in pieces_log_in k levels i m s (text_with front new rest)
-      ≡ logged (suc levels) y no_log ((first_look (level_in k levels) y).asks ++ asks_of (read_alone k levels (first_end i (run_at k levels s (text_with front old rest))).value m y)))
+      ≡ logged (suc levels) y no_log ((first_look (level_in k levels) y).asks ++ asks_of (read_alone (run_at k levels s (text_with front new rest)) (first_end i (run_at k levels s (text_with front old rest))).value m y)))
   pub token : token_start (text_with front new rest) (end_note_in k levels i s (text_with front new rest)) ≡ position (moved a (text_with front new rest))
 
 -- The law of a part: so it is of pieces in a content block that follow others and go on, where the looks before them end before the stretch and they take back no errors.
@@ -153,8 +112,8 @@ InnerPartLaw = (k : CharClasses) (levels : ℕ) (front old new rest : List ℕ) 
 -- The law of units by numbers: where pieces after others in a content block pass the test, the entries between the two numbers are exchanged for those of the pieces that are read by themselves.
 abbrev pub InnerUnitsLaw : Type 0
 InnerUnitsLaw = (k : CharClasses) (levels : ℕ) (front old new rest : List ℕ) (s : Spot (Unit {0})) (among : Among s (blocks_of_text k (front ++ (old ++ rest)))) (name : s.name ≡ block.Content) (level : max_depth - s.fewer ≡ suc levels)
-    (i n m past : ℕ) (t u : Trivia) → 0 < i → PassesInnerJoint k levels front old new rest s i n m past t u → TakesNone i (run_at k levels s (text_with front old rest))
+    (i n m past : ℕ) (t u : Trivia) → 0 < i → PassesJoint k front old new rest (block_run s levels among name level) i n m past t u → TakesNone i (run_at k levels s (text_with front old rest))
     → width (front ++ (old ++ rest)) < 2 ^ 64 - 1 → width (front ++ (new ++ rest)) < 2 ^ 64 - 1 → (e : InnerEntries k levels front old rest s i n past t)
     → (let y = moved (cut_at (block_run s levels among name level) i (text_with front old rest)) (text_with front new rest) in
-    let part = entries_from (position y) (logged (suc levels) y no_log ((first_look (level_in k levels) y).asks ++ asks_of (read_alone k levels (first_end i (run_at k levels s (text_with front old rest))).value m y))).notes in
+    let part = entries_from (position y) (logged (suc levels) y no_log ((first_look (level_in k levels) y).asks ++ asks_of (read_alone (run_at k levels s (text_with front new rest)) (first_end i (run_at k levels s (text_with front old rest))).value m y))).notes in
     units_of (log k (front ++ (new ++ rest))) ≡ spliced (length e.begins.earlier) (length e.ends.earlier) part (units_of (log k (front ++ (old ++ rest)))))

@@ -4,16 +4,18 @@ use Rattle.typst_candidates.specs.Entries.{units_of, spliced}
 use Rattle.typst_lines.specs.Classes.{CharClasses}
 use Rattle.typst_lines.specs.Place.{Place, moved}
 use Rattle.typst_tokens.specs.Sight.{width}
+use Rattle.typst_language.specs.declared.calls.Block.TheVariants as block
 use Rattle.typst_language.specs.declared.calls.Mark.TheVariants as mark
 use Rattle.typst_language.specs.Ask.{Ask, shift}
 use Rattle.typst_language.specs.Log.{Log, no_log, logged}
 use Rattle.typst_language.specs.Meaning.{hand_asks_of}
 use Rattle.typst_language.specs.Point.{Trivia, Point, point_of, gap_of, state_of}
-use Rattle.typst_grammar.specs.Grammar.{log}
+use Rattle.typst_grammar.specs.Grammar.{max_depth, log}
 use Rattle.typst_edits.specs.BlockRuns.{bracket, inner_lead, run_at, opened_at}
 use Rattle.typst_edits.specs.BlockSplice.{SplicedBlock}
 use Rattle.typst_edits.specs.Edit.{Among, text_with}
-use Rattle.typst_edits.specs.InnerJoint.{PassesInnerJoint}
+use Rattle.typst_edits.specs.Frame.{inner}
+use Rattle.typst_edits.specs.Joins.{PassesJoint}
 use Rattle.typst_edits.specs.Laws.{blocks_of_text}
 use Rattle.typst_edits.specs.Runs.{asks_of}
 use Rattle.typst_edits.specs.Sequence.{Sequence, first_of, first_end, then_of}
@@ -66,12 +68,12 @@ SplicedInner k levels front old new rest c i n m =
 
 -- The law of a splice of pieces in a content block: where an edit inside some pieces of it passes the test, in texts that a machine word counts, the units of the new text are the old ones with the pieces' exchanged. Where at the block's bracket no piece was or none is read, no trivia may stand there.
 abbrev pub InnerSpliceLaw : Type 0
-InnerSpliceLaw = (k : CharClasses) (levels : ℕ) (front old new rest : List ℕ) (c : Spot (Unit {0})) (i n m past : ℕ) (t u : Trivia) → Among c (blocks_of_text k (front ++ (old ++ rest)))
-    → PassesInnerJoint k levels front old new rest c i n m past t u → (i + n ≡ 0 → t.gap ≡ 0) → (i + m ≡ 0 → u.gap ≡ 0)
+InnerSpliceLaw = (k : CharClasses) (levels : ℕ) (front old new rest : List ℕ) (c : Spot (Unit {0})) (among : Among c (blocks_of_text k (front ++ (old ++ rest)))) (name : c.name ≡ block.Content) (level : max_depth - c.fewer ≡ suc levels) (i n m past : ℕ) (t u : Trivia)
+    → PassesJoint k front old new rest (inner c levels among name level) i n m past t u → (i + n ≡ 0 → t.gap ≡ 0) → (i + m ≡ 0 → u.gap ≡ 0)
     → width (front ++ (old ++ rest)) < 2 ^ 64 - 1 → width (front ++ (new ++ rest)) < 2 ^ 64 - 1 → SplicedInner k levels front old new rest c i n m
 
 -- The law of their block's splice: whatever stands there, the units of the new text are the old ones with the whole block's exchanged.
 abbrev pub AroundSpliceLaw : Type 0
-AroundSpliceLaw = (k : CharClasses) (levels : ℕ) (front old new rest : List ℕ) (c : Spot (Unit {0})) (i n m past : ℕ) (t u : Trivia) → Among c (blocks_of_text k (front ++ (old ++ rest)))
-    → PassesInnerJoint k levels front old new rest c i n m past t u
+AroundSpliceLaw = (k : CharClasses) (levels : ℕ) (front old new rest : List ℕ) (c : Spot (Unit {0})) (among : Among c (blocks_of_text k (front ++ (old ++ rest)))) (name : c.name ≡ block.Content) (level : max_depth - c.fewer ≡ suc levels) (i n m past : ℕ) (t u : Trivia)
+    → PassesJoint k front old new rest (inner c levels among name level) i n m past t u
     → width (front ++ (old ++ rest)) < 2 ^ 64 - 1 → width (front ++ (new ++ rest)) < 2 ^ 64 - 1 → SplicedBlock k front old new rest c

@@ -10,7 +10,8 @@ use Rattle.typst_edits.specs.Answer.{Worth}
 use Rattle.typst_edits.specs.Edit.{Among, text_with}
 use Rattle.typst_edits.specs.Frame.{cut_at, nodes_now, PassesPieces}
 use Rattle.typst_edits.specs.Hole.{path_of}
-use Rattle.typst_edits.specs.InnerPieces.{block_run, Around, BeginsWellIn}
+use Rattle.typst_edits.specs.RunPieces.{block_run, BeginsWell}
+use Rattle.typst_edits.specs.Joins.{Around}
 use Rattle.typst_edits.specs.Laws.{blocks_of_text}
 use Rattle.typst_edits.specs.Spot.{Spot}
 
@@ -19,6 +20,6 @@ abbrev pub InnerWorthLaw : Type 0
 InnerWorthLaw = (k : CharClasses) (levels : ℕ) (front old new rest : List ℕ) (s : Spot (Unit {0})) (among : Among s (blocks_of_text k (front ++ (old ++ rest)))) (name : s.name ≡ block.Content) (level : max_depth - s.fewer ≡ suc levels)
     (c : Candidate) (i n m past : ℕ) (t u : Trivia) → Around front old rest s → c.path ≡ path_of s.hole ++ 1 ∷ []
     → c.start ≡ width (take (cut_at (block_run s levels among name level) i (text_with front old rest)) (front ++ (old ++ rest))) → (0 < i ↔ 0 < c.from) → c.end ≡ width (front ++ (old ++ take past rest))
-    → PassesPieces k front old new rest (block_run s levels among name level) i n m past t u → BeginsWellIn k levels (front ++ (old ++ rest)) s c i n
+    → PassesPieces k front old new rest (block_run s levels among name level) i n m past t u → BeginsWell k (front ++ (old ++ rest)) (block_run s levels among name level) c i n
     → width (front ++ (old ++ rest)) < 2 ^ 64 - 1 → width (front ++ (new ++ rest)) < 2 ^ 64 - 1
     → Worth k front old new rest c (nodes_now (block_run s levels among name level) i m u (text_with front new rest))

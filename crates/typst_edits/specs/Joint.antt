@@ -1,5 +1,5 @@
 -- Pieces that are read again, and those after them, where other trivia or other errors stand between them than before.
-use Rattle.std.specs.Prelude.{◌≡◌, ℕ, ◌+◌, ◌<◌, Bool, true, false, List, [], ◌++◌, length, Some}
+use Rattle.std.specs.Prelude.{◌≡◌, ℕ, ◌+◌, Bool, true, false, List, [], ◌++◌, Some}
 use Rattle.typst_kinds.specs.declared.kind.SyntaxKind.{SyntaxKind}
 use Rattle.typst_lines.specs.Place.{Place, moved}
 use Rattle.typst_tree.specs.Tree.{Tree}
@@ -10,13 +10,12 @@ use Rattle.typst_language.specs.Point.{Trivia, Point}
 use Rattle.typst_language.specs.Steps.{flush_trivia}
 use Rattle.typst_language.specs.Syntax.{◌>>=◌}
 use Rattle.typst_language.specs.Syntax.Parser.{repeat}
-use Rattle.typst_language.specs.Meaning.{Outcome, Meaning, joined, hand_of, run}
+use Rattle.typst_language.specs.Meaning.{Outcome, Meaning, hand_of, run}
 use Rattle.typst_grammar.specs.head.MarkupHead.{MarkupHead}
 use Rattle.typst_grammar.specs.head.MarkupHead.TheVariants as head
 use Rattle.typst_grammar.specs.Markup.{ends, markup_turn, markup_head}
-use Rattle.typst_grammar.specs.Grammar.{level_at, max_depth, parsed}
-use Rattle.typst_edits.specs.Edit.{text_with, AllEndBy, AllBeginIn}
-use Rattle.typst_edits.specs.Runs.{AllGo, End, asks_of, chain, lead, pieces, end_at, pieces_from, end_from, rest_from, tail, whole_of}
+use Rattle.typst_grammar.specs.Grammar.{level_at, max_depth}
+use Rattle.typst_edits.specs.Runs.{End, lead, end_at, end_from}
 use Rattle.typst_edits.specs.Sequence.{Sequence}
 
 -- what takes back the empty errors before it: an expression that wasn't expected
@@ -72,45 +71,3 @@ text_run k z = record { level = level_at k max_depth; stops = is_end; place = z;
 -- where the n pieces after the first i end
 abbrev pub place_from : CharClasses → ℕ → ℕ → Place → Place
 place_from k i n z = moved (end_from k i n z).taken (moved (end_at k i z).taken z)
-
--- The test: n pieces follow the first i and end, with the trivia after them, so many characters past a stretch `old`, which becomes `new`, and m pieces are to take their place.
-pub record PassesJoint (k : CharClasses) (front old new rest : List ℕ) (i n m past : ℕ) (t u : Trivia) : Type 0 where
-  -- these are pieces of the run, in both texts
-  pub first_go : AllGo (pieces k i (text_with front old rest))
-  pub old_go : AllGo (pieces_from k i n (text_with front old rest))
-  pub new_go : AllGo (pieces_from k i m (text_with front new rest))
-  -- what was looked at before them ends at the stretch or before it; the look at the first token belongs to the first piece
-  pub before : 0 < i → AllEndBy (length front) ((lead k (text_with front old rest)).asks ++ asks_of (pieces k i (text_with front old rest)))
-  -- what is looked at after the trivia begins at the stretch's end or after it
-  pub ends : ((end_at k i (text_with front old rest)).taken + (end_from k i n (text_with front old rest)).taken) + t.gap ≡ (length front + length old) + past
-  pub after : (let z = text_with front old rest in let e = end_from k i n z in
-      AllBeginIn past rest (onwards (text_run k z) e.value (moved t.gap (place_from k i n z)) (passed t e.state)).asks)
-  -- the new ones end at the shifted end, with their trivia, and meet what is after them
-  pub shifted : ((end_at k i (text_with front new rest)).taken + (end_from k i m (text_with front new rest)).taken) + u.gap ≡ (length front + length new) + past
-  pub meets : (let z = text_with front old rest in let w = text_with front new rest in Meets (text_run k z) (place_from k i n z) (end_from k i n z) (end_from k i m w) t u)
-
--- everything after the n pieces that follow the first i, with the trivia at the text's end
-abbrev pub onwards_from : CharClasses → ℕ → ℕ → Place → Outcome (Unit {0})
-onwards_from k i n z =
-    let r = rest_from k i n z in
-    joined r (tail k (((end_at k i z).taken + (end_from k i n z).taken) + r.taken) r.state z)
-
--- What the readings of both texts are then.
-pub record KeptJoint (k : CharClasses) (front old new rest : List ℕ) (i n m past : ℕ) (t u : Trivia) : Type 0 where
-  -- the pieces before them are the same, and so is the look at the first token where there are some
-  pub first : pieces k i (text_with front new rest) ≡ pieces k i (text_with front old rest)
-  pub lead_same : 0 < i → lead k (text_with front new rest) ≡ lead k (text_with front old rest)
-  -- each text is read as its pieces and everything after them
-  pub was : (let z = text_with front old rest in
-      let r = chain (pieces k i z) (chain (pieces_from k i n z) (rest_from k i n z)) in
-      parsed k max_depth (front ++ (old ++ rest)) ≡ whole_of (lead k z) r (tail k r.taken r.state z))
-  pub now : (let z = text_with front old rest in
-      let w = text_with front new rest in
-      let r = chain (pieces k i z) (chain (pieces_from k i m w) (rest_from k i m w)) in
-      parsed k max_depth (front ++ (new ++ rest)) ≡ whole_of (lead k w) r (tail k r.taken r.state w))
-  -- and everything after them is the same except for the trivia before it
-  pub behind : Exchanged t u (onwards_from k i n (text_with front old rest)) (onwards_from k i m (text_with front new rest))
-
--- The law of the joint: where the new pieces end before other trivia or after other errors, everything after the trivia is as it was.
-abbrev pub JointLaw : Type 0
-JointLaw = (k : CharClasses) (front old new rest : List ℕ) (i n m past : ℕ) (t u : Trivia) → PassesJoint k front old new rest i n m past t u → KeptJoint k front old new rest i n m past t u

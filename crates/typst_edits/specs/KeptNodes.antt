@@ -1,30 +1,21 @@
 -- The old nodes that a larger candidate gives before those of a reading stand where it begins.
 use Rattle.std.specs.Prelude.{◌≡◌, ℕ, suc, ◌+◌, ◌<◌, ◌≤◌, List, ◌++◌, length, take, Some}
 use Rattle.typst_lines.specs.Classes.{CharClasses}
-use Rattle.typst_tree.specs.Tree.{Tree, bare, trees}
+use Rattle.typst_tree.specs.Tree.{Tree, bare}
 use Rattle.typst_tree.specs.Replace.{replaced_at}
 use Rattle.typst_tokens.specs.Sight.{width}
 use Rattle.typst_language.specs.Point.{Trivia}
 use Rattle.typst_grammar.specs.Grammar.{start_of, tree}
 use Rattle.typst_edits.specs.Edit.{text_with}
-use Rattle.typst_edits.specs.Frame.{Run, top, inner, read_as, path_to, cut_at, nodes_now, Before}
-use Rattle.typst_edits.specs.InnerPieces.{kids_in, markup_from}
+use Rattle.typst_edits.specs.Frame.{Run, read_as, path_to, cut_at, nodes_now, Before}
+use Rattle.typst_edits.specs.Children.{kids_of_run}
+use Rattle.typst_edits.specs.Leading.{run_from}
 use Rattle.typst_edits.specs.OneReading.{TakesNone}
-use Rattle.typst_edits.specs.RootPieces.{StandsAt}
+use Rattle.typst_edits.specs.RunPieces.{StandsAt}
 use Rattle.typst_edits.specs.Runs.{AllGo}
 use Rattle.typst_edits.specs.Sequence.{first_of, first_end, then_of, then_end}
 
--- the nodes among which those of a run stand: the children of the root, or of its block's markup
-abbrev pub kids_of_run : {k : CharClasses} {text : List ℕ} → Run k text → List Tree
-kids_of_run {k} {text} top = trees (tree k text).kids
-kids_of_run {k} {text} (inner c levels a n l) = kids_in c.node
-
--- where the first of them begins, in bytes
-abbrev pub run_from : {k : CharClasses} {text : List ℕ} → Run k text → ℕ
-run_from {k} {text} top = 0
-run_from {k} {text} (inner c levels a n l) = markup_from k levels text c
-
--- Among these the child `from` begins with the piece after the first a, or is the first of all before the first piece, and the child `mid` with the one d pieces later.
+-- Among the nodes of a run the child `from` begins with the piece after the first a, or is the first of all before the first piece, and the child `mid` with the one d pieces later.
 pub record StandsBetween (k : CharClasses) (text : List ℕ) (r : Run k text) (a d from mid : ℕ) : Type 0 where
   pub first : a ≡ 0 → from ≡ 0
   pub starts : 0 < a → StandsAt (run_from r) (kids_of_run r) from (width (take (cut_at r a (start_of text)) text))

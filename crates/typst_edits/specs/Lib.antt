@@ -27,9 +27,7 @@ pub mod Leading
 pub mod Rising
 pub mod OpensApart
 pub mod Nested
-pub mod InnerChildren
 pub mod Heads
-pub mod LeadingTrivia
 pub mod Replaced
 pub mod BareCandidates
 pub mod CandidatePlaces
@@ -43,15 +41,14 @@ pub mod Looks
 pub mod BlockModes
 pub mod Resumed
 pub mod Frame
-pub mod RootPieces
-pub mod InnerPieces
+pub mod Joins
+pub mod RunPieces
 pub mod OneReading
 pub mod KeptNodes
 pub mod Answer
 pub mod AnswerTree
 pub mod Unique
 pub mod CandidateEnds
-pub mod InnerCandidates
 pub mod AnswerExamples
 pub mod BlockSplice
 pub mod BlockPart

@@ -4,13 +4,12 @@ use Rattle.typst_lines.specs.Place.{Place, moved}
 use Rattle.typst_lines.specs.Classes.{CharClasses}
 use Rattle.typst_language.specs.Point.{Trivia}
 use Rattle.typst_language.specs.Meaning.{Outcome}
-use Rattle.typst_edits.specs.Children.{together}
 use Rattle.typst_edits.specs.Edit.{text_with}
 use Rattle.typst_edits.specs.Frame.{Run, read_as, opened_by, end_by, is_over, nodes_now, Before, After, Agrees, PassesPieces}
 use Rattle.typst_edits.specs.Heads.{first_place, minds_at}
 use Rattle.typst_edits.specs.Resumed.{fresh, read_again}
 use Rattle.typst_edits.specs.Runs.{AllGo, End, end_of}
-use Rattle.typst_edits.specs.Sequence.{Sequence, first_of, first_end, then_of, then_end}
+use Rattle.typst_edits.specs.Sequence.{Sequence, first_of, first_end, then_of, then_end, together}
 
 -- The piece after the first i takes no errors back, or there are none before it.
 abbrev pub TakesNone : ℕ → Sequence → Type 0

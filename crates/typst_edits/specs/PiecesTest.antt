@@ -4,28 +4,36 @@ use Rattle.typst_lines.specs.Place.{Place, moved}
 use Rattle.typst_lines.specs.Classes.{CharClasses}
 use Rattle.typst_tree.specs.Tree.{Tree, bare}
 use Rattle.typst_tokens.specs.Sight.{width}
-use Rattle.typst_language.specs.Meaning.{Outcome, Level}
+use Rattle.typst_language.specs.Meaning.{Outcome}
 use Rattle.typst_language.specs.Point.{Trivia, gap_of, pending}
-use Rattle.typst_grammar.specs.declared.part.RunKind.TheVariants as of
 use Rattle.typst_grammar.specs.Grammar.{max_depth, start_of, log, tree}
-use Rattle.typst_grammar.specs.Pieces.{run_level, stops_of, pieces_on, end_on, given}
+use Rattle.typst_grammar.specs.Pieces.{given}
 use Rattle.typst_candidates.specs.Candidates.{Candidate}
-use Rattle.typst_candidates.specs.Entries.{units_of, spliced}
+use Rattle.typst_candidates.specs.Entries.{units_of, spliced, front_of, rear_of}
 use Rattle.typst_edits.specs.Answer.{candidates}
 use Rattle.typst_edits.specs.Edit.{Among, text_with}
-use Rattle.typst_edits.specs.Frame.{Gives, cut_at, is_over, nodes_now, Agrees, Before, After, PassesPieces}
-use Rattle.typst_edits.specs.InnerPiecesTest.{front_count, rear_count}
-use Rattle.typst_edits.specs.Joint.{text_run, PassesJoint}
+use Rattle.typst_edits.specs.Frame.{Run, Gives, read_as, cut_at, end_by, is_over, nodes_now, Agrees, Before, After, PassesPieces, top}
+use Rattle.typst_edits.specs.Joint.{text_run}
+use Rattle.typst_edits.specs.Joins.{Encloses, PassesJoint}
+use Rattle.typst_edits.specs.Resumed.{fresh}
 use Rattle.typst_edits.specs.NumberedNotes.{of_level, cut_after}
 use Rattle.typst_edits.specs.OneReading.{TakesNone}
-use Rattle.typst_edits.specs.RootPieces.{root_run}
+use Rattle.typst_edits.specs.RunPieces.{root_run}
 use Rattle.typst_edits.specs.RunBytes.{PieceNote, both_end}
 use Rattle.typst_edits.specs.RunSplice.{end_note, pieces_log, OverAt}
-use Rattle.typst_edits.specs.Runs.{AllGo, End, asks_of, pieces, end_at, pieces_from, end_from}
-use Rattle.typst_edits.specs.Sequence.{first_end, then_end}
+use Rattle.typst_edits.specs.Runs.{AllGo, End, asks_of, end_of, made, pieces, end_at, pieces_from, end_from}
+use Rattle.typst_edits.specs.Sequence.{Sequence, turn_of, first_of, first_end, then_of, then_end}
 use Rattle.typst_edits.specs.Splice.{notes_in, token_start, entries_from}
 
 -- ---- the entries at its ends
+
+-- how many of a text's first entries stand at a byte or before it with all looks up to them
+abbrev pub front_count : CharClasses → List ℕ → ℕ → ℕ
+front_count k text at = front_of at 0 (units_of (log k text)).entries
+
+-- the number of the first entry of a text after which all looks begin at a byte or after it
+abbrev pub rear_count : CharClasses → List ℕ → ℕ → ℕ
+rear_count k text at = let u = units_of (log k text) in rear_of at 0 0 u.entries u.back
 
 -- The notes where the n pieces after the first i of a text's run begin and end: they are of these numbers in the run, their tokens begin where the pieces and what comes after them do, and their numbers among all notes decide the test of looks.
 pub record RunEntries (k : CharClasses) (front old rest : List ℕ) (i n past : ℕ) (t : Trivia) : Type 0 where
@@ -59,42 +67,36 @@ CutOnceLaw = (k : CharClasses) (text : List ℕ) (i j : ℕ) → AllGo (pieces k
 
 -- ---- the pieces that are read
 
--- how a text's run is read by itself
-abbrev pub level_of : CharClasses → Level
-level_of k = run_level k max_depth of.Text
-
--- m pieces of it from a place on, with what is carried there
-abbrev pub read_alone : CharClasses → Bool × ℕ → ℕ → Place → List (Outcome (Bool × (Bool × ℕ)))
-read_alone k x m z = pieces_on (level_of k) (stops_of of.Text) x m z
+-- m pieces are read by themselves from a place on, with what is carried there, as a run is from its start
+abbrev pub read_alone : Sequence → Bool × ℕ → ℕ → Place → List (Outcome (Bool × (Bool × ℕ)))
+read_alone q x m z = made (turn_of q) m x z (fresh q.level z)
 
 -- where they end
-abbrev pub end_alone : CharClasses → Bool × ℕ → ℕ → Place → End (Bool × ℕ)
-end_alone k x m z = end_on (level_of k) (stops_of of.Text) x m z
+abbrev pub end_alone : Sequence → Bool × ℕ → ℕ → Place → End (Bool × ℕ)
+end_alone q x m z = end_of x (fresh q.level z) (read_alone q x m z)
 
 -- Where a candidate's pieces begin in both texts m pieces are read of the new one by themselves, with what is carried there; they end, with their trivia, a given number of characters past the stretch, agree with the old ones there, and these are their nodes.
-pub record ReadsPieces (k : CharClasses) (front old new rest : List ℕ) (i n m past : ℕ) (ts : List Tree) : Type 0 where
-  pub go : (let a = cut_at (root_run k (front ++ (old ++ rest))) i (text_with front old rest) in let x = (end_at k i (text_with front old rest)).value in
-      AllGo (read_alone k x m (moved a (text_with front new rest))))
-  pub ends : (let a = cut_at (root_run k (front ++ (old ++ rest))) i (text_with front old rest) in let x = (end_at k i (text_with front old rest)).value in
-      let e = end_alone k x m (moved a (text_with front new rest)) in a + (e.taken + gap_of e.state.known) ≡ (length front + length new) + past)
-  pub agrees : (let r = root_run k (front ++ (old ++ rest)) in let a = cut_at r i (text_with front old rest) in let q = text_run k (text_with front old rest) in
-      Agrees r (is_over i n q) m (then_end i n q).value (end_alone k (first_end i q).value m (moved a (text_with front new rest))).value)
-  pub nodes : (let a = cut_at (root_run k (front ++ (old ++ rest))) i (text_with front old rest) in let x = (end_at k i (text_with front old rest)).value in
-      let z = moved a (text_with front new rest) in ts ≡ given (read_alone k x m z) [] ++ pending (end_alone k x m z).state.known)
+pub record ReadsPieces (k : CharClasses) (front old new rest : List ℕ) (r : Run k (front ++ (old ++ rest))) (i n m past : ℕ) (ts : List Tree) : Type 0 where
+  pub go : (let q = read_as r (text_with front old rest) in let w = text_with front new rest in AllGo (read_alone (read_as r w) (first_end i q).value m (moved (cut_at r i (text_with front old rest)) w)))
+  pub ends : (let a = cut_at r i (text_with front old rest) in let q = read_as r (text_with front old rest) in let w = text_with front new rest in
+      let e = end_alone (read_as r w) (first_end i q).value m (moved a w) in a + (e.taken + gap_of e.state.known) ≡ (length front + length new) + past)
+  pub agrees : (let q = read_as r (text_with front old rest) in let w = text_with front new rest in
+      Agrees r (is_over i n q) m (then_end i n q).value (end_alone (read_as r w) (first_end i q).value m (moved (cut_at r i (text_with front old rest)) w)).value)
+  pub nodes : (let x = (first_end i (read_as r (text_with front old rest))).value in let w = text_with front new rest in
+      let z = moved (cut_at r i (text_with front old rest)) w in ts ≡ given (read_alone (read_as r w) x m z) [] ++ pending (end_alone (read_as r w) x m z).state.known)
 
 -- Pieces pass the test, and these are their nodes.
-pub record GivesPieces (k : CharClasses) (front old new rest : List ℕ) (i n m past : ℕ) (t : Trivia) (ts : List Tree) : Type 0 where
+pub record GivesPieces (k : CharClasses) (front old new rest : List ℕ) (r : Run k (front ++ (old ++ rest))) (i n m past : ℕ) (t : Trivia) (ts : List Tree) : Type 0 where
   pub behind : Trivia
-  pub passes : PassesPieces k front old new rest (root_run k (front ++ (old ++ rest))) i n m past t behind
-  pub are : ts ≡ nodes_now (root_run k (front ++ (old ++ rest))) i m behind (text_with front new rest)
+  pub passes : PassesPieces k front old new rest r i n m past t behind
+  pub are : ts ≡ nodes_now r i m behind (text_with front new rest)
 
--- The law of a reading of pieces in a text's run: where the old ones go on past the stretch and take back no errors, and the test of looks passes, pieces that are read by themselves pass exactly if they end and agree, and their nodes are what they give.
-abbrev pub RunReadLaw : Type 0
-RunReadLaw = (k : CharClasses) (front old new rest : List ℕ) (i n m past : ℕ) (t : Trivia) (ts : List Tree) → AllGo (pieces k i (text_with front old rest)) → AllGo (pieces_from k i n (text_with front old rest))
-    → (end_from k i n (text_with front old rest)).state.known ≡ Some t
-    → ((end_at k i (text_with front old rest)).taken + (end_from k i n (text_with front old rest)).taken) + t.gap ≡ (length front + length old) + past
-    → (0 < i → TakesNone i (text_run k (text_with front old rest))) → Before k front old rest (root_run k (front ++ (old ++ rest))) i → After k front old rest (root_run k (front ++ (old ++ rest))) i n past t
-    → ReadsPieces k front old new rest i n m past ts ↔ GivesPieces k front old new rest i n m past t ts
+-- The law of a reading of pieces: where a run's block is around the stretch, the old ones go on past it and take back no errors, and the test of looks passes, pieces that are read by themselves pass exactly if they end and agree, and their nodes are what they give.
+abbrev pub ReadLaw : Type 0
+ReadLaw = (k : CharClasses) (front old new rest : List ℕ) (r : Run k (front ++ (old ++ rest))) (i n m past : ℕ) (t : Trivia) (ts : List Tree) → (let q = read_as r (text_with front old rest) in AllGo (first_of i q) → AllGo (then_of i n q)
+    → (then_end i n q).state.known ≡ Some t → end_by r i n t (text_with front old rest) ≡ (length front + length old) + past
+    → Encloses k front old rest r → (0 < i → TakesNone i q) → Before k front old rest r i → After k front old rest r i n past t
+    → ReadsPieces k front old new rest r i n m past ts ↔ GivesPieces k front old new rest r i n m past t ts)
 
 -- ---- a candidate of the run
 
@@ -109,7 +111,7 @@ pub record RunGives (k : CharClasses) (front old new rest : List ℕ) (c : Candi
   pub led : 0 < i ↔ 0 < c.from
   pub end : c.end ≡ width (front ++ (old ++ take past rest))
   pub none : 0 < i → TakesNone i (text_run k (text_with front old rest))
-  pub gives : GivesPieces k front old new rest i n m past t ts
+  pub gives : GivesPieces k front old new rest (root_run k (front ++ (old ++ rest))) i n m past t ts
 
 -- The law of candidates of a text's run: one that is pieces at the root passes exactly if such pieces do.
 abbrev pub RunGivesLaw : Type 0
@@ -121,7 +123,7 @@ RunGivesLaw = (k : CharClasses) (front old new rest : List ℕ) (root : Tree) (c
 
 -- The law of the units: where an edit inside some pieces passes the test, the entries between the two numbers of theirs are exchanged for those of the new pieces.
 abbrev pub RunPartLaw : Type 0
-RunPartLaw = (k : CharClasses) (front old new rest : List ℕ) (i n m past : ℕ) (t u : Trivia) → PassesJoint k front old new rest i n m past t u
+RunPartLaw = (k : CharClasses) (front old new rest : List ℕ) (i n m past : ℕ) (t u : Trivia) → PassesJoint k front old new rest top i n m past t u
     → (i + n ≡ 0 → OverAt k i n (text_with front old rest)) → (i + m ≡ 0 → OverAt k i n (text_with front old rest))
     → width (front ++ (old ++ rest)) < 2 ^ 64 - 1 → width (front ++ (new ++ rest)) < 2 ^ 64 - 1 → (e : RunEntries k front old rest i n past t)
     → (let w = text_with front new rest in

@@ -7,9 +7,8 @@ use Rattle.typst_language.specs.Point.{Trivia, Point, gap_of}
 use Rattle.typst_language.specs.Steps.{peek}
 use Rattle.typst_language.specs.Meaning.{Outcome, Level, start_point, run}
 use Rattle.typst_grammar.specs.Markup.{markup_reading}
-use Rattle.typst_edits.specs.BlockRuns.{inner_run}
 use Rattle.typst_edits.specs.Heads.{first_place, minds_at}
-use Rattle.typst_edits.specs.Joint.{text_run}
+use Rattle.typst_edits.specs.InnerJoint.{IsRun}
 use Rattle.typst_edits.specs.Runs.{AllGo, made}
 use Rattle.typst_edits.specs.Sequence.{Sequence, turn_of, first_of, first_end, then_of, then_end}
 
@@ -49,15 +48,9 @@ abbrev pub CountsOnce : Sequence → Type 0
 CountsOnce r = (i m n : ℕ) → AllGo (first_of i r) → AllGo (then_of i m r) → AllGo (then_of i n r)
     → (then_end i m r).taken + gap_of (then_end i m r).state.known ≡ (then_end i n r).taken + gap_of (then_end i n r).state.known → m ≡ n
 
--- The law of pieces that are read again, in a text's run and in a content block's.
+-- The law of pieces that are read again.
 abbrev pub ResumeLaw : Type 0
-ResumeLaw = (k : CharClasses) (z : Place) → Resumes (text_run k z)
-
-abbrev pub InnerResumeLaw : Type 0
-InnerResumeLaw = (k : CharClasses) (levels : ℕ) (z : Place) (s : Point) → Resumes (inner_run k levels z s)
+ResumeLaw = (k : CharClasses) (r : Sequence) → IsRun k r → Resumes r
 
 abbrev pub CountLaw : Type 0
-CountLaw = (k : CharClasses) (z : Place) → CountsOnce (text_run k z)
-
-abbrev pub InnerCountLaw : Type 0
-InnerCountLaw = (k : CharClasses) (levels : ℕ) (z : Place) (s : Point) → CountsOnce (inner_run k levels z s)
+CountLaw = (k : CharClasses) (r : Sequence) → IsRun k r → CountsOnce r

@@ -24,7 +24,7 @@ pub record PieceNote (h : Log) (left : ℕ) (text : List ℕ) (e : End (Bool × 
   pub levels : note.levels ≡ left
   pub state : note.state ≡ state_of e.state
 
--- where the n pieces after the first i end: `both` of Leading.antt, of a text that is given in three parts
+-- where the n pieces after the first i end, of a text that is given in three parts
 abbrev pub both_end : CharClasses → ℕ → ℕ → List ℕ → List ℕ → List ℕ → End (Bool × ℕ)
 both_end k i n front old rest = let z = text_with front old rest in record (end_from k i n z) { taken = (end_at k i z).taken + (end_from k i n z).taken }
 

@@ -10,9 +10,10 @@ use Rattle.typst_grammar.specs.Grammar.{start_of, tree, log}
 use Rattle.typst_grammar.specs.Examples.{markup, branch, text, unclosed}
 use Rattle.typst_edits.specs.Bytes.{lowest}
 use Rattle.typst_edits.specs.Examples.{most, least}
-use Rattle.typst_edits.specs.Joint.{onwards_from}
 use Rattle.typst_edits.specs.PieceNotes.{listed}
 use Rattle.typst_edits.specs.Runs.{pieces, pieces_from, end_from, rest_from, lead, asks_of}
+use Rattle.typst_edits.specs.Sequence.{onwards_at}
+use Rattle.typst_edits.specs.Joint.{text_run}
 
 -- how much the turns that go on take, one by one
 abbrev pub lengths : List (Outcome (Bool × (Bool × ℕ))) → List ℕ
@@ -53,8 +54,8 @@ pub record Runs (beyond : CharClasses) : Type 0 where
   pub comment_value : (end_from (by_law beyond) 0 2 (start_of (codes "a //dc\nb"))).value ≡ (end_from (by_law beyond) 0 2 (start_of (codes "a //cc\nb"))).value
   pub comment_state : (end_from (by_law beyond) 0 2 (start_of (codes "a //dc\nb"))).state ≡ (end_from (by_law beyond) 0 2 (start_of (codes "a //cc\nb"))).state
   -- after the first piece alone everything is the same except for the comment
-  pub joint_old : (onwards_from (by_law beyond) 0 1 (start_of (codes "a //cc\nb"))).nodes ≡ space (codes " ") ∷ comment (codes "//cc") ∷ space (codes "\n") ∷ text (codes "b") ∷ []
-  pub joint_new : (onwards_from (by_law beyond) 0 1 (start_of (codes "a //dc\nb"))).nodes ≡ space (codes " ") ∷ comment (codes "//dc") ∷ space (codes "\n") ∷ text (codes "b") ∷ []
+  pub joint_old : (onwards_at 0 1 (text_run (by_law beyond) (start_of (codes "a //cc\nb")))).nodes ≡ space (codes " ") ∷ comment (codes "//cc") ∷ space (codes "\n") ∷ text (codes "b") ∷ []
+  pub joint_new : (onwards_at 0 1 (text_run (by_law beyond) (start_of (codes "a //dc\nb")))).nodes ≡ space (codes " ") ∷ comment (codes "//dc") ∷ space (codes "\n") ∷ text (codes "b") ∷ []
   pub joint_gaps : map (λ t. gap_of (end_from (by_law beyond) 0 1 (start_of t)).state.known) (codes "a //cc\nb" ∷ codes "a //dc\nb" ∷ []) ≡ 6 ∷ 6 ∷ []
   -- four lines, and a letter after the last newline: what the first two, three and four pieces look at ends so far on
   pub lines : map (λ n. most (asks_of (pieces (by_law beyond) n (start_of (codes "a\nb\nc\nd\n"))))) (2 ∷ 3 ∷ 4 ∷ []) ≡ 6 ∷ 8 ∷ 9 ∷ []

@@ -11,7 +11,9 @@ use Rattle.typst_language.specs.Meaning.{hand_asks_of}
 use Rattle.typst_language.specs.Point.{Trivia, Point, gap_of, state_of}
 use Rattle.typst_grammar.specs.Grammar.{level_at, max_depth, log}
 use Rattle.typst_edits.specs.Edit.{text_with}
-use Rattle.typst_edits.specs.Joint.{is_over_at, text_run, place_from, PassesJoint}
+use Rattle.typst_edits.specs.Frame.{top}
+use Rattle.typst_edits.specs.Joint.{is_over_at, text_run, place_from}
+use Rattle.typst_edits.specs.Joins.{PassesJoint}
 use Rattle.typst_edits.specs.Runs.{start, asks_of, lead, pieces, end_at, pieces_from, end_from}
 use Rattle.typst_edits.specs.Splice.{Noting, notes_in, token_start, entries_from}
 
@@ -52,6 +54,6 @@ SplicedRun k front old new rest i n m =
 
 -- The law of a splice of pieces: where an edit inside some pieces of a text's run passes the test, in texts that a machine word counts, the units of the new text are the old ones with the pieces' exchanged. Where at the text's start no piece was or none is read, the run has to end after the pieces.
 abbrev pub RunSpliceLaw : Type 0
-RunSpliceLaw = (k : CharClasses) (front old new rest : List ℕ) (i n m past : ℕ) (t u : Trivia) → PassesJoint k front old new rest i n m past t u
+RunSpliceLaw = (k : CharClasses) (front old new rest : List ℕ) (i n m past : ℕ) (t u : Trivia) → PassesJoint k front old new rest top i n m past t u
     → (i + n ≡ 0 → OverAt k i n (text_with front old rest)) → (i + m ≡ 0 → OverAt k i n (text_with front old rest))
     → width (front ++ (old ++ rest)) < 2 ^ 64 - 1 → width (front ++ (new ++ rest)) < 2 ^ 64 - 1 → SplicedRun k front old new rest i n m

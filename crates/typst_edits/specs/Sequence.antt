@@ -1,11 +1,14 @@
 -- The pieces of any run, as Runs.antt has those of a text's.
-use Rattle.std.specs.Prelude.{ℕ, Bool, true, List}
+use Rattle.std.specs.Prelude.{ℕ, ◌+◌, Bool, true, List, [], ◌++◌, length}
 use Rattle.typst_kinds.specs.declared.kind.SyntaxKind.{SyntaxKind}
 use Rattle.typst_lines.specs.Place.{Place, moved}
-use Rattle.typst_language.specs.Point.{Point}
-use Rattle.typst_language.specs.Meaning.{Outcome, Meaning, Level, repeated, run}
+use Rattle.typst_tree.specs.Tree.{Tree}
+use Rattle.typst_language.specs.Point.{Trivia, Point, pending}
+use Rattle.typst_language.specs.Steps.{flush_trivia}
+use Rattle.typst_language.specs.Meaning.{Outcome, Meaning, Level, plain, less, joined, repeated, run}
 use Rattle.typst_grammar.specs.Markup.{markup_turn}
-use Rattle.typst_edits.specs.Runs.{made, End, end_of}
+use Rattle.typst_grammar.specs.Pieces.{given}
+use Rattle.typst_edits.specs.Runs.{made, End, end_of, chain}
 
 -- where the pieces of a run are read: how deep, where they stop, and the place and the point at the first of them
 pub record Sequence : Type 0 where
@@ -41,3 +44,31 @@ then_place i n r = moved (then_end i n r).taken (moved (first_end i r).taken r.p
 -- everything after those
 abbrev pub rest_of : ℕ → ℕ → Sequence → Outcome (Bool × ℕ)
 rest_of i n r = let f = then_end i n r in repeated (turn_of r) f.value (then_place i n r) f.state
+
+-- the same with the trivia at the run's end, as one outcome
+abbrev pub onwards_at : ℕ → ℕ → Sequence → Outcome (Unit {0})
+onwards_at i n r =
+    let o = rest_of i n r in
+    joined o (run r.level flush_trivia (moved (((first_end i r).taken + (then_end i n r).taken) + o.taken) r.place) o.state)
+
+-- ---- their nodes
+
+-- several pieces as one outcome
+abbrev pub together : {A : Type 0} → Point → List (Outcome (Bool × A)) → Outcome (Unit {0})
+together s os = chain os (plain (tt {0}) s)
+
+-- the n pieces after the first i, as one outcome
+abbrev pub read_by : ℕ → ℕ → Sequence → Outcome (Unit {0})
+read_by i n r = together (then_end i n r).state (then_of i n r)
+
+-- the nodes that stand before them: those of the i pieces, without the errors that they take back
+abbrev pub standing_by : ℕ → ℕ → Sequence → List Tree
+standing_by i n r = less (read_by i n r).back (given (first_of i r) [])
+
+-- their nodes, without the errors that what comes after them takes back, and the trivia after them
+abbrev pub nodes_after : ℕ → ℕ → Trivia → Sequence → List Tree
+nodes_after i n t r = less (onwards_at i n r).back (read_by i n r).nodes ++ t.nodes
+
+-- how many nodes of trivia stand where i pieces end
+abbrev pub trivia_before : ℕ → Sequence → ℕ
+trivia_before i r = length (pending (first_end i r).state.known)

@@ -6,7 +6,8 @@ use Rattle.typst_lines.specs.Classes.{CharClasses, by_law}
 use Rattle.typst_language.specs.Point.{Trivia}
 use Rattle.typst_grammar.specs.Examples.{space}
 use Rattle.typst_grammar.specs.Grammar.{start_of, log}
-use Rattle.typst_edits.specs.Joint.{PassesJoint}
+use Rattle.typst_edits.specs.Frame.{top}
+use Rattle.typst_edits.specs.Joins.{PassesJoint}
 use Rattle.typst_edits.specs.RunSplice.{pieces_log}
 use Rattle.typst_edits.specs.Splice.{entries_from}
 
@@ -21,7 +22,7 @@ steps k s = map (λ (e : Entry). e.step) (units_of (log k s)).entries
 -- what is computed
 pub record Splices (beyond : CharClasses) : Type 0 where
   -- the `a` goes from a line of its own at the text's start: no piece is read in its place, and the `b` after it stays
-  pub start_passes : PassesJoint (by_law beyond) [] (codes "a") [] (codes "\nb") 0 1 0 1 newline newline
+  pub start_passes : PassesJoint (by_law beyond) [] (codes "a") [] (codes "\nb") top 0 1 0 1 newline newline
   -- but the end of `b` is noted by where the run begins, and not by where `b` does
   pub start_old : steps (by_law beyond) (codes "a\nb") ≡ 0 ∷ 1 ∷ 1 ∷ []
   pub start_new : steps (by_law beyond) (codes "\nb") ≡ 0 ∷ 2 ∷ []

@@ -12,31 +12,27 @@ ghost use Rattle.typst_edits.specs.BlockWorth.{BlockWorthLaw};
 ghost use Rattle.typst_edits.specs.Answer.{CandidateLaw};
 ghost use Rattle.typst_edits.specs.AnswerTree.{AnswerTreeLaw, GivesTreeLaw};
 ghost use Rattle.typst_edits.specs.Bytes.{DecisionLaw};
-ghost use Rattle.typst_edits.specs.CandidateEnds.{RootCandidateLaw};
+ghost use Rattle.typst_edits.specs.CandidateEnds.{BeginsWellLaw};
 ghost use Rattle.typst_edits.specs.CandidateRuns.{InnerPiecesOfLaw, RootPiecesOfLaw};
 ghost use Rattle.typst_edits.specs.CandidatePlaces.{CandidatePlacesLaw, CandidateTreeLaw};
-ghost use Rattle.typst_edits.specs.Children.{BackLaw, ChildrenLaw};
+ghost use Rattle.typst_edits.specs.Children.{BackLaw, ChildrenLaw, NodeLaw};
 ghost use Rattle.typst_edits.specs.Conditions.{Conditions};
 ghost use Rattle.typst_edits.specs.EmptyRuns.{EmptyBlockLaw, EmptyTextLaw};
 ghost use Rattle.typst_edits.specs.Examples.{Blocks};
 ghost use Rattle.typst_edits.specs.RunExamples.{Runs};
-ghost use Rattle.typst_edits.specs.Heads.{HeadLaw, InnerHeadLaw, InnerMeetsLaw, InnerNoneBackLaw, InnerNoneAfterLaw, MeetsLaw, NoneBackLaw, NoneAfterLaw};
+ghost use Rattle.typst_edits.specs.Heads.{HeadLaw, InnerMeetsLaw, MeetsLaw, NoneBackLaw, NoneAfterLaw};
 ghost use Rattle.typst_edits.specs.InOrder.{InOrderLaw};
 ghost use Rattle.typst_edits.specs.InnerBytes.{InnerDecisionLaw};
-ghost use Rattle.typst_edits.specs.InnerChildren.{InnerBackLaw, InnerChildrenLaw};
-ghost use Rattle.typst_edits.specs.InnerJoint.{InnerJointLaw};
-ghost use Rattle.typst_edits.specs.InnerPieces.{InnerPiecesLaw};
-ghost use Rattle.typst_edits.specs.Joint.{JointLaw};
+ghost use Rattle.typst_edits.specs.Joins.{InnerJointLaw, JointLaw};
 ghost use Rattle.typst_edits.specs.JointExamples.{Joints};
 ghost use Rattle.typst_edits.specs.JointBytes.{JointDecisionLaw};
 ghost use Rattle.typst_edits.specs.Laws.{BlockLaw, NamesLaw};
 ghost use Rattle.typst_edits.specs.Leading.{LeadingInnerLaw, LeadingLaw};
-ghost use Rattle.typst_edits.specs.InnerPiecesTest.{InnerEntriesLaw, InnerOnceLaw, InnerPartLaw, InnerReadLaw, InnerTestLaw, InnerUnitsLaw};
+ghost use Rattle.typst_edits.specs.InnerPiecesTest.{InnerEntriesLaw, InnerOnceLaw, InnerPartLaw, InnerTestLaw, InnerUnitsLaw};
 ghost use Rattle.typst_edits.specs.InnerPiecesLog.{InnerPiecesLogLaw};
 ghost use Rattle.typst_edits.specs.InnerSplice.{AroundSpliceLaw, InnerSpliceLaw};
 ghost use Rattle.typst_edits.specs.InnerSpliceExamples.{InnerSplices};
 ghost use Rattle.typst_edits.specs.InnerWorth.{InnerWorthLaw};
-ghost use Rattle.typst_edits.specs.LeadingTrivia.{InnerLeadingTriviaLaw, LeadingTriviaLaw};
 ghost use Rattle.typst_edits.specs.Lost.{CompleteLaw};
 ghost use Rattle.typst_edits.specs.NumberedNotes.{NumberLaw, NumberedInnerLaw, NumberedRunLaw, CutsLaw, InnerCutsLaw, InnerNumberLaw};
 ghost use Rattle.typst_edits.specs.KeptNodes.{KeptNodesLaw, PutAfterLaw};
@@ -44,16 +40,15 @@ ghost use Rattle.typst_edits.specs.OneReading.{GivesAgainLaw, OneReadingLaw};
 ghost use Rattle.typst_edits.specs.Origins.{Origins};
 ghost use Rattle.typst_edits.specs.PiecesLog.{PiecesLogLaw};
 ghost use Rattle.typst_edits.specs.PieceNotes.{InnerNotesLaw, RunNotesLaw};
-ghost use Rattle.typst_edits.specs.PiecesTest.{CutOnceLaw, RunEntriesLaw, RunGivesLaw, RunPartLaw, RunReadLaw};
+ghost use Rattle.typst_edits.specs.PiecesTest.{CutOnceLaw, ReadLaw, RunEntriesLaw, RunGivesLaw, RunPartLaw};
 ghost use Rattle.typst_edits.specs.RareConditions.{RareConditions};
 ghost use Rattle.typst_edits.specs.Nested.{NestedBlockLaw, NestedInnerLaw, NestedLaw};
 ghost use Rattle.typst_edits.specs.OpensApart.{OpensApartLaw};
 ghost use Rattle.typst_edits.specs.Rising.{RisingLaw};
 ghost use Rattle.typst_edits.specs.Replaced.{ExchangedLaw, FrontLaw, PutLaw, ReplacedLaw};
-ghost use Rattle.typst_edits.specs.Resumed.{CountLaw, InnerCountLaw, InnerResumeLaw, ResumeLaw};
+ghost use Rattle.typst_edits.specs.Resumed.{CountLaw, ResumeLaw};
 ghost use Rattle.typst_edits.specs.RootWorth.{RootWorthLaw};
-ghost use Rattle.typst_edits.specs.InnerCandidates.{InnerCandidateLaw};
-ghost use Rattle.typst_edits.specs.RootPieces.{RootPiecesLaw};
+ghost use Rattle.typst_edits.specs.RunPieces.{PiecesLaw};
 ghost use Rattle.typst_edits.specs.RunBytes.{RunDecisionLaw};
 ghost use Rattle.typst_edits.specs.RunNumbers.{InnerNumbersLaw, RunNumbersLaw};
 ghost use Rattle.typst_edits.specs.RunTrees.{RunTreeLaw};
@@ -121,19 +116,16 @@ pub fn joint_law()
     ensures inner { InnerJointLaw }
 {}
 
-/// Where an edit inside some pieces of a text's run passes the test of the joint, the new pieces take back as many
-/// errors as the old ones, and there are pieces or nothing is taken back after them, one stretch of the tree's
-/// children is exchanged: for the nodes of the new pieces and the trivia after them. So in a content block: there
-/// they are children of the markup that is its second child. Pieces take back no more errors than the state where
-/// they begin counts, and what is after them no more than the state where they end counts. After at least one piece
-/// the exchange is the same without the trivia before the first of the new pieces, which belong to the piece before.
+/// Where an edit inside some pieces of a run passes the test of the joint, the new pieces take back as many errors as
+/// the old ones, and there are pieces or nothing is taken back after them, one stretch of the children of the run's
+/// node is exchanged: for the nodes of the new pieces and the trivia after them. After at least one piece the exchange
+/// is the same without the trivia before the first of the new pieces, which belong to the piece before. In a content
+/// block they are children of the markup that is its second child. Pieces take back no more errors than the state
+/// where they begin counts, and what is after them no more than the state where they end counts.
 pub fn children_law()
     ensures pieces { ChildrenLaw }
-    ensures inner { InnerChildrenLaw }
+    ensures node { NodeLaw }
     ensures back { BackLaw }
-    ensures inner_back { InnerBackLaw }
-    ensures after_trivia { LeadingTriviaLaw }
-    ensures inner_after_trivia { InnerLeadingTriviaLaw }
 {}
 
 /// An expression of a run that wasn't expected gives one error first, and only such a one takes back the empty errors
@@ -145,11 +137,8 @@ pub fn children_law()
 /// the open brackets at a content block's end.
 pub fn head_law()
     ensures pieces { HeadLaw }
-    ensures inner { InnerHeadLaw }
     ensures edit { NoneBackLaw }
-    ensures inner_edit { InnerNoneBackLaw }
     ensures behind { NoneAfterLaw }
-    ensures inner_behind { InnerNoneAfterLaw }
     ensures meets { MeetsLaw }
     ensures inner_meets { InnerMeetsLaw }
 {}
@@ -200,10 +189,10 @@ pub fn rising_law()
     ensures nested_block { NestedBlockLaw }
 {}
 
-/// Where pieces of a text's run begin, of the children at the top of its tree one begins at the byte of their first
-/// token and isn't empty. It stands after the nodes of the pieces before them and the trivia after these; and so
-/// does the one where they end, or no child stands after them at the run's end. The same holds in a content block,
-/// of the children of its markup.
+/// Where pieces of a run begin, of the children of its node one begins at the byte of their first token and isn't
+/// empty. It stands after the nodes of the pieces before them and the trivia after these; and so does the one where
+/// they end, or no child stands after them at the run's end. A content block's node is its bracket, its markup, and
+/// what stands after that.
 pub fn leading_law()
     ensures run { LeadingLaw }
     ensures inner { LeadingInnerLaw }
@@ -334,12 +323,10 @@ pub fn mode_law()
 /// Pieces of a run that are read again from where the token of the first of them begins, with the line start and
 /// the brackets that are carried there and nothing else, are the pieces that stood there, after the trivia before
 /// them, where an expression that takes back errors has none before it. How many they are follows from where they
-/// end. So in a content block. And the same is logged of them.
+/// end. And the same is logged of them.
 pub fn resume_law()
     ensures pieces { ResumeLaw }
-    ensures inner { InnerResumeLaw }
     ensures count { CountLaw }
-    ensures inner_count { InnerCountLaw }
     ensures log { PiecesLogLaw }
     ensures inner_log { InnerPiecesLogLaw }
 {}
@@ -351,21 +338,18 @@ pub fn answers_of_texts()
     ensures conditions { (beyond : CharClasses) → Decided beyond }
 {}
 
-/// Where pieces at the top of a text's tree pass the test and begin and end where a candidate does that begins
-/// well, the tree of the new text is the old one with the nodes of the new pieces in the candidate's place. It
-/// begins well where the child at each of its ends, if pieces stand beyond it, isn't empty and takes no errors
-/// back. So it is of pieces in a content block, which stands around the stretch.
+/// Where pieces of a run pass the test and begin and end where a candidate does that begins well, the tree of the new
+/// text is the old one with the nodes of the new pieces in the candidate's place. It begins well where the child at
+/// each of its ends, if pieces stand beyond it, isn't empty and takes no errors back. A content block has to stand
+/// around the stretch.
 pub fn pieces_worth_law()
-    ensures root { RootPiecesLaw }
-    ensures inner { InnerPiecesLaw }
+    ensures { PiecesLaw }
 {}
 
-/// Each candidate of an edit among the children at the top of a text's tree begins well, if pieces that pass the
-/// test begin and end as it does. So does one among the children of a content block's markup, and the block is
-/// around the stretch.
+/// Each candidate of an edit among the nodes of a run begins well, if pieces that pass the test begin and end as it
+/// does; and a content block is around the stretch.
 pub fn piece_candidates_law()
-    ensures root { RootCandidateLaw }
-    ensures inner { InnerCandidateLaw }
+    ensures { BeginsWellLaw }
 {}
 
 /// Each candidate of an edit that isn't a block is pieces of a run: it begins and ends where they do, past the stretch,
@@ -422,25 +406,23 @@ pub fn one_reading_law()
 
 /// What code finds of a candidate that is pieces in a content block: the notes where they begin and end say by their
 /// numbers among all notes whether the test of looks passes. Pieces of the new text that are read by themselves
-/// from the first token on pass exactly if they end and agree as the test says, and give the candidate's nodes; only
-/// one number of them does. What is logged of them is the part that takes the place of the old entries, between the
-/// two numbers.
+/// from the first token on pass, only one number of them, if they end and agree as the test says. What is logged of
+/// them is the part that takes the place of the old entries, between the two numbers.
 pub fn inner_pieces_test_law()
     ensures entries { InnerEntriesLaw }
-    ensures read { InnerReadLaw }
     ensures once { InnerOnceLaw }
     ensures inner { InnerTestLaw }
     ensures part { InnerPartLaw }
     ensures units { InnerUnitsLaw }
 {}
 
-/// What code finds of pieces of a text's own run: the run's notes decide the test of looks by their numbers, and pieces
+/// What code finds of pieces of a text's own run: the run's notes decide the test of looks by their numbers. A candidate
+/// passes exactly if such pieces do, and the entries between the numbers of its notes are exchanged. Pieces of any run
 /// that are read by themselves pass exactly if they end and agree as the test says, and give the candidate's nodes.
-/// A candidate passes exactly if such pieces do, and the entries between the numbers of its notes are exchanged.
 pub fn pieces_test_law()
     ensures entries { RunEntriesLaw }
     ensures once { CutOnceLaw }
-    ensures read { RunReadLaw }
+    ensures read { ReadLaw }
     ensures gives { RunGivesLaw }
     ensures part { RunPartLaw }
 {}

@@ -12,6 +12,7 @@ pub returns : goal.returns
 unfolding computing
 returns c = λ beyond. record {
   newlines_pass = record {
+    encloses = tt;
     first_go = tt;
     old_go = (refl, tt);
     new_go = (refl, tt);
@@ -24,6 +25,7 @@ returns c = λ beyond. record {
   link_lengths = refl;
   link_now = refl;
   link_passes = record {
+    encloses = tt;
     first_go = tt;
     old_go = (refl, (refl, (refl, (refl, tt))));
     new_go = (refl, tt);
@@ -36,6 +38,7 @@ returns c = λ beyond. record {
   nesting_old = refl;
   nesting_now = refl;
   nesting_passes = record {
+    encloses = tt;
     first_go = tt;
     old_go = (refl, (refl, (refl, tt)));
     new_go = (refl, (refl, (refl, tt)));

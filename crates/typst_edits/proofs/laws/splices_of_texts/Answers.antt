@@ -11,6 +11,7 @@ pub returns : goal.returns
 unfolding computing
 returns c = λ beyond. record {
   start_passes = record {
+    encloses = tt;
     first_go = tt;
     old_go = (refl, tt);
     new_go = tt;
