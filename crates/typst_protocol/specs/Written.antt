@@ -1,5 +1,5 @@
 -- What values of the protocol write, as events.
-use Rattle.std.specs.Prelude.{◌≡◌, ℕ, ℤ, List, codes, Option, None, Some}
+use Rattle.std.specs.Prelude.{◌≡◌, ℕ, ℤ, List, codes, Option, None, Some, option_map}
 use Rattle.std.specs.String.{string_bytes}
 use Rattle.serde.specs.Event.{Log, Logs, Sends, Then, WritesSeq, field_key, key_begins, key_ends, map_begins, map_ends, signed, text, unsigned}
 use Rattle.serde.specs.declared.name.Case.TheVariants.{AsIs}
@@ -13,6 +13,9 @@ use Rattle.typst_protocol.specs.declared.values.Highlight.{Highlight}
 use Rattle.typst_protocol.specs.declared.values.TextEdit.{TextEdit}
 use Rattle.typst_protocol.specs.declared.values.Changes.{Changes}
 use Rattle.typst_protocol.specs.declared.values.WorkspaceEdit.{WorkspaceEdit}
+use Rattle.typst_protocol.specs.declared.values.TokenChanges.{TokenChanges}
+use Rattle.typst_protocol.specs.declared.values.TokenEdit.{TokenEdit}
+use Rattle.typst_protocol.specs.declared.values.Tokens.{Tokens}
 
 -- an object has so many members, one after the other
 abbrev pub InMap : ℕ → (Log → Log → Type 0) → Log → Log → Type 0
@@ -73,3 +76,25 @@ WritesChanges c = InMap 1 (Then (Sends key_begins) (Then (Sends (text c.uri.now)
 -- the edits of documents are one member
 abbrev pub WritesWorkspaceEdit : WorkspaceEdit → Log → Log → Type 0
 WritesWorkspaceEdit e = InMap 1 (Member (codes "changes") (WritesChanges e.changes))
+
+-- numbers are a list
+abbrev pub WritesNumbers : List ℕ → Log → Log → Type 0
+WritesNumbers numbers = WritesSeq (λ n. Sends (unsigned n)) numbers
+
+-- the name under which tokens are sent is a member, if there is one
+abbrev pub WritesResultId : Option (List ℕ) → Log → Log → Type 0
+WritesResultId None old new = new ≡ old
+WritesResultId (Some name) old new = Member (codes "resultId") (Sends (text name)) old new
+
+-- tokens are their name, if they have one, and their numbers
+abbrev pub WritesTokens : Tokens → Log → Log → Type 0
+WritesTokens t = InObject (Then (WritesResultId (option_map (λ id. id.now) t.result_id)) (Member (codes "data") (WritesNumbers t.data.now)))
+
+-- an edit of numbers is where it begins, how many it removes, and what takes their place
+abbrev pub WritesTokenEdit : TokenEdit → Log → Log → Type 0
+WritesTokenEdit e =
+    InMap 3 (Then (Member (codes "start") (Sends (unsigned e.start))) (Then (Member (codes "deleteCount") (Sends (unsigned e.delete_count))) (Member (codes "data") (WritesNumbers e.data.now))))
+
+-- changes of tokens are their new name, and edits of their numbers
+abbrev pub WritesTokenChanges : TokenChanges → Log → Log → Type 0
+WritesTokenChanges c = InMap 2 (Then (Member (codes "resultId") (Sends (text c.result_id.now))) (Member (codes "edits") (WritesSeq WritesTokenEdit c.edits.items)))

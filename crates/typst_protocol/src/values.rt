@@ -1,9 +1,8 @@
 //! The values of the protocol, as they are written.
 //!
-//! What `Place`, `Extent`, `Problem`, `Problems`, `Report`, `Location`, `Highlight` and `Changes` write is stated
-//! by their `Described`; of the others no clause says it.
+//! What those write that have a `Described` here is stated by it; of those with a derived writer no clause says it.
 
-ghost use Rattle.std.specs.Prelude.{OnOk};
+ghost use Rattle.std.specs.Prelude.{OnOk, option_map};
 ghost use Rattle.typst_protocol.specs.Written as spec;
 
 use serde::{Described, Serialize, Serializer};
@@ -337,27 +336,80 @@ impl Serialize for Report {
 }
 
 /// The tokens of a document, five numbers each.
-#[derive(Debug, Drop, Serialize)]
-#[serde(rename_all = "camelCase")]
+#[derive(Debug, Drop)]
 pub struct Tokens<'a> {
-    #[serde(skip_serializing_if = "Option::is_none")]
     pub result_id: Option<&'a str>,
     pub data: &'a [u32],
 }
 
+impl<'a> Described for Tokens<'a> {
+    ghost writes = { λ tokens. spec.WritesTokens tokens };
+}
+
+impl<'a> Serialize for Tokens<'a> {
+    fn serialize<S: Serializer>(&self, out: &mut S) -> Result<(), S::Error> {
+        out.begin_map(None)?;
+        write_result_id(self.result_id, out)?;
+        out.key("data")?;
+        self.data.serialize(out)?;
+        out.end_map()
+    }
+}
+
+/// Writes the name under which tokens are sent as a member, if there is one.
+fn write_result_id<S: Serializer>(result_id: Option<&str>, out: &mut S) -> Result<(), S::Error>
+    ensures { OnOk result (spec.WritesResultId (option_map (λ id. id.now) result_id.entry) (S.written out.old) (S.written out.new)) }
+{
+    let Some(result_id) = result_id else {
+        return Ok(());
+    };
+    out.key("resultId")?;
+    result_id.serialize(out)
+}
+
 /// What has changed since other tokens were sent.
-#[derive(Debug, Drop, Serialize)]
-#[serde(rename_all = "camelCase")]
+#[derive(Debug, Drop)]
 pub struct TokenChanges<'a> {
     pub result_id: &'a str,
     pub edits: Vec<TokenEdit<'a>>,
 }
 
+impl<'a> Described for TokenChanges<'a> {
+    ghost writes = { λ changes. spec.WritesTokenChanges changes };
+}
+
+impl<'a> Serialize for TokenChanges<'a> {
+    fn serialize<S: Serializer>(&self, out: &mut S) -> Result<(), S::Error> {
+        out.begin_map(Some(2))?;
+        out.key("resultId")?;
+        self.result_id.serialize(out)?;
+        out.key("edits")?;
+        self.edits.serialize(out)?;
+        out.end_map()
+    }
+}
+
 /// Numbers to put in the place of others.
-#[derive(Debug, Drop, Serialize)]
-#[serde(rename_all = "camelCase")]
+#[derive(Debug, Drop)]
 pub struct TokenEdit<'a> {
     pub start: usize,
     pub delete_count: usize,
     pub data: &'a [u32],
+}
+
+impl<'a> Described for TokenEdit<'a> {
+    ghost writes = { λ edit. spec.WritesTokenEdit edit };
+}
+
+impl<'a> Serialize for TokenEdit<'a> {
+    fn serialize<S: Serializer>(&self, out: &mut S) -> Result<(), S::Error> {
+        out.begin_map(Some(3))?;
+        out.key("start")?;
+        self.start.serialize(out)?;
+        out.key("deleteCount")?;
+        self.delete_count.serialize(out)?;
+        out.key("data")?;
+        self.data.serialize(out)?;
+        out.end_map()
+    }
 }

@@ -2,7 +2,7 @@
 --   Server::answer                              Answered: answered, known_after, sent_after; unread_body, unread_value and such: what is no message
 --   Server::answer_value                        Answered: meant_left, unnamed_left; Taking: loses_named, loses_nothing, empties_none
 --   Server: what is warned of                   Held: warned_all, warned_by, warned_open, warned_none, warned_same, none_lost
---   Server: the tokens kept                     Keeping: drops_none, same_sent; keeps_made, keeps_same: with a response
+--   Server: the tokens kept                     Keeping: drops_none, same_sent; keeps_made, keeps_same, keeps_refused: with a response
 --   begin, ask, ask_document                    Keeping: moves, stays, of_moves, of_nothing, of_sent, sent_stays; Responses: goes_on, gives_about, about_known, looked
 --   look_at, symbols (workspace)                Responses: looked_rest; of_named, of_unnamed
 --   make_response, answer_request               Responses: responds_made, tells_made; responds-refused, tells-refusal; responds-memory, tells-memory
@@ -26,6 +26,7 @@
 --   Encoder: add, with; numbers_of: read back   Encoding: token-added; Decoding: tokens-back
 --   encode_part                                 Sending: first_numbers, later_numbers
 --   to_send, update_since, changes_since, tell  Sending: told_tokens; all_update, changed_update; made_since; tells_all, tells_changes
+--   Told::text, value_of, range (tokens)        Sending: all_written, changes_written; told_written; within_written
 --   occurrences, occurrences_at                 Occurring: at_position; labels_stand, names_stand
 --   definition, references, highlights          Locating: told_at; located_more, located_all: range by range
 --   push_all, push_providers                    Growing: grows-more

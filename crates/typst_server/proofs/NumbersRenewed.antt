@@ -7,10 +7,9 @@ use Rattle.typst_positions.specs.declared.columns.Encoding.{Encoding}
 use Rattle.typst_styles.specs.Tokens.{tokens_in}
 use Rattle.typst_styles.specs.Windows.{IsEdit, IsWindow, Stays, moved, range_of}
 use Rattle.typst_styles.specs.declared.tokens.Token.{Token}
-use Rattle.typst_styles.proofs.TokenSeams.{AllBefore, AllFrom}
-use Rattle.typst_styles.proofs.TokensApart.{Between}
-use Rattle.typst_styles.proofs.WindowSides.{IsFeed, Sides, sides}
-use Rattle.typst_styles.proofs.WindowTokens.{AtLine, window_law}
+use Rattle.typst_styles.proofs.EachToken.{AllBefore, AllFrom, Between}
+use Rattle.typst_styles.proofs.WindowSides.{Sides, sides}
+use Rattle.typst_styles.proofs.WindowTokens.{AtLine, IsFeed, window_law}
 use Rattle.typst_server.specs.Numbers.{encoded, shown_each}
 use Rattle.typst_server.specs.Tracked.{SameEnds}
 use Rattle.typst_server.proofs.SamePlaces.{SameBehind, first_line, lines_to}
@@ -47,9 +46,9 @@ lines_from : (e : Encoding) (t u : List ℕ) (b c : ℕ) (w : SameBehind t u b c
 lines_from e t u b c w [] v q = tt
 lines_from e t u b c w (x ∷ ts) v q =
     let from = v.0 in
-    let ends = q.1.0 in
+    let ends = q.0.1 in
     let here : x.start ≡ b + (x.start - b) = omega (arith, from) in
-    (subst (λ z. lines_to t (b - 1) ≤ (position_of e t z).line) (sym here) (first_line t u b c w e (x.start - b) (omega (arith, from, ends))), lines_from e t u b c w ts v.1 q.1.1)
+    (subst (λ z. lines_to t (b - 1) ≤ (position_of e t z).line) (sym here) (first_line t u b c w e (x.start - b) (omega (arith, from, ends))), lines_from e t u b c w ts v.1 q.1)
 
 behind_line : (e : Encoding) (u t : List ℕ) (m n from to : ℕ) (bs : List Token) → drop to u ≡ drop from t → (0 < to) × (get_or u (to - 1) 0 ≡ 10) → (0 < from) × (get_or t (from - 1) 0 ≡ 10) → to + m ≡ from + n → m ≤ from → length t ≤ 2 ^ 64 - 1
     → length u ≤ 2 ^ 64 - 1 → from + length u ≡ to + length t → AllFrom from bs → Between 0 (length t) bs → Behind e u t m n bs

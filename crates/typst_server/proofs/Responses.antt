@@ -7,7 +7,7 @@ use Rattle.typst_protocol.specs.Bodies.{failure, success}
 use Rattle.serde_json.specs.Data.{Data}
 use Rattle.typst_protocol.specs.Parameters as parameters
 use Rattle.typst_protocol.specs.declared.method.Method.{Method}
-use Rattle.typst_protocol.specs.declared.method.Method.TheVariants.{Initialize, Shutdown, WorkspaceSymbols, Diagnostics, Definition, References, Highlights}
+use Rattle.typst_protocol.specs.declared.method.Method.TheVariants.{Initialize, Shutdown, WorkspaceSymbols, Diagnostics, Definition, References, Highlights, TokensRange}
 use Rattle.typst_protocol.specs.declared.refusal.Refusal.{Refusal}
 use Rattle.typst_protocol.specs.declared.refusal.Refusal.TheVariants.{BadParameters, OutOfMemory}
 use Rattle.typst_document.specs.Document.{Opened}
@@ -88,17 +88,18 @@ looked_tokens (Ok value) = tt
 looked_tokens (Err why) = tt
 
 looks_rest : (which : ShownErrors) (method : Method) (params : Option Data) (uri : List ℕ) (document : Opened) (value : List ℕ) → (method ≡ Diagnostics → ⊥) → (method ≡ Definition → ⊥) → (method ≡ References → ⊥) → (method ≡ Highlights → ⊥)
-    → Looks which method params uri document value
-looks_rest which Diagnostics params uri document value d e r h = absurd (d refl)
-looks_rest which Definition params uri document value d e r h = absurd (e refl)
-looks_rest which References params uri document value d e r h = absurd (r refl)
-looks_rest which Highlights params uri document value d e r h = absurd (h refl)
-looks_rest which _ params uri document value d e r h = tt
+    → (method ≡ TokensRange → ⊥) → Looks which method params uri document value
+looks_rest which Diagnostics params uri document value d e r h t = absurd (d refl)
+looks_rest which Definition params uri document value d e r h t = absurd (e refl)
+looks_rest which References params uri document value d e r h t = absurd (r refl)
+looks_rest which Highlights params uri document value d e r h t = absurd (h refl)
+looks_rest which TokensRange params uri document value d e r h t = absurd (t refl)
+looks_rest which _ params uri document value d e r h t = tt
 
 pub looked_rest : (which : ShownErrors) (method : Method) (params : Option Data) (uri : List ℕ) (document : Opened) (result : Result (String Global) Refusal) → (method ≡ Diagnostics → ⊥) → (method ≡ Definition → ⊥) → (method ≡ References → ⊥)
-    → (method ≡ Highlights → ⊥) → IfOk result (λ text. Looks which method params uri document (string_bytes text))
-looked_rest which method params uri document (Ok text) d e r h = looks_rest which method params uri document (string_bytes text) d e r h
-looked_rest which method params uri document (Err why) d e r h = tt
+    → (method ≡ Highlights → ⊥) → (method ≡ TokensRange → ⊥) → IfOk result (λ text. Looks which method params uri document (string_bytes text))
+looked_rest which method params uri document (Ok text) d e r h t = looks_rest which method params uri document (string_bytes text) d e r h t
+looked_rest which method params uri document (Err why) d e r h t = tt
 
 -- a request that neither begins a session nor ends it is about a document
 pub gives_about : (which : ShownErrors) (method : Method) (params : Option Data) (documents : Documents) (answer : Answer) → (method ≡ Shutdown → ⊥) → (method ≡ WorkspaceSymbols → ⊥)

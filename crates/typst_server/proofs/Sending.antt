@@ -1,21 +1,31 @@
 -- The numbers that are sent of tokens: all, or those that make them of the ones that were sent last.
-use Rattle.std.proofs.Common.{◌≡◌, ℕ, zero, suc, ◌+◌, ◌-◌, ◌*◌, ◌^◌, ◌<◌, ◌≤◌, min, List, [], ◌∷◌, ◌++◌, length, take, drop, get_or, Option, None, Some, refl, ap, sym, subst, ◌∙◌, append_assoc, arith, length-drop, length-take-le, take-append-drop}
+use Rattle.std.proofs.Common.{◌≡◌, ℕ, zero, suc, ◌+◌, ◌-◌, ◌*◌, ◌^◌, ◌<◌, ◌≤◌, min, List, [], ◌∷◌, ◌++◌, length, take, drop, get_or, Option, None, Some, option_map, Result, Ok, Err, IfOk, IsSomeAnd, MatchResult, String, Global, Bor, refl, ap, sym, subst, ◌∙◌, append_assoc, arith, length-drop, length-take-le, take-append-drop}
 use Rattle.std.specs.Prelude.{slice_get}
 use Rattle.std.specs.Str.{IsUtf8}
 use Rattle.std.proofs.lemmas.Option.{get_or_from_slice_get}
-use Rattle.typst_positions.specs.Positions.{position_of}
+use Rattle.std.specs.String.{string_bytes}
+use Rattle.std.specs.declared.ops.Range.{Range}
+use Rattle.serde_json.specs.Data.{Data}
+use Rattle.typst_positions.specs.Positions.{byte_at, position_of}
 use Rattle.typst_positions.specs.declared.columns.Encoding.{Encoding}
 use Rattle.typst_positions.specs.declared.positions.Position.{Position}
+use Rattle.typst_protocol.specs.Bodies.{IsJsonOf}
+use Rattle.typst_protocol.specs.Parameters.{stretch_in}
+use Rattle.typst_protocol.specs.Written.{WritesTokenChanges, WritesTokens}
+use Rattle.typst_protocol.specs.declared.params.Stretch.{Stretch}
+use Rattle.typst_protocol.specs.declared.refusal.Refusal.{Refusal}
+use Rattle.typst_protocol.specs.declared.refusal.Refusal.TheVariants.{OutOfMemory}
 use Rattle.typst_protocol.specs.declared.values.TokenChanges.{TokenChanges}
 use Rattle.typst_protocol.specs.declared.values.Tokens.{Tokens}
 use Rattle.typst_document.specs.Document.{Opened, all_bytes}
 use Rattle.typst_styles.specs.Tokens.{tokens_in}
 use Rattle.typst_styles.specs.declared.tokens.Token.{Token}
 use Rattle.typst_styles.proofs.RenewedTokens.{tokens_ordered}
-use Rattle.typst_server.specs.Numbers.{Shown, encoded, numbers_of, shown, shown_each}
-use Rattle.typst_server.specs.Sent.{AreAll, IsUpdateOf, Leads, MakesOf, TellsOf, TellsTokens, put_into}
+use Rattle.typst_server.specs.Numbers.{Shown, all_shown, decoded, encoded, numbers_of, shown, shown_each}
+use Rattle.typst_server.specs.Sent.{AreAll, InStretch, IsUpdateOf, Leads, MakesOf, TellsOf, TellsTokens, TellsUnder, TellsWithin, WritesTold, bytes_of, put_into}
 use Rattle.typst_server.specs.Tracked.{AreTokens, IsSince, SameEnds, Sent, TellsSince}
 use Rattle.typst_server.specs.declared.tokens.Gap.{Gap}
+use Rattle.typst_server.specs.declared.tokens.Told.{Told}
 use Rattle.typst_server.specs.declared.tokens.Told.TheVariants.{All, Changes}
 use Rattle.typst_server.specs.declared.tokens.Update.{Update}
 use Rattle.typst_server.specs.declared.tracked.Ends.{Ends}
@@ -159,3 +169,32 @@ tells_all update numbers name tokens none are all None document made =
     let whole : update.numbers.items ≡ numbers_of document = subst (λ (gap : Option Gap). MakesOf None document gap update.numbers.items) none made in
     subst (AreAll tokens name) (are ∙ whole) all
 tells_all update numbers name tokens none are all (Some last) document made = absurd (subst (λ (gap : Option Gap). MakesOf (Some last) document gap update.numbers.items) none made)
+
+-- ---- as they are written
+
+pub all_written : (told : Told) (tokens : Tokens) (result : Result (String Global) Refusal) → told ≡ All tokens → MatchResult result (λ text. IsJsonOf (WritesTokens tokens) (string_bytes text)) (λ why. why ≡ OutOfMemory)
+    → IfOk result (λ text. IsJsonOf (WritesTold told) (string_bytes text))
+all_written told tokens (Ok text) is json = subst (λ (t : Told). IsJsonOf (WritesTold t) (string_bytes text)) (sym is) json
+all_written told tokens (Err why) is json = tt
+
+pub changes_written : (told : Told) (changes : TokenChanges) (result : Result (String Global) Refusal) → told ≡ Changes changes → MatchResult result (λ text. IsJsonOf (WritesTokenChanges changes) (string_bytes text)) (λ why. why ≡ OutOfMemory)
+    → IfOk result (λ text. IsJsonOf (WritesTold told) (string_bytes text))
+changes_written told changes (Ok text) is json = subst (λ (t : Told). IsJsonOf (WritesTold t) (string_bytes text)) (sym is) json
+changes_written told changes (Err why) is json = tt
+
+pub told_written : (last : Option Sent) (document : Opened) (name : List ℕ) (told : Told) (result : Result (String Global) Refusal) → TellsOf last document name told → IfOk result (λ text. IsJsonOf (WritesTold told) (string_bytes text))
+    → IfOk result (λ text. TellsUnder last document name (string_bytes text))
+told_written last document name told (Ok text) of json = record { told = told; of = of; json = json }
+told_written last document name told (Err why) of json = tt
+
+-- those of a stretch
+pub within_written : (params : Option Data) (document : Opened) (stretch : Stretch) (start end : ℕ) (tokens : Tokens) (result : Result (String Global) Refusal) → stretch_in params ≡ Some stretch
+    → start ≡ byte_at document.encoding document.source.text stretch.start → end ≡ byte_at document.encoding document.source.text stretch.end → tokens.result_id ≡ None
+    → (length document.source.text < 2 ^ 32 → decoded 0 0 tokens.data.now ≡ all_shown document (record { start = start; end = end }))
+    → MatchResult result (λ text. IsJsonOf (WritesTokens tokens) (string_bytes text)) (λ why. why ≡ OutOfMemory) → IfOk result (λ text. InStretch params document (λ range. TellsWithin document range (string_bytes text)))
+within_written params document stretch start end tokens (Ok text) named first last unnamed numbers json =
+    let range : Range ℕ = record { start = start; end = end } in
+    let same : range ≡ bytes_of document stretch = (λ i. record { start = first i; end = last i }) in
+    let told : TellsWithin document range (string_bytes text) = record { tokens = tokens; unnamed = ap (option_map (λ (id : Bor (List ℕ)). id.now)) unnamed; numbers = numbers; json = json } in
+    subst (λ o. IsSomeAnd o (λ s. TellsWithin document (bytes_of document s) (string_bytes text))) (sym named) (subst (λ r. TellsWithin document r (string_bytes text)) same told)
+within_written params document stretch start end tokens (Err why) named first last unnamed numbers json = tt

@@ -3,8 +3,7 @@ use Rattle.std.proofs.Common.{◌≡◌, ℕ, ◌+◌, ◌-◌, ◌^◌, ◌<◌
 use Rattle.typst_styles.specs.Tokens.{end_of}
 use Rattle.typst_styles.specs.Windows.{moved}
 use Rattle.typst_styles.specs.declared.tokens.Token.{Token}
-use Rattle.typst_styles.proofs.TokenSeams.{AllBefore, AllFrom}
-use Rattle.typst_styles.proofs.TokensApart.{Between}
+use Rattle.typst_styles.proofs.EachToken.{AllBefore, AllFrom, Between}
 use Rattle.typst_positions.specs.Positions.{position_of}
 use Rattle.typst_positions.specs.declared.columns.Encoding.{Encoding}
 use Rattle.typst_positions.specs.declared.positions.Position.{Position}
@@ -51,6 +50,6 @@ pub back-shown : (e : Encoding) (t u : List ℕ) (b c m n : ℕ) → SameBehind 
     → shown_each e u (map (moved m n) ts) ≡ map (down (lines_to t (b - 1)) (lines_to u (c - 1))) (shown_each e t ts)
 back-shown e t u b c m n w by low few few_too long [] v q = refl
 back-shown e t u b c m n w by low few few_too long (x ∷ ts) v q =
-    let one = one-behind e t u b c m n w x by low v.0 q.1.0 few few_too long in
-    let rest = back-shown e t u b c m n w by low few few_too long ts v.1 q.1.1 in
+    let one = one-behind e t u b c m n w x by low v.0 q.0.1 few few_too long in
+    let rest = back-shown e t u b c m n w by low few few_too long ts v.1 q.1 in
     λ i. one i ∷ rest i

@@ -9,13 +9,15 @@ use Rattle.typst_protocol.specs.declared.refusal.Refusal.{Refusal}
 use Rattle.typst_document.specs.Document.{Opened}
 use Rattle.typst_server.specs.Documents.{found}
 use Rattle.typst_server.specs.Results.{Answer}
-use Rattle.typst_server.specs.Sent.{HasFresh, IsFresh, IsKept, MayBeKept, sent_of}
-use Rattle.typst_server.specs.Tokens.{AsksTokens, SameSent}
+use Rattle.typst_server.specs.Sent.{IsKept, IsSentOf, MayBeKept, sent_of}
+use Rattle.typst_server.specs.Tokens.{AsksTokens, SameSent, previous}
+use Rattle.typst_server.specs.Tracked.{Sent, named_last}
 use Rattle.typst_server.specs.declared.server.Effect.{Effect}
 use Rattle.typst_server.specs.declared.server.Effect.TheVariants.{Nothing, Moves, Sends}
 use Rattle.typst_server.specs.declared.server.Made.{Made}
 use Rattle.typst_server.specs.declared.server.Server.{Server}
 use Rattle.typst_server.specs.declared.server.Standing.{Standing}
+use Rattle.typst_server.specs.declared.tracked.Fresh.{Fresh}
 
 -- the answer that it is
 abbrev pub answer_of : Result Made Refusal → Answer
@@ -36,19 +38,27 @@ abbrev pub IsLed : Result Standing Refusal → Standing → Result Made Refusal 
 IsLed (Err refusal) now result = result ≡ Err refusal
 IsLed (Ok standing) now result = IfOk result (λ made. standing_after made.effect now ≡ standing)
 
--- the tokens of a document's present tree are sent under a number, and a client that asked for them by the address has them
-abbrev pub IsSentOf : Opened → ℕ → List ℕ → Effect → Type 0
-IsSentOf document number uri (Sends named fresh) = (named.now ≡ uri) × IsFresh document number fresh
-IsSentOf document number uri _ = ⊥
+-- a value tells such tokens to a client that asked for them by the address
+abbrev pub SendsOf : Option Sent → Opened → ℕ → List ℕ → List ℕ → Effect → Type 0
+SendsOf last document number uri value (Sends named fresh) = (named.now ≡ uri) × IsSentOf last document number value fresh
+SendsOf last document number uri value _ = ⊥
 
--- tokens are sent only where they are asked for: those of the document that the parameters name, under the next number
-abbrev pub SendsAsked : Server → Option Method → Option Data → Effect → Type 0
-SendsAsked now method params (Sends uri fresh) = AsksTokens method × (parameters.uri params ≡ Some uri.now) × HasFresh (found uri.now now.documents) now.next_number fresh
-SendsAsked now method params _ = ⊤
+-- the tokens that are asked for are sent: those of the document that the parameters name, under the next number
+pub record IsAskedFor (now : Server) (method : Option Method) (params : Option Data) (value uri : List ℕ) (fresh : Fresh) : Type 0 where
+  pub asked : AsksTokens method
+  pub named : parameters.uri params ≡ Some uri
+  pub document : Opened
+  pub known : found uri now.documents ≡ Some (Some document)
+  pub sent : IsSentOf (named_last (previous method params) (sent_of uri now.documents)) document now.next_number value fresh
 
--- a value that is made sends tokens only so
+-- tokens are sent where they are asked for, and only there
+abbrev pub SendsAsked : Server → Option Method → Option Data → List ℕ → Effect → Type 0
+SendsAsked now method params value (Sends uri fresh) = IsAskedFor now method params value uri.now fresh
+SendsAsked now method params value _ = AsksTokens method → ⊥
+
+-- a value that is made sends tokens so
 abbrev pub IsOfTokens : Server → Option Method → Option Data → Result Made Refusal → Type 0
-IsOfTokens now method params result = IfOk result (λ made. SendsAsked now method params made.effect)
+IsOfTokens now method params result = IfOk result (λ made. SendsAsked now method params (string_bytes made.value) made.effect)
 
 -- tokens that are sent are kept of their document, if it is known, and of no other one; else the same are kept
 abbrev pub IsTaken : Effect → Server → Server → Type 0

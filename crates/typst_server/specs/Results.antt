@@ -8,7 +8,7 @@ use Rattle.typst_positions.specs.declared.columns.Encoding.TheVariants.{Utf8, Ut
 use Rattle.typst_protocol.specs.Bodies.{failure, success}
 use Rattle.typst_protocol.specs.Parameters as parameters
 use Rattle.typst_protocol.specs.declared.method.Method.{Method}
-use Rattle.typst_protocol.specs.declared.method.Method.TheVariants.{Initialize, Shutdown, WorkspaceSymbols, Diagnostics, Definition, References, Highlights}
+use Rattle.typst_protocol.specs.declared.method.Method.TheVariants.{Initialize, Shutdown, WorkspaceSymbols, Diagnostics, Definition, References, Highlights, TokensRange}
 use Rattle.typst_protocol.specs.declared.refusal.Refusal.{Refusal}
 use Rattle.typst_protocol.specs.declared.refusal.Refusal.TheVariants.{BadParameters, LostDocument, OutOfMemory}
 use Rattle.typst_document.specs.Document.{Opened}
@@ -16,6 +16,7 @@ use Rattle.typst_server.specs.Documents.{found}
 use Rattle.typst_server.specs.Located.{TellsHighlights, TellsLocations}
 use Rattle.typst_server.specs.Occurrences.{AtPosition, defined, occurrences, stretches, used}
 use Rattle.typst_server.specs.Published.{Reports}
+use Rattle.typst_server.specs.Sent.{InStretch, TellsWithin}
 use Rattle.typst_server.specs.declared.diagnostics.ShownErrors.{ShownErrors}
 use Rattle.typst_server.specs.declared.documents.Documents.{Documents}
 use Rattle.typst_server.specs.declared.server.Phase.{Phase}
@@ -46,12 +47,13 @@ pub record Grows (old new : List ℕ) : Type 0 where
   pub grown : new ≡ old ++ more
 
 -- WHAT IS SAID OF A DOCUMENT with an address whose text is known: its errors and warnings; of what stands at the position that parameters
--- name where it is defined, where it is used, or all of it
+-- name where it is defined, where it is used, or all of it; its tokens in the stretch that they name. (Of all its tokens `SendsTokens` says it)
 abbrev pub Looks : ShownErrors → Method → Option Data → List ℕ → Opened → List ℕ → Type 0
 Looks which Diagnostics params uri document value = Reports which document value
 Looks which Definition params uri document value = AtPosition params document (λ b. TellsLocations document uri (defined (occurrences document b)) value)
 Looks which References params uri document value = AtPosition params document (λ b. TellsLocations document uri (used (parameters.includes_label params) (occurrences document b)) value)
 Looks which Highlights params uri document value = AtPosition params document (λ b. TellsHighlights document (stretches (occurrences document b)) value)
+Looks which TokensRange params uri document value = InStretch params document (λ range. TellsWithin document range value)
 Looks which _ params uri document value = ⊤
 
 -- only of a document that is known there is a value: where none is open, and where its text isn't known, the answer is the refusal that says so

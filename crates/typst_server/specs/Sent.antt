@@ -1,7 +1,16 @@
 -- The tokens that were sent, and what a client makes of changes of them.
 use Rattle.std.specs.Prelude.{◌≡◌, ⊤, ◌⊎◌, ℕ, ◌+◌, ◌^◌, ◌<◌, List, [], ◌∷◌, ◌++◌, length, take, drop, Option, None, Some, option_and_then, option_map}
 use Rattle.std.specs.Fmt.{decimal}
+use Rattle.std.specs.Option.{IsSomeAnd}
 use Rattle.std.specs.String.{string_bytes}
+use Rattle.std.specs.declared.ops.Range.{Range}
+use Rattle.serde.specs.Event.{Log}
+use Rattle.serde_json.specs.Data.{Data}
+use Rattle.typst_positions.specs.Positions.{byte_at}
+use Rattle.typst_protocol.specs.Bodies.{IsJsonOf}
+use Rattle.typst_protocol.specs.Parameters as parameters
+use Rattle.typst_protocol.specs.Written.{WritesTokenChanges, WritesTokens}
+use Rattle.typst_protocol.specs.declared.params.Stretch.{Stretch}
 use Rattle.typst_protocol.specs.declared.values.TokenChanges.{TokenChanges}
 use Rattle.typst_protocol.specs.declared.values.TokenEdit.{TokenEdit}
 use Rattle.typst_protocol.specs.declared.values.Tokens.{Tokens}
@@ -51,27 +60,11 @@ MayBeKept (Some (Some document)) fresh = IsCounted document fresh.count
 abbrev pub TellsTokens : Opened → List ℕ → Type 0
 TellsTokens document numbers = length document.source.text < 2 ^ 32 → decoded 0 0 numbers ≡ all_shown document (all_bytes document)
 
--- the tokens of a document's present tree were sent under a number
-pub record IsSentAs (document : Opened) (number : ℕ) (sent : Sent) : Type 0 where
-  pub named : sent.name ≡ decimal number
-  pub of : sent.of ≡ document
-  pub tokens : TellsTokens document (numbers_of sent.of)
-
--- a document that is known has such tokens
-abbrev pub HasSent : Option (Option Opened) → ℕ → Option Sent → Type 0
-HasSent (Some (Some document)) number (Some sent) = IsSentAs document number sent
-HasSent _ number _ = ⊥
-
--- they are about to be sent under a number
+-- the tokens of a document's present tree are about to be sent under a number
 pub record IsFresh (document : Opened) (number : ℕ) (fresh : Fresh) : Type 0 where
   pub named : string_bytes fresh.name ≡ decimal number
   pub counted : IsCounted document fresh.count
   pub tokens : TellsTokens document (numbers_of document)
-
--- so are those of a document that is known
-abbrev pub HasFresh : Option (Option Opened) → ℕ → Fresh → Type 0
-HasFresh (Some (Some document)) number fresh = IsFresh document number fresh
-HasFresh _ number fresh = ⊥
 
 -- what a client makes of numbers by edits of them, one after the other
 abbrev pub made_by : List TokenEdit → List ℕ → List ℕ
@@ -99,6 +92,38 @@ TellsOf None document name (All tokens) = AreAll tokens name (numbers_of documen
 TellsOf None document name (Changes changes) = ⊥
 TellsOf (Some last) document name (All tokens) = ⊥
 TellsOf (Some last) document name (Changes changes) = Leads (numbers_of last.of) changes name (numbers_of document)
+
+-- it is written as all tokens, or as changes
+abbrev pub WritesTold : Told → Log → Log → Type 0
+WritesTold (All tokens) = WritesTokens tokens
+WritesTold (Changes changes) = WritesTokenChanges changes
+
+-- a value is the JSON of such an answer
+pub record TellsUnder (last : Option Sent) (document : Opened) (name value : List ℕ) : Type 0 where
+  pub told : Told
+  pub of : TellsOf last document name told
+  pub json : IsJsonOf (WritesTold told) value
+
+-- a value tells the tokens of a document's present tree under a number to a client that may have the last ones
+pub record IsSentOf (last : Option Sent) (document : Opened) (number : ℕ) (value : List ℕ) (fresh : Fresh) : Type 0 where
+  pub present : IsFresh document number fresh
+  pub told : TellsUnder last document (decimal number) value
+
+-- a value is the JSON of the tokens of a document that have a byte of a range, without a name: its numbers read back are these, where
+-- the text is below 4 GiB
+pub record TellsWithin (document : Opened) (range : Range ℕ) (value : List ℕ) : Type 0 where
+  pub tokens : Tokens
+  pub unnamed : option_map (λ id. id.now) tokens.result_id ≡ None
+  pub numbers : length document.source.text < 2 ^ 32 → decoded 0 0 tokens.data.now ≡ all_shown document range
+  pub json : IsJsonOf (WritesTokens tokens) value
+
+-- the bytes of a stretch of a document
+abbrev pub bytes_of : Opened → Stretch → Range ℕ
+bytes_of document stretch = record { start = byte_at document.encoding document.source.text stretch.start; end = byte_at document.encoding document.source.text stretch.end }
+
+-- parameters name a stretch of a document, and P holds of its bytes
+abbrev pub InStretch : Option Data → Opened → (Range ℕ → Type 0) → Type 0
+InStretch params document P = IsSomeAnd (parameters.stretch_in params) (λ stretch. P (bytes_of document stretch))
 
 -- numbers make those of a document of the ones that were sent last, and else they are all
 abbrev pub MakesOf : Option Sent → Opened → Option Gap → List ℕ → Type 0

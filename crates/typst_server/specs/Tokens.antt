@@ -1,10 +1,12 @@
 -- Which tokens are kept of documents, from one message to the next.
 use Rattle.std.specs.Prelude.{◌≡◌, ⊤, ◌⊎◌, ℕ, ◌+◌, ◌%◌, ◌^◌, List, false, Option, None, Some, option_and_then}
+use Rattle.std.specs.Fmt.{decimal}
 use Rattle.std.specs.String.{string_bytes}
 use Rattle.serde_json.specs.Data.{Data}
 use Rattle.serde_json.specs.Read.{read as read_text}
 use Rattle.serde_json.specs.Written.{compact_text}
 use Rattle.typst_protocol.specs.Addresses.{is_same}
+use Rattle.typst_protocol.specs.Bodies.{success}
 use Rattle.typst_protocol.specs.Messages.{asks, said}
 use Rattle.typst_protocol.specs.Methods.{methods, named}
 use Rattle.typst_protocol.specs.Parameters as parameters
@@ -14,8 +16,11 @@ use Rattle.typst_protocol.specs.declared.method.Method.{Method}
 use Rattle.typst_protocol.specs.declared.method.Method.TheVariants.{TokensFull, TokensDelta}
 use Rattle.typst_server.specs.Answers.{method_of}
 use Rattle.typst_server.specs.Documents.{found}
-use Rattle.typst_server.specs.Phases.{IsSuccess}
-use Rattle.typst_server.specs.Sent.{HasSent, KeepsSent, sent_of}
+use Rattle.typst_document.specs.Document.{Opened}
+use Rattle.typst_server.specs.Numbers.{numbers_of}
+use Rattle.typst_server.specs.Phases.{IsFailure}
+use Rattle.typst_server.specs.Sent.{KeepsSent, TellsTokens, TellsUnder, sent_of}
+use Rattle.typst_server.specs.Tracked.{named_last}
 use Rattle.typst_server.specs.declared.reply.Reply.{Reply}
 use Rattle.typst_server.specs.declared.reply.Reply.TheVariants as reply
 use Rattle.typst_server.specs.declared.server.Server.{Server}
@@ -34,20 +39,35 @@ AsksTokens (Some TokensFull) = ⊤
 AsksTokens (Some TokensDelta) = ⊤
 AsksTokens _ = ⊥
 
--- a response has a result, and the tokens that it was asked for are kept: those of the present tree of the document that the parameters
--- name, under the next number. Of other documents the same are kept
+-- the name of the tokens of which changes are wanted, if that is asked
+abbrev pub previous : Option Method → Option Data → Option (List ℕ)
+previous (Some TokensDelta) params = parameters.previous_tokens params
+previous _ params = None
+
+-- WHAT IS SENT FOR TOKENS: the response has a result. By it a client has, under the next number as their name, the numbers of the present
+-- tree of the document that the parameters name: by changes of those that it names, if these were sent last, or else all of them. Read
+-- back they are the tokens of that tree; and they are kept as the last ones. Of other documents the same are kept
 pub record SendsTokens (old new : Server) (method : Option Method) (params : Option Data) (id text : List ℕ) : Type 0 where
   pub asked : AsksTokens method
   pub uri : List ℕ
   pub named : parameters.uri params ≡ Some uri
-  pub sent : HasSent (found uri old.documents) old.next_number (sent_of uri new.documents)
+  pub document : Opened
+  pub known : found uri old.documents ≡ Some (Some document)
+  pub value : List ℕ
+  pub told : TellsUnder (named_last (previous method params) (sent_of uri old.documents)) document (decimal old.next_number) value
+  pub success : text ≡ success id value
+  pub tokens : TellsTokens document (numbers_of document)
+  pub kept : sent_of uri new.documents ≡ Some (record { name = decimal old.next_number; of = document })
   pub others : (other : List ℕ) → is_same uri other ≡ false → sent_of other new.documents ≡ sent_of other old.documents
   pub next : new.next_number ≡ (old.next_number + 1) % 2 ^ 64
-  pub success : IsSuccess id text
+
+-- where a request for tokens has a response that sends none, this has an error
+abbrev pub IsUnsent : Option Method → List ℕ → List ℕ → Type 0
+IsUnsent method id text = AsksTokens method → IsFailure id text
 
 -- with a response the same tokens are kept, or those that it sends
 abbrev pub KeepsTokens : Server → Server → Option Method → Option Data → List ℕ → List ℕ → Type 0
-KeepsTokens old new method params id text = SameSent old new ⊎ SendsTokens old new method params id text
+KeepsTokens old new method params id text = (SameSent old new × IsUnsent method id text) ⊎ SendsTokens old new method params id text
 
 -- which tokens are kept when a request has this reply
 abbrev pub KeepsByReply : Server → Server → Option Method → Option Data → List ℕ → Reply → Type 0

@@ -1,5 +1,5 @@
 //! The server: what it holds between messages, and what it answers to each.
-ghost use Rattle.std.specs.Prelude.{◌≡◌, codes, true, All, IfOk, MatchResult, None, Some};
+ghost use Rattle.std.specs.Prelude.{◌≡◌, codes, true, All, IfOk, MatchResult, None, Some, option_map};
 ghost use Rattle.std.specs.String.{string_bytes};
 ghost use Rattle.serde_json.specs.View.{view};
 ghost use Rattle.typst_protocol.specs.Messages.{IsUnread};
@@ -9,7 +9,7 @@ ghost use Rattle.typst_server.specs.Answers.{IsAnswer, IsReplyTo, TakesEvent};
 ghost use Rattle.typst_protocol.specs.Parameters as parameters;
 ghost use Rattle.typst_protocol.specs.declared.method.Event.TheVariants as event;
 ghost use Rattle.typst_protocol.specs.declared.refusal.Loss.TheVariants as loss;
-ghost use Rattle.typst_server.specs.Made.{AnswersWith, IsOfTokens, IsSentOf, IsLed, IsTaken, MayBeTaken, answer_of, standing_after};
+ghost use Rattle.typst_server.specs.Made.{AnswersWith, IsOfTokens, IsLed, IsTaken, MayBeTaken, SendsOf, answer_of, standing_after};
 ghost use Rattle.typst_server.specs.Left.{AreSame, AreUnknown, IsKnownAfter, IsLeftBy, IsTold, IsWarned, Leaves, loss_of};
 ghost use Rattle.typst_server.specs.Phases.{Responds, allowed, begun, leads, shut, status_of};
 ghost use Rattle.typst_server.specs.Results.{Gives, IsOf, Looks, Names, OfDocuments, Tells, said_of};
@@ -17,6 +17,7 @@ ghost use Rattle.typst_server.specs.Documents.{IsUnknown, KeepsOthers, found, is
 ghost use Rattle.typst_server.specs.Published.{AreNone, Empties, EmptiesAll, IsNewsReply, IsToldOf, Publishes};
 ghost use Rattle.typst_server.specs.Sessions.{IsNew, LosesAll, LosesMeant};
 ghost use Rattle.typst_server.specs.Tokens.{DropsSent, IsSentAfter, IsSentBy, KeepsTokens, SameSent};
+ghost use Rattle.typst_server.specs.Tracked.{named_last};
 ghost use Rattle.typst_server.specs.declared.reply.Reply.TheVariants as reply;
 ghost use Rattle.typst_server.specs.declared.server.Effect.TheVariants as effects;
 ghost use Rattle.typst_server.specs.declared.server.Phase.TheVariants as phase;
@@ -442,7 +443,7 @@ impl Server {
         uri: &'a str,
         previous: Option<&str>,
     ) -> Result<Made<'a>, Refusal>
-        ensures { IfOk result (λ made. IsSentOf document.now.document self.now.next_number uri.now made.effect) }
+        ensures { IfOk result (λ made. SendsOf (named_last (option_map (λ name. name.now) previous.entry) document.now.sent) document.now.document self.now.next_number uri.now (string_bytes made.value) made.effect) }
     {
         let (value, fresh) = tokens::to_send(self.alloc, document, self.next_number, previous)?;
         Ok(Made {
@@ -467,6 +468,7 @@ impl Server {
             Method::Definition => naming::definition(self.alloc, document, uri, params),
             Method::References => naming::references(self.alloc, document, uri, params),
             Method::Highlights => naming::highlights(self.alloc, document, params),
+            Method::TokensRange => tokens::range(self.alloc, document, params),
             _ => self.show(document, uri, method, params),
         }
     }
@@ -481,7 +483,6 @@ impl Server {
     ) -> Result<String, Refusal> {
         let alloc = self.alloc;
         match method {
-            Method::TokensRange => tokens::range(alloc, document, params),
             Method::Symbols => outline::symbols(alloc, document, uri, self.standing.takes_trees),
             Method::Foldings => requests::foldings(alloc, document, self.standing.folding),
             Method::Selections => requests::selections(alloc, document, params),

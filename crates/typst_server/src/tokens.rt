@@ -1,8 +1,11 @@
 //! The tokens of a document: what of it is shown how.
 ghost use Rattle.std.specs.Prelude.{◌≡◌, ℕ, ◌-◌, ◌*◌, ◌^◌, ◌<◌, ◌≤◌, ◌++◌, List, [], Option, Some, drop, length, take, IfOk, OnOk, option_map};
+ghost use Rattle.std.specs.String.{string_bytes};
 ghost use Rattle.typst_document.specs.Document.{Opened};
 ghost use Rattle.typst_document.specs.Places.{IsPlaceOf};
-ghost use Rattle.typst_server.specs.Sent.{AreAll, IsFresh, IsUpdateOf, Leads, TellsOf, made_by, put_into};
+ghost use Rattle.typst_protocol.specs.Bodies.{IsJsonOf};
+ghost use Rattle.typst_protocol.specs.Parameters as parameters;
+ghost use Rattle.typst_server.specs.Sent.{AreAll, InStretch, IsSentOf, IsUpdateOf, Leads, TellsOf, TellsUnder, TellsWithin, WritesTold, made_by, put_into};
 ghost use Rattle.typst_server.specs.Numbers.{IsAdded, all_shown, clipped, decoded, encoded, shown, shown_each};
 ghost use Rattle.typst_server.specs.Tracked.{AreTokens, IsSince, Sent, TellsSince, named_last};
 
@@ -151,7 +154,7 @@ pub fn to_send(
     number: u64,
     previous: Option<&str>,
 ) -> Result<(String, Fresh), Refusal>
-    ensures { IfOk result (λ told. IsFresh tracked.now.document number told.1) }
+    ensures { IfOk result (λ told. IsSentOf (named_last (option_map (λ name. name.now) previous.entry) tracked.now.sent) tracked.now.document number (string_bytes told.0) told.1) }
 {
     let name = format!(in alloc; "{number}")?;
     let document = tracked.document();
@@ -188,6 +191,7 @@ fn value_of(
     name: &str,
 ) -> Result<String, Refusal>
     requires { AreTokens tracked.now.document (Some tokens.now) }
+    ensures { IfOk result (λ text. TellsUnder (named_last (option_map (λ name. name.now) previous.entry) tracked.now.sent) tracked.now.document name.now (string_bytes text)) }
 {
     let update = update_of(alloc, tracked, tokens, previous)?;
     tell(alloc, &update, name)?.text(alloc)
@@ -288,7 +292,9 @@ enum Told<'a> {
 
 impl Told<'_> {
     /// The answer with it, as JSON.
-    fn text(&self, alloc: Global) -> Result<String, Refusal> {
+    fn text(&self, alloc: Global) -> Result<String, Refusal>
+        ensures { IfOk result (λ text. IsJsonOf (WritesTold self.now) (string_bytes text)) }
+    {
         match self {
             Told::All(tokens) => json_of(alloc, tokens),
             Told::Changes(changes) => json_of(alloc, changes),
@@ -358,7 +364,9 @@ fn edits_by<'a>(
 }
 
 /// The tokens between two positions.
-pub fn range(alloc: Global, document: &Document, params: Params<'_>) -> Result<String, Refusal> {
+pub fn range(alloc: Global, document: &Document, params: Params<'_>) -> Result<String, Refusal>
+    ensures { IfOk result (λ text. InStretch (parameters.seen params.entry) document.now (λ range. TellsWithin document.now range (string_bytes text))) }
+{
     let stretch = params.stretch()?;
     let within = document.byte_of(stretch.start)..document.byte_of(stretch.end);
     let data = numbers_of(alloc, document, &within)?;

@@ -1,7 +1,8 @@
-use Rattle.std.proofs.Common.{inl}
 use Rattle.std.specs.String.{string_bytes}
 use Rattle.typst_protocol.specs.Methods.{methods, named}
 use Rattle.typst_protocol.specs.Parameters as parameters
+use Rattle.typst_protocol.specs.declared.refusal.Refusal.TheVariants.{OutOfMemory}
+use Rattle.typst_server.proofs.Keeping.{keeps_refused}
 use Rattle.typst_server.proofs.Responses.{responds-memory, tells-memory}
 use Rattle.typst_server.proofs.server.Server.answer_request.Goals as goal
 use Rattle.typst_server.specs.Phases.{allowed}
@@ -17,4 +18,5 @@ returns-clause-reply c =
     )
 
 pub returns-clause-tokens : goal.returns-clause-tokens
-returns-clause-tokens c = inl c.in-Err.ensures.tokens
+returns-clause-tokens c =
+    keeps_refused c.args.self.now c.respond.new.self (named methods c.args.request.method.now) (parameters.seen c.args.request.params) c.args.request.id (string_bytes c.in-Ok.refused) OutOfMemory c.in-Err.ensures.tokens c.in-Ok.ensures

@@ -20,10 +20,10 @@ returns-in-Err-clause-answer c =
     c.in-Err.ensures.answer c.failure.ensures
 
 pub returns-in-Err-clause-tokens : goal.returns-in-Err-clause-tokens
-returns-in-Err-clause-tokens c = keeps_same c.args.self.now (named methods c.args.method.now) (parameters.seen c.args.params) c.args.id.now c.failure.result
+returns-in-Err-clause-tokens c = keeps_same c.args.self.now (named methods c.args.method.now) (parameters.seen c.args.params) c.args.id.now c.in-Err.refusal c.failure.result c.failure.ensures
 
 pub take-requires : goal.take-requires
-take-requires c = may_be_taken c.args.self.now (named methods c.args.method.now) (parameters.seen c.args.params) c.in-Ok.made.effect c.in-Ok.ensures.tokens
+take-requires c = may_be_taken c.args.self.now (named methods c.args.method.now) (parameters.seen c.args.params) (string_bytes c.in-Ok.made.value) c.in-Ok.made.effect c.in-Ok.ensures.tokens
 
 pub returns-clause-response : goal.returns-clause-response
 returns-clause-response c =
