@@ -50,6 +50,7 @@ abbrev pub binds : NameKind → Bool → Bool
 binds does.Use same = false
 binds does.Binding same = same
 binds does.Item same = same
+binds (does.Module e) same = same
 binds does.Any same = true
 
 -- up to which byte a name hides what binds the word before it: up to where its own binding holds
@@ -114,6 +115,7 @@ binding_of text names i = meaning text names i (slice_get names i)
 -- how a binding occurs
 abbrev pub stands_as : NameKind → OccurrenceKind
 stands_as does.Item = stands.Item
+stands_as (does.Module e) = stands.Module e
 stands_as _ = stands.Definition
 
 -- a binding, and of the names after it the uses that mean it

@@ -16,17 +16,23 @@ opens part.Function = true
 opens part.Loop = true
 opens _ = false
 
+-- the part that what an import is from is taken as: in a bare import, which binds its module, it is
+-- the last child
+abbrev pub base_of_source : Bool → Part
+base_of_source is_last = if is_last then part.Bare else part.Value
+
 -- the part that a child is taken as, wherever the part ends
-abbrev pub base : Part → Part
-base part.Block = part.Value
-base part.Field = part.Value
-base part.Source = part.Value
-base part.Once = part.Value
-base part.Bound = part.Pattern
-base part.Key = part.Pattern
-base part.Loop = part.Pattern
-base part.Alias = part.Pattern
-base p = p
+abbrev pub base : Part → Bool → Part
+base part.Block is_last = part.Value
+base part.Field is_last = part.Value
+base part.BareField is_last = part.Value
+base part.Source is_last = base_of_source is_last
+base part.Once is_last = part.Value
+base part.Bound is_last = part.Pattern
+base part.Key is_last = part.Pattern
+base part.Loop is_last = part.Pattern
+base part.Alias is_last = part.Pattern
+base p is_last = p
 
 -- a part in which nothing counts
 abbrev pub is_nothing : Part → Bool
@@ -50,6 +56,7 @@ last_name k is_last = if is_last then told kind.Ident does.Item k else None
 -- what a child of a kind does in a part
 abbrev pub says : Part → SyntaxKind → Bool → Option NameKind
 says part.Value k is_last = used k
+says part.Bare k is_last = used k
 says part.Pattern k is_last = told kind.Ident does.Binding k
 says part.Parameters k is_last = told kind.Ident does.Binding k
 says part.OwnName k is_last = told kind.Ident does.Binding k
@@ -78,6 +85,7 @@ behind_source k = if same kind.As k then part.Alias else up_to kind.Colon part.I
 -- the part that the children after one of a kind are taken as
 abbrev pub behind : Part → SyntaxKind → Part
 behind part.Field k = up_to kind.Dot part.Nothing part.Field k
+behind part.BareField k = up_to kind.Dot part.BoundField part.BareField k
 behind part.Init k = up_to kind.Eq part.Value part.Init k
 behind part.Bound k = up_to kind.Eq part.Nothing part.Bound k
 behind part.Pair k = up_to kind.Colon part.Value part.Pair k
@@ -130,6 +138,11 @@ first_of_value kind.ContentBlock = part.Block
 first_of_value kind.Contextual = part.Block
 first_of_value _ = part.Value
 
+-- the first part below what a bare import is from: that of a field access binds the field
+abbrev pub first_of_bare : SyntaxKind → Part
+first_of_bare kind.FieldAccess = part.BareField
+first_of_bare k = first_of_value k
+
 -- the second part below a value: of a `let` what it binds, of a function its own name, of a loop
 -- its pattern and its body
 abbrev pub second_of_value : SyntaxKind → Part
@@ -141,6 +154,7 @@ second_of_value _ = part.Nothing
 -- the first part below a child of a kind
 abbrev pub first : Part → SyntaxKind → Part
 first part.Value k = first_of_value k
+first part.Bare k = first_of_bare k
 first part.Pattern k = below_pattern part.PatternPair k
 first part.Parameters k = below_pattern part.Key k
 first part.DefaultValues k = only kind.Named part.Pair k
@@ -154,11 +168,13 @@ first _ k = part.Nothing
 -- the second part below a child of a kind
 abbrev pub second : Part → SyntaxKind → Part
 second part.Value k = second_of_value k
+second part.Bare k = second_of_value k
 second part.Init k = only kind.Closure part.OwnName k
 second _ k = part.Nothing
 
 -- the third part below a child of a kind: of a function its parameters and its body
 abbrev pub third : Part → SyntaxKind → Part
 third part.Value k = only kind.Closure part.Function k
+third part.Bare k = only kind.Closure part.Function k
 third part.Init k = only kind.Closure part.Function k
 third _ k = part.Nothing

@@ -6,6 +6,7 @@ ghost use Rattle.std.specs.Option.{option_or};
 ghost use Rattle.typst_names.specs.Meanings as spec;
 ghost use Rattle.typst_names.specs.Selections as selections;
 
+use crate::modules::stretch_of;
 use crate::parts::NameKind;
 use crate::scopes::Name;
 use std::alloc::{AllocError, Global};
@@ -18,6 +19,8 @@ pub enum OccurrenceKind {
     Definition,
     /// The name is bound as an item of an import, by its name in the other file.
     Item,
+    /// The module of a bare import is bound by its name there. After this byte `as` could give it another one.
+    Module(usize),
     /// The name is used.
     Use,
 }
@@ -198,6 +201,7 @@ fn kind_of(kind: NameKind) -> OccurrenceKind
 {
     match kind {
         NameKind::Item => OccurrenceKind::Item,
+        NameKind::Module(end) => OccurrenceKind::Module(end),
         _ => OccurrenceKind::Definition,
     }
 }
@@ -243,6 +247,7 @@ fn binds(kind: NameKind, is_word: bool) -> bool
         NameKind::Any => true,
         NameKind::Binding => is_word,
         NameKind::Item => is_word,
+        NameKind::Module(_) => is_word,
     }
 }
 
@@ -257,7 +262,5 @@ fn is_word(text: &[u8], word: &[u8], name: &Name) -> bool
 fn bytes_of<'a>(text: &'a [u8], name: &Name) -> &'a [u8]
     ensures { result.now ≡ spec.word text.now name.now }
 {
-    let end = name.range.end.min(text.len());
-    let start = name.range.start.min(end);
-    &text[start..end]
+    stretch_of(text, name.range.start, name.range.end)
 }

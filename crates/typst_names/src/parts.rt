@@ -16,6 +16,8 @@ pub enum NameKind {
     Item,
     /// The star of an import, which binds names that aren't known here.
     Any,
+    /// The module of a bare import is bound by its name there. After this byte `as` could give it another one.
+    Module(usize),
 }
 
 /// How the children of a node are taken, from one of them on up to one that changes it.
@@ -29,6 +31,12 @@ pub enum Part {
     Field,
     /// Names are used in an import, up to what it binds.
     Source,
+    /// Names are used in what a bare import is from, which binds its module.
+    Bare,
+    /// Names are used in the field access that a bare import is from, up to its dot.
+    BareField,
+    /// The field after that dot is bound.
+    BoundField,
     /// Names are used in one child that isn't trivia.
     Once,
     /// Names are bound.
@@ -74,14 +82,15 @@ pub enum Part {
 }
 
 impl Part {
-    /// The part that a child is taken as, wherever this part ends.
-    pub fn base(self) -> Part
-        ensures { result ≡ spec.base self }
+    /// The part that a child is taken as, by whether it is the last one, wherever this part ends.
+    pub fn base(self, is_last: bool) -> Part
+        ensures { result ≡ spec.base self is_last }
     {
         match self {
             Part::Block => Part::Value,
             Part::Field => Part::Value,
-            Part::Source => Part::Value,
+            Part::BareField => Part::Value,
+            Part::Source => base_of_source(is_last),
             Part::Once => Part::Value,
             Part::Bound => Part::Pattern,
             Part::Key => Part::Pattern,
@@ -109,6 +118,7 @@ impl Part {
     {
         match self {
             Part::Field => self.up_to(SyntaxKind::Dot, Part::Nothing, kind),
+            Part::BareField => self.up_to(SyntaxKind::Dot, Part::BoundField, kind),
             Part::Init => self.up_to(SyntaxKind::Eq, Part::Value, kind),
             Part::Bound => self.up_to(SyntaxKind::Eq, Part::Nothing, kind),
             Part::Pair => self.up_to(SyntaxKind::Colon, Part::Value, kind),
@@ -148,6 +158,7 @@ impl Part {
     {
         match self {
             Part::Value => used(kind),
+            Part::Bare => used(kind),
             Part::Pattern => told(SyntaxKind::Ident, NameKind::Binding, kind),
             Part::Parameters => told(SyntaxKind::Ident, NameKind::Binding, kind),
             Part::OwnName => told(SyntaxKind::Ident, NameKind::Binding, kind),
@@ -163,6 +174,7 @@ impl Part {
     {
         match self {
             Part::Value => first_of_value(kind),
+            Part::Bare => first_of_bare(kind),
             Part::Pattern => below_pattern(Part::PatternPair, kind),
             Part::Parameters => below_pattern(Part::Key, kind),
             Part::DefaultValues => only(SyntaxKind::Named, Part::Pair, kind),
@@ -181,6 +193,7 @@ impl Part {
     {
         match self {
             Part::Value => second_of_value(kind),
+            Part::Bare => second_of_value(kind),
             Part::Init => only(SyntaxKind::Closure, Part::OwnName, kind),
             _ => Part::Nothing,
         }
@@ -192,6 +205,7 @@ impl Part {
     {
         match self {
             Part::Value => only(SyntaxKind::Closure, Part::Function, kind),
+            Part::Bare => only(SyntaxKind::Closure, Part::Function, kind),
             Part::Init => only(SyntaxKind::Closure, Part::Function, kind),
             _ => Part::Nothing,
         }
@@ -206,6 +220,13 @@ impl Part {
             _ => false,
         }
     }
+}
+
+/// The part that a child of an import is taken as, up to what it binds.
+fn base_of_source(is_last: bool) -> Part
+    ensures { result ≡ spec.base_of_source is_last }
+{
+    if is_last { Part::Bare } else { Part::Value }
 }
 
 /// How a function's children are taken after one of this kind: after the arrow or the equals sign comes its body.
@@ -283,6 +304,16 @@ fn first_of_value(kind: SyntaxKind) -> Part
         SyntaxKind::ContentBlock => Part::Block,
         SyntaxKind::Contextual => Part::Block,
         _ => Part::Value,
+    }
+}
+
+/// The first part below what a bare import is from, of this kind.
+fn first_of_bare(kind: SyntaxKind) -> Part
+    ensures { result ≡ spec.first_of_bare kind }
+{
+    match kind {
+        SyntaxKind::FieldAccess => Part::BareField,
+        _ => first_of_value(kind),
     }
 }
 

@@ -1,17 +1,20 @@
 //! The names of a tree, and up to where each of them holds.
 
-ghost use Rattle.std.specs.Prelude.{◌≡◌, ◌+◌, ◌++◌, ◌<◌, ◌≤◌, IfOk, OnOk, false};
+ghost use Rattle.std.specs.Prelude.{◌≡◌, ◌+◌, ◌++◌, ◌<◌, ◌≤◌, IfOk, OnOk, false, option_map};
 ghost use Rattle.typst_tree.specs.Tree.{forest, none, more};
 ghost use Rattle.typst_names.specs.Bytes as bytes;
+ghost use Rattle.typst_names.specs.Modules.{name_in};
 ghost use Rattle.typst_names.specs.NameRows.{left, left_all, steps, steps_all, steps_left};
 ghost use Rattle.typst_names.specs.Names as spec;
 ghost use Rattle.typst_names.specs.Scopes as scopes;
 
+use crate::modules::name_in;
 use crate::parts::{NameKind, Part};
 use crate::places::Placed;
 use std::alloc::{AllocError, Global};
 use std::ops::Range;
 use std::slice;
+use typst_kinds::SyntaxKind;
 use typst_tree::SyntaxNode;
 
 /// A name in a text, or the star of an import.
@@ -106,13 +109,64 @@ fn take_next<'a>(
         node,
         start: row.start,
     };
-    let (part, kind) = (row.part.base(), node.node.kind());
-    add_name(found, part.says(kind, rest.is_empty()), node, row.until)?;
+    let is_last = rest.is_empty();
+    let (part, kind) = (row.part.base(is_last), node.node.kind());
+    add_own(found, part, is_last, node, row.until)?;
     push_row(rows, row.behind(node, rest))?;
     push_row(rows, row.below(node, part.third(kind)))?;
     push_row(rows, row.below(node, part.second(kind)))?;
     push_row(rows, row.below(node, part.first(kind)))?;
     Ok(())
+}
+
+/// Adds a node's own name, or that of the module that it is from.
+fn add_own(
+    found: &mut Vec<Name>,
+    part: Part,
+    is_last: bool,
+    node: Placed<'_>,
+    until: usize,
+) -> Result<(), AllocError>
+    ensures { OnOk result (found.new.items ≡ found.old.items ++ spec.own part is_last until node.entry.start node.entry.node.now.head node.entry.node.now.kids) }
+{
+    add_name(found, part.says(node.node.kind(), is_last), node, until)?;
+    add_module(found, module_range(part, is_last, node), node.end(), until)
+}
+
+/// Adds the name of a module in a node that ends at a byte, if it has one.
+fn add_module(
+    found: &mut Vec<Name>,
+    range: Option<Range<usize>>,
+    end: usize,
+    until: usize,
+) -> Result<(), AllocError>
+    ensures { OnOk result (found.new.items ≡ found.old.items ++ spec.module_named range end until) }
+{
+    if let Some(range) = range {
+        let kind = NameKind::Module(end);
+        found.push(Name { kind, range, until })?;
+    }
+    Ok(())
+}
+
+/// Where a node has the name of the module that a bare import binds.
+fn module_range(part: Part, is_last: bool, node: Placed<'_>) -> Option<Range<usize>>
+    ensures { result ≡ spec.module_range part is_last node.entry.start node.entry.node.now.head node.entry.node.now.kids }
+{
+    let kind = node.node.kind();
+    match part {
+        Part::Bare if kind.same(SyntaxKind::Str) => range_in(node),
+        Part::BoundField if is_last && kind.same(SyntaxKind::Ident) => Some(node.range()),
+        _ => None,
+    }
+}
+
+/// Where the text of a node has the name of a module.
+fn range_in(node: Placed<'_>) -> Option<Range<usize>>
+    ensures { result ≡ option_map (spec.moved node.entry.start) (name_in node.entry.node.now.head.text) }
+{
+    let Range { start, end } = name_in(node.node.leaf_text())?;
+    Some(node.start.saturating_add(start)..node.start.saturating_add(end))
 }
 
 /// Adds the name of a node, if it has one.

@@ -1,0 +1,11 @@
+use Rattle.std.proofs.Common.{◌≡◌, ◌<◌, drop, length}
+use Rattle.std.specs.Prelude.{IfSome}
+use Rattle.std.specs.Option.{option_or}
+use Rattle.typst_names.specs.Modules.{last_from, last_place}
+use Rattle.typst_names.proofs.modules.last_from.Given as goal
+
+abbrev pub invariant-loop-place : goal.invariant-loop-place
+invariant-loop-place l = record {
+  last : option_or (last_place l.mark l.place (drop l.place l.text)) l.last ≡ last_from l.mark l.from l.text;
+  within : IfSome l.last (λ place. place < length l.text);
+}
