@@ -1,7 +1,6 @@
 -- What is shown of a tree.
 pub mod Problems
 pub mod Items
-pub mod Closers
 pub mod Renames
 pub mod Shown
 pub mod ShownRows

@@ -79,9 +79,15 @@ pub record Put : Type 0 where
 abbrev pub put : Renamed → Put
 put r = record { range = r.range; before = r.before.now }
 
--- an item of an import keeps its name in the other file, and the new one is put after it; all else gives way
+-- a new name that comes after ` as ` at byte e
+abbrev pub put_after : ℕ → Put
+put_after e = record { range = record { start = e; end = e }; before = codes " as " }
+
+-- an item of an import keeps its name in the other file, and the new one is put after it, that of a
+-- module after what it is imported from; all else gives way
 abbrev pub put_as : OccurrenceKind → Range ℕ → Put
-put_as stands.Item r = record { range = record { start = r.end; end = r.end }; before = codes " as " }
+put_as stands.Item r = put_after r.end
+put_as (stands.Module e) r = put_after e
 put_as _ r = record { range = r; before = [] }
 
 -- where one occurrence gets the new name

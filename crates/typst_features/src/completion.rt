@@ -183,6 +183,6 @@ fn name_words<'a>(
 
 /// Whether a name is bound before a byte at which it holds.
 fn is_bound(name: &Name, byte: usize) -> bool {
-    let is_binding = name.kind == NameKind::Binding || name.kind == NameKind::Item;
+    let is_binding = !matches!(name.kind, NameKind::Use | NameKind::Any);
     is_binding && name.range.end < byte && byte <= name.until
 }

@@ -1,6 +1,5 @@
 //! What a language server shows of a document, as functions on its syntax tree: an outline, foldings,
-//! selections, names with their bindings and uses, labels with their references, completions, fixes, links,
-//! problems.
+//! selections, names with their bindings and uses, labels with their references, completions, links, problems.
 //!
 //! Positions are in bytes of the tree's text. Where nothing else is said each function goes through a tree at
 //! most once, and what makes a list takes the allocator and answers `AllocError` where memory is refused.
@@ -8,7 +7,6 @@
 
 mod completion;
 mod expansion;
-mod fixes;
 mod folding;
 mod hovering;
 mod items;
@@ -24,7 +22,6 @@ mod typing;
 
 pub use completion::{CompletionKind, Completions, completions_at};
 pub use expansion::expansions;
-pub use fixes::{Fix, quick_fixes};
 pub use folding::{Fold, FoldKind, foldings};
 pub use hovering::{Hover, HoverKind, hover_at};
 pub use items::{LineEdit, next_item};
@@ -32,9 +29,9 @@ pub use links::{DocumentLink, LinkKind, document_links};
 pub use naming::{Mention, MentionKind, definitions, highlights, mention_at, mentions, references};
 pub use outline::{Symbol, SymbolKind, symbols};
 pub use renaming::{Named, Renamed, named_at};
-pub use report::{Problem, problems};
+pub use report::{Problem, problems, range_of};
 pub use selection::{MOST_SELECTIONS, selections};
-pub use typing::shown_problems;
+pub use typing::{is_open_text, is_unclosed, shown_problems};
 pub use typst_names::{
     Name, NameKind, Occurrence, OccurrenceKind, Role, binding_of, name_at, name_roles, names,
     uses_of,

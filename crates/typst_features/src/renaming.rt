@@ -27,7 +27,7 @@ pub struct Named {
 pub struct Renamed {
     /// The bytes that give way.
     pub range: Range<usize>,
-    /// What is put before the new name: `as` where an item of an import gets a name of its own.
+    /// What is put before the new name: `as` where an item of an import, or its module, gets a name of its own.
     pub before: &'static str,
 }
 
@@ -193,19 +193,27 @@ fn is_bound(kind: OccurrenceKind) -> bool
     }
 }
 
-/// Where the new name is put for a name. An item of an import keeps its name in the other file.
+/// Where the new name is put for a name. An item of an import keeps its name in the other file, and a module its own.
 fn renamed_at(occurrence: &Occurrence) -> Renamed
     ensures { spec.put result ≡ spec.put_for occurrence.now }
 {
     let Range { start, end } = occurrence.range;
     match occurrence.kind {
-        OccurrenceKind::Item => Renamed {
-            range: end..end,
-            before: " as ",
-        },
+        OccurrenceKind::Item => renamed_after(end),
+        OccurrenceKind::Module(end) => renamed_after(end),
         _ => Renamed {
             range: start..end,
             before: "",
         },
+    }
+}
+
+/// A new name that comes after `as` at a byte.
+fn renamed_after(byte: usize) -> Renamed
+    ensures { spec.put result ≡ spec.put_after byte }
+{
+    Renamed {
+        range: byte..byte,
+        before: " as ",
     }
 }

@@ -2,12 +2,12 @@ use Rattle.std.proofs.Common.{ℕ}
 use Rattle.std.specs.Prelude.{Option, None, Some}
 use Rattle.typst_tree.specs.Tree.{nodes}
 use Rattle.typst_names.specs.declared.places.Placed.{Placed}
-use Rattle.typst_features.proofs.fixes.is_kept.Given as goal
+use Rattle.typst_fixes.proofs.gaps.token_before.Given as goal
 
 -- how many nodes are left
 abbrev pub left : Option Placed → ℕ
 left None = 0
 left (Some p) = nodes p.node.now
 
-abbrev pub decreases-loop-within : goal.decreases-loop-within
-decreases-loop-within l = left l.within
+abbrev pub decreases-loop-around : goal.decreases-loop-around
+decreases-loop-around l = left l.around

@@ -1,0 +1,10 @@
+use Rattle.std.proofs.Common.{◌≡◌, ◌++◌, drop}
+use Rattle.std.specs.List.{flat_map}
+use Rattle.typst_fixes.specs.Fixes.{of_diagnostic, stated}
+use Rattle.typst_fixes.specs.FixRows.{around}
+use Rattle.typst_fixes.proofs.fixes.Found.add_own.Given as goal
+
+abbrev pub invariant-loop-diagnostic : goal.invariant-loop-diagnostic
+invariant-loop-diagnostic l =
+    stated l.self.fixes.items ++ flat_map (of_diagnostic l.within (around l.site)) (drop l.diagnostic-index l.diagnostic-items)
+    ≡ stated l.fn.self.fixes.items ++ flat_map (of_diagnostic l.within (around l.site)) l.site.node.node.now.head.diagnostics

@@ -1,0 +1,9 @@
+use Rattle.std.proofs.Common.{◌≡◌, ◌++◌, drop}
+use Rattle.std.specs.List.{flat_map}
+use Rattle.typst_fixes.specs.Fixes.{of_hint, stated}
+use Rattle.typst_fixes.specs.FixRows.{around}
+use Rattle.typst_fixes.proofs.fixes.Found.add_told.Given as goal
+
+abbrev pub invariant-loop-hint : goal.invariant-loop-hint
+invariant-loop-hint l =
+    stated l.self.fixes.items ++ flat_map (of_hint (around l.fault.site) l.fault.problem) (drop l.hint-index l.hints) ≡ stated l.fn.self.fixes.items ++ flat_map (of_hint (around l.fault.site) l.fault.problem) l.hints
