@@ -79,13 +79,14 @@ edit_word_named name =
     else (if bytes_eq name (codes "chain") then Some edit_word.Chain
     else None)))))))))))
 
--- the word that a name stands for, of those for what programs answer
+-- the word that a name stands for, of those for what programs and calls answer
 abbrev pub program_word_named : List ℕ → Option ProgramWord
 program_word_named name =
     if bytes_eq name (codes "runs") then Some program_word.Runs
     else (if bytes_eq name (codes "run") then Some program_word.Run
     else (if bytes_eq name (codes "check") then Some program_word.Check
-    else None))
+    else (if bytes_eq name (codes "call") then Some program_word.Call
+    else None)))
 
 -- the first word that there is
 abbrev pub first_word : Option Word → Option Word → Option Word

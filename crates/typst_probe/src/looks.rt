@@ -1,7 +1,6 @@
 //! The word `look`.
 
 use std::alloc::{AllocError, Global};
-use typst_edited::cli::tree::variant_name;
 use typst_edited::cli::{SyntaxKind, SyntaxMode, UnicodeClasses};
 use typst_lexer::lexer::token;
 use typst_lines::Scanner;
@@ -34,7 +33,7 @@ fn print_token(
     if read.token.kind == SyntaxKind::End {
         return Ok(at);
     }
-    let (name, end) = (variant_name(read.token.kind), read.after.cursor());
+    let (name, end) = (read.token.kind.variant_name(), read.after.cursor());
     write!(printed, "{name} {at}..{end} looks ")?;
     print_look(printed, text, read.hull)?;
     Ok(end)

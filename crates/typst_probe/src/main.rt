@@ -1,4 +1,5 @@
-//! Shows what the parser layer answers about a text, and compares that with rows of wanted answers.
+//! Shows what the parser layer answers about a text, makes calls of the library by their names, also some that are
+//! refused memory, and compares all that with rows of wanted answers.
 #![tactic(auto)]
 
 mod answers;
@@ -6,23 +7,30 @@ mod calls;
 mod candidates;
 mod chain;
 mod checks;
+mod compared;
 mod edit_lines;
 mod edits;
 mod everywhere;
 mod in_a_row;
+mod library_call;
 mod links;
 mod looks;
 mod modes;
 mod names;
 mod notes;
+mod one_call;
 mod one_run;
+mod query;
 mod runs;
 mod spans;
 mod stretches;
+mod subject;
 mod tagged;
 mod tags;
 mod tokens;
+mod walk;
 mod word;
+mod written;
 
 use std::alloc::Global;
 use std::io;
@@ -36,7 +44,7 @@ const USAGE: &str =
     tree-math-narrow | tokens | tokens-wide | tokens-narrow | tokens-code | tokens-math | lines | link |
     look | stretches | notes | tags | tagged | html | spans | depths | size | asked | again | leaves | kinds |
     tag-list | edit | edit-wide | edit-narrow | edit-spans | edits | edit-lines | in-a-row | calls | runs | run |
-    chain | check | candidates | candidates START END | edit-spans START END TEXT | everywhere |
+    chain | check | call | candidates | candidates START END | edit-spans START END TEXT | everywhere |
     everywhere-in-turn | everywhere-at";
 
 /// `rows FILE..` compares all rows of the files, and any other word answers about the text on

@@ -3,7 +3,7 @@
 
 use std::alloc::{AllocError, Global};
 use std::cell::Cell;
-use typst_edited::cli::tree::{print_errors, variant_name};
+use typst_edited::cli::tree::print_errors;
 use typst_edited::cli::{
     Classes, SyntaxMode, SyntaxNode, UnicodeClasses, parse, parse_code, parse_math, parse_noted,
 };
@@ -112,7 +112,7 @@ impl Alike {
         if node.is_inner() {
             return Ok(());
         }
-        let (name, text) = (variant_name(node.kind()), node.leaf_text());
+        let (name, text) = (node.kind().variant_name(), node.leaf_text());
         let mut line = format!(in alloc; "{name} {text:?}")?;
         print_errors(&mut line, node.diagnostics())?;
         if line.as_str() != self.line.as_str() {

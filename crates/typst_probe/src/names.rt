@@ -2,7 +2,6 @@
 
 use std::alloc::AllocError;
 use typst_edited::cli::Tag;
-use typst_edited::cli::tree::variant_name;
 use typst_flat::{kind_count, kind_of_code};
 
 /// Prints the names of all kinds of nodes, in the order of their definitions: a line for each, as the code has it
@@ -10,7 +9,7 @@ use typst_flat::{kind_count, kind_of_code};
 pub fn print_kinds(printed: &mut String) -> Result<(), AllocError> {
     for code in 0..u32::try_from(kind_count()).unwrap_or(u32::MAX) {
         if let Some(kind) = kind_of_code(code) {
-            let (variant, name) = (variant_name(kind), kind.name());
+            let (variant, name) = (kind.variant_name(), kind.name());
             writeln!(printed, "{variant}: {name}")?;
         }
     }

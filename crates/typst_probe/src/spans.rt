@@ -1,7 +1,7 @@
 //! The word `spans`.
 
 use std::alloc::{AllocError, Global};
-use typst_edited::cli::tree::{print_errors, print_remarks, variant_name};
+use typst_edited::cli::tree::{print_errors, print_remarks};
 use typst_edited::cli::{Source, SourceError, SyntaxNode, UnicodeClasses};
 
 /// Prints the syntax tree of the text as markup, as a source holds it: as a tree, with `@` and the number of
@@ -47,7 +47,7 @@ fn print_node(
 ) -> Result<(), AllocError> {
     let deeper = "  ".repeat(alloc, depth.saturating_add(1))?;
     let indent = deeper.as_str().strip_prefix("  ").unwrap_or("");
-    let (name, end) = (variant_name(node.kind()), start.saturating_add(node.len()));
+    let (name, end) = (node.kind().variant_name(), start.saturating_add(node.len()));
     write!(printed, "{indent}{name} {start}..{end}")?;
     if let Some(number) = node.span().number() {
         let number = number.get();

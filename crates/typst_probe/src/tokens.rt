@@ -1,7 +1,7 @@
 //! The words `tokens`, `tokens-code` and `tokens-math`.
 
 use std::alloc::{AllocError, Global};
-use typst_edited::cli::tree::{print_head, variant_name};
+use typst_edited::cli::tree::print_head;
 use typst_edited::cli::{Classes, SyntaxMode, UnicodeClasses};
 use typst_lexer::{Lexer, make_node};
 use typst_tokens::Token;
@@ -39,6 +39,6 @@ fn print_token(
         let node = make_node(alloc, token, taken, &UnicodeClasses)?;
         return print_head(printed, &node, "", "  ", start..end);
     }
-    let name = variant_name(token.kind);
+    let name = token.kind.variant_name();
     writeln!(printed, "{name} {start}..{end}")
 }

@@ -28,7 +28,7 @@ pub enum Word {
     Tree(TreeWord),
     /// What edits of it answer.
     Edit(EditWord),
-    /// What programs answer.
+    /// What programs and calls answer.
     Program(ProgramWord),
 }
 

@@ -1,9 +1,13 @@
-//! Has sessions of the language server, and compares what it answers with rows of wanted answers.
+//! Shows what a language server shows and offers of a text, has sessions of the server, and compares that with rows
+//! of wanted answers.
 #![tactic(auto)]
 
+mod bound;
 mod exchange;
+mod offered;
 mod refused;
 mod sessions;
+mod shown;
 mod word;
 
 use std::alloc::Global;
@@ -12,7 +16,9 @@ use typst_rows::ended;
 use word::Word;
 
 const USAGE: &str =
-    "usage: typst_probe_server rows FILE.. | session | session-all-errors | session-cut | session-refused";
+    "usage: typst_probe_server rows FILE.. | outline | foldings | selections | mentions | problems |
+    semantic-tokens | tokens-in | deltas | expansions | names | occurrences | shown-problems | quick-fixes | document-links |
+    hover | completions | next-item | session | session-all-errors | session-cut | session-refused";
 
 /// `rows FILE..` compares all rows of the files, and any other word answers about the text on
 /// standard input. Ends with status 1 where a row disagrees or something fails, and with status 2

@@ -1,45 +1,50 @@
-//! The words that name what can be asked about what a client sends.
+//! The words that name what can be asked about a text, or about what a client sends.
+
+mod offered_word;
+mod session_word;
+mod shown_word;
 
 ghost use Rattle.std.specs.Prelude.{◌≡◌};
 ghost use Rattle.typst_probe_server.specs.Words.{word_named};
 
-use crate::{refused, sessions};
+use crate::word::offered_word::OfferedWord;
+use crate::word::session_word::SessionWord;
+use crate::word::shown_word::ShownWord;
 use std::alloc::{AllocError, Global};
 use typst_rows::RowWord;
-use typst_server::ShownErrors;
 
-/// What can be asked about what a client sends.
+/// What can be asked.
 #[derive(Clone, Copy)]
 pub enum Word {
-    /// What a session of the language server answers.
-    Session,
-    /// What one answers that shows all errors.
-    SessionAllErrors,
-    /// What a session of the language server answers that is cut off.
-    SessionCut,
-    /// How a session of the language server goes on where memory is refused.
-    SessionRefused,
+    /// What is shown of a text as a whole.
+    Shown(ShownWord),
+    /// What is offered at places of it.
+    Offered(OfferedWord),
+    /// What a session answers.
+    Session(SessionWord),
 }
 
 impl RowWord for Word {
     fn from_name(name: &str) -> Option<Word>
         ensures { result ≡ word_named name.now }
     {
-        match name {
-            "session" => Some(Word::Session),
-            "session-all-errors" => Some(Word::SessionAllErrors),
-            "session-cut" => Some(Word::SessionCut),
-            "session-refused" => Some(Word::SessionRefused),
-            _ => None,
+        if let Some(word) = ShownWord::from_name(name) {
+            return Some(Word::Shown(word));
+        }
+        if let Some(word) = OfferedWord::from_name(name) {
+            return Some(Word::Offered(word));
+        }
+        match SessionWord::from_name(name) {
+            Some(word) => Some(Word::Session(word)),
+            None => None,
         }
     }
 
     fn answer(self, alloc: Global, text: &str) -> Result<String, AllocError> {
         match self {
-            Word::Session => sessions::answer(alloc, ShownErrors::WithoutCascades, text),
-            Word::SessionAllErrors => sessions::answer(alloc, ShownErrors::All, text),
-            Word::SessionCut => sessions::cut_answer(alloc, text),
-            Word::SessionRefused => refused::answer(alloc, text),
+            Word::Shown(word) => word.answer(alloc, text),
+            Word::Offered(word) => word.answer(alloc, text),
+            Word::Session(word) => word.answer(alloc, text),
         }
     }
 }

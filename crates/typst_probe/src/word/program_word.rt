@@ -1,12 +1,12 @@
-//! What programs answer about a text.
+//! What programs answer about a text, and calls of the library.
 
 ghost use Rattle.std.specs.Prelude.{◌≡◌};
 ghost use Rattle.typst_probe.specs.Words.{program_word_named};
 
-use crate::{checks, one_run, runs};
+use crate::{checks, one_call, one_run, runs};
 use std::alloc::{AllocError, Global};
 
-/// What programs answer.
+/// What programs and calls answer.
 #[derive(Clone, Copy)]
 pub enum ProgramWord {
     /// Runs of the program that edit the text.
@@ -15,6 +15,8 @@ pub enum ProgramWord {
     Run,
     /// What the checker prints about the text in a form.
     Check,
+    /// Whether the call of the library that the text names is as it has to be.
+    Call,
 }
 
 impl ProgramWord {
@@ -26,6 +28,7 @@ impl ProgramWord {
             "runs" => Some(ProgramWord::Runs),
             "run" => Some(ProgramWord::Run),
             "check" => Some(ProgramWord::Check),
+            "call" => Some(ProgramWord::Call),
             _ => None,
         }
     }
@@ -36,6 +39,7 @@ impl ProgramWord {
             ProgramWord::Runs => runs::print(alloc, printed, text),
             ProgramWord::Run => one_run::print(alloc, printed, text),
             ProgramWord::Check => checks::print(alloc, printed, text),
+            ProgramWord::Call => one_call::print(alloc, printed, text),
         }
     }
 }

@@ -8,13 +8,13 @@ ghost use Rattle.typst_lines.specs.Classes.{in_line};
 use std::alloc::Global;
 use std::ops::Range;
 use typst_flat::{kind_count, kind_of_code};
-use typst_kinds::{Assoc, BinOp, SyntaxSet, UnOp, set};
 use typst_lines::{
     Classes, MathClass, is_id_continue, is_id_start, is_ident, is_valid_label_literal_id,
 };
 use typst_parser::{
-    Diagnostic, FileId, Hint, Lines, LinkedNode, Severity, Source, Span, SpanNumber, SubRange,
-    SyntaxKind, SyntaxNode, Tag, UnicodeClasses, highlight, is_newline, is_ordered,
+    Assoc, BinOp, Diagnostic, FileId, Hint, Lines, LinkedNode, Severity, Source, Span, SpanNumber,
+    SubRange, SyntaxKind, SyntaxNode, SyntaxSet, Tag, UnOp, UnicodeClasses, highlight, is_newline,
+    is_ordered, set,
 };
 
 /// A sum with a number more, which depends on the order of the numbers.

@@ -4,18 +4,18 @@ use crate::library_call::{Call, call_named};
 use crate::subject::{Subject, WRONG};
 use std::alloc::{AllocError, Global};
 
-/// Whether a call is as it has to be. The text is its name and the number from which the edits are drawn that
-/// come before it; `start` makes no call. A call that is refused memory has to change nothing, and is made again;
-/// then it has to answer and leave what it does of a twin, and so does an edit after it.
-pub fn answer(alloc: Global, text: &str) -> Result<String, AllocError> {
+/// Prints whether a call is as it has to be. The text is its name and the number from which the edits are drawn
+/// that come before it; `start` makes no call. A call that is refused memory has to change nothing, and is made
+/// again; then it has to answer and leave what it does of a twin, and so does an edit after it.
+pub fn print(alloc: Global, printed: &mut String, text: &str) -> Result<(), AllocError> {
     let Some((call, first)) = call_of(text) else {
-        return String::from_str(alloc, "no call\n");
+        return printed.push_str("no call\n");
     };
     let mut subject = Subject::new(alloc, first)?;
     let mut twin = Subject::new(alloc, first)?;
     match call {
-        Call::Start => String::from_str(alloc, "right\n"),
-        call => called(alloc, &mut subject, &mut twin, call),
+        Call::Start => printed.push_str("right\n"),
+        call => print_called(alloc, printed, &mut subject, &mut twin, call),
     }
 }
 
@@ -26,17 +26,17 @@ fn call_of(text: &str) -> Option<(Call, u32)> {
 }
 
 /// Makes a call of a subject and its twin.
-fn called(
+fn print_called(
     alloc: Global,
+    printed: &mut String,
     subject: &mut Subject,
     twin: &mut Subject,
     call: Call,
-) -> Result<String, AllocError> {
-    let mut printed = String::new(alloc);
+) -> Result<(), AllocError> {
     let answer = match subject.take(alloc, call) {
         Ok(answer) => answer,
         Err(AllocError) => {
-            print_refused(alloc, &mut printed, subject, twin)?;
+            print_refused(alloc, printed, subject, twin)?;
             subject.take(alloc, call)?
         }
     };
@@ -47,8 +47,7 @@ fn called(
     } else {
         "another answer"
     };
-    writeln!(printed, "{answered}")?;
-    Ok(printed)
+    writeln!(printed, "{answered}")
 }
 
 /// Prints that a call was refused, and whether its subject isn't as before.

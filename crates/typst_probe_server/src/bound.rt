@@ -42,7 +42,8 @@ fn show_unlike(
     Ok(())
 }
 
-/// Whether a name that begins at a byte is bound by the table of scopes.
+/// Whether a name that begins at a byte is bound by the table of scopes, and isn't that of a module, which is bound by
+/// a part of what it is imported from.
 fn is_bound(names: &[Name], start: usize) -> bool {
     for name in names {
         let is_binding = name.kind == NameKind::Binding || name.kind == NameKind::Item;
@@ -78,6 +79,7 @@ fn show_meaning(
         NameKind::Binding => "binding",
         NameKind::Item => "item",
         NameKind::Any => "any",
+        NameKind::Module(_) => "module",
     };
     write!(shown, "{kind} {word} {start}..{end}")?;
     if name.kind != NameKind::Use {
@@ -123,6 +125,7 @@ fn show_named(
         let kind = match occurrence.kind {
             OccurrenceKind::Definition => "definition",
             OccurrenceKind::Item => "item",
+            OccurrenceKind::Module(_) => "module",
             OccurrenceKind::Use => "use",
         };
         let Range { start, end } = occurrence.range;

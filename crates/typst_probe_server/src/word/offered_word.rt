@@ -1,7 +1,7 @@
 //! What a language server offers at places of a text.
 
 ghost use Rattle.std.specs.Prelude.{◌≡◌};
-ghost use Rattle.typst_probe_features.specs.Words.{offered_word_named};
+ghost use Rattle.typst_probe_server.specs.Words.{offered_word_named};
 
 use crate::{bound, offered};
 use std::alloc::{AllocError, Global};

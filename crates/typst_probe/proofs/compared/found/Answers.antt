@@ -1,6 +1,6 @@
 use Rattle.std.proofs.Common.{refl}
 use Rattle.std.proofs.lemmas.Str.{chars-nil, IsCharBoundary-start}
-use Rattle.typst_probe_calls.proofs.compared.found.Goals as goal
+use Rattle.typst_probe.proofs.compared.found.Goals as goal
 
 -- a text begins at a boundary of its characters
 pub new-requires-clause-boundary : goal.new-requires-clause-boundary

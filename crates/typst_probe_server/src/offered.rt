@@ -4,9 +4,10 @@
 use std::alloc::{AllocError, Global};
 use std::ops::Range;
 use typst_features::{
-    CompletionKind, Fix, HoverKind, LinkKind, completions_at, document_links, expansions, hover_at,
-    next_item, problems, quick_fixes, shown_problems,
+    CompletionKind, HoverKind, LinkKind, completions_at, document_links, expansions, hover_at,
+    next_item, problems, shown_problems,
 };
+use typst_fixes::{Edit, Fix, quick_fixes};
 use typst_grammar::parse;
 use typst_kinds::Severity;
 use typst_lines::UnicodeClasses;
@@ -61,16 +62,28 @@ pub fn fixed(alloc: Global, text: &str) -> Result<String, AllocError> {
 
 /// A text with a fix made.
 fn made(alloc: Global, text: &str, fix: &Fix<'_>) -> Result<String, AllocError> {
-    let mut new = String::from_str(alloc, text.get(..fix.range.start).unwrap_or(""))?;
-    if fix.space_before {
-        new.push_str(" ")?;
+    let mut new = String::from_str(alloc, text.get(..fix.edit.range.start).unwrap_or(""))?;
+    push_edit(&mut new, &fix.edit)?;
+    let mut end = fix.edit.range.end;
+    if let Some(further) = &fix.further {
+        new.push_str(text.get(end..further.range.start).unwrap_or("?"))?;
+        push_edit(&mut new, further)?;
+        end = further.range.end;
     }
-    new.push_str(fix.text)?;
-    if fix.space_behind {
-        new.push_str(" ")?;
-    }
-    new.push_str(text.get(fix.range.end..).unwrap_or(""))?;
+    new.push_str(text.get(end..).unwrap_or(""))?;
     Ok(new)
+}
+
+/// Adds what an edit puts in the place of what gives way.
+fn push_edit(new: &mut String, edit: &Edit<'_>) -> Result<(), AllocError> {
+    if edit.space_before {
+        new.push_str(" ")?;
+    }
+    new.push_str(edit.text)?;
+    if edit.space_behind {
+        new.push_str(" ")?;
+    }
+    Ok(())
 }
 
 /// The links of a text: a line for each with its kind, its range and what it names.

@@ -1,7 +1,7 @@
 //! What a language server shows of a text.
 
 ghost use Rattle.std.specs.Prelude.{◌≡◌};
-ghost use Rattle.typst_probe_features.specs.Words.{shown_word_named};
+ghost use Rattle.typst_probe_server.specs.Words.{shown_word_named};
 
 use crate::shown;
 use std::alloc::{AllocError, Global};

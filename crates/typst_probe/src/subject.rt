@@ -7,12 +7,11 @@ use std::ops::Range;
 use typst_edited::{
     Draws, Edit, Made, Wanted, are_alike, are_same, are_same_lines, boundary, fault,
 };
-use typst_highlight::highlight_html;
 use typst_lexer::raw_node;
 use typst_lines::split_newlines;
 use typst_parser::{
-    Lines, Source, SourceError, SubRange, SyntaxKind, SyntaxNode, UnicodeClasses, parse,
-    parse_code, parse_math, parse_noted, tag_stretches,
+    Lines, Source, SourceError, SubRange, SyntaxKind, SyntaxNode, UnicodeClasses, highlight_html,
+    parse, parse_code, parse_math, parse_noted, tag_stretches,
 };
 
 /// What is edited before a call is made.
