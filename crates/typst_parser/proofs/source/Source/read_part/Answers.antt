@@ -1,4 +1,4 @@
-use Rattle.std.proofs.Common.{◌≡◌, ◌∙◌, ◌-◌, ◌<◌, ◌^◌, List, ℕ, true, length, Option, None, Ok, ap, sym, subst, refl, arith}
+use Rattle.std.proofs.Common.{◌≡◌, ◌∙◌, ◌-◌, ◌<◌, ◌^◌, List, ℕ, true, length, Option, None, Ok, ap, sym, subst, refl, arith, rules}
 use Rattle.std.specs.Prelude.{IfSome}
 use Rattle.std.specs.Str.{IsCharBoundary}
 use Rattle.typst_tree.specs.Boundaries.{IsBoundary}
@@ -96,3 +96,12 @@ returns-in-Ok-None-clause-decided g c =
     let is : c.reparse.result ≡ Ok None = c.in-Ok-None.is ∙ ap (λ o. Ok o) c.in-Ok-None.field-0-is in
     let none = c.reparse.ensures.none (change_by h) (makes-text k old now (record { start = r.start; old_end = r.end; new_end = c.saturating_sub.result }) h i.records.units had c.text-text.result.now c.text-text.ensures fits) (holds k old now (record { start = r.start; old_end = r.end; new_end = c.saturating_sub.result }) h i.records.units had) is in
     subst (λ (s : Held g.row.C.Denot). s.has_records ≡ true → length (edited s.text r c.args.with.now) < 2 ^ 64 - 1 → NonePasses (g.C.Classes.classes s.classes) (change_of s.text r c.args.with.now) s.root) c.self.view_is (λ _ _. none)
+
+pub invariant_of-self-in-Err : goal.invariant_of-self-in-Err
+invariant_of-self-in-Err g c = search rules
+
+pub returns-in-Err-clause-err : goal.returns-in-Err-clause-err
+returns-in-Err-clause-err g c = search rules
+
+pub returns-in-Err-clause-memory : goal.returns-in-Err-clause-memory
+returns-in-Err-clause-memory g c = search rules
