@@ -45,6 +45,19 @@
 (defun try-lines (lines)
   (if lines (string-join lines "\n") "nothing"))
 
+(defun try-problem-lines ()
+  "The line, column and message of each error and warning that is shown."
+  (try-settle)
+  (flymake-start)
+  (try-settle)
+  (mapcar (lambda (it)
+            (save-excursion
+              (goto-char (flymake-diagnostic-beg it))
+              (format "%d:%d %s" (line-number-at-pos) (1+ (current-column))
+                      (string-remove-prefix "typst: " (flymake-diagnostic-text it)))))
+          (sort (flymake-diagnostics)
+                (lambda (one other) (< (flymake-diagnostic-beg one) (flymake-diagnostic-beg other))))))
+
 ;; Renames
 
 (defun try-eglot-rename (name)
@@ -67,9 +80,10 @@
 
 (defun try-choose (number command)
   "Calls COMMAND, and makes the choice of that NUMBER where it asks for one."
-  (let ((completing-read-function
-         (lambda (_ offered &rest _) (nth (1- (string-to-number number)) (all-completions "" offered)))))
-    (try-text-after (lambda () (call-interactively command)))))
+  (let* ((completing-read-function
+          (lambda (_ offered &rest _) (nth (1- (string-to-number number)) (all-completions "" offered))))
+         (text (try-text-after (lambda () (call-interactively command)))))
+    (string-join (cons (string-remove-suffix "\n" text) (try-problem-lines)) "\n")))
 
 (defun try-eglot-fix (number)
   (try-choose number #'eglot-code-actions))
@@ -158,16 +172,7 @@
                        (sort entries (lambda (one other) (< (cdr one) (cdr other))))))))
 
 (defun try-problems (_)
-  (try-settle)
-  (flymake-start)
-  (try-settle)
-  (try-lines
-   (mapcar (lambda (it)
-             (save-excursion
-               (goto-char (flymake-diagnostic-beg it))
-               (format "%d:%d %s" (line-number-at-pos) (1+ (current-column))
-                       (string-remove-prefix "typst: " (flymake-diagnostic-text it)))))
-           (sort (flymake-diagnostics) (lambda (one other) (< (flymake-diagnostic-beg one) (flymake-diagnostic-beg other)))))))
+  (try-lines (try-problem-lines)))
 
 ;; What only lsp-mode has
 

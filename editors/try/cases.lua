@@ -48,6 +48,15 @@ local function press(keys)
   settle()
 end
 
+-- The line, column and message of each error and warning that is shown.
+local function problems()
+  local shown = vim.tbl_map(function(problem)
+    return string.format("%d:%d %s", problem.lnum + 1, problem.col + 1, problem.message)
+  end, vim.diagnostic.get(buffer))
+  table.sort(shown)
+  return shown
+end
+
 local actions = {}
 
 function actions.rename(name)
@@ -72,7 +81,7 @@ function actions.fix(number)
     answer(offered[tonumber(number)], tonumber(number))
   end
   press("gra")
-  return (#notices > 0 and "refused\n" or "") .. text()
+  return (#notices > 0 and "refused\n" or "") .. table.concat({ text(), unpack(problems()) }, "\n")
 end
 
 -- The words of the menu, and the keys that take one of them.
@@ -150,10 +159,7 @@ end
 
 function actions.problems()
   settle()
-  local shown = vim.tbl_map(function(problem)
-    return string.format("%d:%d %s", problem.lnum + 1, problem.col + 1, problem.message)
-  end, vim.diagnostic.get(buffer))
-  table.sort(shown)
+  local shown = problems()
   return #shown > 0 and table.concat(shown, "\n") or "nothing"
 end
 
