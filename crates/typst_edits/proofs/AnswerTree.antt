@@ -1,5 +1,5 @@
 -- The tree of an edit's answer.
-use Rattle.std.proofs.Common.{◌≡◌, ℕ, ◌^◌, Bool, true, false, IsTrue, List, ◌++◌, Option, Some, None, refl, ap, sym, ◌∙◌, subst}
+use Rattle.std.proofs.Common.{◌≡◌, ℕ, ◌^◌, Bool, true, false, IsTrue, List, ◌++◌, Option, Some, None, refl, ap, sym, ◌∙◌, subst, arith}
 use Rattle.typst_edits.proofs.Words.{nat_le, if◌then◌else◌, CharClasses, Tree, Forest, none, more, bare, bare_forest, put_at, width, Candidate, tree, log, of_block, of_pieces, OpensApartLaw, listed, SpanValue, bare_head, part}
 use Rattle.std.specs.Prelude.{◌-◌}
 use Rattle.typst_tree.specs.Tree.{with_each, synthesized, nodes}
@@ -31,8 +31,7 @@ gives-tree-law apart k front old new rest root c ts same chosen (of_block s past
     let reaches = reached k text (width front) (width (front ++ old)) root c (in-order front old) same chosen in
     subst (Fits k front old new rest c) (sym is) (block-tree k front old new rest c s past there path one reaches passes)
 gives-tree-law apart k front old new rest root c ts same chosen (of_pieces r i n m past t u pieces path start led end h is) =
-    let well = begins-well-law apart k front old new rest root r c i n m past t u same chosen pieces (sym path) start led end h in
-    subst (Fits k front old new rest c) (sym is) (pieces-law k front old new rest r c i n m past t u well.0 (sym path) start led end h well.1)
+    grind (arith, begins-well-law apart k front old new rest root r c i n m past t u same chosen pieces (sym path) start led end h, pieces-law)
 
 -- ---- a tree with new numbers
 

@@ -1,10 +1,9 @@
 -- What the entries say of a candidate that is pieces of a run, and a reading that begins with one candidate and serves another one: for any run.
-use Rattle.std.proofs.Common.{◌≡◌, ◌⊎◌, inl, inr, ◌↔◌, ℕ, zero, suc, ◌+◌, ◌-◌, ◌^◌, ◌<◌, ◌≤◌, ◌==◌, if◌then◌else◌, min, Bool, true, false, List, ◌++◌, length, take, length-append, Option, None, Some, refl, ap, sym, ◌∙◌, subst, arith, lt_of_not-le, eq-zero-or-pos, pos_of_ne-zero}
+use Rattle.std.proofs.Common.{◌≡◌, ◌⊎◌, inl, inr, ◌↔◌, ℕ, zero, suc, ◌+◌, ◌-◌, ◌^◌, ◌<◌, ◌≤◌, ◌==◌, if◌then◌else◌, min, Bool, true, false, List, ◌++◌, length, take, length-append, Option, Some, refl, ap, sym, ◌∙◌, subst, arith, lt_of_not-le, eq-zero-or-pos, pos_of_ne-zero}
 use Rattle.typst_edits.proofs.Words.{eqb-true, eqb-false, take-append-le, Place, moved, CharClasses, Tree, bare, text_of, replaced_at, width, position, Trivia, gap_of, Note, ahead-left, Entry, EntryKind, Candidate, begins, entries_by, units_of, spliced, RunKind, start_of, log, tree, entries_in, front_in, rear_in, IsPieces, text_with, Run, read_as, opened_by, end_by, cut_at, is_over, nodes_now, Agrees, Before, After, PassesPieces, PassesJoint, Gives, of_pieces, path_to, bytes_of, TakesNone, ServesMore, listed, StandsAt, AllGo, End, notes_by, IsLast, BeginsAt, FoundRun, reading_on, nodes_by, SaysPiece, PassesRead, Sequence, first_of, first_end, then_of, then_end, then_place, entries_from, run_level, stops_of, end_on, kids_of_run, run_from, StandsBetween, Served, cases_eq}
 use Rattle.typst_language.proofs.Places.{moved-min}
 use Rattle.typst_edits.specs.RunTest.{Reading, read_by, carried_by, byte_after, Ends, LooksFrom, Meets}
 use Rattle.typst_edits.specs.Served.{MeetsOn, PassesOn, reading_of}
-use Rattle.std.specs.List.{slice_get}
 use Rattle.typst_candidates.specs.declared.entry.EntryKind.TheVariants as entry_kind
 use Rattle.typst_candidates.proofs.Edges.{begins_order}
 use Rattle.typst_grammar.specs.declared.part.RunKind.TheVariants as of
@@ -20,7 +19,7 @@ use Rattle.typst_edits.proofs.MarkupCandidates.{OfStretch}
 use Rattle.typst_edits.proofs.RunPieces.{take-past, cut-some}
 use Rattle.typst_edits.proofs.RunOver.{ends-in}
 use Rattle.typst_edits.proofs.Widths.{width-append, take-same, take-longer}
-use Rattle.typst_edits.proofs.Every.{some_or, not-less, neither}
+use Rattle.typst_edits.proofs.Every.{not-less, neither}
 use Rattle.std.proofs.Math.Arith.{lt_of_le-ne}
 
 -- ---- among the children
@@ -51,14 +50,10 @@ seated front old path at ts cuts c o all =
 module _ (front old : List ℕ) (at : ℕ) (ts : List Tree) (c d : Candidate) (s : Seated front old at ts c) (o : Seated front old at ts d) where
   -- A candidate ends after the child where another one begins.
   pub seats-in-order : d.from ≤ c.to
-  seats-in-order = not-less d.from c.to (λ l.
-      (let back = begins_order at ts c.to d.from (omega (arith, l)) in
-      omega (arith, back, o.early (omega (arith, l)), s.late, o.begin, s.end, width-append front old)))
+  seats-in-order = grind (arith, not-less, begins_order, width-append)
 
   not-before : c.start ≡ d.start → 0 < c.from → c.from < d.from → ⊥
-  not-before same some l =
-      let x = child-at at ts c.from (s.there some) in
-      omega (arith, x.past d.from l, s.full some, x.begin, s.begin, o.begin, same)
+  not-before same some l = grind (arith, child-at at ts c.from (s.there some))
 
 pub seat-stands : (front old : List ℕ) (at : ℕ) (ts : List Tree) (c : Candidate) → Seated front old at ts c → 0 < c.from → StandsAt at ts c.from c.start
 seat-stands front old at ts c s some = subst (λ b. StandsAt at ts c.from b) (sym s.begin) (stands at ts c.from (child-at at ts c.from (s.there some)) (s.full some))
@@ -71,15 +66,10 @@ line_in b _ = b
 
 -- An entry says one thing.
 says-once : (es : List Entry) (a b : ℕ) (x y : Bool × ℕ) → SaysPiece es a x → SaysPiece es b y → a ≡ b → x ≡ y
-says-once es a b x y s o e =
-    let same : s.entry ≡ o.entry = ap (some_or s.entry) (sym s.is ∙ ap (slice_get es) e ∙ o.is) in
-    let line : x.0 ≡ y.0 = ap (line_in x.0) (sym s.kind ∙ ap (λ (n : Entry). n.kind) same ∙ o.kind) in
-    let count : x.1 ≡ y.1 = sym s.count ∙ ap (λ (n : Entry). n.count) same ∙ o.count in
-    (λ j. (line j, count j))
+says-once es a b x y s o e = grind arith
 
 pub entries-listed : (at : ℕ) (ns : Option (List Note)) → entries_from at ns ≡ entries_by at (listed ns)
-entries-listed at None = refl
-entries-listed at (Some ns) = refl
+entries-listed at ns = grind arith
 
 -- The entry from which on all looks have to begin after the stretch is the one after the pieces, or another one where there is none.
 abbrev pub looks_by : ℕ → ℕ → ℕ → ℕ
@@ -106,8 +96,7 @@ pub record Found (front old rest : List ℕ) (c : Candidate) (q : Sequence) (ope
   pub end : c.end ≡ width (front ++ (old ++ take past rest))
 
 right-of : {A B : Type 0} → (A → ⊥) → A ⊎ B → B
-right-of f (inl a) = absurd (f a)
-right-of f (inr b) = b
+right-of f h = grind arith
 
 -- ---- pieces that end at the same place
 
@@ -119,26 +108,11 @@ record SameEnd (q : Sequence) (i n j m : ℕ) : Type 0 where
   taken : (first_end i q).taken + (then_end i n q).taken ≡ (first_end j q).taken + (then_end j m q).taken
 
 same-end : (q : Sequence) (i n j m : ℕ) → i + n ≡ j + m → SameEnd q i n j m
-same-end q i n j m sum =
-    let one = end-split-at q i n in
-    let two = end-split-at q j m in
-    let taken : (first_end i q).taken + (then_end i n q).taken ≡ (first_end j q).taken + (then_end j m q).taken =
-    sym (ap (λ (e : End (Bool × ℕ)). e.taken) one) ∙ ap (λ x. (first_end x q).taken) sum ∙ ap (λ (e : End (Bool × ℕ)). e.taken) two in
-    record {
-      value = sym (ap (λ (e : End (Bool × ℕ)). e.value) one) ∙ ap (λ x. (first_end x q).value) sum ∙ ap (λ (e : End (Bool × ℕ)). e.value) two;
-      state = sym (ap (λ (e : End (Bool × ℕ)). e.state) one) ∙ ap (λ x. (first_end x q).state) sum ∙ ap (λ (e : End (Bool × ℕ)). e.state) two;
-      place = sym (later-place q i n) ∙ ap (λ x. moved x q.place) taken ∙ later-place q j m;
-      taken = taken;
-    }
+same-end q i n j m sum = let one = end-split-at q i n in grind (arith, end-split-at, later-place)
 
 -- What agrees after them in two texts agrees however they are counted.
 meets-too : (r : Sequence) (y x : Place) (e o f g : End (Bool × ℕ)) (t u : Trivia) → y ≡ x → e.value ≡ o.value → e.state ≡ o.state → f.value ≡ g.value → f.state ≡ g.state → MeetsAfter r y e f t u → MeetsAfter r x o g t u
-meets-too r y x e o f g t u place value state value_now state_now h =
-    let there = subst (λ p. MeetsAfter r p e f t u) place h in
-    let two = subst (λ s. MeetsAfter r x (record e { value = o.value; state = s }) f t u) state (subst (λ v. MeetsAfter r x (record e { value = v }) f t u) value there) in
-    let three = subst (λ v. MeetsAfter r x (record e { value = o.value; state = o.state }) (record f { value = v }) t u) value_now two in
-    let four = subst (λ s. MeetsAfter r x (record e { value = o.value; state = o.state }) (record f { value = g.value; state = s }) t u) state_now three in
-    record { known = four.known; known_now = four.known_now; value = four.value; over = four.over; errors = four.errors }
+meets-too r y x e o f g t u place value state value_now state_now h = grind arith
 
 -- ---- a run, read by itself
 
@@ -191,20 +165,14 @@ module _ (k : CharClasses) (front old new rest : List ℕ) (r : Run k (front ++ 
   found-by c i n past t p = record { go = p.go; go_on = p.go_on; known = p.known; ends = p.ends; start = p.start; end = p.end }
 
   pub begins-now : (c : Candidate) (i n past : ℕ) (t : Trivia) → IsPieces k front old rest r c i n past t → position (moved (cut_at r i z) w) ≡ c.start
-  begins-now c i n past t p =
-      let cut = cut_at r i z in
-      byte-at cut now ∙ ap width (take-append-le cut front (new ++ rest) p.early ∙ sym (take-append-le cut front (old ++ rest) p.early)) ∙ sym p.start
+  begins-now c i n past t p = grind (arith, byte-at, take-append-le)
 
   -- No pieces end after the text, with their trivia.
   abbrev pub AreWithin : Type 0
   AreWithin = (m : ℕ) → opened_by r z ≤ length text → opened_by r z + ((first_end m q).taken + gap_of (first_end m q).state.known) ≤ length text
 
   pub room-by : AreWithin → (c : Candidate) (i n past : ℕ) (t : Trivia) → FoundHere c i n past t → opened_by r z ≤ length front → past ≤ length rest
-  room-by within c i n past t f early =
-      let split = end-split-at q i n in
-      let taken = ap (λ (u : End (Bool × ℕ)). u.taken) split in
-      let one = length-append front (old ++ rest) in
-      omega (arith, within (i + n) (omega (arith, early, one)), taken, ap (λ (u : End (Bool × ℕ)). gap_of u.state.known) split ∙ ap gap_of f.known, f.ends, one, length-append old rest)
+  room-by within c i n past t f early = let split = end-split-at q i n in grind (arith, length-append)
 
   -- What is known of a run's pieces by the numbers of their entries.
   pub record Entered (entry : ℕ) : Type 0 where
@@ -255,10 +223,7 @@ module _ (k : CharClasses) (front old new rest : List ℕ) (r : Run k (front ++ 
   -- ---- bytes
 
   byte-is : (i m : ℕ) → byte_after k (read_from i) m ≡ width (take (far_by i m) now)
-  byte-is i m =
-      let x = read_from i in
-      let e = end_on (run_level k levels which) (stops_of which) x.carried m x.place in
-      byte-of (cut_at r i z) (e.taken + gap_of e.state.known) now
+  byte-is i m = grind (arith, byte-of)
 
   far-within : (i m : ℕ) → cut_at r i z ≤ length front → far_by i m ≤ length now
   far-within i m early =
@@ -267,18 +232,13 @@ module _ (k : CharClasses) (front old new rest : List ℕ) (r : Run k (front ++ 
   -- how far pieces of both texts go, by bytes
   module _ (c : Candidate) (past : ℕ) (end : c.end ≡ width (front ++ (old ++ take past rest))) where
     stop-width : width (take ((length front + length new) + past) now) + width old ≡ c.end + width new
-    stop-width =
-        let at = ap width (take-past front new rest past ((length front + length new) + past) refl) in
-        omega (arith, at, width-append front (new ++ take past rest), width-append new (take past rest), width-append front (old ++ take past rest), width-append old (take past rest), end)
+    stop-width = grind (arith, ap width (take-past front new rest past ((length front + length new) + past) refl), width-append)
 
     to-shifted : (i m : ℕ) → far_by i m ≡ (length front + length new) + past → byte_after k (read_from i) m + width old ≡ c.end + width new
-    to-shifted i m e =
-        omega (arith, byte-is i m ∙ ap (λ j. width (take j now)) e, stop-width)
+    to-shifted i m e = grind (arith, byte-is, stop-width)
 
     from-shifted : (i m : ℕ) → cut_at r i z ≤ length front → past ≤ length rest → byte_after k (read_from i) m + width old ≡ c.end + width new → far_by i m ≡ (length front + length new) + past
-    from-shifted i m early room e =
-        let one = length-append front (new ++ rest) in
-        take-same (far_by i m) ((length front + length new) + past) now (far-within i m early) (omega (arith, room, one, length-append new rest)) (omega (arith, byte-is i m, stop-width, e))
+    from-shifted i m early room e = grind (arith, length-append, take-same, far-within, byte-is, stop-width)
 
   -- ---- which pieces a candidate is
 
@@ -293,16 +253,11 @@ module _ (k : CharClasses) (front old new rest : List ℕ) (r : Run k (front ++ 
         let first = same-first in
         let room : past ≡ far = take-same past far rest (room-by e.within c i n past t f early) (room-by e.within c j m far u g early)
         (omega (arith, width-append front (old ++ take past rest), width-append old (take past rest), width-append front (old ++ take far rest), width-append old (take far rest), f.end, g.end)) in
-        let there : FoundHere c i m past u = subst (λ a. FoundHere c i m a u) (sym room) (subst (λ a. FoundHere c a m far u) (sym first) g) in
-        let count : n ≡ m = e.counts i n m f.go f.go_on there.go_on (omega (arith, f.ends, there.ends, ap gap_of f.known, ap gap_of there.known)) in
-        let trivia : t ≡ u = ap (some_or t) (sym f.known ∙ ap (λ a. (then_end i a q).state.known) count ∙ there.known) in
-        (λ x. span (first x) (count x) (room x) (trivia x))
+        grind arith
 
     -- So however it passes, these pieces do.
     pub passes-too : (d : ℕ) (b : Trivia) (ts : List Tree) → PassesPieces k front old new rest r j m d far u b → ts ≡ nodes_now r j d b w → ((d : ℕ) × (b : Trivia) × PassesPieces k front old new rest r i n d past t b × (ts ≡ nodes_now r i d b w))
-    passes-too d b ts h made =
-        let x : PassesPieces k front old new rest r i n d past t b × (ts ≡ nodes_now r i d b w) = subst (λ (x : Span). PassesPieces k front old new rest r x.i x.n d x.past x.trivia b × (ts ≡ nodes_now r x.i d b w)) (sym one-span) (h, made) in
-        (d, b, x.0, x.1)
+    passes-too d b ts h made = grind (arith, one-span)
 
   -- ---- the numbers that are found
 
@@ -318,11 +273,7 @@ module _ (k : CharClasses) (front old new rest : List ℕ) (r : Run k (front ++ 
 
     -- Without a piece it is the run's end.
     pub none-last : n ≡ 0 → IsLast es (e.number i)
-    none-last none =
-        let alone = p.empty none in
-        let over = sym (e.over 0 0 (omega arith)) ∙ alone.1 in
-        let count : 0 ≡ e.count = eqb-true 0 e.count over in
-        subst (λ j. IsLast es (e.number j)) (sym count ∙ sym alone.0) e.last
+    none-last none = grind (arith, eqb-true)
 
     none-more : IsLast es (e.number i) → n ≡ 0
     none-more last = elim (eq-zero-or-pos n) [ inl is ↦ is | inr some ↦ (let all = fits in absurd (e.not_last i (omega (arith, all, some)) last)) ]
@@ -344,14 +295,8 @@ module _ (k : CharClasses) (front old new rest : List ℕ) (r : Run k (front ++ 
         apart (e.number i) (e.number (i + n)) begins-there (e.not_last i (omega (arith, all, some))) (ends-there some) (e.rises i (i + n) (omega (arith, some)) all)
 
     ends-are : (a b : ℕ) → Ends es entry c a b → (a ≡ e.number i) × (b ≡ e.number (i + n))
-    ends-are a b (apart from to at more behind less) =
-        let first : a ≡ e.number i = some-number from (e.number i) (sym at ∙ begins-there) in
-        let there = ends-there (pos_of_ne-zero (λ none. more (subst (λ j. IsLast es j) (sym first) (none-last none)))) in
-        (first, some-number to (e.number (i + n)) (sym behind ∙ subst (λ j. BeginsAt es j c.end (e.number (i + n))) (sym first) there))
-    ends-are a b (at_once from at last) =
-        let first : a ≡ e.number i = some-number from (e.number i) (sym at ∙ begins-there) in
-        let sum : i ≡ i + n = omega (arith, none-more (subst (λ j. IsLast es j) first last)) in
-        (first, first ∙ ap e.number sum)
+    ends-are a b (apart from to at more behind less) = grind (arith, some-number, begins-there, ends-there, pos_of_ne-zero, none-last)
+    ends-are a b (at_once from at last) = grind (arith, some-number, begins-there, none-more)
 
     looks-are : (from to a : ℕ) → LooksFrom es which from to a → from ≡ e.number i → 0 < n → a ≡ to
     looks-are from to a (from_pieces more) is some = refl
@@ -359,10 +304,7 @@ module _ (k : CharClasses) (front old new rest : List ℕ) (r : Run k (front ++ 
     looks-are from to a (from_nothing number last own far) is some = let none = none-more (subst (λ j. IsLast es j) is last) in absurd (omega (arith, none, some))
 
     looks-of : (d : ℕ) → n ≡ d → LooksFrom es which (e.number i) (e.number (i + n)) (looks_by d e.alone (e.number (i + n)))
-    looks-of zero is =
-        let none = p.empty is in
-        let count : 0 ≡ e.count = eqb-true 0 e.count (sym (e.over 0 0 (omega arith)) ∙ none.1) in
-        subst (λ j. LooksFrom es which (e.number j) (e.number (i + n)) e.alone) (sym count ∙ sym none.0) (e.alone_from (e.number (i + n)))
+    looks-of zero is = grind (arith, eqb-true)
     looks-of (suc d) is = let all = fits in from_pieces (e.not_last i (omega (arith, all, is)))
 
     behind-is : (d : ℕ) → n ≡ d → rear_in k front old rest ≤ looks_by d e.alone (e.number (i + n)) ↔ After k front old rest r i n past t
@@ -453,8 +395,7 @@ module _ (k : CharClasses) (front old new rest : List ℕ) (r : Run k (front ++ 
         )
 
     rises-by : e.number i < front_in k front old rest → (m j : ℕ) → m < j → AllGo (read_by k (read_from i) j) → byte_after k (read_from i) m < byte_after k (read_from i) j
-    rises-by early m j l go =
-        omega (arith, byte-is i m, byte-is i j, take-longer (far_by i m) (far_by i j) now (e.further i m j l go) (far-within i j p.early))
+    rises-by early m j l go = grind (arith, byte-is, take-longer, far-within)
 
     -- how its entries are exchanged for those of m pieces that are read
     abbrev pub UnitsBy : ℕ → Type 0
@@ -560,23 +501,7 @@ module _ (k : CharClasses) (front old new rest : List ℕ) (r : Run k (front ++ 
     rest-is : IsPieces k front old rest r rest_of_it mid left past t
     rest-is =
         let here = subst (λ m. AllGo (first_of m q)) (sym sum-is) (first-go entry e c i n past t a.is) in
-        let split = end-split-at q i n in
-        let other = end-split-at q mid left in
-        let taken = ap (λ (u : End (Bool × ℕ)). u.taken) split in
-        let taken_there = ap (λ (u : End (Bool × ℕ)). u.taken) other in
-        let both = ap (λ m. (first_end m q).taken) sum-is in
-        record {
-          go = b.is.go;
-          go_on = go-second (first_of mid q) (then_of mid left q) (subst (λ os. AllGo os) (first-split q mid left) here);
-          known = sym (ap (λ (u : End (Bool × ℕ)). u.state.known) other) ∙ ap (λ m. (first_end m q).state.known) sum-is ∙ ap (λ (u : End (Bool × ℕ)). u.state.known) split ∙ a.is.known;
-          ends = omega (arith, taken, taken_there, both, a.is.ends);
-          start = b.is.start;
-          led = b.is.led;
-          end = a.is.end;
-          none = b.is.none;
-          empty = λ none. (let some = left-some in absurd (omega (arith, none, some)));
-          early = b.is.early;
-        }
+        grind (arith, end-split-at, sum-is, go-second, first-split, left-some)
 
     -- ---- what passes
 
@@ -642,10 +567,7 @@ module _ (k : CharClasses) (front old new rest : List ℕ) (r : Run k (front ++ 
     -- ---- the tree
 
     first-more : AllGo (first_of (suc mid) q)
-    first-more =
-        let all = first-go entry e c i n past t a.is in
-        let sum : i + n ≡ suc mid + ((i + n) - suc mid) = omega (arith, in-order) in
-        go-first (first_of (suc mid) q) (then_of (suc mid) ((i + n) - suc mid) q) (subst (λ os. AllGo os) (first-split q (suc mid) ((i + n) - suc mid)) (subst (λ m. AllGo (first_of m q)) sum all))
+    first-more = let sum : i + n ≡ suc mid + ((i + n) - suc mid) = omega (arith, in-order) in grind (arith, first-go entry e c i n past t a.is, go-first, first-split)
 
     between : StandsBetween k (front ++ (old ++ rest)) r i d c.from first.from
     between = record {
@@ -714,13 +636,7 @@ module _ (k : CharClasses) (front old new rest : List ℕ) (r : Run k (front ++ 
     not-led l = omega (arith, l, starts)
 
     own-from : (m : ℕ) → OnOwn m → Own m
-    own-from m h = record {
-      before = begun;
-      behind = h.behind;
-      go = h.go;
-      shifted = h.shifted;
-      meets = record { goes_on = λ more. (let x = h.meets.goes_on more in (right-of not-led x.0, x.1)); block_end = h.meets.block_end };
-    }
+    own-from m h = grind arith
 
     own-to : (m : ℕ) → Own m → OnOwn m
     own-to m h = record { behind = h.behind; go = h.go; shifted = h.shifted; meets = record { goes_on = λ more. (let x = h.meets.goes_on more in (inr x.0, x.1)); block_end = h.meets.block_end } }
@@ -729,8 +645,7 @@ module _ (k : CharClasses) (front old new rest : List ℕ) (r : Run k (front ++ 
     put-there m = ap (λ x. replaced_at c.path x c.to (nodes_by k (reading_of g) m) root) from
 
     ends-rise : (a b : ℕ) → Ends es entry c a b → a ≤ b
-    ends-rise a b (apart from to at more behind less) = omega (arith, less)
-    ends-rise a b (at_once from at last) = omega arith
+    ends-rise a b h = grind arith
 
     at-start : ServedBy root first c (record { reading = reading_of g; mid = g.from; from = g.from; to = g.to; looks = g.looks; carried_end = g.carried_end })
     at-start = record {

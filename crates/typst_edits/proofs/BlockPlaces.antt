@@ -1,6 +1,6 @@
 -- Where a block of a text stands, by the bytes of a candidate, also within a reading that was given up.
 use Rattle.std.proofs.Common.{◌≡◌, ℕ, zero, suc, ◌+◌, ◌<◌, ◌≤◌, true, List, [], ◌∷◌, ◌++◌, length, take, refl, ap, sym, ◌∙◌, subst, arith, drop, false, append-nil, length-append, None}
-use Rattle.typst_edits.proofs.Words.{CharClasses, Tree, forest, trees, text_of, bare, trees_forest, width, texts, texts-append, texts-one, Candidate, top_cuts, max_depth, start_of, parsed, log, tree, rules, whole, candidates, Among, Deep, fill, Hole, plug, path_in, path_of, under, listed, Spot, unit_at, last_node, after_spot, here_spot, nil_from_length, Place, moved, Block, Reading, utf8_ahead, at_trivia, hand_at, Point, forgot, Stands, Parser, flushes, meaning_of, level_of, Meaning, Level, blockless, less, start_point, done, sane-block, markup_reading, block_at, level_seconds, seconds_of_text}
+use Rattle.typst_edits.proofs.Words.{CharClasses, Tree, forest, trees, text_of, bare, trees_forest, width, texts, texts-append, texts-one, Candidate, top_cuts, max_depth, start_of, parsed, log, tree, rules, whole, candidates, Among, Deep, fill, Hole, plug, path_in, path_of, under, listed, Spot, unit_at, last_node, after_spot, here_spot, nil_from_length, Place, moved, Block, utf8_ahead, at_trivia, Point, Stands, Parser, flushes, meaning_of, level_of, Meaning, Level, blockless, less, start_point, done, sane-block, markup_reading, block_at, level_seconds, seconds_of_text}
 use Rattle.typst_edits.specs.Hole.Deep.{bare as alone}
 use Rattle.typst_edits.proofs.CandidatePlaces.{bare-candidates-law}
 use Rattle.typst_edits.proofs.MarkupCandidates.{BlockAt, all-find}
@@ -18,9 +18,7 @@ pub split-same : {X : Type 0} (xs ys us vs : List X) (a b : X) → length xs ≡
 split-same [] ys [] vs a b l e = (refl, ap (first_or a) e)
 split-same [] ys (u ∷ us) vs a b l e = absurd (omega (arith, l))
 split-same (x ∷ xs) ys [] vs a b l e = absurd (omega (arith, l))
-split-same (x ∷ xs) ys (u ∷ us) vs a b l e =
-    let i = split-same xs ys us vs a b (omega (arith, l)) (ap (drop 1) e) in
-    ((λ j. first_or x (e j) ∷ i.0 j), i.1)
+split-same (x ∷ xs) ys (u ∷ us) vs a b l e = grind (arith, split-same xs ys us vs a b (omega (arith, l)) (ap (drop 1) e))
 
 pub deep-same : (d f : Deep) (x y : Tree) → path_in d ≡ path_in f → fill d x ≡ fill f y → (deep_text d ≡ deep_text f) × (x ≡ y)
 deep-same alone alone x y p e = (refl, e)
@@ -57,17 +55,11 @@ pub record Meets (text : List ℕ) (c : Candidate) (at taken : ℕ) : Type 0 whe
   pub end : c.end ≡ width (take (at + taken) text)
 
 pub some-node : (from to : ℕ) (ts : List Tree) (c : Candidate) (b : BlockAt [] 0 from to ts c) → from ≤ to → 0 < length (text_of b.node)
-some-node from to ts c b order =
-    omega (arith, b.starts, b.ends, b.end, order)
+some-node from to ts c b order = omega arith
 
 pub meets : (k : CharClasses) (text : List ℕ) (from to : ℕ) (c : Candidate) → from ≤ to → BlockAt [] 0 from to (parsed k max_depth text).nodes c
     → (s : Spot (Unit {0})) → SpotPlace k text s → path_of s.hole ≡ c.path ++ c.from ∷ [] → Meets text c s.at (unit_at s (start_of text)).taken × (0 < length (text_of s.node))
-meets k text from to c order b s p path =
-    let same = hole-same s.hole b.hole s.node b.node (path ∙ b.path_is) (sym p.nodes ∙ b.is) in
-    let some : 0 < length (text_of s.node) = subst (λ (t : Tree). 0 < length (text_of t)) (sym same.1) (some-node from to _ c b order) in
-    let left = p.left some in
-    let here = ap length same.0 in
-    (record { start = omega (arith, left, here, b.start); end = omega (arith, left, p.both some, here, ap (λ (t : Tree). length (text_of t)) same.1, b.start, b.end) }, some)
+meets k text from to c order b s p path = let same = hole-same s.hole b.hole s.node b.node (path ∙ b.path_is) (sym p.nodes ∙ b.is) in grind arith
 
 -- ---- where a block within a reading that was given up stands: the nodes before its own hold the characters before it
 
@@ -80,30 +72,14 @@ abbrev LoneAt : (A : Type 0) → ℕ → Place → Point → Spot A → Type 0
 LoneAt A n z s c = Lone c
 
 lone-walks : (k : CharClasses) → Walks (Reached k) (Reaching k) LoneAt
-lone-walks k = record {
-  at_none = λ z s. tt;
-  at_entered = λ z s r a. a;
-  at_end = λ A z s o g. g;
-  gone_grew = reaching-grew k;
-  after = λ A B n z s o c g h. h;
-  before_next = λ A B n z s p c h. h;
-  with_value = λ A B n z s v c h. h;
-  in_shape = λ A n z s shape i c h. in-any-shape Lone shape i c (λ t g. h);
-  in_scope = λ A n z s r c h. h;
-  deeper = λ A n z s c h. h;
-  in_block = λ n z s b c h. h;
-}
+lone-walks k = search (rules, reaching-grew, in-any-shape)
 
 -- what a block gives that begins at no trivia, with nothing known of them
 abbrev GivesOne : CharClasses → Meaning (Unit {0}) → Type 0
 GivesOne k m = (z : Place) (s : Point) → s.known ≡ None → at_trivia k s.held.mode z ≡ false → (0 < length (text_of (last_node (m z s).nodes)) → less 1 (m z s).nodes ≡ [])
 
 lone-here : (l : Level) (b : Block) → GivesOne l.classes (l.blocks b) → (z : Place) (s : Point) → Reached l.classes z s → (let o = done l flushes z s in Lone (after_spot o (here_spot b (l.blocks b) (moved o.taken z) o.state)))
-lone-here l b one z s r =
-    let o = done l flushes z s in
-    let g = hand_at l.classes s.held s.known z in
-    let clear : at_trivia l.classes o.state.held.mode (moved o.taken z) ≡ false = ap (λ (h : Reading). at_trivia l.classes h.mode (moved g.gap z)) (flushed-held g s) ∙ hand-stops l.classes s.held s.known z r in
-    one (moved o.taken z) (forgot o.state) refl clear
+lone-here l b one z s r = grind (arith, flushed-held, hand-stops)
 
 -- ---- by the grammar's rules, at every level
 

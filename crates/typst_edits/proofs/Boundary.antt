@@ -1,6 +1,6 @@
 -- The notes where pieces of a run end, and what their numbers say.
 use Rattle.std.proofs.Common.{◌≡◌, ◌==◌, ℕ, zero, suc, ◌+◌, ◌-◌, ◌<◌, ◌≤◌, ◌^◌, max, Bool, true, false, ◌&&◌, nat_lt, List, [], ◌∷◌, ◌++◌, length, take, append_assoc, append-nil, Some, refl, ap, sym, ◌∙◌, subst, arith}
-use Rattle.typst_edits.proofs.Words.{and_parts, map-append, SyntaxKind, Place, moved, CharClasses, width, position, MarkupExpr, Mark, Note, State, Ask, shift, shift_one, sunk, marked, deeper, AtHand, as_at_hand, known_by, no_log, logged, Outcome, Meaning, Level, plain, joined, as_last, repeated, hand_of, hand_asks_of, asked, start_point, run, Trivia, Point, gap_of, state_of, note, hand-again, moved-sum, ends, note_piece, markup_turn, markup_reading, rules, max_depth, start_of, whole, parsed, log, highest, lowest, AllEndBy, made, AllGo, end_of, asks_of, chain, Noting, notes_in, Sequence, turn_of, on_both, made-sum, both_ways, false_from_ne_true, if-true, if-false}
+use Rattle.typst_edits.proofs.Words.{and_parts, map-append, SyntaxKind, Place, moved, CharClasses, width, position, MarkupExpr, Mark, Note, State, Ask, shift, shift_one, sunk, marked, deeper, AtHand, as_at_hand, known_by, no_log, logged, Outcome, Meaning, Level, plain, joined, repeated, hand_of, hand_asks_of, asked, start_point, run, Trivia, Point, gap_of, state_of, note, hand-again, moved-sum, ends, note_piece, markup_turn, markup_reading, rules, max_depth, start_of, whole, parsed, log, highest, lowest, AllEndBy, made, AllGo, end_of, asks_of, chain, Noting, notes_in, Sequence, turn_of, on_both, made-sum, both_ways, false_from_ne_true, if-true, if-false}
 use Rattle.typst_edits.specs.Splice.{noting as as_ask}
 use Rattle.typst_grammar.proofs.Pieces.{end-append, go-append}
 use Rattle.typst_language.specs.declared.calls.Mark.TheVariants as mark
@@ -94,14 +94,10 @@ module _ (l : Level) (stops : SyntaxKind → Bool) (x : Bool × ℕ) (z : Place)
       ap (λ ls. hand_asks_of l z s ++ shift 0 (deep.asks ++ shift d (hand_asks_of l there deep.state ++ shift 0 ls))) own ∙ simp (shift-zero, shift-append, append_assoc) in
       let at_is : d + 0 ≡ d = omega arith in
       let took : d ≡ 0 + (d + (0 + ((0 + (0 + (0 + 0))) + 0))) = omega arith in
-      all ∙ ap (λ n. early_asks ++ (shift d looks ++ piece_mark n carried t ∷ shift d looks)) at_is ∙ ap (λ n. early_asks ++ (shift n looks ++ piece_mark n carried t ∷ shift n looks)) took
-      ∙ ap (λ p. early_asks ++ (shift gone.taken looks ++ piece_mark gone.taken carried p ∷ shift gone.taken looks)) (again ∙ sym last-is)
+      grind (arith, again, last-is)
 
   gone-ends : Ends gone.asks gone.taken gone.value.1 gone.state (hand_asks_of l (moved gone.taken z) gone.state)
-  gone-ends =
-      let took : 0 + (deep.taken + (0 + ((0 + (0 + (0 + 0))) + 0))) ≡ deep.taken = omega arith in
-      let ahead_is : hand_asks_of l (moved gone.taken z) gone.state ≡ hand_asks_of l there after = ap (λ n. hand_asks_of l (moved n z) last) took ∙ ap (hand_asks_of l there) last-is in
-      subst (Ends gone.asks gone.taken gone.value.1 gone.state) (sym ahead_is) (record { early = early_asks; is = gone-asks })
+  gone-ends = grind (arith, last-is, gone-asks)
 
   -- what a stopped one asks
   pub stopped-asks : ends stops x.1 ahead.kind ≡ true → (run l (markup_turn true stops x) z s).asks ≡ hand_asks_of l z s ++ []
@@ -122,9 +118,7 @@ module _ (l : Level) (stops : SyntaxKind → Bool) (x : Bool × ℕ) (z : Place)
 
   -- by what it asks before its last looks, none of which notes anything on the piece's own level
   pub turn-asks : ends stops x.1 ahead.kind ≡ false → (let o = run l (markup_turn true stops x) z s in let looks = hand_asks_of l there after in o.asks ≡ early_asks ++ (shift o.taken looks ++ piece_mark o.taken o.value.1 o.state ∷ shift o.taken looks))
-  turn-asks go =
-      let looks = hand_asks_of l there after in
-      subst (λ (o : Outcome (Bool × (Bool × ℕ))). o.asks ≡ early_asks ++ (shift o.taken looks ++ piece_mark o.taken o.value.1 o.state ∷ shift o.taken looks)) (sym (turn-is go)) gone-asks
+  turn-asks go = grind (arith, turn-is, gone-asks)
 
   pub early-marks : (P : ℕ → ℕ → Mark → State → Type 0) → (l.levels == 0) ≡ false → ((at fewer : ℕ) (m : Mark) (p : State) → P at (suc fewer) m p) → AllMarks P early_asks
   early-marks P some f =
@@ -160,11 +154,7 @@ module _ (m : Bool × ℕ → Meaning (Bool × (Bool × ℕ))) (looks : Place �
     (each : (x : Bool × ℕ) (z : Place) (s : Point) → (m x z s).value.0 ≡ true → (let o = m x z s in Ends o.asks o.taken o.value.1 o.state (looks (moved o.taken z) o.state))) where
   -- the last of several pieces ends so
   pub made-ends : (n : ℕ) (x : Bool × ℕ) (z : Place) (s : Point) → AllGo (made m (suc n) x z s) → (let os = made m (suc n) x z s in let e = end_of x s os in Ends (asks_of os) e.taken e.value e.state (looks (moved e.taken z) e.state))
-  made-ends zero x z s g =
-      let o = m x z s in
-      let n : o.taken + 0 ≡ o.taken = omega arith in
-      subst (λ k. Ends (o.asks ++ []) k o.value.1 o.state (looks (moved k z) o.state)) (sym n)
-      (subst (λ ls. Ends ls o.taken o.value.1 o.state (looks (moved o.taken z) o.state)) (sym (append-nil o.asks)) (each x z s (first-of o.value.0 (nat_lt 0 o.taken) g.0)))
+  made-ends zero x z s g = grind (arith, append-nil, first-of)
   made-ends (suc n) x z s g =
       let o = m x z s in
       let os = made m (suc n) o.value.1 (moved o.taken z) o.state in
@@ -175,14 +165,10 @@ module _ (m : Bool × ℕ → Meaning (Bool × (Bool × ℕ))) (looks : Place �
   -- pieces after others
   pub made-add : (i n : ℕ) (x : Bool × ℕ) (z : Place) (s : Point) → (let e = end_of x s (made m i x z s) in let f = end_of e.value e.state (made m n e.value (moved e.taken z) e.state) in
       end_of x s (made m (i + n) x z s) ≡ record f { taken = e.taken + f.taken })
-  made-add i n x z s =
-      let e = end_of x s (made m i x z s) in
-      ap (λ os. end_of x s os) (made-sum m i n x z s) ∙ end-append x s (made m i x z s) (made m n e.value (moved e.taken z) e.state)
+  made-add i n x z s = grind (arith, made-sum, end-append)
 
   pub go-add : (i n : ℕ) (x : Bool × ℕ) (z : Place) (s : Point) → AllGo (made m i x z s) → (let e = end_of x s (made m i x z s) in AllGo (made m n e.value (moved e.taken z) e.state) → AllGo (made m (i + n) x z s))
-  go-add i n x z s g h =
-      let e = end_of x s (made m i x z s) in
-      subst (λ os. AllGo os) (sym (made-sum m i n x z s)) (go-append (made m i x z s) (made m n e.value (moved e.taken z) e.state) g h)
+  go-add i n x z s g h = grind (arith, made-sum, go-append)
 
 pub chain-asks : (x : Bool × ℕ) (s : Point) (os : List (Outcome (Bool × (Bool × ℕ)))) (q : Outcome (Bool × ℕ)) → (chain os q).asks ≡ asks_of os ++ shift (end_of x s os).taken q.asks
 chain-asks x s [] q = sym (shift-zero q.asks)
@@ -211,10 +197,7 @@ module _ (r : Sequence) where
 
   pub pieces-begin : (x : Bool × ℕ) (z : Place) (s : Point) → Begins (looks_in z s) (repeated (turn_of r) x z s).asks
   unfolding repeated
-  pieces-begin x z s =
-      let o = turn_of r x z s in
-      let b = piece-begins x z s in
-      on_both (λ (u : Outcome (Bool × ℕ)). Begins (looks_in z s) u.asks) (o.value.0 && nat_lt 0 o.taken) _ (as_last o) (begins-append (looks_in z s) o.asks _ b) b
+  pieces-begin x z s = grind (arith, piece-begins, on_both, begins-append)
 
   pub each-ends : (x : Bool × ℕ) (z : Place) (s : Point) → (turn_of r x z s).value.0 ≡ true → (let o = turn_of r x z s in Ends o.asks o.taken o.value.1 o.state (looks_in (moved o.taken z) o.state))
   each-ends x z s h = turn-ends r.level r.stops x z s h

@@ -1,19 +1,17 @@
 -- Where a stretch of a run's children ends, and what of the run's pieces begins and ends there.
-use Rattle.std.proofs.Common.{◌≡◌, ℕ, zero, suc, ◌+◌, ◌-◌, ◌<◌, ◌≤◌, max, min, Bool, true, false, not, ◌||◌, ◌&&◌, if◌then◌else◌, List, [], ◌∷◌, ◌++◌, length, drop, length-append, append_assoc, append-nil, Some, refl, ap, sym, ◌∙◌, subst, arith, encode_utf8_all, Option, None, inl, lt_of_not-le, pos_of_ne-zero, inr}
-use Rattle.typst_edits.proofs.Words.{nat_le, nat_lt, nat_tests, ltb-true, lt-ltb, and_parts, same, is_trivia, is_error, Tree, text_of, error_of, leaf_of, Outcome, plain, less, Meaning, Trivia, Point, pending, less-none, Child, laid, first_near, end_near, is_among, ChildRange, begins, clings, is_hash, leads, holds_at, back_past, on_past, with_hash, together, Every, is_over, minds_at, first_place, read_by, onwards_by, GoesOnWell, begins_wrong, after_known, StartsWell, bytes_of, LeadsAt, StandsAt, Sequence, turn_of, first_end, then_end, SyntaxKind, SyntaxMode, Place, moved, CharClasses, Token, Reading, token_at, len_at, at_trivia, Ahead, direct, after_trivia, ahead_by, ahead, text_ahead, hand_at, token_node, plain_node, fault_node, is_raw, has_fields, peek, markup_turn, rules, max_depth, level_at, inner, bracket, inner_run, text_run, made, end_of, start, access_node, hints, message, raw_node, false_from_ne_true, cases_lt, IsRun, is_text_run, is_block_run, is_end, ends_block}
+use Rattle.std.proofs.Common.{◌≡◌, ℕ, zero, suc, ◌+◌, ◌-◌, ◌<◌, ◌≤◌, max, Bool, true, false, not, ◌&&◌, if◌then◌else◌, List, [], ◌∷◌, ◌++◌, length, drop, length-append, append_assoc, append-nil, Some, refl, ap, sym, ◌∙◌, subst, arith, encode_utf8_all, Option, inl, lt_of_not-le, pos_of_ne-zero, inr}
+use Rattle.typst_edits.proofs.Words.{nat_le, nat_lt, nat_tests, ltb-true, and_parts, same, is_trivia, is_error, Tree, text_of, error_of, leaf_of, Outcome, plain, less, Meaning, Trivia, Point, pending, less-none, Child, laid, first_near, end_near, is_among, ChildRange, begins, clings, is_hash, leads, holds_at, back_past, on_past, with_hash, together, Every, is_over, minds_at, first_place, read_by, onwards_by, GoesOnWell, begins_wrong, after_known, StartsWell, bytes_of, LeadsAt, StandsAt, Sequence, turn_of, first_end, then_end, SyntaxKind, SyntaxMode, Place, moved, CharClasses, Token, Reading, token_at, len_at, at_trivia, Ahead, direct, after_trivia, ahead_by, ahead, text_ahead, hand_at, token_node, is_raw, has_fields, peek, markup_turn, rules, max_depth, level_at, inner, bracket, inner_run, text_run, made, end_of, start, access_node, raw_node, false_from_ne_true, cases_lt, IsRun, is_text_run, is_block_run, is_end, ends_block}
 use Rattle.std.proofs.lemmas.Bool.{not-false, or_parts}
-use Rattle.typst_candidates.specs.Candidates.{ended, is_sign, around}
+use Rattle.typst_candidates.specs.Candidates.{ended, around}
 use Rattle.typst_candidates.proofs.Edges.{begins_least as begins-from}
-use Rattle.typst_grammar.proofs.Missing.{error-kind as error-is}
 use Rattle.typst_edits.proofs.CandidatePlaces.{length-laid, back-le, on-ge, on-le, hash-le, begun-le, begun-ended}
 use Rattle.typst_edits.proofs.Leading.{bytes-append, bytes-first}
 use Rattle.typst_edits.proofs.Heads.{MindsAlone, advised-error as advised-wrong}
 use Rattle.typst_edits.proofs.Turns.{drop-front}
 use Rattle.typst_edits.proofs.RunPieces.{same-place}
 use Rattle.typst_edits.proofs.RunTrees.{standing-still}
-use Rattle.typst_edits.proofs.Every.{first_or, neither}
+use Rattle.typst_edits.proofs.Every.{neither}
 use Rattle.typst_edits.proofs.Known.{Saying, Stays, holds-run, holds-meaning}
-use Rattle.typst_kinds.specs.declared.kind.SyntaxKind.TheVariants as kind
 use Rattle.typst_candidates.specs.Candidates as candidate
 
 -- ---- children
@@ -36,12 +34,10 @@ pub record ChildAt (from : ℕ) (ts : List Tree) (index : ℕ) : Type 0 where
   pub holds : (f : Child → Bool) → holds_at f (laid from ts) index ≡ f (child at node)
 
 past-first : (from : ℕ) (t : Tree) (ts : List Tree) (n : ℕ) → 0 < n → from + length (text_of t) ≤ begins from (t ∷ ts) n
-past-first from t ts zero h = absurd (omega (arith, h))
-past-first from t ts (suc n) h = begins-from (from + length (text_of t)) ts n
+past-first from t ts n h = grind (arith, begins-from)
 
 past-later : (from : ℕ) (t : Tree) (ts : List Tree) (b index n : ℕ) → suc index < n → ((m : ℕ) → index < m → b ≤ begins (from + length (text_of t)) ts m) → b ≤ begins from (t ∷ ts) n
-past-later from t ts b index zero h f = absurd (omega (arith, h))
-past-later from t ts b index (suc n) h f = f n (omega (arith, h))
+past-later from t ts b index n h f = grind arith
 
 pub child-at : (from : ℕ) (ts : List Tree) (index : ℕ) → index < length ts → ChildAt from ts index
 child-at from [] index h = absurd (omega (arith, h))
@@ -69,8 +65,7 @@ begins-last from (t ∷ ts) (suc n) h = let i = begins-last (from + length (text
 
 -- it ends before the last does
 pub child-within : (from : ℕ) (ts : List Tree) (index : ℕ) (c : ChildAt from ts index) → c.at + length (text_of c.node) ≤ from + bytes_of ts
-child-within from ts index c =
-    omega (arith, ap bytes_of c.is, bytes-append c.left (c.node ∷ c.right), bytes-first c.node c.right, c.at_is)
+child-within from ts index c = grind (arith, bytes-append, bytes-first)
 
 -- those that begin before a byte do
 begun-before : (from rs : ℕ) (ts : List Tree) (n : ℕ) → n < candidate.begun rs (laid from ts) → begins from ts n < rs
@@ -141,8 +136,7 @@ abbrev pub Quiet : Tree → Type 0
 Quiet t = (clings t ≡ true) × (is_hash t ≡ false)
 
 pub error-quiet : (t : Tree) → is_error t.head.kind ≡ true → Quiet t
-error-quiet t h =
-    (ap (λ i. is_trivia i || (is_error i || (same kind.Semicolon i || (not t.head.is_inner && is_sign t.head.text)))) (error-is t.head.kind h), ap (same kind.Hash) (error-is t.head.kind h))
+error-quiet t h = grind arith
 
 every-at : (us vs : List Tree) (at n : ℕ) → Every Quiet us → n < length us → (holds_at (λ c. clings c.node) (laid at (us ++ vs)) n ≡ true) × (holds_at (λ c. is_hash c.node) (laid at (us ++ vs)) n ≡ false)
 every-at [] vs at n q h = absurd (omega (arith, h))
@@ -166,8 +160,7 @@ pub record LoneError (cuts : List ℕ) (from : ℕ) (ts : List Tree) (index : �
   pub next : LeadsIf cuts (from + bytes_of (left ++ (error ∷ more))) behind
 
 leads-if : (cuts : List ℕ) (at : ℕ) (ts : List Tree) → LeadsIf cuts at ts → 0 < length ts → holds_at (λ c. not (leads cuts c)) (laid at ts) 0 ≡ false
-leads-if cuts at [] h l = absurd (omega (arith, l))
-leads-if cuts at (t ∷ ts) h l = ap (λ b. not (nat_lt at (at + length (text_of t)) && b)) h.1 ∙ ap (λ b. not (b && true)) (lt-ltb at (at + length (text_of t)) (omega (arith, h.0)))
+leads-if cuts at ts h l = grind arith
 
 -- What stands at it, or after it and before any that leads, clings.
 quiet-until : (cuts : List ℕ) (from : ℕ) (ts : List Tree) (index w : ℕ) → LoneError cuts from ts index → index ≤ w → w < length ts → ((v : ℕ) → index < v → v ≤ w → holds_at (λ c. not (leads cuts c)) (laid from ts) v ≡ true)
@@ -249,33 +242,21 @@ module _ (cuts : List ℕ) (from : ℕ) (ts : List Tree) (rs re x : ℕ) (order 
   from-there some = omega (arith, from-hashed, hashed-clung, clung-near, near-there (omega (arith, some, from-hashed, hashed-clung, clung-near)))
 
   pub from-to : 0 < stretch.from → stretch.from < stretch.to
-  from-to some =
-      let test = holds_at (λ (c : Child). clings c.node || not (leads cuts c)) cs in
-      let j = end_near re cs in
-      let least : min (j + x) (length cs) ≤ stretch.to = on-ge test (length cs - min (j + x) (length cs)) (min (j + x) (length cs)) in
-      omega (arith, begun-le rs cs, begun-ended from rs re ts order, least, from-hashed, hashed-clung, clung-near, some)
+  from-to some = grind (arith, on-ge, begun-le, begun-ended, from-hashed, hashed-clung, clung-near)
 
   pub to-there : stretch.to ≤ length ts
-  to-there =
-      let test = holds_at (λ (c : Child). clings c.node || not (leads cuts c)) cs in
-      let j = end_near re cs in
-      let most : stretch.to ≤ min (j + x) (length cs) + (length cs - min (j + x) (length cs)) = on-le test (length cs - min (j + x) (length cs)) (min (j + x) (length cs)) in
-      omega (arith, most, length-laid from ts)
+  to-there = grind (arith, on-le, length-laid)
 
   -- where it doesn't begin with the first child, its first child isn't empty
   pub from-full : (some : 0 < stretch.from) → 0 < length (text_of (child-at from ts stretch.from (from-there some)).node)
-  from-full some =
-      let c = child-at from ts stretch.from (from-there some) in
-      leads-full cuts c.at c.node (sym (c.holds leading) ∙ back-stop (holds_at leading cs) hashed some)
+  from-full some = grind (arith, child-at, from-there, leads-full, back-stop)
 
   pub from-stands : 0 < stretch.from → StandsAt from ts stretch.from (begins from ts stretch.from)
   from-stands some = stands from ts stretch.from (child-at from ts stretch.from (from-there some)) (from-full some)
 
   -- and begins at a cut
   pub from-cut : 0 < stretch.from → is_among (begins from ts stretch.from) cuts ≡ true
-  from-cut some =
-      let c = child-at from ts stretch.from (from-there some) in
-      ap (λ b. is_among b cuts) c.begin ∙ (cut-on (nat_lt c.at (c.at + length (text_of c.node))) (is_among c.at cuts) (sym (c.holds leading) ∙ back-stop (holds_at leading cs) hashed some)).1
+  from-cut some = grind (arith, child-at from ts stretch.from (from-there some), cut-on, back-stop)
 
   -- which lies before the bytes
   pub from-early : 0 < stretch.from → begins from ts stretch.from < rs
@@ -283,27 +264,15 @@ module _ (cuts : List ℕ) (from : ℕ) (ts : List Tree) (rs re x : ℕ) (order 
 
   -- it ends after the bytes, if all children do
   pub to-late : re ≤ from + bytes_of ts → re ≤ begins from ts stretch.to
-  to-late all =
-      let least : min (end_near re cs + x) (length cs) ≤ stretch.to = on-ge (holds_at (λ (c : Child). clings c.node || not (leads cuts c)) cs) (length cs - min (end_near re cs + x) (length cs)) (min (end_near re cs + x) (length cs)) in
-      elim (cases_lt (ended re cs) (length ts)) [
-        | inl fewer ↦ ended-behind from re ts stretch.to (omega (arith, fewer, least, length-laid from ts)) fewer
-        | inr none_more ↦ omega (arith, begins-last from ts stretch.to (omega (arith, none_more, least, length-laid from ts)), all)
-      ]
+  to-late all = grind (arith, on-ge, cases_lt, ended-behind, length-laid, begins-last)
 
   -- and so it ends after its start
   pub from-less : 0 < stretch.from → begins from ts stretch.from < begins from ts stretch.to
-  from-less some =
-      let c = child-at from ts stretch.from (from-there some) in
-      omega (arith, from-full some, c.past stretch.to (from-to some), c.begin)
+  from-less some = grind (arith, child-at from ts stretch.from (from-there some), from-full, from-to)
 
   -- where it doesn't end with the last child, the child after it is neither empty nor an error
   to-off : (more : stretch.to < length ts) → (let c = child-at from ts stretch.to more in (clings c.node ≡ false) × (not (leads cuts (child c.at c.node)) ≡ false))
-  to-off more =
-      let test = λ (c : Child). clings c.node || not (leads cuts c) in
-      let j = end_near re cs in
-      let c = child-at from ts stretch.to more in
-      let stop : holds_at test cs stretch.to ≡ false = on-stop (holds_at test cs) (length cs - min (j + x) (length cs)) (min (j + x) (length cs)) (omega (arith, more, length-laid from ts)) in
-      or_parts (clings c.node) (not (leads cuts (child c.at c.node))) (sym (c.holds test) ∙ stop)
+  to-off more = grind (arith, child-at, on-stop, length-laid, or_parts)
 
   to-stop : (more : stretch.to < length ts) → (let c = child-at from ts stretch.to more in (clings c.node ≡ false) × (0 < length (text_of c.node)))
   to-stop more = let c = child-at from ts stretch.to more in let off = to-off more in (off.0, leads-full cuts c.at c.node off.1)
@@ -436,11 +405,7 @@ one-node : (s : Point) (o : Outcome (Bool × (Bool × ℕ))) → (together s (o 
 one-node s o = standing-still (plain (tt {0}) s) o.nodes refl refl refl
 
 leads-next : (cuts : List ℕ) (from : ℕ) (ts front behind : List Tree) (at : ℕ) → ts ≡ front ++ behind → from + bytes_of front ≡ at → LeadsAt from ts at (length front) → is_among at cuts ≡ true → LeadsIf cuts (from + bytes_of front) behind
-leads-next cuts from ts front [] at is ends l cut = tt
-leads-next cuts from ts front (y ∷ ys) at is ends l cut =
-    let same : y ∷ ys ≡ l.node ∷ l.right = same-behind front (y ∷ ys) l.left (l.node ∷ l.right) (sym is ∙ l.is) (sym l.here) in
-    let long : length (text_of y) ≡ length (text_of l.node) = ap (λ us. length (text_of (first_or y us))) same in
-    (omega (arith, long, l.full), ap (λ b. is_among b cuts) ends ∙ cut)
+leads-next cuts from ts front behind at is ends l cut = grind (arith, same-behind)
 
 module _ (r : Sequence) (cuts : List ℕ) (from : ℕ) (ts : List Tree) (i start : ℕ) (one : GivesOne r cuts from ts i start) (alone : MindsAlone (first_end i r).state (turn_of r (first_end i r).value (first_place i r) (first_end i r).state)) where
   -- A piece that minds errors is an error, followed only by its trivia.
@@ -494,10 +459,7 @@ module _ (r : Sequence) (cuts : List ℕ) (from : ℕ) (ts : List Tree) (i n sta
       }
 
   ends-last : (0 < i → 0 < n) → is_over i n r ≡ true → end ≡ from + bytes_of ts
-  ends-last some over =
-      let g = own some in
-      let nodes = less g.back (read_by i n r).nodes ++ t.nodes in
-      sym g.ends ∙ ap (λ us. from + bytes_of us) (ap (λ us. g.before ++ us) (sym (append-nil nodes) ∙ ap (λ us. nodes ++ us) (sym (g.last over))) ∙ sym g.children)
+  ends-last some over = grind (arith, append-nil)
 
   -- So the ends of a run's pieces are known by what they give.
   pub parted : (0 < i → n ≡ 0 → end ≡ start) → (0 < i → 0 < n → GivesOne r cuts from ts i start)
@@ -511,17 +473,10 @@ module _ (r : Sequence) (cuts : List ℕ) (from : ℕ) (ts : List Tree) (i n sta
 
 plain-quiet : (k : CharClasses) (i : SyntaxKind) (taken : List ℕ) → is_trivia i ≡ true
     → Quiet (if is_error i then error_of [] (encode_utf8_all taken) else (if is_raw i then raw_node taken else (if has_fields i then access_node taken else leaf_of i (encode_utf8_all taken))))
-plain-quiet k kind.Space taken h = (refl, refl)
-plain-quiet k kind.Parbreak taken h = (refl, refl)
-plain-quiet k kind.LineComment taken h = (refl, refl)
-plain-quiet k kind.BlockComment taken h = (refl, refl)
-plain-quiet k _ taken h = absurd (cc)
+plain-quiet k i taken h = grind arith
 
 token-quiet : (k : CharClasses) (t : Token) (taken : List ℕ) → is_trivia t.kind ≡ true → Quiet (token_node k t taken)
-token-quiet k t taken h = elim t.fault as (λ o. Quiet (elim o as (λ _. Tree) [ None ↦ plain_node k t taken | Some f ↦ fault_node f taken ])) [
-  | None ↦ plain-quiet k t.kind taken h
-  | Some f ↦ error-quiet (fault_node f taken) (advised-wrong (hints f taken) (error_of (message f taken) (encode_utf8_all taken)) refl)
-]
+token-quiet k t taken h = grind (arith, plain-quiet, error-quiet, advised-wrong)
 
 quiet-step : (k : CharClasses) (m : SyntaxMode) (z : Place) (taken : List ℕ) (b : Bool) (rest : Ahead) → at_trivia k m z ≡ b → Every Quiet rest.trivia
     → Every Quiet (if b then after_trivia (token_at k m z) (len_at k m z) (token_node k (token_at k m z) taken) rest else direct (token_at k m z) (len_at k m z)).trivia
@@ -534,8 +489,7 @@ ahead-quiet k m (suc n) z = quiet-step k m z (text_ahead (len_at k m z) z) (at_t
 
 hand-quiet : (k : CharClasses) (held : Reading) (known : Option Trivia) (z : Place) → Every Quiet (pending known) → Every Quiet (hand_at k held known z).trivia
 unfolding hand_at ahead
-hand-quiet k held None z h = ahead-quiet k held.mode (length z.ahead) z
-hand-quiet k held (Some t) z h = h
+hand-quiet k held known z h = grind (arith, ahead-quiet)
 
 -- ---- the invariant
 

@@ -1,6 +1,6 @@
 -- Candidates stand in the tree: along a path of inner nodes, as children that are there.
-use Rattle.std.proofs.Common.{◌≡◌, ℕ, zero, suc, ◌+◌, ◌-◌, ◌*◌, max, min, Bool, true, false, not, ◌||◌, ◌&&◌, List, [], ◌∷◌, ◌++◌, length, map, Option, Some, None, refl, ap, sym, ◌∙◌, ◌≤◌, ◌<◌, IsTrue, take, subst, arith, append_assoc, length-append}
-use Rattle.typst_edits.proofs.Words.{nat_le, option_map, slice_get, ◌==◌, nat_lt, if◌then◌else◌, is_block, Note, Forest, none, more, Tree, forest, trees, text_of, bare, bare_forest, Head, Child, laid, first_near, end_near, child_at, ChildRange, Candidate, begins, of_run, run_in, candidates_at, of_children, clings, is_hash, leads, holds_at, back_past, on_past, is_all, child_ranges, of_child_ranges, covers, with_hash, top_cuts, nat_tests, At, Reaches, start_at, or_none, Every, on_both, length-map}
+use Rattle.std.proofs.Common.{◌≡◌, ℕ, zero, suc, ◌+◌, ◌-◌, ◌*◌, min, Bool, true, false, ◌&&◌, List, [], ◌∷◌, ◌++◌, length, map, Option, Some, None, refl, ap, sym, ◌∙◌, ◌≤◌, ◌<◌, IsTrue, take, subst, arith, append_assoc, length-append}
+use Rattle.typst_edits.proofs.Words.{nat_le, option_map, slice_get, ◌==◌, nat_lt, if◌then◌else◌, is_block, Note, Forest, none, more, Tree, forest, trees, text_of, bare, bare_forest, Head, Child, laid, first_near, end_near, child_at, ChildRange, Candidate, begins, of_run, run_in, candidates_at, of_children, is_hash, holds_at, back_past, on_past, is_all, child_ranges, of_child_ranges, covers, with_hash, top_cuts, nat_tests, At, Reaches, start_at, or_none, Every, on_both, length-map}
 use Rattle.typst_tree.specs.Tree.{joined}
 use Rattle.typst_candidates.specs.Candidates.{begun, ended, from_of, to_of, around, of_block, candidates}
 use Rattle.std.proofs.lemmas.List.{append-nil}
@@ -51,15 +51,10 @@ holds-bare f e (c ∷ cs) zero = e c
 holds-bare f e (c ∷ cs) (suc n) = holds-bare f e cs n
 
 from-bare : (cuts : List ℕ) (cs : List Child) (i x : ℕ) → from_of cuts (map bare_child cs) i x ≡ from_of cuts cs i x
-from-bare cuts cs i x =
-    let clung : back_past (holds_at (λ c. clings c.node) (map bare_child cs)) (i - max x 2) ≡ back_past (holds_at (λ c. clings c.node) cs) (i - max x 2) =
-    λ j. back_past (λ n. holds-bare (λ c. clings c.node) (λ c. refl) cs n j) (i - max x 2) in
-    λ j. back_past (λ n. holds-bare (λ c. not (leads cuts c)) (λ c. refl) cs n j)
-    (if nat_lt 0 (clung j) && holds-bare (λ c. is_hash c.node) (λ c. refl) cs (clung j - 1) j then clung j - 1 else clung j)
+from-bare cuts cs i x = grind (arith, holds-bare)
 
 to-bare : (cuts : List ℕ) (cs : List Child) (i x : ℕ) → to_of cuts (map bare_child cs) i x ≡ to_of cuts cs i x
-to-bare cuts cs i x =
-    λ j. on_past (λ n. holds-bare (λ c. clings c.node || not (leads cuts c)) (λ c. refl) cs n j) (length-map cs bare_child j - min (i + x) (length-map cs bare_child j)) (min (i + x) (length-map cs bare_child j))
+to-bare cuts cs i x = grind (arith, holds-bare, length-map)
 
 child_ranges-bare : (cuts : List ℕ) (cs : List Child) (i j tries x : ℕ) → child_ranges cuts (map bare_child cs) i j tries x ≡ child_ranges cuts cs i j tries x
 child_ranges-bare cuts cs i j zero x = refl
@@ -69,8 +64,7 @@ child_ranges-bare cuts cs i j (suc tries) x =
     λ n. s n ∷ (if all n then [] else child_ranges-bare cuts cs i j tries (2 * x) n)
 
 children-bare : (is_block : Bool) (path : List ℕ) (at : ℕ) (ts : List Tree) (from to : ℕ) → of_children is_block path at (map bare ts) from to ≡ of_children is_block path at ts from to
-children-bare is_block path at ts from to =
-    λ i. record { is_block = is_block; path = path; from = from; to = to; start = begins-bare at ts from i; end = begins-bare at ts to i }
+children-bare is_block path at ts from to = grind (arith, begins-bare)
 
 of-child_ranges-bare : (path : List ℕ) (at : ℕ) (ts : List Tree) (ss : List ChildRange) → of_child_ranges path at (map bare ts) ss ≡ of_child_ranges path at ts ss
 of-child_ranges-bare path at ts [] = refl
@@ -105,11 +99,7 @@ got-bare at n m ts e = (λ i. child_at (laid-bare at ts i) (e i)) ∙ child-bare
 -- What is made of a child, if there is one, is the same if it is the same for each child.
 chosen-bare : (f g : Child → List Candidate) (n o : Option Child) → n ≡ option_map bare_child o → ((c : Child) → f (bare_child c) ≡ g c)
     → (elim n as (λ _. List Candidate) [ None ↦ [] | Some c ↦ f c ]) ≡ (elim o as (λ _. List Candidate) [ None ↦ [] | Some c ↦ g c ])
-chosen-bare f g n o e h = ap (λ (m : Option Child). elim m as (λ _. List Candidate) [ None ↦ [] | Some c ↦ f c ]) e ∙ by-child o
-  where
-    by-child : (o : Option Child) → (elim (option_map bare_child o) as (λ _. List Candidate) [ None ↦ [] | Some c ↦ f c ]) ≡ (elim o as (λ _. List Candidate) [ None ↦ [] | Some c ↦ g c ])
-    by-child None = refl
-    by-child (Some c) = h c
+chosen-bare f g n o e h = grind arith
 
 -- The candidates that a node's child gives, by those within it.
 abbrev from_child : List Note → ℕ → ℕ → List ℕ → ℕ → ℕ → Head → List Tree → (List ℕ → Option (List ℕ) → ℕ → List Candidate) → Child → List Candidate
@@ -211,15 +201,7 @@ record Within (len : ℕ) (s : ChildRange) : Type 0 where
   pub there : s.to ≤ len
 
 around-within : (cuts : List ℕ) (cs : List Child) (i j x : ℕ) → i ≤ j → j ≤ length cs → Within (length cs) (around cuts cs i j x)
-around-within cuts cs i j x order there =
-    let clung = back_past (holds_at (λ c. clings c.node) cs) (i - max x 2) in
-    let from : from_of cuts cs i x ≤ i =
-    omega (arith, back-le (holds_at (λ c. not (leads cuts c)) cs) (with_hash cs clung), hash-le cs clung, back-le (holds_at (λ c. clings c.node) cs) (i - max x 2)) in
-    let test = holds_at (λ c. clings c.node || not (leads cuts c)) cs in
-    let limit = length cs - min (j + x) (length cs) in
-    let least : min (j + x) (length cs) ≤ to_of cuts cs j x = on-ge test limit (min (j + x) (length cs)) in
-    let most : to_of cuts cs j x ≤ min (j + x) (length cs) + limit = on-le test limit (min (j + x) (length cs)) in
-    record { order = omega (arith, from, least, order, there); there = omega (arith, most) }
+around-within cuts cs i j x order there = grind (arith, back-le, hash-le, on-ge, on-le)
 
 child_ranges-within : (cuts : List ℕ) (cs : List Child) (i j tries x : ℕ) → i ≤ j → j ≤ length cs → Every (Within (length cs)) (child_ranges cuts cs i j tries x)
 child_ranges-within cuts cs i j zero x order there = tt
@@ -242,13 +224,7 @@ node h ks = record { head = h; kids = ks }
 
 children-stand : (path : List ℕ) (at : ℕ) (h : Head) (ks : Forest) (alone : Bool) (from to : ℕ) → IsTrue h.is_inner → from ≤ to → to ≤ length (trees ks)
     → StandsAt path at (Some (node h ks)) (of_children alone path (at + length h.text) (trees ks) from to)
-children-stand path at h ks alone from to inner order there = record {
-  behind = [];
-  is = sym (append-nil path);
-  reaches = (inner, order, there);
-  start = omega (arith, begins-at (at + length h.text) (trees ks) from);
-  end = omega (arith, begins-at (at + length h.text) (trees ks) to);
-}
+children-stand path at h ks alone from to inner order there = grind (arith, append-nil, begins-at)
 
 of-child_ranges-stand : (path : List ℕ) (at : ℕ) (h : Head) (ks : Forest) → IsTrue h.is_inner → (ss : List ChildRange) → Every (Within (length (trees ks))) ss
     → Every (StandsAt path at (Some (node h ks))) (of_child_ranges path (at + length h.text) (trees ks) ss)
@@ -271,13 +247,7 @@ run-stands rs re path at h ks (Some cuts) inner le =
 -- what stands in a child stands in the node
 in-child : (path : List ℕ) (at : ℕ) (h : Head) (ks : Forest) (i : ℕ) (c : Candidate) → StandsAt (path ++ i ∷ []) (begins (at + length h.text) (trees ks) i) (slice_get (trees ks) i) c
     → StandsAt path at (Some (node h ks)) c
-in-child path at h ks i c s = record {
-  behind = i ∷ s.behind;
-  is = s.is ∙ append_assoc path (i ∷ []) s.behind;
-  reaches = s.reaches;
-  start = omega (arith, s.start, begins-at (at + length h.text) (trees ks) i);
-  end = omega (arith, s.end, begins-at (at + length h.text) (trees ks) i);
-}
+in-child path at h ks i c s = grind (arith, append_assoc, begins-at)
 
 -- the tree of an index is an inner node, if there is one
 abbrev IsInner : Option Tree → Type 0
@@ -300,19 +270,8 @@ candidates-stand ns rs re path run zero at (more h ks r) le inner =
     (run-stands rs re path at h ks run inner le)
 
 pub candidate-places-law : CandidatePlacesLaw
-candidate-places-law ns rs re root inner le =
-    every-by stands (candidates ns rs re root) (candidates-stand ns rs re [] (top_cuts ns) 0 0 (forest (root ∷ [])) le inner)
-  where
-    stands : (c : Candidate) → StandsAt [] 0 (Some root) c → StandsIn root c
-    stands c s =
-        let path : s.behind ≡ c.path = sym s.is in
-        record {
-          reaches = subst (λ p. Reaches p c.from c.to root) path s.reaches;
-          start = omega (arith, s.start, ap (λ p. start_at p c.from root) path);
-          end = omega (arith, s.end, ap (λ p. start_at p c.to root) path);
-        }
+candidate-places-law ns rs re root inner le = grind (arith, every-by, candidates-stand)
 
 pub candidate-tree-law : CandidateTreeLaw
 candidate-tree-law ns rs re c new root was now inner le i same is =
-    let stands = among (StandsIn root) c (candidates ns rs re root) i (candidate-places-law ns rs re root inner le) in
-    replaced-law c.path c.from c.to new root was now same stands.reaches is
+    grind (arith, among (StandsIn root) c (candidates ns rs re root) i (candidate-places-law ns rs re root inner le), replaced-law)

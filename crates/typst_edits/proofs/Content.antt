@@ -1,8 +1,6 @@
 -- A block that ends at the shifted end may stand where it stood: it gives one node alone, and the state after it follows from the reading before it.
-use Rattle.std.proofs.Common.{◌≡◌, ℕ, ◌+◌, false, Option, ap, ◌∙◌, arith, ◌⊎◌, inl, inr, ◌-◌, ◌<◌, ◌≤◌, if◌then◌else◌, nat_lt, List, [], ◌∷◌, ◌++◌, length, length-append, append-nil, None, refl, sym, subst, max, Bool, true, take, drop}
-use Rattle.typst_edits.proofs.Words.{Place, moved, CharClasses, Block, Reading, SameIn, Ask, at_trivia, hand_at, Hand, Ahead, len_at, token_at, Point, forgot, Trivia, gap_of, point_of, Shape, hinted, after_node, shaped, after_shape, Parser, ◌>>◌, ◌>>=◌, flushes, takes, Rules, meaning_of, level_of, Outcome, Meaning, Level, blockless, answered, joined, done, plain, less, same_mode, left, entered, hand_of, taken_node, run, before, inside, wrapped, bound, asked, grew, on_if, same_in-shift, same_in-first, same_in-second, same_in-sunk, moved-sum, less-none, Spot, after_spot, here_spot, Fits, block_head, ended, last_node, unit_at, level_spots, SyntaxMode, is_error, Tree, text_of, Call, itself, peek, eat_making, eat, node, does, next, scoped, gives, Sane, sane-run, sane-meaning, sane-plain, is_end, at_token, hand-again, token-ends, token-takes, content_block, markup_reading, code_block, code_reading, looked, marked, rules, Named, block_at, Rests}
-use Rattle.typst_language.specs.Meaning.{same_rule}
-use Rattle.typst_language.proofs.Rests.{mode-is, rule-is}
+use Rattle.std.proofs.Common.{◌≡◌, ℕ, ◌+◌, false, Option, ap, ◌∙◌, arith, ◌⊎◌, inl, inr, ◌-◌, ◌<◌, ◌≤◌, List, [], ◌∷◌, ◌++◌, length, length-append, append-nil, None, refl, sym, subst, max, Bool}
+use Rattle.typst_edits.proofs.Words.{Place, moved, CharClasses, Block, Reading, SameIn, Ask, at_trivia, hand_at, Hand, len_at, token_at, Point, forgot, Trivia, gap_of, point_of, Shape, after_node, after_shape, Parser, ◌>>◌, ◌>>=◌, flushes, takes, Rules, meaning_of, level_of, Outcome, Meaning, Level, blockless, answered, joined, done, plain, same_mode, left, entered, hand_of, taken_node, run, before, inside, wrapped, bound, asked, grew, on_if, same_in-shift, same_in-first, same_in-second, same_in-sunk, moved-sum, less-none, Spot, after_spot, here_spot, Fits, block_head, ended, last_node, unit_at, level_spots, SyntaxMode, is_error, Tree, text_of, Call, itself, peek, eat_making, eat, node, does, next, scoped, gives, Sane, sane-run, sane-meaning, sane-plain, is_end, at_token, hand-again, token-ends, token-takes, content_block, markup_reading, code_block, code_reading, looked, marked, rules, Named, block_at, Rests}
 use Rattle.typst_edits.proofs.Every.{Every}
 use Rattle.typst_edits.proofs.Known.{Reached, reached-run, reached-meaning, hand-stops-there, flushed-held, reached-joined, reached-grown, ahead-direct}
 use Rattle.typst_edits.proofs.Names.{Walks, in-any-shape, each-level}
@@ -48,15 +46,7 @@ clear-walks k = record {
 
 -- a block after what was flushed
 clear-here : (l : Level) (b : Block) (m : Meaning (Unit {0})) (z : Place) (s : Point) → Reached l.classes z s → Clear l.classes z (after_spot (done l flushes z s) (here_spot b m (moved (done l flushes z s).taken z) (done l flushes z s).state))
-clear-here l b m z s r =
-    let g = hand_at l.classes s.held s.known z in
-    let e : g.gap + 0 ≡ g.gap = omega arith in
-    record {
-      clear = λ w same.
-          ap (λ n. at_trivia l.classes (done l flushes z s).state.held.mode (moved n w)) e
-          ∙ ap (λ (h : Reading). at_trivia l.classes h.mode (moved g.gap w)) (flushed-held g s)
-          ∙ hand-stops-there l.classes s.held s.known z w r (same_in-first (done l flushes z s).asks _ z w same);
-    }
+clear-here l b m z s r = grind (arith, flushed-held, hand-stops-there, same_in-first)
 
 -- by any rules, at every level, where nothing or everything is known of the trivia ahead
 module _ (r : Rules) (k : CharClasses) where
@@ -79,14 +69,7 @@ reading-is a b e f = ap (λ m. record a { mode = m }) e ∙ ap (λ (n : AtNewlin
 
 -- The token at hand is read in the outer reading if the inner one is left with the token read in it.
 left-held : (outer : Reading) (s : Point) → s.held ≡ s.reading → (left outer s).held ≡ outer
-left-held outer s h =
-    on_if (λ (t : Point). t.held ≡ outer) (same_mode s.reading.mode outer.mode)
-    (record s { reading = outer; held = record s.held { at_newline = if same_rule s.reading.at_newline outer.at_newline then s.held.at_newline else outer.at_newline } })
-    (record s { reading = outer; held = outer; known = None })
-    (λ e. reading-is _ outer (ap (λ (r : Reading). r.mode) h ∙ mode-is s.reading.mode outer.mode e)
-    (on_if (λ (r : AtNewline). r ≡ outer.at_newline) (same_rule s.reading.at_newline outer.at_newline) s.held.at_newline outer.at_newline
-    (λ d. ap (λ (r : Reading). r.at_newline) h ∙ rule-is s.reading.at_newline outer.at_newline d) (λ d. refl)))
-    (λ e. refl)
+left-held outer s h = grind arith
 
 left-reading : (outer : Reading) (s : Point) → (left outer s).reading ≡ outer
 left-reading outer s = on_if (λ (t : Point). t.reading ≡ outer) (same_mode s.reading.mode outer.mode) _ _ (λ e. refl) (λ e. refl)
@@ -110,9 +93,7 @@ pub record Direct (h : Hand) (k : CharClasses) (m : SyntaxMode) (z : Place) : Ty
 
 pub hand-direct : (k : CharClasses) (held : Reading) (z : Place) → at_trivia k held.mode z ≡ false → Direct (hand_at k held None z) k held.mode z
 unfolding hand_at
-hand-direct k held z h =
-    let e = ahead-direct k held.mode z h in
-    record { trivia = ap (λ (a : Ahead). a.trivia) e; gap = ap (λ (a : Ahead). a.gap) e; len = ap (λ (a : Ahead). a.len) e }
+hand-direct k held z h = grind (arith, ahead-direct)
 
 -- A token of some characters leaves no empty error.
 took-some : (k : CharClasses) (h : Hand) (z : Place) (s : Point) → h.gap ≡ 0 → 0 < h.len → h.len ≤ length z.ahead
@@ -137,24 +118,10 @@ pub record Apart {A : Type 0} (o : Outcome A) : Type 0 where
 
 -- after something that gave nothing
 pub alone-after : {A B : Type 0} (o : Outcome B) (p : Outcome A) → o.nodes ≡ [] → o.back ≡ 0 → o.hints ≡ [] → Alone p → Alone (joined o p)
-alone-after o p e f g a =
-    let hs = a.hints in
-    let back : o.back + (p.back - length o.nodes) ≡ 0 = omega (arith, f, a.back) in
-    record {
-      node = a.node;
-      nodes = ap (λ hs. hinted hs (less p.back o.nodes) ++ p.nodes) a.hints ∙ ap (λ n. less n o.nodes ++ p.nodes) a.back ∙ ap (λ ts. ts ++ p.nodes) (less-none o.nodes ∙ e) ∙ a.nodes;
-      back = back;
-      hints = none-of (nat_lt p.back (length o.nodes)) (nat_lt (length o.nodes) p.back) o.hints p.hints g a.hints;
-    }
+alone-after o p e f g a = grind (arith, less-none, none-of)
 
 pub alone-plain : {A B : Type 0} (a : A) (o : Outcome B) → Alone o → Alone (joined o (plain a o.state))
-alone-plain a o h =
-    record {
-      node = h.node;
-      nodes = append-nil (less 0 o.nodes) ∙ less-none o.nodes ∙ h.nodes;
-      back = omega (arith, h.back);
-      hints = hints-first o (plain a o.state) (omega (arith, ap length h.nodes)) ∙ h.hints;
-    }
+alone-plain a o h = grind (arith, append-nil, less-none, hints-first)
 
 -- What takes some characters before it goes on takes nothing back.
 apart-joined : {A B : Type 0} (o : Outcome B) (p : Outcome A) → o.back ≡ 0 → o.hints ≡ [] → 0 < length o.nodes → p.back ≡ 0 → Apart (joined o p)
@@ -174,30 +141,12 @@ some-taken ts t = let e = length-append ts (t ∷ []) in omega (arith, e)
 -- The token alone is taken, and nothing is asked after it.
 pub opener-takes : (l : Level) → Opener l (does (takes false itself))
 unfolding run
-opener-takes l = record {
-  back = λ z s. refl;
-  hints = λ z s. refl;
-  some = λ z s. some-taken (hand_of l z s).trivia _;
-  empties = λ z s g some room. took-some l.classes (hand_of l z s) z s g some room;
-  held = λ z s. refl;
-}
+opener-takes l = grind (arith, some-taken, took-some)
 
 -- the token, and a look at the one after it
 pub opener-eat : (l : Level) → Opener l eat
 unfolding run eat eat_making
-opener-eat l = record {
-  back = λ z s. (let e = some-taken (hand_of l z s).trivia (taken_node l.classes itself (hand_of l z s) z) in omega (arith, e));
-  hints = λ z s. (let o = done l (takes false itself) z s in
-      let n = run l peek (moved o.taken z) o.state in
-      hints-first o (joined n (plain (tt {0}) n.state)) (omega (arith, some-taken (hand_of l z s).trivia (taken_node l.classes itself (hand_of l z s) z))));
-  some = λ z s. (let h = hand_of l z s in
-      let ts = h.trivia ++ taken_node l.classes itself h z ∷ [] in
-      let blank : List Tree = [] in
-      let e : less 0 ts ++ (less 0 blank ++ blank) ≡ ts = ap (λ us. less 0 ts ++ us) (append-nil (less 0 blank) ∙ less-none blank) ∙ append-nil (less 0 ts) ∙ less-none ts in
-      subst (λ us. 0 < length us) (sym e) (some-taken h.trivia _));
-  empties = λ z s g some room. took-some l.classes (hand_of l z s) z s g some room;
-  held = λ z s. refl;
-}
+opener-eat l = grind (arith, some-taken, hints-first, append-nil, less-none, took-some)
 
 abbrev pub enclosed : {A : Type 0} → Reading → Parser (Unit {0}) → Parser A → Parser A
 enclosed r p q = scoped (λ _. r) (next p (λ _. q))
@@ -229,12 +178,10 @@ zero-back o n e f = omega arith
 
 -- what is enclosed becomes one node
 one-node : (b : Block) (closed : Bool) (n : ℕ) (o : Outcome Bool) → n ≡ 0 → Apart o → Alone (wrapped (λ _. enclosing b closed) n o)
-one-node b true n o z a = record { node = _; nodes = ap (λ m. take m o.nodes ++ shaped (enclosing b true) (drop m o.nodes)) (zero-back o n z a.back); back = a.back; hints = a.hints }
-one-node b false n o z a = record { node = _; nodes = ap (λ m. take m o.nodes ++ shaped (enclosing b false) (drop m o.nodes)) (zero-back o n z a.back); back = a.back; hints = a.hints }
+one-node b closed n o z a = grind arith
 
 shape-state : (b : Block) (closed : Bool) (ts : List Tree) (s : Point) → after_shape (enclosing b closed) ts s ≡ after_node false [] s
-shape-state b true ts s = refl
-shape-state b false ts s = refl
+shape-state b closed ts s = grind arith
 
 -- The token at hand has characters, and no trivia before it.
 pub record Begun (l : Level) (z : Place) (s : Point) : Type 0 where
@@ -291,15 +238,11 @@ module _ (l : Level) (d : (c : Call) → Sane (l.deeper c)) (e : (b : Block) →
         omega (arith, (sane-run l d e (peek >> block_of)).within z s, b)
 
     begun-by : (t : Bool) (z : Place) (s : Point) → s.known ≡ None → at_trivia l.classes s.held.mode z ≡ false → 0 < (run l (peek >> block_of) z s).taken → is_end (token_at l.classes s.held.mode z).kind ≡ t → Begun l z s
-    begun-by true z s blank h some t = let n = nothing-left z s blank (token-ends l.classes s.held.mode z t) in absurd (omega (arith, n, some))
-    begun-by false z s blank h some t =
-        let k = subst (λ k. Direct (hand_at l.classes s.held k z) l.classes s.held.mode z) (sym blank) (hand-direct l.classes s.held z h) in
-        record { trivia = k.trivia; gap = k.gap; some = omega (arith, k.len, token-takes l.classes s.held.mode z t); room = omega (arith, k.len) }
+    begun-by t z s blank h some g = grind (arith, nothing-left, token-ends, hand-direct, token-takes)
 
     alone-by : (t : Bool) (z : Place) (s : Point) → s.known ≡ None → at_trivia l.classes s.held.mode z ≡ false → 0 < (run l (peek >> block_of) z s).taken → is_end (token_at l.classes s.held.mode z).kind ≡ t
         → Alone (run l (peek >> block_of) z s)
-    alone-by true z s blank h some t = let n = nothing-left z s blank (token-ends l.classes s.held.mode z t) in absurd (omega (arith, n, some))
-    alone-by false z s blank h some t = let b = begun-by false z s blank h some t in alone-direct z s b.trivia b.gap b.some b.room
+    alone-by t z s blank h some g = grind (arith, nothing-left, token-ends, begun-by, alone-direct)
 
     -- where it takes something, and what it begins with is no trivia
     pub block-alone : (z : Place) (s : Point) → s.known ≡ None → at_trivia l.classes s.held.mode z ≡ false → 0 < (run l (peek >> block_of) z s).taken → Alone (run l (peek >> block_of) z s)
@@ -381,13 +324,7 @@ leaves-by k levels c z e h some =
     subst (λ u. Leaves c u) (sym f) (record { state = a.state; alone = record { node = i.node; nodes = i.nodes; back = i.back; hints = i.hints }; head = a.head })
 
 fits-left : {A : Type 0} (c : Spot A) (o n : Outcome (Unit {0})) → Fits c o c.node → Leaves c o → Leaves c n → Fits c n (last_node n.nodes)
-fits-left c o n f a b = record {
-  state = b.state ∙ sym a.state ∙ f.state;
-  back = b.alone.back ∙ sym a.alone.back ∙ f.back;
-  hints = b.alone.hints ∙ sym a.alone.hints ∙ f.hints;
-  nodes = b.alone.nodes ∙ ap (λ u. last_node u ∷ []) (sym b.alone.nodes) ∙ ap (λ u. u ++ last_node n.nodes ∷ []) (sym (front-none c.front c.node a.alone.node (sym f.nodes ∙ a.alone.nodes)));
-  head = b.head;
-}
+fits-left c o n f a b = grind (arith, front-none)
 
 -- Where all before a block shows the same, and it takes something, it fits.
 pub fitting : {A : Type 0} (k : CharClasses) (levels : ℕ) (c : Spot A) (z w : Place) → Named (block_at k) levels c → Clear k z c → Fits c (unit_at c z) c.node → SameIn c.before z w → 0 < (unit_at c z).taken → 0 < (unit_at c w).taken
@@ -397,6 +334,4 @@ fitting k levels c z w n clear f same some more =
 
 -- Before the node of a block that takes something stands nothing of its own.
 pub no-front : {A : Type 0} (k : CharClasses) (levels : ℕ) (c : Spot A) (z : Place) → Named (block_at k) levels c → Clear k z c → Fits c (unit_at c z) c.node → 0 < (unit_at c z).taken → c.front ≡ []
-no-front k levels c z n clear f some =
-    let a = leaves-by k (levels - c.fewer) c z n.reads (clear.clear z (same-here c.before z)) some in
-    front-none c.front c.node a.alone.node (sym f.nodes ∙ a.alone.nodes)
+no-front k levels c z n clear f some = grind (arith, leaves-by k (levels - c.fewer) c z n.reads (clear.clear z (same-here c.before z)) some, front-none)

@@ -1,6 +1,6 @@
 -- After more pieces of a run the next token begins further on.
-use Rattle.std.proofs.Common.{◌≡◌, ℕ, zero, suc, ◌+◌, ◌<◌, ◌≤◌, Bool, true, List, length, take, ap, sym, arith, ◌-◌, false, ◌&&◌, ◌||◌, ◌==◌, eq-eqb, ne_eqb, [], ◌∷◌, ◌++◌, map, append_assoc, Some, refl, ◌∙◌, subst}
-use Rattle.typst_edits.proofs.Words.{both_ways, CharClasses, Place, moved, width, gap_of, point_of, Point, peek, Meaning, run, sane-at, ahead-left, moved-sum, markup_turn, rules, max_depth, start_of, log, bracket, run_at, opened_at, inner_end, text_run, token_byte, piece_at, lead, cut_after, of_level, Numbered, SaysOf, AllGo, End, end_at, start, made, end_of, turn_of, first_of, first_end, Spot, eqb-true, eqb-false, and_left, and_right, or_left, Block, Mark, Note, opens_content, starts, up_to_end, after_first, cuts_in, is_closing, is_among, Among, Every, blocks_of_text, goes, OpensApartLaw, listed, if-true, if-false, Run, top, read_as, token_after, root_run, IsRun, is_text_run, is_block_run, Sequence}
+use Rattle.std.proofs.Common.{◌≡◌, ℕ, suc, ◌+◌, ◌<◌, ◌≤◌, Bool, true, List, length, take, ap, sym, arith, ◌-◌, false, ◌&&◌, ◌||◌, ◌==◌, eq-eqb, [], ◌∷◌, ◌++◌, map, append_assoc, Some, refl, ◌∙◌, subst}
+use Rattle.typst_edits.proofs.Words.{both_ways, CharClasses, Place, moved, width, gap_of, point_of, Point, peek, Meaning, run, sane-at, ahead-left, moved-sum, markup_turn, rules, max_depth, start_of, log, bracket, run_at, opened_at, inner_end, text_run, token_byte, piece_at, lead, cut_after, of_level, Numbered, SaysOf, AllGo, End, end_at, start, made, end_of, turn_of, first_of, first_end, Spot, eqb-true, eqb-false, and_right, Block, Mark, Note, opens_content, starts, up_to_end, after_first, cuts_in, is_closing, is_among, Among, Every, blocks_of_text, goes, OpensApartLaw, listed, if-true, if-false, Run, top, read_as, token_after, root_run, IsRun, is_text_run, is_block_run, Sequence}
 use Rattle.typst_edits.specs.NumberedNotes.{CutsLaw, InnerCutsLaw}
 use Rattle.std.proofs.lemmas.Bool.{or_right}
 use Rattle.typst_candidates.specs.Units.{is_piece}
@@ -17,17 +17,14 @@ use Rattle.std.proofs.Math.Arith.{lt_of_le-ne}
 use Rattle.typst_edits.proofs.Widths.{take-longer, take-more}
 
 pub cut-token : (i : ℕ) (e : End (Bool × ℕ)) → 0 < i → cut_after i e ≡ e.taken + gap_of e.state.known
-cut-token zero e l = absurd (omega (arith, l))
-cut-token (suc i) e l = refl
+cut-token i e l = grind arith
 
 cut-most : (i : ℕ) (e : End (Bool × ℕ)) → cut_after i e ≤ e.taken + gap_of e.state.known
-cut-most zero e = omega arith
-cut-most (suc i) e = omega arith
+cut-most i e = grind arith
 
 -- Where the token after more pieces begins further on, so does their cut.
 cut-by : (text : List ℕ) (i j : ℕ) (e f : End (Bool × ℕ)) → i < j → token_byte text e < token_byte text f → width (take (cut_after i e) text) < width (take (cut_after j f) text)
-cut-by text i j e f l h =
-    omega (arith, take-more (cut_after i e) (e.taken + gap_of e.state.known) text (cut-most i e), h, ap (λ d. width (take d text)) (cut-token j f (omega (arith, l))))
+cut-by text i j e f l h = grind (arith, take-more, cut-most, cut-token)
 
 -- Pieces end within the text, with their trivia.
 pub ends-within : (k : CharClasses) (text : List ℕ) (i : ℕ) → (let e = end_at k i (start_of text) in e.taken + gap_of e.state.known ≤ length text)
@@ -98,11 +95,7 @@ module _ (apart : OpensApartLaw) (k : CharClasses) (text : List ℕ) (opens : No
       (by-mark n.mark refl, opens-before (done ++ n ∷ []) todo (e ∙ sym (append_assoc done (n ∷ []) (todo ++ opens ∷ later))))
     where
       by-mark : (m : Mark) → n.mark ≡ m → opens_at opens.start n ≡ false
-      by-mark (mark.Piece line brackets) f = ap (λ w. opens_content w && n.start == opens.start) f
-      by-mark (mark.Opens block.Code) f = ap (λ w. opens_content w && n.start == opens.start) f
-      by-mark (mark.Opens block.Content) f =
-          ap (λ w. opens_content w && n.start == opens.start) f ∙ ne_eqb n.start opens.start (omega (arith, apart k text done todo later n opens block.Content own e f is_own))
-      by-mark mark.Closes f = ap (λ w. opens_content w && n.start == opens.start) f
+      by-mark m f = grind arith
 
 -- ---- the starts of its pieces
 
@@ -114,12 +107,7 @@ starts-are text e levels i [] h = refl
 starts-are text e levels i (n ∷ ns) h = by-level (n.levels == levels) refl (λ j g. starts-are text e levels j ns g)
   where
     by-level : (b : Bool) → (n.levels == levels) ≡ b → ((j : ℕ) → Numbered (SaysOf text e) j (of_level levels ns) → starts levels ns ≡ starts_of (of_level levels ns)) → starts levels (n ∷ ns) ≡ starts_of (of_level levels (n ∷ ns))
-    by-level true f next =
-        let own : of_level levels (n ∷ ns) ≡ n ∷ of_level levels ns = if-true (n.levels == levels) _ _ f in
-        let says = subst (Numbered (SaysOf text e) i) own h in
-        if-true (is_piece n.mark && n.levels == levels) _ _ (both-on (is_piece n.mark) (n.levels == levels) (ap is_piece says.0.says.mark) f)
-        ∙ ap (λ us. n.start ∷ us) (next (suc i) says.1)
-        ∙ sym (ap starts_of own)
+    by-level true f next = grind arith
     by-level false f next =
         let other : of_level levels (n ∷ ns) ≡ of_level levels ns = if-false (n.levels == levels) _ _ f in
         if-false (is_piece n.mark && n.levels == levels) _ _ (and_right (is_piece n.mark) (n.levels == levels) f)
@@ -133,10 +121,7 @@ module _ (text : List ℕ) (e : ℕ → End (Bool × ℕ)) (levels : ℕ) (close
   all-inner i (n ∷ ns) h = by-level (n.levels == levels) (λ j r. all-inner j ns r) refl
     where
       by-level : (b : Bool) → ((j : ℕ) → Numbered (SaysOf text e) j (of_level levels ns) → up_to_end levels (ns ++ closes ∷ later) ≡ ns) → (n.levels == levels) ≡ b → up_to_end levels ((n ∷ ns) ++ closes ∷ later) ≡ n ∷ ns
-      by-level true next f =
-          let own : of_level levels (n ∷ ns) ≡ n ∷ of_level levels ns = if-true (n.levels == levels) _ _ f in
-          let says = subst (Numbered (SaysOf text e) i) own h in
-          if-false (is_closing n.mark && n.levels == levels) _ _ (and_left (is_closing n.mark) (n.levels == levels) (ap is_closing says.0.says.mark)) ∙ ap (λ us. n ∷ us) (next (suc i) says.1)
+      by-level true next f = grind arith
       by-level false next f =
           let other : of_level levels (n ∷ ns) ≡ of_level levels ns = if-false (n.levels == levels) _ _ f in
           if-false (is_closing n.mark && n.levels == levels) _ _ (and_right (is_closing n.mark) (n.levels == levels) f) ∙ ap (λ us. n ∷ us) (next i (subst (Numbered (SaysOf text e) i) other h))
@@ -169,9 +154,7 @@ module _ (text : List ℕ) (e : ℕ → End (Bool × ℕ)) where
   has-cut i count (n ∷ ns) long h j from to = by-test (j == i) refl (λ d. has-cut (suc i) count ns (omega (arith, long)) h.1 j d to)
     where
       by-test : (c : Bool) → (j == i) ≡ c → (suc i ≤ j → is_among (width (take (cut_after j (e j)) text)) (starts_of ns) ≡ true) → is_among (width (take (cut_after j (e j)) text)) (starts_of (n ∷ ns)) ≡ true
-      by-test true f next =
-          let same : j ≡ i = eqb-true j i f in
-          or_left (width (take (cut_after j (e j)) text) == n.start) (is_among (width (take (cut_after j (e j)) text)) (starts_of ns)) (eq-eqb (width (take (cut_after j (e j)) text)) n.start (ap (λ l. width (take (cut_after l (e l)) text)) same ∙ sym h.0.start))
+      by-test true f next = grind arith
       by-test false f next =
           or_right (width (take (cut_after j (e j)) text) == n.start) (is_among (width (take (cut_after j (e j)) text)) (starts_of ns)) (next (lt_of_le-ne from (λ s. eqb-false j i f (sym s))))
 

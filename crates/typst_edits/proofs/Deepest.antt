@@ -39,8 +39,7 @@ module _ (k : CharClasses) where
 
   deep-guarded : Guarded (λ (m : Mark). false) false (peek >> deep_block)
   unfolding markup_is_empty node_with_trivia flush_trivia
-  deep-guarded =
-      (refl, λ _. (guarded-node (λ (m : Mark). false) _ _ _ (refl, λ _. (((((refl, λ _. (refl, λ _. guarded-deep (λ (m : Mark). false) _ ends_block)), λ _. (refl, λ _. (refl, λ _. tt))), λ _. tt), λ _. tt), λ _. guarded-close (λ (m : Mark). false) _ _)), λ _. tt))
+  deep-guarded = grind (arith, guarded-node, guarded-deep, guarded-close)
 
   silent-block : (z : Place) (s : Point) → AllMarks Never (run last (peek >> content_block) z s).asks
   silent-block z s = subst (λ (o : Outcome (Unit {0})). AllMarks Never o.asks) (sym (deep-is z s)) (silent (peek >> deep_block) deep-guarded z s)

@@ -1,6 +1,6 @@
 -- What the entries of notes say of the pieces of a run, whose notes stand among others, nested in each other.
 use Rattle.std.proofs.Common.{◌≡◌, ℕ, suc, ◌+◌, ◌<◌, ◌==◌, ne_eqb, eq-eqb, Bool, true, false, ◌&&◌, if◌then◌else◌, List, [], ◌∷◌, ◌++◌, length, take, drop, length-append, append_assoc, Option, Some, None, refl, ap, sym, ◌∙◌, subst, arith, ◌≤◌}
-use Rattle.typst_edits.proofs.Words.{Mark, Note, EntryKind, closing_of, entry_kind_of, entries_by, last_start, count_of, entry_of, Nested, IsRising, closing-found, Every, of_level, Numbered, cut_after, SaysOf, width, Entry, End, IsLast, BeginsAt, SaysPiece, on_both, if-true, if-false}
+use Rattle.typst_edits.proofs.Words.{Mark, Note, EntryKind, closing_of, entry_kind_of, entries_by, last_start, count_of, entry_of, Nested, IsRising, closing-found, Every, of_level, Numbered, cut_after, SaysOf, width, Entry, End, IsLast, BeginsAt, SaysPiece, if-true, if-false}
 use Rattle.typst_candidates.specs.Cursors.{leads, inside_after, piece_of, first_piece}
 use Rattle.typst_candidates.specs.Entries.{end_of}
 use Rattle.typst_candidates.specs.Nested.{none, piece, block}
@@ -28,8 +28,7 @@ first_own p inside number (n ∷ ns) =
     if leads t inside && p n then Some number else further t inside (λ m. first_own p m (suc number) ns)
 
 same-further : (o : Option ℕ) (f g : ℕ → Option ℕ) → ((m : ℕ) → f m ≡ g m) → elim o as (λ _. Option ℕ) [ None ↦ None | Some m ↦ f m ] ≡ elim o as (λ _. Option ℕ) [ None ↦ None | Some m ↦ g m ]
-same-further None f g h = refl
-same-further (Some m) f g h = h m
+same-further o f g h = grind arith
 
 -- The entries say the same.
 pub piece-found : (at inside start number : ℕ) (ns : List Note) → IsRising start ns → piece_of at inside start number (entries_by start ns) ≡ first_own (λ n. n.start == at) inside number ns
@@ -59,8 +58,7 @@ level-other lv n ns l = if-false (n.levels == lv) _ _ (ne_eqb n.levels lv (λ e.
 
 -- A block says none of it whose notes say none.
 level-block : (lv : ℕ) (o c : Note) (inner later : List Note) → c.levels ≡ o.levels → o.levels < lv → of_level lv inner ≡ [] → of_level lv (o ∷ (inner ++ c ∷ later)) ≡ of_level lv later
-level-block lv o c inner later same less alone =
-    level-other lv o (inner ++ c ∷ later) less ∙ level-append lv inner (c ∷ later) ∙ ap (λ us. us ++ of_level lv (c ∷ later)) alone ∙ level-other lv c later (omega (arith, same, less))
+level-block lv o c inner later same less alone = grind (arith, level-other, level-append)
 
 -- Notes in fewer levels say none.
 level-none : (lv deep : ℕ) (ns : List Note) → Nested deep ns → deep < lv → of_level lv ns ≡ []
@@ -73,8 +71,7 @@ level-none lv deep ns (block _ o c inner later b m n same less nest rest) l =
 
 own-by : (p : Note → Bool) (inside number : ℕ) (n : Note) (ns : List Note) (m : Mark) → n.mark ≡ m
     → first_own p inside number (n ∷ ns) ≡ (let t = entry_kind_of m n.state in if leads t inside && p n then Some number else further t inside (λ i. first_own p i (suc number) ns))
-own-by p inside number n ns m e =
-    ap (λ (x : Mark). (let t = entry_kind_of x n.state in if leads t inside && p n then Some number else further t inside (λ i. first_own p i (suc number) ns))) e
+own-by p inside number n ns m e = cc
 
 flat-block : (o c : Note) (inner later ms : List Note) → (o ∷ (inner ++ c ∷ later)) ++ ms ≡ o ∷ (inner ++ (c ∷ (later ++ ms)))
 flat-block o c inner later ms = ap (λ vs. o ∷ vs) (append_assoc inner (c ∷ later) ms)
@@ -153,8 +150,7 @@ apart lv ns [] n ls (piece _ x us line brackets m f more) own e = record { befor
 apart lv ns (y ∷ es) n ls (piece _ x us line brackets m f more) own e =
     let i = apart lv us es n ls more own (tail-same x y us (es ++ n ∷ ls) e) in
     record { before = subst (λ z. Nested lv (z ∷ es)) (head-same x y us (es ++ n ∷ ls) e) (piece lv x es line brackets m f i.before); behind = i.behind }
-apart lv ns [] n ls (block _ o c inner later b m k same less nest rest) own e =
-    absurd (let there = ap (λ (x : Note). x.levels) (head-same o n (inner ++ c ∷ later) ls e) in omega (arith, there, own, less))
+apart lv ns [] n ls (block _ o c inner later b m k same less nest rest) own e = grind arith
 apart lv ns (y ∷ es) n ls (block _ o c inner later b m k same less nest rest) own e =
     let f = behind-first inner c later es n ls (tail-same o y (inner ++ c ∷ later) (es ++ n ∷ ls) e) (λ xs ys g. omega (arith, longer lv xs ys inner n own g, ap length (level-none lv o.levels inner nest less)))
     (λ g. (let there = ap (λ (x : Note). x.levels) g in omega (arith, there, own, less, same))) in
@@ -193,11 +189,7 @@ pub record NoteAt (lv before : ℕ) (ns : List Note) (i number : ℕ) : Type 0 w
 -- The note of a number says what the notes of the level do.
 pub says-by : (lv : ℕ) (ns : List Note) (text : List ℕ) (e : ℕ → End (Bool × ℕ)) (ms : List Note) (n : Note) (ls : List Note) (i : ℕ) → Numbered (SaysOf text e) 0 (of_level lv ns) → ns ≡ ms ++ n ∷ ls → n.levels ≡ lv
     → length (of_level lv ms) ≡ i → SaysOf text e i n
-says-by lv ns text e ms n ls i each is own index =
-    let firsts = of_level lv ms in
-    let there = numbered-at (SaysOf text e) 0 firsts n (of_level lv ls) (subst (λ us. Numbered (SaysOf text e) 0 us) (ap (of_level lv) is ∙ level-at lv ms n ls own) each) in
-    let same : 0 + length firsts ≡ i = omega (arith, index) in
-    subst (λ j. SaysOf text e j n) same there
+says-by lv ns text e ms n ls i each is own index = grind (arith, numbered-at, level-at)
 
 numbered-first : (P : ℕ → Note → Type 0) (i : ℕ) (xs ys : List Note) → Numbered P i (xs ++ ys) → Numbered P i xs
 numbered-first P i [] ys h = tt
@@ -217,9 +209,7 @@ every-none Q (x ∷ xs) e = absurd (omega (arith, e))
 
 few-level : (lv : ℕ) (xs : List Note) → length (of_level lv xs) ≤ length xs
 few-level lv [] = omega arith
-few-level lv (x ∷ xs) =
-    let few = few-level lv xs in
-    on_both (λ (ys : List Note). length ys ≤ suc (length xs)) (x.levels == lv) (x ∷ of_level lv xs) (of_level lv xs) (omega (arith, few)) (omega (arith, few))
+few-level lv (x ∷ xs) = grind (arith, few-level lv xs)
 
 -- ---- from one note up to another
 
@@ -229,21 +219,12 @@ record Between (es : List Note) (o : Note) (ahead fs : List Note) (p : Note) (be
   behind : o ∷ ahead ≡ mids ++ p ∷ beyond
 
 few-tail : (lv : ℕ) (x y : Note) (us vs : List Note) → x ≡ y → length (of_level lv (x ∷ us)) ≤ length (of_level lv (y ∷ vs)) → length (of_level lv us) ≤ length (of_level lv vs)
-few-tail lv x y us vs e l = by-test (x.levels == lv) (y.levels == lv) (ap (λ (n : Note). n.levels == lv) e) l
-  where
-    by-test : (a b : Bool) → a ≡ b → length (if a then x ∷ of_level lv us else of_level lv us) ≤ length (if b then y ∷ of_level lv vs else of_level lv vs) → length (of_level lv us) ≤ length (of_level lv vs)
-    by-test true true f l = omega (arith, l)
-    by-test true false f l = cc
-    by-test false true f l = cc
-    by-test false false f l = l
+few-tail lv x y us vs e l = grind arith
 
 -- Of two notes of a level the one with no more of them before it comes first.
 between : (lv : ℕ) (es : List Note) (o : Note) (ahead fs : List Note) (p : Note) (beyond : List Note) → es ++ o ∷ ahead ≡ fs ++ p ∷ beyond → p.levels ≡ lv → length (of_level lv es) ≤ length (of_level lv fs) → Between es o ahead fs p beyond
 between lv [] o ahead fs p beyond e own l = record { mids = fs; earlier = refl; behind = e }
-between lv (x ∷ es) o ahead [] p beyond e own l =
-    let same = head-same x p (es ++ o ∷ ahead) beyond e in
-    let there : length (of_level lv (x ∷ es)) ≡ suc (length (of_level lv es)) = ap length (if-true (x.levels == lv) _ _ (eq-eqb x.levels lv (ap (λ (n : Note). n.levels) same ∙ own))) in
-    absurd (omega (arith, l, there))
+between lv (x ∷ es) o ahead [] p beyond e own l = grind arith
 between lv (x ∷ es) o ahead (y ∷ fs) p beyond e own l =
     let same = head-same x y (es ++ o ∷ ahead) (fs ++ p ∷ beyond) e in
     let i = between lv es o ahead fs p beyond (tail-same x y (es ++ o ∷ ahead) (fs ++ p ∷ beyond) e) own (few-tail lv x y es fs same l) in
@@ -261,10 +242,7 @@ nested-mids lv fs es (m ∷ ms) o ahead p beyond line brackets nest e f own says
 -- ---- among entries
 
 begins-at : (at : ℕ) (ms ns : List Note) (number : ℕ) → IsRising 0 (ms ++ ns) → first_own (λ n. n.start == at) 0 (length ms) ns ≡ Some number → BeginsAt (entries_by 0 (ms ++ ns)) (length ms) at number
-begins-at at ms ns number r h =
-    ap (λ start. piece_of at 0 start (length ms) (drop (length ms) (entries_by 0 (ms ++ ns)))) (entries-end 0 ms ns r)
-    ∙ ap (piece_of at 0 (last_start 0 ms) (length ms)) (entries-behind 0 ms ns)
-    ∙ piece-found at 0 (last_start 0 ms) (length ms) ns (rising-behind 0 ms ns r) ∙ h
+begins-at at ms ns number r h = grind (arith, entries-end, entries-behind, piece-found, rising-behind)
 
 -- What entries say of a given number of pieces of a run, by the numbers of its entries and the bytes at which the tokens after the pieces begin.
 pub record FoundPieces (es : List Entry) (number cut : ℕ → ℕ) (value : ℕ → Bool × ℕ) (count : ℕ) : Type 0 where
@@ -302,9 +280,7 @@ module _ (lv : ℕ) (pre ns suf : List Note) (text : List ℕ) (e : ℕ → End 
   behind_of i l = (h.at i l).later ++ suf
 
   split-at : (i : ℕ) (l : i ≤ count) → all ≡ firsts_of i l ++ (h.at i l).note ∷ behind_of i l
-  split-at i l =
-      let n = h.at i l in
-      ap (λ us. pre ++ (us ++ suf)) n.is ∙ ap (λ us. pre ++ us) (append_assoc n.earlier (n.note ∷ n.later) suf) ∙ sym (append_assoc pre n.earlier (n.note ∷ (n.later ++ suf)))
+  split-at i l = grind (arith, append_assoc)
 
   firsts-long : (i : ℕ) (l : i ≤ count) → length (firsts_of i l) ≡ number i
   firsts-long i l = length-append pre (h.at i l).earlier ∙ (h.at i l).all
@@ -324,8 +300,7 @@ module _ (lv : ℕ) (pre ns suf : List Note) (text : List ℕ) (e : ℕ → End 
       let apart_all : Every (λ n. (n.start == cut j) ≡ false) (of_level lv b.earlier) =
       every-numbered (SaysOf text e) (λ n. (n.start == cut j) ≡ false) 0 j (of_level lv b.earlier)
       (λ d n less says. ne_eqb n.start (cut j) (λ same. (let start = says.start in let rise = h.cuts_rise d j less m in omega (arith, same, start, rise)))) (omega (arith, b.index)) firsts in
-      every-second (λ n. (n.start == cut j) ≡ false) (of_level lv (h.at i l).earlier) (of_level lv f.mids)
-      (subst (λ us. Every (λ n. (n.start == cut j) ≡ false) us) (ap (of_level lv) f.earlier ∙ level-append lv (h.at i l).earlier f.mids) apart_all)
+      grind (arith, every-second, level-append)
 
   mids-nested : (i j : ℕ) (l : i ≤ count) (m : j ≤ count) (few : i ≤ j) → Nested lv (up-to i j l m few).mids
   mids-nested i j l m few =
@@ -336,9 +311,7 @@ module _ (lv : ℕ) (pre ns suf : List Note) (text : List ℕ) (e : ℕ → End 
       nested-mids lv b.earlier a.earlier f.mids a.note a.later b.note b.later v.0 v.1 (apart lv ns b.earlier b.note b.later h.nested b.own b.is).before f.earlier f.behind a.own (says-at i l).says.mark
 
   mids-long : (i j : ℕ) (l : i ≤ count) (m : j ≤ count) (few : i ≤ j) → number i + length (up-to i j l m few).mids ≡ number j
-  mids-long i j l m few =
-      let f = up-to i j l m few in
-      omega (arith, (h.at i l).all, (h.at j m).all, ap length f.earlier, length-append (h.at i l).earlier f.mids)
+  mids-long i j l m few = grind (arith, up-to, length-append)
 
   goes-on : (i j : ℕ) → i ≤ j → j ≤ count → BeginsAt (entries_by 0 all) (number i) (cut j) (number j)
   goes-on i j few m =

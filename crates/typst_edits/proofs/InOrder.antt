@@ -1,5 +1,5 @@
 -- Marks stand in order by their tokens: each at the token of the one before it, or after that.
-use Rattle.std.proofs.Common.{◌≡◌, ℕ, zero, suc, ◌+◌, ◌≤◌, ◌==◌, max, min, Bool, true, false, ◌&&◌, nat_lt, List, [], ◌∷◌, take, Option, Some, None, refl, ap, sym, ◌∙◌, subst, arith, inl, inr}
+use Rattle.std.proofs.Common.{◌≡◌, ℕ, zero, suc, ◌+◌, ◌≤◌, ◌==◌, max, min, Bool, true, false, ◌&&◌, nat_lt, List, [], ◌∷◌, take, Option, Some, refl, ap, sym, ◌∙◌, subst, arith, inl, inr}
 use Rattle.typst_edits.proofs.Words.{same, SyntaxKind, Place, moved, CharClasses, width, position, far, near, IsRising, Block, Call, MarkupExpr, Mark, Reading, Ask, shift, looked, marked, deeper, is_end, too_deep, hand_at, meaning_of, level_of, blocks_of, Trivia, Point, forgot, gap_of, Shape, becomes, itself, peek, node, node_with_trivia, note, flush_trivia, close_if, Parser, ◌>>◌, at_token, takes, flushes, marks, is_deepest, gives, does, next, repeat, wraps, scoped, Outcome, Meaning, Level, plain, joined, turns, as_last, bound, repeated, blockless, entered, hand_of, hand_asks_of, start_point, done, run, moved-sum, on_both, on_if, rules, production, max_depth, start_of, whole, parsed, log, block_production, level_at, ends, ends_block, note_piece, markup_turn, markup_run, markup_is_empty, markup_reading, content_block, code_block, Guarded, guarded-deep, guarded-production, guarded-inside-code, InOrderLaw, cases_Bool, if-true}
 use Rattle.typst_language.specs.Syntax.Begin.{at_trivia}
 use Rattle.typst_grammar.proofs.Guarded.{guarded-close, guarded-deeper, guarded-node}
@@ -10,7 +10,7 @@ use Rattle.typst_edits.proofs.Boundary.{KnownAt}
 use Rattle.typst_edits.proofs.Joint.{block-taking, known-is, text-taking}
 use Rattle.typst_edits.proofs.Turns.{after_trivia, before_trivia, turn_tail, Taking, turn-led}
 use Rattle.typst_edits.proofs.Bytes.{none_yet, note_by, notes_from, fresh_notes, logged-listed}
-use Rattle.typst_edits.proofs.Rising.{Joins, Upward, ups, up-low, up-append, up-shift, up-sunk, up-none, unmarked-hand, from-joined, from-hand, from-run}
+use Rattle.typst_edits.proofs.Rising.{Joins, Upward, ups, up-append, up-shift, up-sunk, up-none, unmarked-hand, from-joined, from-hand, from-run}
 use Rattle.typst_edits.proofs.Widths.{width-moved, width-none, take-more}
 
 -- ---- marks in a list of asks
@@ -62,8 +62,7 @@ ToToken lo o = Reaching lo (gap_of o.state.known) o
 
 hand-gap : (k : CharClasses) (held : Reading) (known : Option Trivia) (z : Place) → gap_of known ≤ (hand_at k held known z).gap
 unfolding hand_at
-hand-gap k held None z = omega arith
-hand-gap k held (Some t) z = omega arith
+hand-gap k held known z = grind arith
 
 module _ (l : Level) (deep : (call : Call) → AllInOrder (l.deeper call)) (held : (b : Block) → AllInOrder (l.blocks b)) where
   silent : {A : Type 0} (p : Parser A) → Guarded (λ (m : Mark). false) false p → AllInOrder (run l p)
@@ -142,8 +141,7 @@ module _ (l : Level) (deep : (call : Call) → AllInOrder (l.deeper call)) (held
           let far = c.taken + gap_of c.state.known in
           let hi = o.taken + gap_of o.state.known in
           let from = up-shift gaps any t.gap 0 far c.asks (turn-order x w p) in
-          subst (λ ls. Orders t.gap hi ls) (sym led.front.asks)
-          (up-low gaps any t.gap (t.gap + 0) hi (shift t.gap c.asks) (omega arith) (orders-high (t.gap + 0) (t.gap + far) hi (shift t.gap c.asks) (omega (arith, led.front.taken, gap)) from))
+          grind arith
 
       piece-order : (x : Bool × ℕ) (z : Place) (s : Point) → KnownAt s → ToToken (gap_of s.known) (run l (markup_turn true stops x) z s)
       piece-order x z s known = elim (cases_Bool (ends stops x.1 (hand_of l z s).kind)) [

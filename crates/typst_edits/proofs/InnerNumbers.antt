@@ -36,8 +36,7 @@ behind-first [] o rest (b ∷ bs) p behind e none other = let same = ap (first_o
 behind-first (a ∷ firsts) o rest [] p behind e none other = let same : a ≡ p = ap (first_or o) e in absurd (none [] firsts (ap (λ x. x ∷ firsts) same))
 behind-first (a ∷ firsts) o rest (b ∷ bs) p behind e none other =
     let same : a ≡ b = ap (first_or o) e in
-    let i = behind-first firsts o rest bs p behind (ap (drop 1) e) (λ xs ys f. none (a ∷ xs) ys (ap (λ u. a ∷ u) f)) other in
-    record { mid = i.mid; earlier = ap (λ x. x ∷ bs) (sym same) ∙ ap (λ u. a ∷ u) i.earlier; is = i.is }
+    grind (arith, behind-first firsts o rest bs p behind (ap (drop 1) e) (λ xs ys f. none (a ∷ xs) ys (ap (λ u. a ∷ u) f)) other)
 
 record Within (inner mid : List Note) (p : Note) : Type 0 where
   more : List Note
@@ -50,8 +49,7 @@ before-last [] o later (m ∷ mid) p behind e none other = absurd (none mid (ap 
 before-last (x ∷ inner) o later [] p behind e none other = record { more = inner; is = ap (λ y. y ∷ inner) (ap (first_or o) e) }
 before-last (x ∷ inner) o later (m ∷ mid) p behind e none other =
     let same : x ≡ m = ap (first_or o) e in
-    let i = before-last inner o later mid p behind (ap (drop 1) e) none other in
-    record { more = i.more; is = ap (λ y. y ∷ inner) same ∙ ap (λ u. m ∷ u) i.is }
+    grind (arith, before-last inner o later mid p behind (ap (drop 1) e) none other)
 
 -- ---- the law
 

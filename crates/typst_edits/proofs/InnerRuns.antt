@@ -13,7 +13,6 @@ use Rattle.typst_edits.proofs.Deepest.{some-level}
 use Rattle.typst_edits.proofs.Edit.{among, trees-of}
 use Rattle.typst_edits.proofs.RunCandidates.{run-of, joined-trees, lies, seat-of}
 use Rattle.typst_edits.proofs.Leading.{Plain, plain-block}
-use Rattle.typst_edits.proofs.Every.{some_or}
 use Rattle.typst_edits.proofs.MarkupPlaces.{InContent, in-tree, of-content}
 use Rattle.typst_edits.proofs.RunTrees.{tree-is}
 use Rattle.typst_edits.proofs.Standing.{standing-law}
@@ -40,10 +39,7 @@ record Begins (at : ℕ) (ns : List Note) : Type 0 where
   start : note.start ≡ at
 
 content-is : (m : Mark) → opens_content m ≡ true → m ≡ mark.Opens block.Content
-content-is (mark.Piece line brackets) e = absurd (cc)
-content-is (mark.Opens block.Code) e = absurd (cc)
-content-is (mark.Opens block.Content) e = refl
-content-is mark.Closes e = absurd (cc)
+content-is m e = grind arith
 
 begins-at : (at : ℕ) (ns : List Note) (cuts : List ℕ) → cuts_in at ns ≡ Some cuts → Begins at ns
 begins-at at [] cuts e = absurd (cc)
@@ -61,21 +57,13 @@ begins-at at (n ∷ ns) cuts e = by-tests (opens_content n.mark) (n.start == at)
 
 pub none-there : (k : CharClasses) (front more : List ℕ) (hole : Hole) (node : Tree) (s : Spot (Unit {0})) (cuts : List ℕ) → Among s (seconds_of_text k (front ++ more)) → IsOf hole node s → 0 < length (text_of node) → length (left_text hole) < width front
     → cuts_in (length (left_text hole)) (listed (log k (front ++ more)).notes) ≡ Some cuts → ⊥
-none-there k front more hole node s cuts there of full starts noted =
-    let text = front ++ more in
-    let same = hole-same s.hole hole s.node node of.path of.nodes in
-    let some : 0 < length (text_of s.node) = subst (λ (t : Tree). 0 < length (text_of t)) (sym same.1) full in
-    let o = begins-at (length (left_text hole)) (listed (log k text).notes) cuts noted in
-    never-second k front more s there o.earlier o.note o.later block.Content o.is o.mark (omega (arith, second-place k text s there some, ap length same.0, o.start)) (omega (arith, starts, o.start))
+none-there k front more hole node s cuts there of full starts noted = grind (arith, hole-same, full, begins-at, never-second, second-place)
 
 -- ---- the markup of a block
 
 kid-plain : (at : ℕ) (ts : List Tree) (i : ℕ) (c : Child) → Every NoMarkup ts → child_at (laid at ts) i ≡ Some c → NoMarkup c.node
 kid-plain at [] i c h e = absurd (cc)
-kid-plain at (t ∷ ts) zero c h e =
-    let first : Child = record { start = at; end = at + length (text_of t); node = t } in
-    let same : first ≡ c = ap (some_or first) e in
-    subst (λ (d : Child). NoMarkup d.node) same h.0
+kid-plain at (t ∷ ts) zero c h e = grind arith
 kid-plain at (t ∷ ts) (suc i) c h e = kid-plain (at + length (text_of t)) ts i c h.1 e
 
 -- Of a content block's children only the second is markup.
@@ -90,10 +78,7 @@ second-alone x p at i c e inner markup =
     opening false = no-wrong _ p.bracket p.first
 
     by-index : (at i : ℕ) (c : Child) → child_at (laid at (opening_child p.closed p.bracket ∷ (inner_of kind.Markup (forest p.kids) ∷ p.closing))) i ≡ Some c → c.node.head.is_inner ≡ true → c.node.head.kind ≡ kind.Markup → i ≡ 1
-    by-index at zero c e inner markup =
-        let first : Child = record { start = at; end = at + length (text_of (opening_child p.closed p.bracket)); node = opening_child p.closed p.bracket } in
-        let same : first ≡ c = ap (some_or first) e in
-        absurd (subst (λ (d : Child). NoMarkup d.node) same (opening p.closed) inner markup)
+    by-index at zero c e inner markup = grind arith
     by-index at (suc zero) c e inner markup = refl
     by-index at (suc (suc i)) c e inner markup = absurd (kid-plain _ p.closing i c p.last e inner markup)
 
@@ -146,14 +131,11 @@ candidate-in k text rs re root c same chosen pieces other =
 -- ---- the law
 
 name-is : (b : Block) → kind_of b ≡ kind.ContentBlock → b ≡ block.Content
-name-is block.Code e = absurd (cc)
-name-is block.Content e = refl
+name-is b e = grind arith
 
 -- the path without its last step
 but-last : (path : List ℕ) (i : ℕ) (whole : List ℕ) → whole ≡ path ++ i ∷ [] → take (length whole - 1) whole ≡ path
-but-last path i whole e =
-    let short : length whole - 1 ≡ length path = omega (arith, length-append path (i ∷ []), ap length e) in
-    ap (λ n. take n whole) short ∙ ap (take (length path)) e ∙ take-append_seam path (i ∷ [])
+but-last path i whole e = let short : length whole - 1 ≡ length path = omega (arith, length-append path (i ∷ []), ap length e) in grind (arith, take-append_seam)
 
 -- where the children of a unit's node begin
 unit-byte : (k : CharClasses) (front old rest : List ℕ) (root : Tree) (s : Spot (Unit {0})) → Among s (blocks_of_text k (front ++ (old ++ rest))) → bare root ≡ bare (tree k (front ++ (old ++ rest))) → s.node.head ≡ block_head s.name

@@ -3,7 +3,6 @@ use Rattle.std.proofs.Common.{◌≡◌, ℕ, zero, suc, ◌+◌, Bool, true, fa
 use Rattle.std.proofs.Math.Bool.{or-false}
 use Rattle.typst_edits.proofs.Words.{map-append, is_error, Tree, Place, moved, CharClasses, Block, shift, marked, Call, Answer, Point, state_of, forgot, peek, Parser, ◌>>◌, flushes, gives, does, next, pick, repeat, wraps, grows, nests, scoped, either, calls, block, Rules, blocks_of, meaning_of, level_of, Outcome, Meaning, Level, blockless, plain, less, followed, before, bounded, deeper_by_one, entered, left_to, done, run, left, closed, same_in-first, same_in-sunk, Sane, sane-run, sane-plain, sane-meaning, sane-block, Spot, around, Fits, block_head, lowered, after_spot, sunk_spot, closed_spot, ended, last_node, here_spot, Spots, scoped_spot, bounded_spots, spots, call_spots, block_spots, level_spots, left-empties, if-true, if-false}
 use Rattle.typst_language.specs.Meaning.{chosen}
-use Rattle.typst_language.specs.declared.calls.Block.TheVariants as block_kind
 use Rattle.typst_language.specs.declared.calls.Mark.TheVariants as mark
 use Rattle.typst_language.proofs.Frame.{framed-done}
 use Rattle.typst_edits.proofs.Every.{Every, every-map, every-if}
@@ -13,13 +12,7 @@ use Rattle.typst_edits.proofs.Spots.{Edits, Lawful, lawful-after, Inside, lawful
 -- ---- one level deeper
 
 edits-sunk : {A : Type 0} (z w : Place) (c : Spot A) (x : Tree) → Edits z w (sunk_spot c) x → Edits z w c x
-edits-sunk z w c x e = record {
-  before = same_in-sunk c.before z w e.before;
-  fits = record { state = e.fits.state; back = e.fits.back; hints = e.fits.hints; nodes = e.fits.nodes; head = e.fits.head };
-  covers = e.covers;
-  some = e.some;
-  after = same_in-sunk c.after _ _ e.after;
-}
+edits-sunk z w c x e = grind (arith, same_in-sunk)
 
 sunk-around : {A : Type 0} (c : Spot A) (b : Outcome (Unit {0})) (x : Tree) → deeper_by_one (around c b x) ≡ around (sunk_spot c) b x
 sunk-around c b x = same-outcome c.value _ _ c.state c.state _ _ _ _ _ _ _ _ _ _ refl refl refl refl refl (simp (map-append, sunk-shift, sunk-lowered)) refl
@@ -33,8 +26,7 @@ pub record Ends (b : Block) (o : Outcome (Unit {0})) : Type 0 where
   pub empties : o.state.empties ≡ 0
 
 no-error : (b : Block) → is_error (block_head b).kind ≡ false
-no-error block_kind.Code = refl
-no-error block_kind.Content = refl
+no-error b = grind arith
 
 here-around : (b : Block) (m : Meaning (Unit {0})) (z : Place) (s : Point) (d : Outcome (Unit {0})) (x : Tree) → Fits (here_spot b m z s) (ended d) x → closed b s d ≡ around (here_spot b m z s) (ended d) x
 here-around b m z s d x f =
@@ -58,17 +50,10 @@ lawful-here b m z w s e =
     }
 
 edits-closed : (b : Block) (s : Point) (z w : Place) (c : Spot (Unit {0})) (x : Tree) → Edits z w (closed_spot b s c) x → Edits z w c x
-edits-closed b s z w c x e = record {
-  before = e.before.1;
-  fits = record { state = e.fits.state; back = e.fits.back; hints = e.fits.hints; nodes = e.fits.nodes; head = e.fits.head };
-  covers = e.covers;
-  some = e.some;
-  after = same_in-first c.after _ _ _ e.after;
-}
+edits-closed b s z w c x e = grind (arith, same_in-first)
 
 closed-around : (b : Block) (s : Point) (c : Spot (Unit {0})) (d : Outcome (Unit {0})) (x : Tree) → closed b s (around c d x) ≡ around (closed_spot b s c) d x
-closed-around b s c d x =
-    let f : c.at + (d.taken + c.rest) ≡ (c.at + d.taken) + c.rest = omega arith in same-outcome tt _ _ _ _ _ _ _ _ _ _ _ _ _ _ refl refl refl refl refl (simp (map-append, append_assoc, f)) refl
+closed-around b s c d x = grind (arith, same-outcome, map-append, append_assoc)
 
 inside-bounded : (b : Block) (m : Meaning (Unit {0})) (sp : Spots (Unit {0})) → ((z : Place) (s : Point) → Ends b (m z s)) → Inside m sp → Inside (bounded b m) (bounded_spots b m sp)
 inside-bounded b m sp ends i z w s = (

@@ -1,6 +1,6 @@
 -- What holds of the candidates of a node, by those of its child near the replaced bytes and of its own run; and where a candidate that is a block stands.
-use Rattle.std.proofs.Common.{◌≡◌, ℕ, zero, suc, ◌+◌, ◌*◌, ◌<◌, Bool, true, false, ◌&&◌, if◌then◌else◌, nat_lt, List, [], ◌∷◌, ◌++◌, length, Option, Some, None, refl, ap, sym, subst, ◌∙◌, arith, append_assoc, length-append}
-use Rattle.typst_edits.proofs.Words.{nat_tests, is_block, Head, Note, texts, Forest, none, more, Tree, forest, trees, text_of, Child, laid, first_near, end_near, child_at, ChildRange, Candidate, of_run, run_in, candidates_at, begins, of_children, is_all, of_child_ranges, child_ranges, covers, Among, this, that, Every, Hole, plug, path_of, under, on_both, forest_trees, ◌==◌, is_block_head}
+use Rattle.std.proofs.Common.{◌≡◌, ℕ, zero, suc, ◌+◌, ◌*◌, ◌<◌, true, false, if◌then◌else◌, List, [], ◌∷◌, ◌++◌, length, Option, Some, None, refl, ap, sym, subst, ◌∙◌, arith, append_assoc, length-append}
+use Rattle.typst_edits.proofs.Words.{is_block, Head, Note, texts, Forest, none, more, Tree, forest, trees, text_of, Child, laid, first_near, end_near, child_at, ChildRange, Candidate, of_run, run_in, candidates_at, begins, of_children, is_all, of_child_ranges, child_ranges, covers, Among, this, that, Every, Hole, plug, path_of, under, on_both, forest_trees, is_block_head}
 use Rattle.typst_tree.specs.Tree.{joined}
 use Rattle.typst_candidates.specs.Candidates.{around, of_block}
 use Rattle.typst_edits.specs.Hole.Deep.{bare}
@@ -28,8 +28,7 @@ child_ranges-own path at ts [] = tt
 child_ranges-own path at ts (s ∷ ss) = (record { at_end = refl; pieces = refl }, child_ranges-own path at ts ss)
 
 pub run-own : (rs re : ℕ) (path : List ℕ) (at : ℕ) (ts : List Tree) (run : Option (List ℕ)) → Every (Own path) (of_run rs re path at ts run)
-run-own rs re path at ts None = tt
-run-own rs re path at ts (Some cuts) = let cs = laid at ts in child_ranges-own path at ts (child_ranges cuts cs (first_near rs cs) (end_near re cs) (suc (length ts)) 1)
+run-own rs re path at ts run = grind (arith, child_ranges-own)
 
 -- ---- a child
 
@@ -39,14 +38,7 @@ pub record Covers (rs re : ℕ) (c : Child) : Type 0 where
   pub inner : c.node.head.is_inner ≡ true
 
 pub covers-is : (rs re : ℕ) (cs : List Child) (i : ℕ) (c : Child) → covers rs re cs i c ≡ true → Covers rs re c
-covers-is rs re cs i c e = by-tests (end_near re cs == suc i) (nat_lt c.start rs) (nat_lt re c.end) c.node.head.is_inner e refl refl refl
-  where
-    by-tests : (p q r b : Bool) → (p && (q && (r && b))) ≡ true → nat_lt c.start rs ≡ q → nat_lt re c.end ≡ r → c.node.head.is_inner ≡ b → Covers rs re c
-    by-tests true true true true e f g h = record { starts = grind (arith, nat_tests, f); ends = grind (arith, nat_tests, g); inner = h }
-    by-tests true true true false e f g h = absurd (cc)
-    by-tests true true false b e f g h = absurd (cc)
-    by-tests true false r b e f g h = absurd (cc)
-    by-tests false q r b e f g h = absurd (cc)
+covers-is rs re cs i c e = grind arith
 
 -- What is so of the tree of an index among some side by side, by where that begins, is so of the child there.
 abbrev pub AtIndex : (ℕ → Head → Forest → Type 0) → ℕ → ℕ → Forest → Type 0
@@ -56,10 +48,7 @@ AtIndex P (suc index) at (more h ks r) = AtIndex P index (at + length (h.text ++
 
 pub at-child : (P : ℕ → Head → Forest → Type 0) (index at : ℕ) (f : Forest) (d : Child) → child_at (laid at (trees f)) index ≡ Some d → AtIndex P index at f → P d.start d.node.head d.node.kids
 at-child P index at none d e g = absurd (cc)
-at-child P zero at (more h ks r) d e g =
-    let first : Child = record { start = at; end = at + length (text_of (record { head = h; kids = ks })); node = record { head = h; kids = ks } } in
-    let same : first ≡ d = ap (some_or first) e in
-    subst (λ (d : Child). P d.start d.node.head d.node.kids) same g
+at-child P zero at (more h ks r) d e g = grind arith
 at-child P (suc index) at (more h ks r) d e g = at-child P index (at + length (h.text ++ joined ks)) r d e g
 
 module _ (ns : List Note) (rs re : ℕ) where

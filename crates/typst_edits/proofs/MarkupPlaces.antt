@@ -99,8 +99,7 @@ module _ (ns : List Note) (rs re : ℕ) where
 
   -- of a tree whose root is an inner node
   pub in-tree : (path : List ℕ) (run : Option (List ℕ)) (at : ℕ) (t : Tree) → t.head.is_inner ≡ true → Every (λ c. c.is_block ≡ false → (c.path ≡ path → ⊥) → Placed path at t c) (candidates_at ns rs re path run zero at (more t.head t.kids none))
-  in-tree path run at t inner =
-      every-by {Q = λ c. c.is_block ≡ false → (c.path ≡ path → ⊥) → Placed path at t c} (λ c f pieces other. elim (f pieces) [ inl own ↦ absurd (other own.0) | inr placed ↦ placed inner ]) _ (all-find path run zero at (more t.head t.kids none))
+  in-tree path run at t inner = grind (arith, every-by, all-find)
 
   -- Pieces of its root are those of the root's run.
   pub own-run : (path : List ℕ) (run : Option (List ℕ)) (at : ℕ) (t : Tree) → t.head.is_inner ≡ true
@@ -128,8 +127,7 @@ module _ (ns : List Note) (rs re : ℕ) where
       let steps : path_in d ++ 1 ∷ [] ≡ path_in p.deep ++ p.step ∷ [] = sym path ∙ p.path_is in
       let same = split-same (path_in d) [] (path_in p.deep) [] 1 p.step (omega (arith, ap length steps, length-append (path_in d) (1 ∷ []), length-append (path_in p.deep) (p.step ∷ []))) steps in
       let there = deep-same d p.deep x p.node same.0 p.is in
-      subst (λ text. InMarkup (at + length text) x c) (sym there.0) (subst (λ y. InMarkup (at + length (deep_text p.deep)) y c) (sym there.1)
-      (record { child = p.child; is = subst (λ i. child_at (laid ((at + length (deep_text p.deep)) + length p.node.head.text) (trees p.node.kids)) i ≡ Some p.child) (sym same.1) p.there; starts = p.covers.starts; ends = p.covers.ends; chosen = p.own }))
+      grind arith
 
 -- ---- the markup of a content block
 
@@ -141,15 +139,13 @@ pub record InContent (ns : List Note) (at : ℕ) (parent child : SyntaxKind) : T
   pub noted : cuts_in at ns ≡ Some cuts
 
 some-run : (rs re : ℕ) (path : List ℕ) (at : ℕ) (ts : List Tree) (c : Candidate) (run : Option (List ℕ)) → Among c (of_run rs re path at ts run) → (run ≡ None → ⊥)
-some-run rs re path at ts c None a e = among (λ d. ⊥) c [] a tt
-some-run rs re path at ts c (Some cuts) a e = absurd (cc)
+some-run rs re path at ts c run a e = grind arith
 
 pub in-content : (ns : List Note) (at : ℕ) (parent child : SyntaxKind) → (run_in ns at parent child ≡ None → ⊥) → InContent ns at parent child
 in-content ns at parent child some = by-tests (same kind.ContentBlock parent) (same kind.Markup child) refl refl some
   where
     by-cuts : (o : Option (List ℕ)) → cuts_in at ns ≡ o → parent ≡ kind.ContentBlock → child ≡ kind.Markup → (o ≡ None → ⊥) → InContent ns at parent child
-    by-cuts None e p m some = absurd (some refl)
-    by-cuts (Some cuts) e p m some = record { content = p; markup = m; cuts = cuts; noted = e }
+    by-cuts o e p m some = grind arith
 
     by-tests : (a b : Bool) → same kind.ContentBlock parent ≡ a → same kind.Markup child ≡ b → ((if a && b then cuts_in at ns else None) ≡ None → ⊥) → InContent ns at parent child
     by-tests true true p m some = by-cuts (cuts_in at ns) refl (same-is kind.ContentBlock parent p) (same-is kind.Markup child m) some

@@ -1,6 +1,6 @@
 -- One reading of a new text serves every candidate of a run.
 use Rattle.std.proofs.Common.{◌≡◌, ℕ, zero, suc, ◌+◌, ◌-◌, ◌<◌, ◌≤◌, ◌==◌, ne_eqb, if◌then◌else◌, Bool, true, false, ◌&&◌, nat_lt, List, [], ◌∷◌, ◌++◌, length, drop, length-append, append_assoc, Some, refl, ap, sym, ◌∙◌, subst, arith, map, take, slice_get, inl}
-use Rattle.typst_edits.proofs.Words.{lt-ltb, Place, moved, CharClasses, Ask, shift, is_end, Trivia, Point, gap_of, pending, point_of, peek, Parser, Outcome, Meaning, Level, plain, less, joined, hand_of, run, hinted, sane-run, moved-sum, less-none, ends, ends_block, markup_turn, rules, max_depth, start_of, tree, bracket, inner_lead, run_at, opened_at, tail_at, close_at, together, standing_by, nodes_after, read_by, text_with, AllEndBy, Run, top, read_as, opened_by, end_by, is_over, nodes_now, Before, Agrees, PassesPieces, cut_at, path_to, first_place, minds_at, onwards_by, text_run, onwards_at, goes, TakesNone, ServesMore, fresh, made, AllGo, End, end_of, asks_of, chain, lead, start, pieces, end_at, Sequence, turn_of, first_of, first_end, then_of, then_end, then_place, rest_of, Spot, made-sum, map-append, drop-map, drop-append-le, take-map, length-map, take-append-drop, Tree, bare, trees, replaced_at, At, kids_of, width, kids_in, given, AtPath, kids_of_run, run_from, StandsBetween, Begins, IsRun, is_block_run, TakesSome, StandsAt, Leading}
+use Rattle.typst_edits.proofs.Words.{lt-ltb, Place, moved, CharClasses, Ask, shift, is_end, Trivia, Point, gap_of, pending, point_of, peek, Parser, Outcome, Meaning, Level, plain, less, joined, hand_of, run, sane-run, moved-sum, less-none, ends, ends_block, markup_turn, rules, max_depth, start_of, tree, bracket, inner_lead, run_at, opened_at, tail_at, close_at, together, standing_by, nodes_after, read_by, text_with, AllEndBy, Run, top, read_as, opened_by, end_by, is_over, nodes_now, Before, Agrees, PassesPieces, cut_at, path_to, first_place, minds_at, onwards_by, text_run, onwards_at, goes, TakesNone, ServesMore, fresh, made, AllGo, End, end_of, asks_of, chain, lead, start, pieces, end_at, Sequence, turn_of, first_of, first_end, then_of, then_end, then_place, rest_of, Spot, made-sum, map-append, drop-map, drop-append-le, take-map, length-map, take-append-drop, Tree, bare, trees, replaced_at, At, kids_of, width, kids_in, given, AtPath, kids_of_run, run_from, StandsBetween, Begins, IsRun, is_block_run, TakesSome, StandsAt, Leading}
 use Rattle.typst_edits.specs.BlockRuns.{inner as block_level}
 use Rattle.typst_edits.specs.Frame.{inner}
 use Rattle.typst_edits.specs.OneReading.{EndsOld, EndsNew, OneReadingLaw, GivesAgain, GivesAgainLaw}
@@ -65,17 +65,7 @@ module _ {A : Type 0} where
 
   followed-by : (os : List (Outcome (Bool × A))) (s : Point) (p : Outcome (Unit {0})) → p.back ≡ 0 → p.hints ≡ [] → Followed os s p
   followed-by [] s p b h = record { nodes = refl; hints = h; back = b }
-  followed-by (o ∷ os) s p b h =
-      let later = followed-by os s p b h in
-      let c = chain os p in
-      let d = together s os in
-      record {
-        nodes = ap (λ hs. hinted hs (less c.back o.nodes) ++ c.nodes) later.hints ∙ ap (λ j. hinted d.hints (less j o.nodes) ++ c.nodes) later.back ∙ ap (λ ts. hinted d.hints (less d.back o.nodes) ++ ts) later.nodes
-            ∙ sym (append_assoc (hinted d.hints (less d.back o.nodes)) d.nodes p.nodes);
-        hints = ap (λ j. if nat_lt j (length o.nodes) then o.hints else (if nat_lt (length o.nodes) j then c.hints else o.hints ++ c.hints)) later.back
-            ∙ ap (λ hs. if nat_lt d.back (length o.nodes) then o.hints else (if nat_lt (length o.nodes) d.back then hs else o.hints ++ hs)) later.hints;
-        back = ap (λ j. o.back + (j - length o.nodes)) later.back;
-      }
+  followed-by (o ∷ os) s p b h = let later = followed-by os s p b h in grind (arith, append_assoc)
 
 -- ---- any run
 
@@ -90,9 +80,7 @@ module _ (q : Sequence) where
   later-place a d = moved-sum (first_end a q).taken (then_end a d q).taken q.place
 
   then-split : (a d m : ℕ) → then_of a (d + m) q ≡ then_of a d q ++ then_of (a + d) m q
-  then-split a d m =
-      let e = first_end a q in
-      made-sum (turn_of q) d m e.value (first_place a q) e.state ∙ ap (λ us. then_of a d q ++ us) (sym (ap (λ (e : End (Bool × ℕ)). made (turn_of q) m e.value (moved e.taken q.place) e.state) (end-split-at a d) ∙ ap (λ w. made (turn_of q) m (then_end a d q).value w (then_end a d q).state) (later-place a d)))
+  then-split a d m = grind (arith, made-sum, end-split-at, later-place)
 
   then-end-split : (a d m : ℕ) → then_end a (d + m) q ≡ record (then_end (a + d) m q) { taken = (then_end a d q).taken + (then_end (a + d) m q).taken }
   then-end-split a d m =
@@ -128,10 +116,7 @@ module _ (k : CharClasses) (q : Sequence) (is : IsRun k q) where
   none-hinted i (suc n) g h = let e = first_end i q in (gives-pieces q.level q.stops leads.taking (suc n) e.value (first_place i q) e.state (omega arith) (there i g) h).hints
 
   none-back : (i n : ℕ) → AllGo (first_of i q) → AllGo (then_of i n q) → (b : Bool) → minds_at q (first_place i q) (first_end i q) ≡ b → TakesNone i q → (read_by i n q).back ≡ 0
-  none-back i n g h false m none = (head-law k q is i n g h).pieces_back m
-  none-back i n g h true m none =
-      let few = (back-law k q is i n).pieces_back in
-      omega (arith, few, none m)
+  none-back i n g h b m p = grind (arith, head-law, back-law)
 
   goes-further : (i : ℕ) → AllGo (first_of (suc i) q) → (first_end i q).taken + gap_of (first_end i q).state.known < (first_end (suc i) q).taken
   goes-further i g =
@@ -169,16 +154,13 @@ pub leading-some : (a : ℕ) (e : End (Bool × ℕ)) → leading (suc a) e ≡ l
 leading-some a e = ap (λ b. if b then 0 else length (pending e.state.known)) (ne_eqb (suc a) 0 (omega arith))
 
 pub leading-same : (a : ℕ) (e f : End (Bool × ℕ)) → (0 < a → e ≡ f) → leading a e ≡ leading a f
-leading-same zero e f h = refl
-leading-same (suc a) e f h = leading-some a e ∙ ap (λ (x : End (Bool × ℕ)). length (pending x.state.known)) (h (omega arith)) ∙ sym (leading-some a f)
+leading-same a e f h = grind arith
 
 pub leading-most : (a : ℕ) (e : End (Bool × ℕ)) → leading a e ≤ length (pending e.state.known)
-leading-most zero e = omega arith
-leading-most (suc a) e = let is = leading-some a e in omega (arith, is)
+leading-most a e = grind arith
 
 pub leading-is : (a : ℕ) (e : End (Bool × ℕ)) (t : Trivia) → 0 < a → e.state.known ≡ Some t → leading a e ≡ length t.nodes
-leading-is zero e t some h = absurd (omega (arith, some))
-leading-is (suc a) e t some h = leading-some a e ∙ ap (λ o. length (pending o)) h
+leading-is a e t some h = grind arith
 
 -- ---- before the stretch
 
@@ -216,8 +198,7 @@ module _ (k : CharClasses) (levels : ℕ) (c : Spot (Unit {0})) (z : Place) wher
       omega (arith, end)
 
 pub takes-some : (k : CharClasses) (q : Sequence) → IsRun k q → (i : ℕ) → 0 < i → AllGo (first_of i q) → 0 < (first_end i q).taken
-takes-some k q is zero some go = absurd (omega (arith, some))
-takes-some k q is (suc i) some go = let more = (facts k q is).further i go in omega (arith, more)
+takes-some k q is i some go = grind arith
 
 -- The looks before fewer pieces end before the stretch, too.
 fewer-before : (k : CharClasses) (front old rest : List ℕ) (r : Run k (front ++ (old ++ rest))) (a d : ℕ) → Before k front old rest r (a + d) → Before k front old rest r a
@@ -295,8 +276,7 @@ module _ (k : CharClasses) (front old new rest : List ℕ) (r : Run k (front ++ 
   pieces-are m = then-split now a d m ∙ ap (λ os. os ++ then_of (a + d) m now) between
 
   end-now : (m : ℕ) (u : Trivia) → end_by r a (d + m) u w ≡ end_by r (a + d) m u w
-  end-now m u =
-      omega (arith, ap (λ (e : End (Bool × ℕ)). e.taken) (then-end-split now a d m), ap (λ (e : End (Bool × ℕ)). e.taken) (end-split-at now a d))
+  end-now m u = grind (arith, then-end-split, end-split-at)
 
   known-is-now : (m : ℕ) → (then_end a (d + m) now).state.known ≡ (then_end (a + d) m now).state.known
   known-is-now m = ap (λ (e : End (Bool × ℕ)). e.state.known) (then-end-split now a d m)
@@ -357,8 +337,7 @@ module _ (k : CharClasses) (front old new rest : List ℕ) (r : Run k (front ++ 
       let same : leading a (first_end a now) ≡ cut = leading-same a (first_end a now) (first_end a was) (λ l. end-by-pieces a now was l same_fewer) in
       let mine : nodes_now r (a + d) m u w ≡ later.rest = ap (λ j. drop j (p.nodes ++ u.nodes)) (leading-is (a + d) (first_end (a + d) now) t some there) ∙ ap (drop (length t.nodes)) later.is ∙ drop-front t.nodes later.rest (length t.nodes) refl in
       let all : (olds ++ p.nodes) ++ u.nodes ≡ (olds ++ t.nodes) ++ later.rest = append_assoc olds p.nodes u.nodes ∙ ap (λ ts. olds ++ ts) later.is ∙ sym (append_assoc olds t.nodes later.rest) in
-      ap (λ ts. drop (leading a (first_end a now)) (ts ++ u.nodes)) whole ∙ ap (λ j. drop j ((olds ++ p.nodes) ++ u.nodes)) same ∙ ap (drop cut) all
-      ∙ drop-append-le cut (olds ++ t.nodes) later.rest (omega (arith, leading-most a (first_end a was), long)) ∙ ap (λ ts. drop cut (olds ++ t.nodes) ++ ts) (sym mine)
+      grind (arith, drop-append-le, leading-most)
 
   serves : ServesMore k front old new rest r a d
   serves = record {
@@ -405,14 +384,7 @@ module _ (k : CharClasses) (text : List ℕ) (r : Run k text) (z : Place) (f : F
       let nodes : (joined o p).nodes ≡ t.nodes ++ (joined c d).nodes = standing-led t.nodes c.nodes o p one.nodes (omega (arith, back, few, empties)) ∙ ap (λ (a : Outcome (Unit {0})). t.nodes ++ (joined c a).nodes) alike in
       let length_t : leading i e ≡ length t.nodes = leading-is i e t some known in
       let taken = ap (λ (x : End (Bool × ℕ)). x.taken) ends in
-      record {
-        go = (go_c, subst (λ us. AllGo us) same.1 h.1);
-        value = ap (λ (x : End (Bool × ℕ)). x.value) ends;
-        state = ap (λ (x : End (Bool × ℕ)). x.state) ends;
-        taken = omega (arith, taken, one.taken);
-        nodes = ap (λ j. drop j ((joined o p).nodes ++ u.nodes)) length_t ∙ ap (λ ts. drop (length t.nodes) (ts ++ u.nodes)) nodes
-            ∙ ap (drop (length t.nodes)) (append_assoc t.nodes (joined c d).nodes u.nodes) ∙ drop-front t.nodes ((joined c d).nodes ++ u.nodes) (length t.nodes) refl;
-      }
+      grind (arith, append_assoc, drop-front)
 
 pub gives-again-law : GivesAgainLaw
 gives-again-law k text r z i m t u some more g h known none = gives k text r z (facts k (read_as r z) (is-run r z)) (resume-law k (read_as r z) (is-run r z)) i m t u some more g h known none
@@ -453,17 +425,12 @@ begins-there from mid to left kept right t root e is here there l =
 module _ (q : Sequence) (a d : ℕ) where
   -- The run doesn't end after pieces that are followed by another which goes on.
   goes-past : Facts q → AllGo (first_of (suc (a + d)) q) → is_over a d q ≡ false
-  goes-past f go =
-      let e = then_end a d q in
-      sym (ap (λ (x : End (Bool × ℕ)). ends q.stops x.value.1 (hand_of q.level (moved x.taken q.place) x.state).kind) (end-split-at q a d)
-      ∙ ap (λ w. ends q.stops e.value.1 (hand_of q.level w e.state).kind) (later-place q a d)) ∙ f.not_over (a + d) go
+  goes-past f go = grind (arith, end-split-at, later-place)
 
   -- All after them takes no errors back, since there are none or the next piece doesn't mind them.
   none-taken : Facts q → AllGo (first_of a q) → AllGo (then_of a d q) → TakesNone (a + d) q → (onwards_by a d q).back ≤ (then_end a d q).state.empties
       → (b : Bool) → minds_at q (first_place (a + d) q) (first_end (a + d) q) ≡ b → (onwards_by a d q).back ≡ 0
-  none-taken f g h none few false m = f.behind a d g h (sym (ap (λ (x : End (Bool × ℕ)). minds_at q (moved x.taken q.place) x) (end-split-at q a d) ∙ ap (λ w. minds_at q w (then_end a d q)) (later-place q a d)) ∙ m)
-  none-taken f g h none few true m =
-      omega (arith, few, none m, ap (λ (e : End (Bool × ℕ)). e.state.empties) (end-split-at q a d))
+  none-taken f g h p few b m = grind (arith, end-split-at, later-place)
 
   go-before : AllGo (first_of (suc (a + d)) q) → AllGo (first_of (a + d) q)
   go-before go = go-fewer (turn_of q) (a + d) (suc (a + d)) (true, 0) q.place q.point (omega arith) go
@@ -532,16 +499,11 @@ module _ (k : CharClasses) (text : List ℕ) (r : Run k text) (a d : ℕ) (t : T
   own-nodes = ap (λ b. less b (read_by a d own_run).nodes ++ t.nodes) none-behind ∙ ap (λ us. us ++ t.nodes) (less-none (read_by a d own_run).nodes)
 
   fits : leading a (first_end a own_run) ≤ length all
-  fits =
-      let leads = own_facts.leads a d t (go-a own_run a d go) (go-d own_run a d go) (known-d own_run a d t known) in
-      omega (arith, leading-most a (first_end a own_run), ap length leads.is ∙ length-append (pending (first_end a own_run).state.known) leads.rest)
+  fits = let leads = own_facts.leads a d t (go-a own_run a d go) (go-d own_run a d go) (known-d own_run a d t known) in grind (arith, leading-most, length-append)
 
   from-at : (b : ℕ) → b ≡ a → from ≡ length before + leading b (first_end a own_run)
   from-at zero e = let none = ap length (none-stand a (read_by a d own_run).back (λ j. given (first_of j own_run) []) (sym e) refl) in let first = s.first (sym e) in omega (arith, none, first)
-  from-at (suc b) e =
-      let more : 0 < a = omega (arith, e) in
-      let here = subst (λ x. StandsAt (run_from r) (kids_of_run r) from (width (take x text))) (cut-some r a z0 more) (s.starts more) in
-      omega (arith, same-place (run_from r) (kids_of_run r) from _ _ here (led.first some), leading-some b (first_end a own_run))
+  from-at (suc b) e = grind (arith, cut-some, same-place, led, leading-some)
 
   mid-at : mid ≡ length before + length all
   mid-at =

@@ -12,15 +12,12 @@ record Stands (from : ℕ) (n : Note) (ns : List Note) : Type 0 where
 
 stands-among : (from : ℕ) (ms : List Note) (n : Note) (ns : List Note) → Spread from (ms ++ n ∷ ns) → Stands from n ns
 stands-among from [] n ns h = record { low = h.0; start = h.1; behind = h.2 }
-stands-among from (m ∷ ms) n ns h =
-    let i = stands-among (m.before + taken_behind m.mark) ms n ns h.2 in
-    record { low = omega (arith, h.0, i.low); start = i.start; behind = i.behind }
+stands-among from (m ∷ ms) n ns h = grind (arith, stands-among (m.before + taken_behind m.mark) ms n ns h.2)
 
 pub opens-apart-law : OpensApartLaw
 opens-apart-law k text earlier between later n o a b is opens opens_too =
     let one = stands-among 0 earlier n (between ++ o ∷ later) (subst (λ ns. Spread 0 ns) is (notes-spread k text)) in
-    let two = stands-among (n.before + taken_behind n.mark) between o later one.behind in
-    omega (arith, one.start (ap is_opening opens), two.start (ap is_opening opens_too), two.low, ap taken_behind opens)
+    grind (arith, stands-among)
 
 -- A block begins directly where its note stands.
 pub opens-directly : (k : CharClasses) (text : List ℕ) (earlier : List Note) (n : Note) (later : List Note) (b : Block) → listed (log k text).notes ≡ earlier ++ n ∷ later → n.mark ≡ mark.Opens b → n.start ≡ n.before

@@ -1,7 +1,7 @@
 -- A block in a larger whole.
 use Rattle.std.proofs.Common.{◌≡◌, ℕ, suc, ◌+◌, ◌-◌, ◌<◌, ◌≤◌, Bool, false, ◌||◌, List, [], ◌∷◌, ◌++◌, length, map, take, length-append, append_assoc, refl, ap, sym, ◌∙◌, arith}
 use Rattle.std.proofs.Math.Bool.{or_assoc}
-use Rattle.typst_edits.proofs.Words.{map-append, lt-ltb, is_error, Head, Tree, Ask, shift, shift_one, sunk, sink_one, looked, marked, Point, hinted, seen, hinted_last, Outcome, less, joined, Deep, fill, Hole, plug, under, Spot, around, then_spot, after_spot, lowered, lower}
+use Rattle.typst_edits.proofs.Words.{map-append, lt-ltb, is_error, Head, Tree, Ask, shift, shift_one, sunk, sink_one, Point, hinted, seen, hinted_last, Outcome, less, joined, Deep, fill, Hole, plug, under, Spot, around, then_spot, after_spot, lowered, lower}
 use Rattle.typst_language.specs.Shape.{hinted_error}
 use Rattle.typst_language.specs.Meaning.{hints_before}
 use Rattle.typst_edits.specs.Hole.{top}
@@ -17,24 +17,21 @@ same-outcome v t u s r b d hs js ns ms ls ks m k e f g h i j l = rw (e, f, g, h,
 -- ---- lists of asks
 
 lower-zero : (ask : Ask) → lower 0 ask ≡ ask
-lower-zero (looked at look) = refl
-lower-zero (marked at gap fewer mark s) = let e : 0 + fewer ≡ fewer = omega arith in ap (λ n. marked at gap n mark s) e
+lower-zero ask = grind arith
 
 pub lowered-zero : (ls : List Ask) → lowered 0 ls ≡ ls
 lowered-zero [] = refl
 lowered-zero (l ∷ ls) = rw (lower-zero l, lowered-zero ls) refl
 
 sink-lower : (n : ℕ) (ask : Ask) → sink_one (lower n ask) ≡ lower (suc n) ask
-sink-lower n (looked at look) = refl
-sink-lower n (marked at gap fewer mark s) = let e : suc (n + fewer) ≡ suc n + fewer = omega arith in ap (λ k. marked at gap k mark s) e
+sink-lower n ask = grind arith
 
 pub sunk-lowered : (n : ℕ) (ls : List Ask) → sunk (lowered n ls) ≡ lowered (suc n) ls
 sunk-lowered n [] = refl
 sunk-lowered n (l ∷ ls) = rw (sink-lower n l, sunk-lowered n ls) refl
 
 sink-shift : (n : ℕ) (ask : Ask) → sink_one (shift_one n ask) ≡ shift_one n (sink_one ask)
-sink-shift n (looked at look) = refl
-sink-shift n (marked at gap fewer mark s) = refl
+sink-shift n ask = grind arith
 
 pub sunk-shift : (n : ℕ) (ls : List Ask) → sunk (shift n ls) ≡ shift n (sunk ls)
 sunk-shift n [] = refl
@@ -62,8 +59,7 @@ last-plug hs (l ∷ m ∷ left) y right h = ap (λ u. l ∷ u) (last-plug hs (m 
 
 -- A hint passes by a node that is no error.
 pub hinted-plug : (hs : List (List ℕ)) (left : List Tree) (y : Tree) (right : List Tree) → is_error y.head.kind ≡ false → hinted hs (left ++ y ∷ right) ≡ left ++ y ∷ hinted hs right
-hinted-plug [] left y right h = refl
-hinted-plug (x ∷ hs) left y right h = last-plug (x ∷ hs) left y right h
+hinted-plug hs left y right h = grind (arith, last-plug)
 
 -- ---- heads
 
@@ -75,9 +71,7 @@ pub seen-head : (x y : Tree) → x.head ≡ y.head → seen x ≡ seen y
 seen-head x y e = rw e refl
 
 pub seen-plug : (h : Hole) (x y : Tree) (a : Head) → x.head ≡ a → y.head ≡ a → map seen (plug h x) ≡ map seen (plug h y)
-seen-plug h x y a e f =
-    let g = seen-head (fill h.deep x) (fill h.deep y) (head-fill h.deep x a e ∙ sym (head-fill h.deep y a f)) in
-    map-append seen h.left (fill h.deep x ∷ h.right) ∙ ap (λ u. map seen h.left ++ u ∷ map seen h.right) g ∙ sym (map-append seen h.left (fill h.deep y ∷ h.right))
+seen-plug h x y a e f = grind (arith, seen-head, head-fill, map-append)
 
 -- ---- the whole of a larger whole
 

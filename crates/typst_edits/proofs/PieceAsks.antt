@@ -1,5 +1,5 @@
 -- What is asked of pieces of any run, cut at the note where some of them end.
-use Rattle.std.proofs.Common.{◌≡◌, ℕ, zero, suc, ◌+◌, ◌<◌, true, List, [], ◌∷◌, ◌++◌, append_assoc, append-nil, refl, ap, sym, ◌∙◌, subst, arith, Bool}
+use Rattle.std.proofs.Common.{◌≡◌, ℕ, zero, suc, ◌+◌, ◌<◌, true, List, [], ◌∷◌, ◌++◌, append_assoc, append-nil, refl, ap, sym, ◌∙◌, subst, arith, Bool, rules}
 use Rattle.typst_edits.proofs.Words.{map-append, Place, moved, Ask, shift, shift_one, SameIn, looked, marked, hand_asks_of, Point, gap_of, state_of, AllEndBy, AllBeginIn, note_at, looks_next, own_of, AllGo, asks_of, End, end_of, Sequence, turn_of, first_of, first_end, then_of, then_end, then_place, Noting, noting, notes_in, lowered, same_in-shift, same_in-second}
 use Rattle.typst_language.specs.declared.calls.Mark.TheVariants as mark
 use Rattle.typst_edits.proofs.Boundary.{looks_in, piece_mark, each-ends, made-ends}
@@ -54,10 +54,7 @@ module _ (r : Sequence) (first : Point) (ls : List Ask) where
 
   pub next-none : (i : ℕ) → AllMarks Never ls → notes_in (looks_next r ls i) ≡ 0
   next-none zero bare = count-none ls bare
-  next-none (suc i) bare =
-      let e = first_end (suc i) r in
-      let looks = hand_asks_of r.level (moved e.taken r.place) e.state in
-      count-none (shift e.taken looks) (bare-shift e.taken looks (none-hand Never r.level.classes e.state.held e.state.known (moved e.taken r.place)))
+  next-none (suc i) bare = search (rules, count-none, bare-shift, none-hand)
 
   -- where this is asked after i pieces
   abbrev pub asks_in : ℕ → List Ask → List Ask
@@ -185,7 +182,4 @@ module _ (r q : Sequence) (first : Point) (ls ks : List Ask) where
       let all : SameIn (c.early ++ p ∷ shift e.taken hand) r.place q.place = subst (λ u. SameIn u r.place q.place) c.is (tt, shown some) in
       let seen : SameIn hand (moved e.taken r.place) (moved e.taken q.place) = same_in-shift e.taken hand r.place q.place (same_in-second c.early (p ∷ shift e.taken hand) r.place q.place all).1 in
       let looks_is : looks_next q ks (suc j) ≡ shift e.taken hand = ap (λ (x : End (Bool × ℕ)). shift x.taken (hand_asks_of q.level (moved x.taken q.place) x.state)) end_is ∙ ap (shift e.taken) (frame (moved e.taken r.place) (moved e.taken q.place) e.state seen) in
-      record {
-        note = (λ v. let e = end_is v in record { at = e.taken; gap = gap_of e.state.known; fewer = 0; mark = mark.Piece e.value.0 e.value.1; state = state_of e.state });
-        is = ap (λ us. piece_mark 0 (true, 0) first ∷ (us ++ asks_of (first_of (suc j) q))) (asks some) ∙ ap (λ os. piece_mark 0 (true, 0) first ∷ (ls ++ asks_of os)) same ∙ c.is ∙ ap (λ u. c.early ++ p ∷ u) (sym looks_is);
-      }
+      grind arith

@@ -1,6 +1,6 @@
 -- What is logged of pieces that are read again: of any run.
-use Rattle.std.proofs.Common.{◌≡◌, ℕ, zero, suc, ◌+◌, Bool, false, List, [], ◌∷◌, ◌++◌, Some, refl, ap, sym, ◌∙◌, subst, arith}
-use Rattle.typst_edits.proofs.Words.{map-append, Place, moved, look, token, Ask, shift, looked, at_trivia, no_log, logged, Outcome, hand_asks_of, start_point, run, Trivia, point_of, peek, moved-sum, max_depth, markup_reading, inner_lead, run_at, own_of, text_run, read_again, SamePieces, End, asks_of, lead, end_at, Sequence, first_end, then_of, is_text_run, is_block_run}
+use Rattle.std.proofs.Common.{◌≡◌, ℕ, zero, suc, ◌+◌, Bool, false, List, [], ◌∷◌, ◌++◌, Some, refl, ap, sym, ◌∙◌, arith}
+use Rattle.typst_edits.proofs.Words.{map-append, Place, moved, look, token, Ask, shift, looked, at_trivia, no_log, logged, Outcome, start_point, run, Trivia, point_of, peek, moved-sum, max_depth, markup_reading, inner_lead, run_at, own_of, text_run, read_again, SamePieces, End, asks_of, lead, end_at, Sequence, first_end, then_of, is_text_run, is_block_run}
 use Rattle.typst_kinds.specs.declared.mode.SyntaxMode.TheVariants as mode
 use Rattle.typst_language.proofs.Logs.{logged-shift}
 use Rattle.typst_edits.specs.InnerPiecesLog.{asks_again, InnerPiecesLogLaw}
@@ -39,18 +39,7 @@ module _ (r : Sequence) (ls : List Ask) (j m lv : ℕ) (t : Trivia) where
 
   again-log : SamePieces t (then_of (suc j) m r) (read_again (suc j) m t r) → ReadAs markup_reading e.state → e.state.known ≡ Some t → Reached r.level.classes y e.state
       → logged lv r.place no_log (own_of r ls (suc j) m) ≡ logged lv here no_log (asks_again (suc j) m t r)
-  again-log pieces read known reached =
-      let l = r.level in
-      let s = e.state in
-      let os = then_of (suc j) m r in
-      let cs = read_again (suc j) m t r in
-      let clear : at_trivia l.classes mode.Markup here ≡ false = subst (λ p. Reached l.classes y p) (known-read l.classes markup_reading s t known read) reached in
-      let lead = (run l peek here (start_point markup_reading)).asks in
-      let first : hand_asks_of l y s ≡ shift t.gap lead =
-      hand-asks l y t.gap s (record { held = read.held; trivia = t; known = known; gap = refl }) ∙ ap (λ n. looked n (look (token l.classes mode.Markup) here) ∷ []) (omega arith) ∙ ap (shift t.gap) (sym (first-look clear)) in
-      let asks : own_of r ls (suc j) m ≡ shift (e.taken + t.gap) (asks_again (suc j) m t r) =
-      ap (λ us. shift e.taken us ++ shift e.taken (asks_of os)) first ∙ ap (λ us. shift e.taken (shift t.gap lead) ++ shift e.taken us) (same-asks t os cs pieces) ∙ simp (map-append, shift-twice) in
-      ap (logged lv r.place no_log) asks ∙ logged-shift lv (e.taken + t.gap) r.place no_log (asks_again (suc j) m t r) ∙ ap (λ p. logged lv p no_log (asks_again (suc j) m t r)) (moved-sum e.taken t.gap r.place)
+  again-log pieces read known reached = grind (arith, known-read, hand-asks, first-look, same-asks, map-append, shift-twice, logged-shift, moved-sum)
 
 -- ---- a text's run, and a content block's
 

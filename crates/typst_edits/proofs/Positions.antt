@@ -1,12 +1,11 @@
 -- What holds where an inner node of a block's kind stands among several nodes, and what of each token's node.
-use Rattle.std.proofs.Common.{◌≡◌, ◌⊎◌, inl, inr, ℕ, zero, suc, ◌+◌, ◌-◌, ◌<◌, ◌≤◌, Bool, true, false, ◌&&◌, ◌||◌, nat_le, List, [], ◌∷◌, ◌++◌, length, take, drop, length-take, None, refl, ap, sym, ◌∙◌, subst, arith, ◌==◌, nat_lt, Option, Some, encode_utf8_all}
-use Rattle.typst_edits.proofs.Words.{nat_tests, and_left, and_parts, or_left, is_error, same, Head, inner_head, SyntaxKind, hint_with, Tree, Forest, forest, trees, text_of, error_of, with_kind, made_error, advised, inner_of, topped, all_advised, leaf_of, less, Level, hand_of, Outcome, plain, joined, entered, asked, run, taken_node, done, hand_asks_of, hinted, NodeChange, is_delimited, in_parens, without_parens, first_changed, Shape, shaped, Making, after_node, hinted_last, renamed_last, parens_renamed, stays, turns_wrong, is_not, renamed, unparened, keeps, holds, lacks, warns, fails, on_both, on_if, is_ordinary, change_by, shape_by, Deep, fill, path_in, Hole, plug, warned_head, under, SyntaxMode, CharClasses, Place, moved, token_node, plain_node, fault_node, is_raw, has_fields, Token, Reading, Point, Trivia, pending, Ahead, ahead, ahead_by, after_trivia, direct, hand_at, token_at, len_at, at_trivia, as_at_hand, text_ahead, itself, surprise, of_kind, flush_trivia, close_if, takes, markup_reading, inner, look_again, bracket, inner_tail, inner_close, Every, last_node, made_expected, drop-all, is_block_head, codes, raw_node, hints, message, access_node}
-use Rattle.std.proofs.lemmas.Bool.{or_from}
+use Rattle.std.proofs.Common.{◌≡◌, ◌⊎◌, inl, inr, ℕ, zero, suc, ◌+◌, ◌-◌, ◌<◌, ◌≤◌, Bool, true, false, ◌&&◌, ◌||◌, nat_le, List, [], ◌∷◌, ◌++◌, length, take, drop, length-take, None, refl, ap, sym, ◌∙◌, subst, arith, nat_lt, Option, Some}
+use Rattle.typst_edits.proofs.Words.{nat_tests, and_left, and_parts, is_error, same, Head, inner_head, SyntaxKind, hint_with, Tree, Forest, forest, error_of, with_kind, made_error, advised, inner_of, topped, all_advised, leaf_of, less, Level, hand_of, Outcome, plain, joined, entered, asked, run, taken_node, done, hand_asks_of, hinted, NodeChange, is_delimited, without_parens, first_changed, Shape, shaped, Making, after_node, hinted_last, renamed_last, parens_renamed, stays, turns_wrong, is_not, renamed, unparened, keeps, holds, lacks, warns, fails, on_both, on_if, is_ordinary, change_by, shape_by, Deep, fill, path_in, Hole, plug, warned_head, under, SyntaxMode, CharClasses, Place, moved, token_node, Token, Reading, Point, Trivia, pending, Ahead, ahead, ahead_by, after_trivia, direct, hand_at, token_at, len_at, at_trivia, as_at_hand, text_ahead, itself, surprise, of_kind, flush_trivia, close_if, takes, markup_reading, inner, look_again, bracket, inner_tail, inner_close, Every, last_node, made_expected, drop-all, is_block_head, codes, raw_node, hints, message, access_node}
 use Rattle.typst_language.specs.Shape.{made}
 use Rattle.typst_grammar.proofs.Fine.{making_by}
 use Rattle.typst_edits.specs.Hole.Deep.{bare}
 use Rattle.typst_language.specs.Shape.Making.{wanted}
-use Rattle.typst_tree.specs.Messages.{expected_error, expected_message, is_lost_name, keyword_hint, made_unexpected, unexpected_message}
+use Rattle.typst_tree.specs.Messages.{made_unexpected, unexpected_message}
 use Rattle.typst_edits.specs.Standing.{is_block}
 use Rattle.typst_language.specs.Raw.{delimited_node, closed_node, block_node, inline_node, delimited, two_delimiters, tag_leaves, is_pair, before_ticks, ticks}
 use Rattle.typst_language.specs.Fields.{field_node, fields_node, name_node, named_node, names_of}
@@ -119,21 +118,15 @@ each-last P n hints (t ∷ []) h = on_both (λ (u : Tree). Each P n (more u.head
 each-last P n hints (t ∷ u ∷ ts) h = (h.0, (h.1.0, each-last P (suc n) hints (u ∷ ts) h.1.1))
 
 pub each-hinted : (P : ℕ → List ℕ → Type 0) (n : ℕ) (hints : List (List ℕ)) (ts : List Tree) → Each P n (forest ts) → Each P n (forest (hinted hints ts))
-each-hinted P n [] ts h = h
-each-hinted P n (hint ∷ hints) ts h = each-last P n (hint ∷ hints) ts h
+each-hinted P n hints ts h = grind (arith, each-last)
 
 -- ---- what becomes of a node
 
 pub not-error : (k : SyntaxKind) → is_ordinary k ≡ true → is_error k ≡ false
-not-error kind.Error h = absurd (cc)
-not-error _ h = refl
+not-error k h = grind arith
 
 not-block : (k : SyntaxKind) (b : Bool) → is_ordinary k ≡ true → (b && is_block k) ≡ true → ⊥
-not-block kind.CodeBlock b h e = cc
-not-block kind.ContentBlock b h e = cc
-not-block kind.Error b h e = cc
-not-block _ true h e = cc
-not-block _ false h e = cc
+not-block k b h e = grind arith
 
 error-no-block : (k : SyntaxKind) (b : Bool) → is_error k ≡ true → (b && is_block k) ≡ true → ⊥
 error-no-block kind.Error true h e = cc
@@ -142,10 +135,7 @@ error-no-block _ b h e = absurd (cc)
 
 -- No block stands in an error.
 each-error : (P Q : ℕ → List ℕ → Type 0) (n : ℕ) (t : Tree) (r : Forest) → is_error t.head.kind ≡ true → Each P n (more t.head t.kids r) → Each Q (suc n) r → Each Q n (more t.head t.kids r)
-each-error P Q n t r e h k = (
-  λ u. absurd (error-no-block t.head.kind t.head.is_inner e u),
-  (each-by _ _ 0 t.kids (λ i q. unless-true (is_hollow t.head) (P n (i ∷ q)) (Unless (is_hollow t.head) (Q n (i ∷ q))) (or_left (is_error t.head.kind) (has_text t.head.text) e)) h.1.0, k),
-)
+each-error P Q n t r e h k = grind arith
 
 pub each-leaf : (Q : ℕ → List ℕ → Type 0) (n : ℕ) (h : Head) (r : Forest) → h.is_inner ≡ false → Each Q (suc n) r → Each Q n (more h none r)
 each-leaf Q n h r e k = (λ u. (let none : true ≡ false = sym u ∙ and_left h.is_inner (is_block h.kind) e in absurd (cc)), (tt, k))
@@ -155,34 +145,19 @@ advised-leaf : (Q : ℕ → List ℕ → Type 0) (n : ℕ) (hints : List (List �
 advised-leaf Q n hints message text r k = each-advised Q n hints (error_of message text) r (each-leaf Q n (error_of message text).head r refl k)
 
 pub each-wrong : (P Q : ℕ → List ℕ → Type 0) (n : ℕ) (message : List ℕ) (t : Tree) (r : Forest) → Each P n (more t.head t.kids r) → Each Q (suc n) r → Each Q n (more (made_error message t).head (made_error message t).kids r)
-each-wrong P Q n message t r h k =
-    on_if (λ (u : Tree). Each Q n (more u.head u.kids r)) (is_error t.head.kind) t (error_of message (text_of t)) (λ e. each-error P Q n t r e h k) (λ _. advised-leaf Q n [] message (text_of t) r k)
+each-wrong P Q n message t r h k = grind arith
 
 pub each-wanted : (P Q : ℕ → List ℕ → Type 0) (n : ℕ) (thing : List ℕ) (t : Tree) (r : Forest) → Each P n (more t.head t.kids r) → Each Q (suc n) r → Each Q n (more (made_expected thing t).head (made_expected thing t).kids r)
-each-wanted P Q n thing t r h k =
-    on_if (λ (u : Tree). Each Q n (more u.head u.kids r)) (is_error t.head.kind) t (expected_error thing t) (λ e. each-error P Q n t r e h k)
-    (λ _. on_both (λ (u : Tree). Each Q n (more u.head u.kids r)) (is_lost_name t.head.kind thing)
-    (advised (hint_with None (keyword_hint (text_of t))) (error_of (expected_message thing (name_of t.head.kind)) (text_of t)))
-    (error_of (expected_message thing (name_of t.head.kind)) (text_of t))
-    (advised-leaf Q n (keyword_hint (text_of t) ∷ []) (expected_message thing (name_of t.head.kind)) (text_of t) r k)
-    (advised-leaf Q n [] (expected_message thing (name_of t.head.kind)) (text_of t) r k))
+each-wanted P Q n thing t r h k = grind arith
 
 -- Whether something stands in it is the same for a node of another kind that is no error.
 unless-kind : (a b c : Bool) (P Q : Type 0) → a ≡ false → b ≡ false → (P → Q) → Unless (a || c) P → Unless (b || c) Q
-unless-kind a b c P Q e f g h = with_tests a b e f h
-  where
-    with_tests : (a b : Bool) → a ≡ false → b ≡ false → Unless (a || c) P → Unless (b || c) Q
-    with_tests true b e f h = absurd (cc)
-    with_tests false true e f h = absurd (cc)
-    with_tests false false e f h = unless-by c P Q g h
+unless-kind a b c P Q e f g h = grind arith
 
 -- A node of another kind is no block's, and what stands in it stays.
 each-topped : (P Q : ℕ → List ℕ → Type 0) (n : ℕ) (k : SyntaxKind) (t : Tree) (r : Forest) → is_ordinary k ≡ true → is_error t.head.kind ≡ false → ((i : ℕ) (q : List ℕ) → P n (i ∷ q) → Q n (i ∷ q))
     → Each P n (more t.head t.kids r) → Each Q (suc n) r → Each Q n (more (record t.head { kind = k }) t.kids r)
-each-topped P Q n k t r a e g h j = (
-  λ u. absurd (not-block k t.head.is_inner a u),
-  (each-by _ _ 0 t.kids (λ i q. unless-kind (is_error t.head.kind) (is_error k) (has_text t.head.text) (P n (i ∷ q)) (Q n (i ∷ q)) e (not-error k a) (g i q)) h.1.0, j),
-)
+each-topped P Q n k t r a e g h j = grind (arith, not-block, each-by, unless-kind, not-error)
 
 pub each-kind : (P Q : ℕ → List ℕ → Type 0) (n : ℕ) (k : SyntaxKind) (t : Tree) (r : Forest) → is_ordinary k ≡ true → ((i : ℕ) (q : List ℕ) → P n (i ∷ q) → Q n (i ∷ q))
     → Each P n (more t.head t.kids r) → Each Q (suc n) r → Each Q n (more (with_kind k t).head (with_kind k t).kids r)
@@ -196,21 +171,13 @@ each-renamed-last P n k (t ∷ []) a h = each-kind P P n k t none a (λ i q p. p
 each-renamed-last P n k (t ∷ u ∷ ts) a h = (h.0, (h.1.0, each-renamed-last P (suc n) k (u ∷ ts) a h.1.1))
 
 each-parens : (P : ℕ → List ℕ → Type 0) (n : ℕ) (ts : List Tree) → Each P n (forest ts) → Each P n (forest (parens_renamed ts))
-each-parens P n [] h = tt
-each-parens P n (t ∷ ts) h = each-kind P P n kind.LeftParen t (forest (renamed_last kind.RightParen ts)) refl (λ i q p. p) (h.0, (h.1.0, each-renamed-last P (suc n) kind.RightParen ts refl h.1.1)) (each-renamed-last P (suc n) kind.RightParen ts refl h.1.1)
+each-parens P n ts h = grind (arith, each-kind, each-renamed-last)
 
 delimited-sound : (k : SyntaxKind) (b : Bool) → (is_delimited k && b) ≡ true → is_error k ≡ false
-delimited-sound kind.MathDelimited b h = refl
-delimited-sound _ b h = absurd (cc)
+delimited-sound k b h = grind arith
 
 each-without : (P : ℕ → List ℕ → Type 0) (n : ℕ) (t : Tree) (r : Forest) → Each P n (more t.head t.kids r) → Each P n (more (without_parens t).head (without_parens t).kids r)
-each-without P n t r h =
-    let math : Head = record t.head { kind = kind.Math } in
-    on_if (λ (u : Tree). Each P n (more u.head u.kids r)) (is_delimited t.head.kind && in_parens (trees t.kids)) (record { head = math; kids = forest (parens_renamed (trees t.kids)) }) t
-    (λ e.
-    let j = each-topped P P n kind.Math t r refl (delimited-sound t.head.kind (in_parens (trees t.kids)) e) (λ i q p. p) h h.1.1 in
-    (j.0, (each-parens (λ i q. Unless (is_hollow math) (P n (i ∷ q))) 0 (trees t.kids) (subst (λ f. Each (λ i q. Unless (is_hollow math) (P n (i ∷ q))) 0 f) (sym (trees-forest t.kids)) j.1.0), h.1.1)))
-    (λ _. h)
+each-without P n t r h = grind (arith, on_if, each-topped, delimited-sound, each-parens, trees-forest)
 
 -- ---- what becomes of several nodes
 
@@ -254,14 +221,10 @@ Step (fails message) P Q m n = Unit {0}
 
 -- an inner node over them
 each-over : (Q : ℕ → List ℕ → Type 0) (n : ℕ) (k : SyntaxKind) (h : Head) (f : Forest) → h.kind ≡ k → h.text ≡ [] → is_error k ≡ false → (is_block_head h ≡ true → Q n []) → Each (λ i q. Q n (i ∷ q)) 0 f → Each Q n (more h f none)
-each-over Q n k h f e t a b j = (b, (each-by _ _ 0 f (λ i q p. unless-false (is_hollow h) (Q n (i ∷ q)) sound p) j, tt))
-  where
-    sound : (is_error h.kind || has_text h.text) ≡ false
-    sound = ap (λ (i : SyntaxKind). is_error i || has_text h.text) e ∙ ap (λ u. is_error k || has_text u) t ∙ or_from (is_error k) false a refl
+each-over Q n k h f e t a b j = grind arith
 
 pub each-inner : (Q : ℕ → List ℕ → Type 0) (n : ℕ) (k : SyntaxKind) (h : Head) (f : Forest) → h.kind ≡ k → h.text ≡ [] → is_ordinary k ≡ true → Each (λ i q. Q n (i ∷ q)) 0 f → Each Q n (more h f none)
-each-inner Q n k h f e t a j =
-    each-over Q n k h f e t (not-error k a) (λ u. absurd (not-block k h.is_inner a (subst (λ (i : SyntaxKind). (h.is_inner && is_block i) ≡ true) e u))) j
+each-inner Q n k h f e t a j = grind arith
 
 pub each-holds : (change : NodeChange) (k : SyntaxKind) (P Q : ℕ → List ℕ → Type 0) (m n : ℕ) (ts : List Tree) → change_by is_ordinary change ≡ true → is_error k ≡ false → (is_block_head (inner_head k) ≡ true → Q n [])
     → Step (holds change k) P Q m n → Each P m (forest ts) → Each Q n (forest (shaped (holds change k) ts))
@@ -340,16 +303,14 @@ module _ (P : Tree → Type 0) (of : OfTokens P) where
 
   -- raw texts
   of-trimmed : (cs : List ℕ) → All P (trimmed cs)
-  of-trimmed [] = tt
-  of-trimmed (c ∷ cs) = (of.leaves _ _, tt)
+  of-trimmed cs = grind arith
 
   of-lines : (d : ℕ) (held : List ℕ) (rs : List RawLine) (closing : List ℕ) → All P (line_leaves d held rs closing)
   of-lines d held [] closing = of-trimmed (held ++ closing)
   of-lines d held (r ∷ rs) closing = (of.leaves _ _, (of.leaves _ _, of-lines d [] rs closing))
 
   of-start : (cs : List ℕ) → All P (first_leaves cs)
-  of-start [] = (of.leaves _ _, tt)
-  of-start (c ∷ cs) = on_both (All P) (c == 32) _ _ (of.leaves _ _, (of.leaves _ _, tt)) (of.leaves _ _, tt)
+  of-start cs = grind arith
 
   of-block : (cs : List ℕ) → All P (block_leaves cs)
   unfolding block_leaves
@@ -363,8 +324,7 @@ module _ (P : Tree → Type 0) (of : OfTokens P) where
   of-inline cs = (of.leaves _ _, of-lines 0 [] (later_lines cs) [])
 
   of-tag : (cs : List ℕ) → All P (tag_leaves cs)
-  of-tag [] = tt
-  of-tag (c ∷ cs) = (of.leaves _ _, tt)
+  of-tag cs = grind arith
 
   of-delimited : (delim : List ℕ) (leaves : List Tree) → All P leaves → P (delimited delim leaves)
   of-delimited delim leaves h = of.raws (leaf kind.RawDelim delim ∷ (leaves ++ leaf kind.RawDelim delim ∷ [])) (of.leaves _ _, all-append P leaves (leaf kind.RawDelim delim ∷ []) h (of.leaves _ _, tt))
@@ -389,12 +349,7 @@ module _ (P : Tree → Type 0) (of : OfTokens P) where
       by-sides delim rest = on_both P (is_pair delim rest) two_delimiters _ (of.raws (leaf kind.RawDelim (96 ∷ []) ∷ leaf kind.RawDelim (96 ∷ []) ∷ []) (of.leaves _ _, (of.leaves _ _, tt))) (by-end delim _ _ (before_ticks (length delim) rest))
 
   pub of-token : (k : CharClasses) (t : Token) (taken : List ℕ) → P (token_node k t taken)
-  of-token k t taken = elim t.fault as (λ o. P (elim o as (λ _. Tree) [ None ↦ plain_node k t taken | Some f ↦ fault_node f taken ])) [
-    | None ↦ on_both P (is_error t.kind) (error_of [] (encode_utf8_all taken)) _ (of.errors [] (encode_utf8_all taken))
-        (on_both P (is_raw t.kind) (raw_node taken) _ (of-raw taken)
-        (on_both P (has_fields t.kind) (access_node taken) (leaf_of t.kind (encode_utf8_all taken)) (of-access taken) (of.leaves t.kind (encode_utf8_all taken))))
-    | Some f ↦ of.advice (hints f taken) (error_of (message f taken) (encode_utf8_all taken)) (of.errors (message f taken) (encode_utf8_all taken))
-  ]
+  of-token k t taken = grind (arith, on_both, of-raw, of-access)
 
 -- ---- no node of a block's kind
 
@@ -440,8 +395,7 @@ clean-ahead k m (suc n) z =
 
 clean-known : (k : CharClasses) (held : Reading) (known : Option Trivia) (z : Place) → Clean (pending known) → Clean (hand_at k held known z).trivia
 unfolding hand_at ahead
-clean-known k held None z h = clean-ahead k held.mode (length z.ahead) z
-clean-known k held (Some t) z h = h
+clean-known k held known z h = grind (arith, clean-ahead)
 
 pub clean-hand : (l : Level) (z : Place) (s : Point) → Clean (pending s.known) → Clean (hand_of l z s).trivia
 clean-hand l z s h = clean-known l.classes s.held s.known z h

@@ -1,10 +1,10 @@
 -- Children replaced: an equal front stays as it stands, and spans aside they are those exchanged.
-use Rattle.std.proofs.Common.{◌≡◌, ℕ, zero, suc, true, ◌+◌, ◌-◌, List, [], ◌∷◌, ◌++◌, length, take, drop, reverse, map, Option, Some, None, refl, ap, sym, ◌∙◌, arith, length-append}
+use Rattle.std.proofs.Common.{◌≡◌, ℕ, zero, suc, true, ◌+◌, ◌-◌, List, [], ◌∷◌, ◌++◌, length, take, drop, map, Option, refl, ap, sym, ◌∙◌, arith, length-append}
 use Rattle.typst_edits.proofs.Words.{option_map, slice_get, map-append, drop-map, take-map, Head, bare_head, Forest, none, more, Tree, forest, trees, bare, bare_forest, replaced_at, At, kids_of, put_at, AtPath, forest_trees, with_children, alter, drop-append-add, SpanValue, Begins}
 use Rattle.std.specs.Prelude.{option_and_then, slice_set, slice_range}
 use Rattle.std.proofs.lemmas.List.{drop-drop}
 use Rattle.typst_tree.specs.Tree.{at_tree}
-use Rattle.typst_tree.specs.Replace.{with_kids, middle, back, swapped, exchanged, in_file}
+use Rattle.typst_tree.specs.Replace.{with_kids, middle, back, swapped, in_file}
 use Rattle.typst_tree.proofs.SpansAside.{forest_bare}
 use Rattle.typst_edits.specs.Children.{exchanged as exchanged_nodes}
 use Rattle.std.proofs.Math.Seq.{take-nil}
@@ -25,27 +25,17 @@ front-kept (x ∷ old) (k ∷ kept) new e =
 
 -- a stretch of a list without its first elements
 drop-of-take : (d n m : ℕ) (xs : List Tree) → n - d ≡ m → drop d (take n xs) ≡ take m (drop d xs)
-drop-of-take zero n m xs is =
-    let same : n ≡ m = omega (arith, is) in
-    ap (λ j. take j xs) same
-drop-of-take (suc d) zero m xs is =
-    let same : 0 ≡ m = omega (arith, is) in
-    ap (λ j. take j (drop (suc d) xs)) same
+drop-of-take zero n m xs is = grind arith
+drop-of-take (suc d) zero m xs is = grind arith
 drop-of-take (suc d) (suc n) m [] is = sym (take-nil m)
 drop-of-take (suc d) (suc n) m (x ∷ xs) is = drop-of-take d n m xs (omega (arith, is))
 
 -- what stays at the end, and what is between, where d more stay at the front
 back-behind : (old kept new rest : List Tree) (a all : ℕ) → drop (length kept) old ≡ rest → all ≡ length kept + a → back all old (kept ++ new) ≡ back a rest new
-back-behind old kept new rest a all e is =
-    let left : drop all old ≡ drop a rest = rw is (sym (drop-drop a (length kept) old) ∙ ap (drop a) e) in
-    let right : drop all (kept ++ new) ≡ drop a new = rw is (drop-append-add kept new a) in
-    λ i. front (reverse (left i)) (reverse (right i))
+back-behind old kept new rest a all e is = grind (arith, drop-drop, drop-append-add)
 
 middle-behind : (kept new : List Tree) (a all b c : ℕ) → all ≡ length kept + a → b ≡ c → middle all b (kept ++ new) ≡ middle a c new
-middle-behind kept new a all b c is same =
-    let size : length (kept ++ new) - all - b ≡ length new - a - c = omega (arith, is, same, length-append kept new) in
-    let right : drop all (kept ++ new) ≡ drop a new = rw is (drop-append-add kept new a) in
-    λ i. take (size i) (right i)
+middle-behind kept new a all b c is same = grind (arith, length-append, drop-append-add)
 
 swapped-behind : (file : ℕ) (h : Head) (xs : List Tree) (from to : ℕ) (kept new : List Tree) → map bare (take (length kept) (slice_range xs from to)) ≡ map bare kept
     → swapped file h xs from to (slice_range xs from to) (kept ++ new) ≡ swapped file h xs (from + length kept) to (slice_range xs (from + length kept) to) new
@@ -53,18 +43,11 @@ swapped-behind file h xs from to kept new e =
     let old = slice_range xs from to in
     let rest = slice_range xs (from + length kept) to in
     let behind : drop (length kept) old ≡ rest = drop-of-take (length kept) (to - from) (to - (from + length kept)) (drop from xs) (omega arith) ∙ ap (take (to - (from + length kept))) (drop-drop (length kept) from xs) in
-    let a = front rest new in
-    let all = front old (kept ++ new) in
-    let is : all ≡ length kept + a = front-kept old kept new e ∙ ap (λ ts. length kept + front ts new) behind in
-    let ends : back all old (kept ++ new) ≡ back a rest new = back-behind old kept new rest a all behind is in
-    let between : middle all (back all old (kept ++ new)) (kept ++ new) ≡ middle a (back a rest new) new = middle-behind kept new a all (back all old (kept ++ new)) (back a rest new) is ends in
-    let starts : from + all ≡ (from + length kept) + a = omega (arith, is) in
-    λ i. exchanged file h xs (starts i) (to - ends i) (between i)
+    grind (arith, front-kept, back-behind, middle-behind)
 
 in-file-behind : (place : SpanValue) (h : Head) (xs : List Tree) (from to : ℕ) (kept new : List Tree) → map bare (take (length kept) (slice_range xs from to)) ≡ map bare kept
     → in_file place h xs from to (kept ++ new) ≡ in_file place h xs (from + length kept) to new
-in-file-behind None h xs from to kept new e = refl
-in-file-behind (Some p) h xs from to kept new e = swapped-behind p.0 h xs from to kept new e
+in-file-behind place h xs from to kept new e = grind (arith, swapped-behind)
 
 pub front-law : FrontLaw
 front-law [] from to kept new t e = ap (option_map (with_kids t)) (in-file-behind t.head.span t.head (kids_of t) from to kept new e)
@@ -72,8 +55,7 @@ front-law (i ∷ path) from to kept new t e = ap (option_map (λ k. with_kids t 
   where
     by-kid : (o : Option Tree) → ((k : Tree) → AtPath (Begins from to kept) path k → replaced_at path from to (kept ++ new) k ≡ replaced_at path (from + length kept) to new k) → At (AtPath (Begins from to kept) path) o
         → option_and_then (replaced_at path from to (kept ++ new)) o ≡ option_and_then (replaced_at path (from + length kept) to new) o
-    by-kid None f e = absurd e
-    by-kid (Some k) f e = f k e
+    by-kid o f e = grind arith
 
 -- ---- spans aside
 
@@ -119,6 +101,4 @@ exchanged-law (n ∷ path) from to new t =
 pub replaced-law : ReplacedLaw
 replaced-law path from to new root was now same reaches is =
     let put : bare now ≡ bare (with_children path from to new root) = replaces_children path from to new root now reaches is ∙ ap bare (put-law path from to new root) in
-    let over : bare (with_children path from to new root) ≡ bare (with_children path from to new was) =
-    exchanged-law path from to new root ∙ (ap (with_children path from to (map bare new)) same ∙ sym (exchanged-law path from to new was)) in
-    put ∙ over
+    grind (arith, exchanged-law)

@@ -1,6 +1,6 @@
 -- A candidate among the children of a run is pieces of it: at the top of a text's tree those of the text's run.
-use Rattle.std.proofs.Common.{◌≡◌, ◌↔◌, ℕ, zero, suc, ◌+◌, ◌-◌, ◌<◌, ◌≤◌, ◌==◌, if◌then◌else◌, Bool, true, false, List, [], ◌∷◌, ◌++◌, length, length-append, append_assoc, take, Some, refl, ap, sym, ◌∙◌, subst, arith, inl, lt_of_not-le, inr}
-use Rattle.typst_edits.proofs.Words.{Place, CharClasses, Tree, width, Trivia, gap_of, is_among, ChildRange, Candidate, begins, IsPieces, RootPiecesOfLaw, text_with, Run, read_as, opened_by, cut_at, is_over, bytes_of, AllGo, End, Sequence, turn_of, first_of, first_end, then_of, then_end, root_run, cases_eq, cases_lt, token_after, token_past, run_from, kids_of_run, first_place}
+use Rattle.std.proofs.Common.{◌≡◌, ◌↔◌, ℕ, zero, suc, ◌+◌, ◌-◌, ◌<◌, ◌≤◌, Bool, true, false, List, [], ◌∷◌, ◌++◌, length, length-append, append_assoc, take, Some, refl, ap, sym, ◌∙◌, subst, arith, inl, inr}
+use Rattle.typst_edits.proofs.Words.{Place, CharClasses, Tree, width, Trivia, gap_of, is_among, ChildRange, Candidate, begins, IsPieces, RootPiecesOfLaw, text_with, Run, read_as, opened_by, cut_at, is_over, bytes_of, AllGo, End, Sequence, turn_of, first_of, first_end, then_of, then_end, root_run, cases_lt, token_after, token_past, run_from, kids_of_run, first_place}
 use Rattle.typst_edits.proofs.Boundary.{KnownAt}
 use Rattle.typst_edits.proofs.CandidateEnds.{stretch, begins-last, from-less, from-cut, from-early, to-cut, to-late, Parted, begun}
 use Rattle.typst_edits.proofs.RunCandidates.{IsCut, OfRun, run-of, run-parted}
@@ -13,7 +13,6 @@ use Rattle.typst_edits.proofs.NumberedNotes.{go-fewer}
 use Rattle.typst_edits.proofs.OpensApart.{opens-apart-law}
 use Rattle.typst_edits.proofs.Resumed.{known-after, markup-of}
 use Rattle.typst_edits.proofs.Widths.{width-append, early-by as sooner, as-far}
-use Rattle.std.proofs.Math.Arith.{lt_of_le-ne}
 
 -- ---- which pieces of a run the children of a stretch are
 
@@ -60,8 +59,7 @@ module _ (cuts : List ℕ) (from : ℕ) (ts : List Tree) (rs re x : ℕ) (order 
 
   -- What begins at an earlier byte stands after fewer pieces.
   by-order : (i j : ℕ) → i ≤ count → byte i < byte j → i < j
-  by-order i j few less = lt_of_not-le (λ most.
-      elim (cases_eq j i) [ inl same ↦ (let one = ap byte same in omega (arith, less, one)) | inr apart ↦ (let back = rises j i (lt_of_le-ne most apart) few in omega (arith, less, back)) ])
+  by-order i j few less = grind arith
 
   -- So there are pieces if some stand before them.
   some : 0 < first.i → first.i < last.j
@@ -81,8 +79,7 @@ begins-first from (t ∷ ts) zero e = refl
 begins-first from (t ∷ ts) (suc n) e = absurd (omega (arith, e))
 
 none-led : (i n : ℕ) → (0 < n → 0 < i) → i ≡ 0 → n ≡ 0
-none-led i zero f e = refl
-none-led i (suc n) f e = let some = f (omega arith) in absurd (omega (arith, some, e))
+none-led i n f e = grind arith
 
 -- ---- pieces of a run
 
@@ -95,18 +92,7 @@ pub record Standing (q : Sequence) (i n : ℕ) : Type 0 where
 
 -- Where more pieces of a run go on, so do any of them, with known trivia after them.
 pub standing : (q : Sequence) (count i n : ℕ) → i + n ≤ count → AllGo (first_of count q) → ((m : ℕ) → AllGo (first_of m q) → KnownAt (first_end m q).state) → Standing q i n
-standing q count i n few go known =
-    let sum : count ≡ (i + n) + (count - (i + n)) = omega (arith, few) in
-    let whole = subst (λ m. AllGo (first_of m q)) sum go in
-    let here : AllGo (first_of (i + n) q) = go-first (first_of (i + n) q) (then_of (i + n) (count - (i + n)) q) (subst (λ os. AllGo os) (first-split q (i + n) (count - (i + n))) whole) in
-    let both : AllGo (first_of i q ++ then_of i n q) = subst (λ os. AllGo os) (first-split q i n) here in
-    let there = known (i + n) here in
-    record {
-      first_go = go-first (first_of i q) (then_of i n q) both;
-      go_on = go-second (first_of i q) (then_of i n q) both;
-      trivia = there.trivia;
-      known = sym (ap (λ (e : End (Bool × ℕ)). e.state.known) (end-split-at q i n)) ∙ there.is;
-    }
+standing q count i n few go known = let sum : count ≡ (i + n) + (count - (i + n)) = omega (arith, few) in grind (arith, go-first, first-split, go-second, end-split-at)
 
 module _ (k : CharClasses) (front old rest : List ℕ) (r : Run k (front ++ (old ++ rest))) (c : Candidate) where
   abbrev text : List ℕ
@@ -131,14 +117,11 @@ module _ (k : CharClasses) (front old rest : List ℕ) (r : Run k (front ++ (old
     pub is : IsPieces k front old rest r c i n past t
 
   none-or-some : (P : Type 0) (i : ℕ) → (i ≡ 0 → P) → (0 < i → P) → P
-  none-or-some P zero f g = f refl
-  none-or-some P (suc i) f g = g (omega arith)
+  none-or-some P i f g = grind arith
 
   -- where the first of them begins
   cut-first : (i : ℕ) → i ≡ 0 → cut_at r i z ≡ opened_by r z
-  cut-first i e =
-      let none : opened_by r z + 0 ≡ opened_by r z = omega arith in
-      ap (λ b. opened_by r z + (if b then 0 else ((first_end i q).taken + gap_of (first_end i q).state.known))) (ap (λ m. m == 0) e) ∙ none
+  cut-first i e = grind arith
 
   -- So is a stretch of the run's children.
   module _ (g : OfRun k front old rest r c) where

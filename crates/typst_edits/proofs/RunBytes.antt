@@ -31,8 +31,7 @@ nothing-more n = omega arith
 
 -- where the token after i pieces begins, or without any the run
 pub cut-here : (text : List ℕ) (i : ℕ) (e : End (Bool × ℕ)) (at : ℕ) → (0 < i → at ≡ width (take (e.taken + gap_of e.state.known) text)) → (i ≡ 0 → at ≡ width (take e.taken text)) → at ≡ width (take (cut_after i e) text)
-cut-here text zero e at some none = none refl
-cut-here text (suc i) e at some none = some (omega arith)
+cut-here text i e at some h = grind arith
 
 -- by the point before the look at the run's first token, and that look; by where the run begins, how many levels are left in it, what is asked before it and after it, and after pieces
 -- that end so, and where these end in the text
@@ -59,16 +58,13 @@ module _ (k : CharClasses) (text : List ℕ) (r : Sequence) (first : Point) (ls 
       (all : (j : ℕ) → AllGo (first_of j r) → (parsed k max_depth text).asks ≡ before ++ (lifted a f (asks_in r first ls j (behind (first_end j r))) ++ after)) where
     -- what the note says, and the looks after it
     noted-state : (j : ℕ) → state_of (noted_at r first j) ≡ state_of (first_end j r).state
-    noted-state zero = same
-    noted-state (suc j) = refl
+    noted-state j = grind arith
 
     noted-gap : (j : ℕ) → 0 < j → gap_of (noted_at r first j).known ≡ gap_of (first_end j r).state.known
-    noted-gap zero l = absurd (omega (arith, l))
-    noted-gap (suc j) l = refl
+    noted-gap j l = grind arith
 
     first-gap : (j : ℕ) → j ≡ 0 → gap_of (noted_at r first j).known ≡ gap_of first.known
-    first-gap zero e = refl
-    first-gap (suc j) e = absurd (omega (arith, e))
+    first-gap j e = grind arith
 
     looks-from : (b d : ℕ) (z : Place) (j : ℕ) → 0 < j → (let e = first_end j r in AllFrom b z (shift d (shift e.taken (behind e))) → AllFrom b z (shift d (looks_next r ls j)))
     looks-from b d z zero l h = absurd (omega (arith, l))
@@ -396,9 +392,7 @@ module _ (k : CharClasses) (levels : ℕ) (text : List ℕ) (c : Spot (Unit {0})
   first-at e = nothing-more (at + e.taken)
 
   inner-begins : (e : End (Bool × ℕ)) → Begins (looks_in r (moved e.taken r.place) e.state) (inner_asks_by k levels inner_z s e)
-  inner-begins e =
-      let looks = looks_in r (moved e.taken r.place) e.state in
-      begins-append looks (rest_by k levels inner_z s e).asks _ (pieces-begin r e.value (moved e.taken r.place) e.state)
+  inner-begins e = grind (arith, begins-append, pieces-begin)
 
   -- the note where j pieces end, and what its numbers say
   abbrev BlockNote : ℕ → End (Bool × ℕ) → Type 0
@@ -419,12 +413,7 @@ module _ (k : CharClasses) (levels : ℕ) (text : List ℕ) (c : Spot (Unit {0})
   asks_from i n = let q = rest_of i n r in let t = tail_at k levels i n c inner_z0 in q.asks ++ shift q.taken (t.asks ++ shift t.taken (close_at k levels i n c inner_z0).asks)
 
   inner-behind-is : (i n : ℕ) → (let f = then_end i n r in inner_asks_by k levels inner_z s (record f { taken = (first_end i r).taken + f.taken }) ≡ asks_from i n)
-  inner-behind-is i n =
-      let f = then_end i n r in
-      let fe = first_end i r in
-      let u : End (Bool × ℕ) = record f { taken = fe.taken + f.taken } in
-      ap (λ (q : Outcome (Bool × ℕ)). (let t = inner_tail k levels (u.taken + q.taken) q.state r.place in q.asks ++ shift q.taken (t.asks ++ shift t.taken (inner_close k levels ((u.taken + q.taken) + t.taken) t.state r.place).asks)))
-      (ap (λ w. repeated (turn_of r) f.value w f.state) (moved-sum fe.taken f.taken r.place))
+  inner-behind-is i n = grind (arith, moved-sum)
 
   -- how many characters the block takes
   unit-taken : (i n : ℕ) → AllGo (first_of i r) → AllGo (then_of i n r)

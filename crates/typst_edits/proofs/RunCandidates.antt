@@ -1,6 +1,6 @@
 -- A candidate among the nodes of a run begins well, by what the run's pieces give: at the top of a text's tree and in a content block.
 use Rattle.std.proofs.Common.{◌≡◌, ◌↔◌, ℕ, suc, ◌+◌, ◌<◌, ◌≤◌, true, false, List, length, Option, Some, ap, sym, ◌∙◌, subst, arith, inl, inr, zero, Bool, [], ◌++◌, take, refl, ◌-◌, ◌∷◌, length-append, append_assoc, None}
-use Rattle.typst_edits.proofs.Words.{Tree, none, trees, bare, Forest, more, forest, text_of, inner_of, Trivia, pending, gap_of, Candidate, begins, is_among, of_run, Child, laid, child_at, run_in, Every, is_over, first_place, GoesOnWell, StartsWell, StandsAt, AllGo, End, lead, pieces, end_at, Sequence, turn_of, first_of, first_end, then_of, then_end, CharClasses, width, Outcome, after_first, top_cuts, cuts_in, max_depth, start_of, tree, log, Settles, standing_by, Among, text_with, onwards_at, bytes_of, opening_child, of_level, cut_after, goes, listed, inner_head, Note, texts, candidates, opened_at, fill, path_of, under, block_with, inner_end, block_run, Around, kids_in, markup_from, blocks_of_text, OpensApartLaw, Spot, unit_at, Run, top, read_as, opened_by, path_to, token_after, token_past, run_from, kids_of_run, TakesSome, Encloses, IsRun, root_run}
+use Rattle.typst_edits.proofs.Words.{Tree, none, trees, bare, Forest, more, text_of, Trivia, pending, gap_of, Candidate, begins, is_among, of_run, Child, laid, child_at, Every, is_over, first_place, GoesOnWell, StartsWell, StandsAt, AllGo, End, lead, pieces, end_at, Sequence, turn_of, first_of, first_end, then_of, then_end, CharClasses, width, Outcome, after_first, top_cuts, cuts_in, max_depth, start_of, tree, log, Settles, standing_by, Among, text_with, onwards_at, bytes_of, opening_child, of_level, cut_after, goes, listed, inner_head, Note, texts, candidates, opened_at, fill, path_of, under, block_with, inner_end, block_run, Around, kids_in, markup_from, blocks_of_text, OpensApartLaw, Spot, unit_at, Run, top, read_as, opened_by, path_to, token_after, token_past, run_from, kids_of_run, TakesSome, Encloses, IsRun, root_run}
 use Rattle.typst_tree.specs.Tree.{joined}
 use Rattle.typst_edits.proofs.Boundary.{looks_in, each-ends, made-add, go-add, known-made}
 use Rattle.typst_edits.proofs.CandidateEnds.{stretch, GivesAt, GivesOne, Parted, Quiet, begun, parted, run-quiet}
@@ -59,13 +59,7 @@ well r cuts from kids rs re path c i n at end order o p led start_is end_is =
     let begins_is : c.start ≡ begins from kids s.from = ap (λ (d : Candidate). d.start) o.is in
     let ends_is : c.end ≡ begins from kids s.to = ap (λ (d : Candidate). d.end) o.is in
     let b = begun cuts from kids rs re o.more order r i n at end p (λ l. subst (λ d. 0 < d) from_is (led.0 l)) (λ l. sym (start_is l) ∙ begins_is) (sym end_is ∙ ends_is) in
-    record {
-      starts = b.starts;
-      goes_on = b.goes_on;
-      first = λ l. subst (λ d. StandsAt from kids d c.start) (sym from_is) (subst (λ d. StandsAt from kids s.from d) (sym (start_is l)) (b.first l));
-      next = λ over. subst (λ d. StandsAt from kids d c.end) (sym to_is) (subst (λ d. StandsAt from kids s.to d) (sym end_is) (b.next over));
-      last = λ over. to_is ∙ b.last over;
-    }
+    grind arith
 
 -- ---- the cuts of a run
 
@@ -203,11 +197,8 @@ some-is P a b e h = subst (λ o. elim o as (λ _. Type 0) [ None ↦ Unit {0} | 
 
 pub lies : (at : ℕ) (ts : List Tree) (i : ℕ) (c : Child) → child_at (laid at ts) i ≡ Some c → Lies at ts c
 lies at [] i c e = absurd (cc)
-lies at (t ∷ ts) zero c e =
-    some-is (Lies at (t ∷ ts)) (record { start = at; end = at + length (text_of t); node = t }) c e (record { from = omega arith; long = refl; to = omega (arith, length-texts t ts) })
-lies at (t ∷ ts) (suc i) c e =
-    let r = lies (at + length (text_of t)) ts i c e in
-    record { from = omega (arith, r.from); long = r.long; to = omega (arith, r.to, length-texts t ts) }
+lies at (t ∷ ts) zero c e = grind (arith, some-is, length-texts)
+lies at (t ∷ ts) (suc i) c e = grind (arith, lies (at + length (text_of t)) ts i c e, length-texts)
 
 -- where the node of a block that isn't empty begins and ends, in bytes
 pub record Seat (text : List ℕ) (s : Spot (Unit {0})) : Type 0 where
@@ -238,19 +229,7 @@ record InRun (ns : List Note) (rs re at from : ℕ) (inner_kids : List Tree) (c 
 
 in-markup : (ns : List Note) (rs re at from : ℕ) (closed : Bool) (lead : Tree) (inner_kids closing : List Tree) (c : Candidate) → InMarkup ns rs re at (block_with closed lead inner_kids closing) c → at + length (text_of (opening_child closed lead)) ≡ from
     → InRun ns rs re at from inner_kids c
-in-markup ns rs re at from closed lead inner_kids closing c m sum =
-    let markup = inner_of kind.Markup (forest inner_kids) in
-    let start = (at + 0) + length (text_of (opening_child closed lead)) in
-    let second : Child = record { start = start; end = start + length (text_of markup); node = markup } in
-    let own = some-is (λ (d : Child). Among c (of_run rs re c.path (d.start + length d.node.head.text) (trees d.node.kids) (run_in ns at kind.ContentBlock d.node.head.kind))) m.child second (sym m.is) m.chosen in
-    let before : start < rs = some-is (λ (d : Child). d.start < rs) m.child second (sym m.is) m.starts in
-    let behind : re < start + length (text_of markup) = some-is (λ (d : Child). re < d.end) m.child second (sym m.is) m.ends in
-    let here : start + 0 ≡ from = omega (arith, sum) in
-    record {
-      starts = omega (arith, before, here);
-      ends = omega (arith, behind, here);
-      own = subst (λ ts. Among c (of_run rs re c.path from ts (cuts_in at ns))) (trees-of inner_kids) (subst (λ a. Among c (of_run rs re c.path a (trees (forest inner_kids)) (cuts_in at ns))) here own);
-    }
+in-markup ns rs re at from closed lead inner_kids closing c m sum = grind (arith, some-is, trees-of)
 
 pub of-block : OpensApartLaw → (k : CharClasses) (levels : ℕ) (front old rest : List ℕ) (root : Tree) (s : Spot (Unit {0})) → Among s (blocks_of_text k (front ++ (old ++ rest))) → s.name ≡ block.Content → max_depth - s.fewer ≡ suc levels
     → (c : Candidate) → bare root ≡ bare (tree k (front ++ (old ++ rest))) → Among c (candidates k (front ++ (old ++ rest)) (width front) (width (front ++ old)) root) → c.is_block ≡ false → c.path ≡ path_of s.hole ++ 1 ∷ []

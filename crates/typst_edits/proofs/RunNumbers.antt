@@ -1,6 +1,6 @@
 -- The entries of a run, by their numbers: of a text's run and of a content block's.
 use Rattle.std.proofs.Common.{◌≡◌, ℕ, suc, ◌+◌, ◌≤◌, ◌==◌, Bool, true, false, List, [], append-nil, refl, ap, sym, ◌∙◌, subst, arith, ◌-◌, ◌<◌, ◌∷◌, ◌++◌, length, drop, length-append, append_assoc, Some}
-use Rattle.typst_edits.proofs.Words.{eqb-true, eqb-false, moved, Place, CharClasses, Note, Meaning, hand_of, run, moved-sum, entries_by, IsRising, ends, max_depth, start_of, log, entries_in, SaysBlock, is_over, InOrderLaw, text_run, of_level, NumberedInner, goes, listed, number_of, RunNumbersLaw, number_in, InnerNumbersLaw, cut_of, cut_in, AllGo, End, pieces, piece_at, end_at, lead, asks_of, Sequence, turn_of, first_of, first_end, then_end, Block, shift, point_of, closing_of, run_at, Among, inner_end, blocks_of_text, BeginsAt, notes_in, Spot, is_text_run, is_block_run}
+use Rattle.typst_edits.proofs.Words.{eqb-true, eqb-false, moved, Place, CharClasses, Note, Meaning, hand_of, run, moved-sum, entries_by, IsRising, ends, max_depth, start_of, log, entries_in, SaysBlock, is_over, InOrderLaw, text_run, of_level, NumberedInner, goes, listed, number_of, RunNumbersLaw, number_in, InnerNumbersLaw, cut_of, cut_in, AllGo, pieces, piece_at, end_at, lead, asks_of, Sequence, turn_of, first_of, first_end, then_end, Block, shift, point_of, closing_of, run_at, Among, inner_end, blocks_of_text, BeginsAt, notes_in, Spot, is_text_run, is_block_run}
 use Rattle.typst_edits.specs.NumberedNotes.{NumberedRun}
 use Rattle.typst_edits.proofs.BlockTest.{BlockEntries, block-entries, units-listed}
 use Rattle.typst_edits.proofs.Boundary.{looks_in, each-ends, made-add, first-of, going-on, known-made}
@@ -27,11 +27,7 @@ module _ (r : Sequence) (leads : Leads r) where
   ended m = let e = first_end m r in ends r.stops e.value.1 (hand_of r.level (moved e.taken r.place) e.state).kind
 
   ended-is : (i n : ℕ) → is_over i n r ≡ ended (i + n)
-  ended-is i n =
-      let e = first_end i r in
-      let f = then_end i n r in
-      let sum = made-add turn (looks_in r) (each-ends r) i n (true, 0) r.place r.point in
-      sym (ap (λ (u : End (Bool × ℕ)). ends r.stops u.value.1 (hand_of r.level (moved u.taken r.place) u.state).kind) sum ∙ ap (λ w. ends r.stops f.value.1 (hand_of r.level w f.state).kind) (moved-sum e.taken f.taken r.place))
+  ended-is i n = grind (arith, first_end i r, then_end i n r, made-add turn (looks_in r) (each-ends r) i n (true, 0) r.place r.point, moved-sum)
 
   ended-at : (count m : ℕ) → AllGo (first_of count r) → (let e = first_end count r in goes (turn e.value (moved e.taken r.place) e.state) ≡ false) → m ≤ count → ended m ≡ (m == count)
   ended-at count m g over l = by-test (m == count) refl
@@ -62,11 +58,7 @@ module _ (ordered : InOrderLaw) (k : CharClasses) (text : List ℕ) where
 
   -- the note where a given number of pieces end
   note-at : (i : ℕ) → i ≤ n.count → NoteAt max_depth 0 ns i (number_of k text i)
-  note-at i l =
-      let g = goes-up-to i l in
-      let o = text-note k text i g in
-      let p = o.told in
-      record { earlier = p.earlier; note = p.note; later = p.later; is = ap listed p.notes; own = p.levels; index = number-law k text i g p; all = omega (arith, text-count k text i (end_at k i (start_of text)) o) }
+  note-at i l = grind (arith, goes-up-to, text-note, number-law, text-count)
 
   among : RunAmong max_depth [] ns [] text (λ i. end_at k i (start_of text)) n.count (number_of k text)
   among = record {

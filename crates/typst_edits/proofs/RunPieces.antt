@@ -1,5 +1,5 @@
 -- Pieces that pass the test, at the root or in a content block: a candidate's place is that of their nodes.
-use Rattle.std.proofs.Common.{inl, eq-zero-or-pos, eq-eqb, ◌≡◌, inr, ℕ, zero, suc, ◌+◌, ◌<◌, ne_eqb, if◌then◌else◌, Bool, true, false, List, [], ◌++◌, length, take, drop, length-append, refl, ap, sym, ◌∙◌, subst, arith, ◌-◌, Some}
+use Rattle.std.proofs.Common.{inl, eq-zero-or-pos, eq-eqb, ◌≡◌, inr, ℕ, suc, ◌+◌, ◌<◌, ne_eqb, if◌then◌else◌, Bool, true, false, List, [], ◌++◌, length, take, drop, length-append, ap, sym, ◌∙◌, subst, arith, ◌-◌, Some}
 use Rattle.std.proofs.Math.Seq.{take-append-add}
 use Rattle.typst_edits.proofs.Words.{CharClasses, Tree, put_at, width, Outcome, less, Trivia, gap_of, point_of, less-none, Candidate, tree, max_depth, with_children, read_by, standing_by, nodes_after, text_with, Among, is_over, Agrees, PassesPieces, Run, end_by, GoesOnWell, text_run, PassesJoint, LeadsAt, root_run, StandsAt, AllGo, chain, Place, moved, run_at, tail_at, close_at, left_past, block_run, blocks_of_text, first_of, first_end, then_of, then_end, rest_of, Spot, unit_at, read_as, cut_at, opened_by, trivia_before, top, path_to, Encloses, TakesSome, token_after, token_past, run_from, kids_of_run, given, then_place}
 use Rattle.typst_edits.specs.Frame.{inner}
@@ -18,22 +18,17 @@ use Rattle.typst_edits.proofs.Runs.{split-taken}
 -- ---- counts and stretches
 
 pub take-past : (front old rest : List ℕ) (past n : ℕ) → n ≡ (length front + length old) + past → take n (front ++ (old ++ rest)) ≡ front ++ (old ++ take past rest)
-take-past front old rest past n e =
-    let sum : n ≡ length front + (length old + past) = omega (arith, e) in
-    ap (λ i. take i (front ++ (old ++ rest))) sum ∙ take-append-add front (old ++ rest) (length old + past) ∙ ap (λ u. front ++ u) (take-append-add old rest past)
+take-past front old rest past n e = let sum : n ≡ length front + (length old + past) = omega (arith, e) in grind (arith, take-append-add)
 
 pub behind-zero : (a g x : ℕ) → (0 + a) + g ≡ x → a + g ≡ x
 behind-zero a g x e = omega (arith, e)
 
 pub cut-is : (b : Bool) (a : ℕ) → b ≡ false → 0 + (if b then 0 else a) ≡ a
-cut-is false a e = omega arith
-cut-is true a e = cc
+cut-is b a e = grind arith
 
 -- After some pieces of a run the next begins at its first token.
 pub cut-some : {k : CharClasses} {text : List ℕ} (r : Run k text) (i : ℕ) (z : Place) → 0 < i → (let e = first_end i (read_as r z) in cut_at r i z ≡ opened_by r z + (e.taken + gap_of e.state.known))
-cut-some {k} {text} r i z l =
-    let e = first_end i (read_as r z) in
-    ap (λ b. opened_by r z + (if b then 0 else e.taken + gap_of e.state.known)) (ne_eqb i 0 (omega (arith, l)))
+cut-some {k} {text} r i z l = grind arith
 
 -- Where an expression follows, the same is carried there.
 pub same-place : (from : ℕ) (ts : List Tree) (index at other : ℕ) → StandsAt from ts index at → LeadsAt from ts at other → index ≡ other
@@ -42,22 +37,17 @@ same-place from ts index at other s l = sym s.here ∙ l.alone s.left s.node s.r
 -- Its children end where those of the pieces do.
 pub end-place : (from : ℕ) (kids before own behind : List Tree) (to end byte : ℕ) (b : Bool) → kids ≡ before ++ (own ++ behind) → end ≡ byte → (b ≡ false → StandsAt from kids to end) → (b ≡ false → LeadsAt from kids byte (length before + length own))
     → (b ≡ true → to ≡ length kids) → (b ≡ true → behind ≡ []) → to ≡ length before + length own
-end-place from kids before own behind to end byte false is e stands leads all none = same-place from kids to byte _ (subst (λ x. StandsAt from kids to x) e (stands refl)) (leads refl)
-end-place from kids before own behind to end byte true is e stands leads all none =
-    omega (arith, all refl ∙ ap length is ∙ ap (λ us. length (before ++ (own ++ us))) (none refl), length-append before (own ++ []), length-append own [])
+end-place from kids before own behind to end byte b is e stands leads all h = grind (arith, same-place, length-append)
 
 pub nothing-left : (b : ℕ) (ts : List Tree) → ts ≡ [] → b ≡ 0 → length (less b ts) ≡ 0
 nothing-left b ts e h = ap (λ j. length (less j ts)) h ∙ ap length (less-none ts) ∙ ap length e
 
 pub first-is : (a b : ℕ) → (0 < a → 0 < 0) → b ≡ 0 → a ≡ b
-first-is zero b h e = sym e
-first-is (suc a) b h e = let no = h (omega arith) in omega (arith, no)
+first-is a b h e = grind arith
 
 -- A candidate's children are exchanged where they stand.
 pub put-there : (c : Candidate) (path : List ℕ) (from to : ℕ) (ts us : List Tree) (was : Tree) {now : Tree} → now ≡ with_children path from to ts was → ts ≡ us → c.from ≡ from → c.to ≡ to → c.path ≡ path → now ≡ put_at c.path c.from c.to us was
-put-there c path from to ts us was kept news first last there =
-    kept ∙ ap (λ ns. with_children path from to ns was) news ∙ ap (λ j. with_children path j to us was) (sym first) ∙ ap (λ j. with_children path c.from j us was) (sym last)
-    ∙ ap (λ p. with_children p c.from c.to us was) (sym there) ∙ sym (put-law c.path c.from c.to us was)
+put-there c path from to ts us was kept news first last there = grind (arith, put-law)
 
 -- ---- what the test gives
 

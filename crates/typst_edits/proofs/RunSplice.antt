@@ -1,6 +1,6 @@
 -- The units of a text with an edit inside a block, and inside some pieces of a run, its own or a content block's.
 use Rattle.std.proofs.Common.{◌≡◌, ℕ, suc, ◌+◌, ◌≤◌, List, [], ◌∷◌, ◌++◌, length, ap, sym, ◌∙◌, subst, arith, ◌==◌, inl, inr, zero, ◌-◌, ◌<◌, ◌^◌, Bool, true, map, append_assoc, Some, refl, ◌&&◌, if◌then◌else◌, false, None, eq-zero-or-pos}
-use Rattle.typst_edits.proofs.Words.{units_of, spliced, moved, Place, position, width, Ask, shift, SameIn, shift_one, marked, looked, no_log, logged, Outcome, start_point, hand_of, hand_asks_of, repeated, run, state_of, Trivia, Point, gap_of, point_of, markup_reading, ends, rules, max_depth, whole, parsed, log, level_at, start_of, text_with, AllEndBy, AllBeginIn, Noting, noting, notes_in, entries_from, token_start, block_log, closing, Spot, unit_at, lowered, lower, map-append, same, Entry, CharClasses, Look, look, no_look, is_end, AtHand, Hand, as_at_hand, hand_at, len_at, at_trivia, column_look, column_asks, ahead, asks_by, ahead_asks, hand_asks, peek, sane-at, AllFrom, passed, onwards, text_run, place_from, onwards_at, asked_past, end_note, OverAt, run_mark, start, AllGo, asks_of, chain, lead, pieces, end_at, pieces_from, end_from, rest_from, tail, whole_of, Sequence, turn_of, first_of, first_end, then_of, then_end, then_place, rest_of, note_at, looks_next, own_of, token, same_in-shift, same_in-first, same_in-second, moved-sum, inner, look_first, look_again, bracket, inner_lead, inner_run, content_with, run_at, tail_at, close_at, onwards_past, left_past, hand-ends}
+use Rattle.typst_edits.proofs.Words.{units_of, spliced, moved, Place, position, width, Ask, shift, SameIn, shift_one, marked, looked, no_log, logged, Outcome, start_point, hand_of, hand_asks_of, repeated, run, state_of, Trivia, Point, gap_of, point_of, markup_reading, ends, rules, max_depth, whole, parsed, log, level_at, start_of, text_with, AllEndBy, AllBeginIn, Noting, noting, notes_in, entries_from, token_start, block_log, closing, Spot, unit_at, lowered, lower, map-append, same, Entry, CharClasses, Look, look, no_look, is_end, AtHand, Hand, as_at_hand, hand_at, at_trivia, ahead, asks_by, ahead_asks, hand_asks, peek, sane-at, AllFrom, passed, onwards, text_run, place_from, onwards_at, asked_past, end_note, OverAt, run_mark, start, AllGo, asks_of, chain, lead, pieces, end_at, pieces_from, end_from, rest_from, tail, whole_of, Sequence, turn_of, first_of, first_end, then_of, then_end, then_place, rest_of, note_at, looks_next, own_of, token, same_in-shift, same_in-first, same_in-second, moved-sum, inner, look_first, look_again, bracket, inner_lead, inner_run, content_with, run_at, tail_at, close_at, onwards_past, left_past, hand-ends}
 use Rattle.typst_edits.specs.BlockSplice.{BlockSpliceLaw}
 use Rattle.typst_edits.specs.RunSplice.{next_looks, own_asks, RunSpliceLaw}
 use Rattle.typst_edits.specs.InnerSplice.{end_note_in, pieces_log_in, InnerSpliceLaw, AroundSpliceLaw}
@@ -89,9 +89,7 @@ first_look (looked at seen ∷ asks) = seen
 first_look (marked at gap fewer m s ∷ asks) = no_look
 
 pub first-shift : (d : ℕ) (asks : List Ask) → first_look (shift d asks) ≡ first_look asks
-first-shift d [] = refl
-first-shift d (looked at seen ∷ asks) = refl
-first-shift d (marked at gap fewer m s ∷ asks) = refl
+first-shift d asks = grind arith
 
 abbrev back_one : ℕ → Ask → Ask
 back_one d (looked at seen) = looked (at - d) seen
@@ -137,12 +135,10 @@ module _ (k : CharClasses) where
 
   -- The note where pieces end, and the looks after it, are those of any run.
   note-is : (i : ℕ) (z : Place) → note_at (text_run k z) start i ≡ end_note k i z
-  note-is zero z = refl
-  note-is (suc i) z = refl
+  note-is i z = grind arith
 
   looks-are : (i : ℕ) (z : Place) → looks_next (text_run k z) (lead k z).asks i ≡ next_looks k i z
-  looks-are zero z = refl
-  looks-are (suc i) z = refl
+  looks-are i z = grind arith
 
   -- what is asked up to that note, and the looks after it
   pub record Cut (i : ℕ) (z : Place) : Type 0 where
@@ -242,9 +238,7 @@ onwards-begin r x z s = begins-append (looks_in r z s) (repeated (turn_of r) x z
 
 -- At the text's start, without a piece, the look at the first token is the one at the next token.
 lead-begun : (k : CharClasses) (i n : ℕ) (z : Place) (t : Trivia) → (end_from k i n z).state.known ≡ Some t → (token_look (level_at k max_depth) (moved t.gap (place_from k i n z))).back ≡ 0 → i + n ≡ 0 → AllFrom 0 z (lead k z).asks
-lead-begun k zero zero z t known h e = ahead-from z (lead k z).asks (lead-ahead k z t known h)
-lead-begun k (suc i) n z t known h e = absurd (omega (arith, e))
-lead-begun k zero (suc n) z t known h e = absurd (omega (arith, e))
+lead-begun k i n z t known h e = grind (arith, ahead-from, lead-ahead)
 
 -- Where a text's run ends, its text does.
 ends-there : (k : CharClasses) (y : Place) (s : Point) (t : Trivia) (x : ℕ) → s.held ≡ markup_reading → s.known ≡ Some t → ends is_end x (hand_of (level_at k max_depth) y s).kind ≡ true → (moved t.gap y).ahead ≡ []
@@ -353,21 +347,14 @@ run-splice-law k front old new rest i n m past t u h over over_new big big_new =
 -- ---- the look at a first token without trivia before it
 
 pub asks-direct : (k : CharClasses) (n : ℕ) (z : Place) → at_trivia k mode.Markup z ≡ false → asks_by k mode.Markup n z ≡ looked 0 (look (token k mode.Markup) z) ∷ []
-asks-direct k zero z h = refl
-asks-direct k (suc n) z h =
-    let l = len_at k mode.Markup z in
-    ap (λ (b : Bool). looked 0 (look (token k mode.Markup) z) ∷ (if b then shift l (asks_by k mode.Markup n (moved l z)) else [])) h
+asks-direct k n z h = grind arith
 
 pub column-none : (b : Bool) (ask : Ask) → ◌≡◌ {A = List Ask} (if b && false then ask ∷ [] else []) []
-column-none true ask = refl
-column-none false ask = refl
+column-none b ask = grind arith
 
 pub hand-direct : (k : CharClasses) (z : Place) → at_trivia k mode.Markup z ≡ false → hand_asks k markup_reading None z ≡ looked 0 (look (token k mode.Markup) z) ∷ []
 unfolding hand_asks ahead_asks
-hand-direct k z clear =
-    let a = ahead k mode.Markup z in
-    ap (λ ls. ls ++ column_asks markup_reading a.newlines a.gap z) (asks-direct k (length z.ahead) z clear)
-    ∙ ap (λ ls. looked 0 (look (token k mode.Markup) z) ∷ ls) (column-none a.newlines.any (looked a.gap (column_look (moved a.gap z))))
+hand-direct k z clear = grind arith
 
 module _ (k : CharClasses) (levels : ℕ) where
   -- a block's run without trivia before its first token
@@ -452,9 +439,7 @@ late-is a f n gap end left seen hand behind asks after hand_is behind_is sum =
 
 -- a run at its start, where no piece is read
 start-known : (r : Sequence) (i n : ℕ) (t : Trivia) → (then_end i n r).state.known ≡ Some t → i + n ≡ 0 → r.point.known ≡ Some t
-start-known r zero zero t h e = h
-start-known r (suc i) n t h e = absurd (omega (arith, e))
-start-known r zero (suc n) t h e = absurd (omega (arith, e))
+start-known r i n t h e = grind arith
 
 -- ---- the laws
 

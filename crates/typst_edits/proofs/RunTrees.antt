@@ -1,6 +1,6 @@
 -- A text's tree and log, where pieces of its run are exchanged.
 use Rattle.std.proofs.Common.{◌≡◌, ℕ, ◌+◌, Bool, true, false, List, [], ◌∷◌, ◌++◌, append_assoc, append-nil, refl, ap, sym, ◌∙◌, arith}
-use Rattle.typst_edits.proofs.Words.{map-append, Tree, forest, inner_of, Place, CharClasses, Ask, shift, no_log, logged, Outcome, plain, less, standing, joined, run, Level, Point, gap_of, state_of, hinted, less-none, max_depth, start_of, parsed, tree, log, level_at, text_with, onwards_at, text_run, given, run_mark, start, AllGo, End, end_of, asks_of, chain, lead, pieces, end_at, pieces_from, end_from, rest_from, tail, whole_of, peek, marked, run_of, standing-joined}
+use Rattle.typst_edits.proofs.Words.{map-append, Tree, forest, inner_of, Place, CharClasses, Ask, shift, no_log, logged, Outcome, plain, standing, joined, run, Level, Point, gap_of, state_of, less-none, max_depth, start_of, parsed, tree, log, level_at, text_with, onwards_at, text_run, given, run_mark, start, AllGo, End, end_of, asks_of, chain, lead, pieces, end_at, pieces_from, end_from, rest_from, tail, whole_of, peek, marked, run_of, standing-joined}
 use Rattle.typst_edits.specs.RunTrees.{tree_by, RunTreeLaw}
 use Rattle.typst_kinds.specs.declared.kind.SyntaxKind.TheVariants as kind
 pub use Rattle.typst_grammar.proofs.Heads.{standing-none}
@@ -14,8 +14,7 @@ use Rattle.typst_language.specs.declared.calls.Mark.TheVariants as mark
 
 -- what gives nothing and takes nothing back
 pub standing-still : {A : Type 0} (o : Outcome A) (ts : List Tree) → o.hints ≡ [] → o.back ≡ 0 → o.nodes ≡ [] → standing o ts ≡ ts
-standing-still o ts e f g =
-    ap (λ hs. hinted hs (less o.back ts) ++ o.nodes) e ∙ ap (λ n. less n ts ++ o.nodes) f ∙ ap (λ us. less 0 ts ++ us) g ∙ append-nil (less 0 ts) ∙ less-none ts
+standing-still o ts e f g = grind (arith, append-nil, less-none)
 
 pub standing-chain : {A B : Type 0} (os : List (Outcome (Bool × A))) (q : Outcome B) (ts : List Tree) → standing (chain os q) ts ≡ standing q (given os ts)
 standing-chain [] q ts = refl
@@ -81,8 +80,7 @@ tree-is k text i n g h =
     ap (λ a. tail k a r.state z) (split-taken (text_run k z) i n) ∙ ap (λ s. tail k (((end_at k i z).taken + (end_from k i n z).taken) + q.taken) s z) (chain-state os (chain ps q) ∙ chain-state ps q) in
     let is : parsed k max_depth text ≡ whole_of (lead k z) r u =
     whole-is k text ∙ ap (λ o. whole_of (lead k z) o (tail k o.taken o.state z)) (split (text_run k z) (within k) i n g h) ∙ ap (whole_of (lead k z) r) tail_is in
-    ap (λ (o : Outcome (Unit {0})). inner_of kind.Markup (forest o.nodes)) is
-    ∙ ap (λ ts. inner_of kind.Markup (forest ts)) (run-nodes (level_at k max_depth) start z r u ∙ ap (standing u) (standing-chain os (chain ps q) [] ∙ standing-chain ps q (given os [])) ∙ sym (standing-joined q u (given ps (given os []))))
+    grind (arith, run-nodes, standing-chain, standing-joined)
 
 pub run-tree-law : RunTreeLaw
 unfolding tree log

@@ -1,6 +1,6 @@
 -- A block's spot at a position among the nodes of an outcome.
-use Rattle.std.proofs.Common.{◌≡◌, ◌⊎◌, inl, inr, ℕ, suc, ◌+◌, ◌-◌, ◌<◌, ◌≤◌, Bool, true, false, ◌&&◌, if◌then◌else◌, nat_le, nat_lt, List, [], ◌∷◌, ◌++◌, length, map, take, drop, length-append, length-take, length-drop, append_assoc, refl, ap, sym, ◌∙◌, subst, arith}
-use Rattle.typst_edits.proofs.Words.{and_left, and_parts, and_right, flat_map, is_error, Head, inner_head, SyntaxKind, Tree, forest, error_of, Block, Outcome, answered, joined, less, plain, reshaped, hinted, NodeChange, is_delimited, in_parens, Shape, shaped, after_shape, is_sign, ends_with, stays, turns_wrong, is_not, renamed, unparened, keeps, holds, lacks, warns, fails, on_if, is_ordinary, change_by, shape_by, under, Deep, fill, path_in, Hole, plug, stub, between_parens, changed_deep, first_hole, change_hole, in_node, in_nodes, after_nodes, lack_hole, warned_head, wrap_in, wrap_past, wrap_hole, last_spot, reshaped_spot, Spot, block_head, then_spot, after_spot, rehole}
+use Rattle.std.proofs.Common.{◌≡◌, ◌⊎◌, inl, inr, ℕ, suc, ◌+◌, ◌-◌, ◌<◌, ◌≤◌, true, false, ◌&&◌, nat_le, List, [], ◌∷◌, ◌++◌, length, take, drop, length-append, length-take, length-drop, append_assoc, refl, ap, sym, ◌∙◌, subst, arith}
+use Rattle.typst_edits.proofs.Words.{and_left, and_parts, and_right, flat_map, is_error, Head, inner_head, SyntaxKind, Tree, forest, Block, Outcome, answered, joined, less, plain, reshaped, hinted, NodeChange, is_delimited, in_parens, Shape, is_sign, ends_with, stays, turns_wrong, is_not, renamed, unparened, keeps, holds, lacks, warns, fails, on_if, is_ordinary, change_by, shape_by, under, Deep, fill, path_in, Hole, plug, stub, between_parens, changed_deep, change_hole, in_node, in_nodes, after_nodes, lack_hole, wrap_in, wrap_hole, last_spot, reshaped_spot, Spot, block_head, then_spot, after_spot}
 use Rattle.std.proofs.lemmas.Bool.{le-leb, lt-leb}
 use Rattle.typst_grammar.proofs.Fine.{or-left as or-first, or-right as or-second, or-both}
 use Rattle.typst_edits.specs.Hole.Deep.{bare}
@@ -8,10 +8,9 @@ use Rattle.typst_edits.specs.Hole.{top}
 use Rattle.typst_language.specs.declared.calls.Block.TheVariants as block
 use Rattle.typst_language.proofs.Backs.{changed-long as length-changed}
 use Rattle.typst_edits.proofs.Complete.{Any, any-left, any-right}
-use Rattle.typst_edits.proofs.Every.{Every}
 use Rattle.typst_edits.proofs.Outcomes.{hints-first, then-around}
 use Rattle.typst_edits.proofs.Positions.{has_text, is_hollow, Each, each-by, each-from, each-take, each-drop, each-append, each-shaped, each-holds, not-error, Stays, Step}
-use Rattle.typst_edits.proofs.Spots.{Wraps, wraps-hole}
+use Rattle.typst_edits.proofs.Spots.{wraps-hole}
 
 -- ---- holes
 
@@ -30,8 +29,7 @@ top-bare bare b h = refl
 top-bare (under head left d right) b h = or-second (is_error head.kind) (has_text head.text) h.0
 
 sign-none : (c : ℕ) (text : List ℕ) (t : Tree) → t.head.text ≡ text → has_text text ≡ false → is_sign c t ≡ false
-sign-none c [] t e h = rw (e, is_sign) refl
-sign-none c (d ∷ ds) t e h = absurd (cc)
+sign-none c text t e h = grind arith
 
 ends-none : (c : ℕ) (left : List Tree) (t : Tree) → is_sign c t ≡ false → ends_with c (left ++ t ∷ []) ≡ false
 ends-none c [] t h = h
@@ -61,9 +59,7 @@ less-not : (n : ℕ) → n < n → ⊥
 less-not n h = omega (arith, h)
 
 only-between : (head : Head) (b : Block) (left : List Tree) (d : Deep) (right : List Tree) → Open d → has_text head.text ≡ false → in_parens (left ++ stub d (block_head b) ∷ right) ≡ true → OnlyDeep (between_parens head left d right) (length left ∷ path_in d)
-only-between head b [] d right o t e = let f : true ≡ false = sym e ∙ and_left (is_sign 40 (stub d (block_head b))) (ends_with 41 right) (sign-none 40 _ (stub d (block_head b)) refl (top-bare d b o)) in absurd (cc)
-only-between head b (u ∷ left) d [] o t e = let f : true ≡ false = sym e ∙ and_right (is_sign 40 u) (ends_with 41 (left ++ stub d (block_head b) ∷ [])) (ends-none 41 left (stub d (block_head b)) (sign-none 41 _ (stub d (block_head b)) refl (top-bare d b o))) in absurd (cc)
-only-between head b (u ∷ left) d (v ∷ right) o t e = record { one = _; is = refl; path = refl; passes = (t, o) }
+only-between head b left d right o t e = grind (arith, and_left, sign-none, top-bare, and_right, ends-none)
 
 only-deep : (change : NodeChange) (b : Block) (d : Deep) (n : ℕ) → change_by is_ordinary change ≡ true → Stays change n n (path_in d) → Open d → OnlyDeep (changed_deep change (block_head b) d) (path_in d)
 only-deep stays b d n a s o = record { one = d; is = refl; path = refl; passes = o }
@@ -71,12 +67,7 @@ only-deep (turns_wrong message) b d n a s o = absurd (less-not n s)
 only-deep (is_not thing) b d n a s o = absurd (less-not n s)
 only-deep (renamed k) b d n a (inl s) o = absurd (less-not n s)
 only-deep (renamed k) b bare n a (inr s) o = absurd s
-only-deep (renamed k) b (under head left d right) n a (inr s) o = record {
-  one = under (record head { kind = k }) left d right;
-  is = ap (λ (e : Bool). if e then [] else under (record head { kind = k }) left d right ∷ []) (not-error k a);
-  path = refl;
-  passes = (or-both (is_error k) (has_text head.text) (not-error k a) (or-second (is_error head.kind) (has_text head.text) o.0), o.1);
-}
+only-deep (renamed k) b (under head left d right) n a (inr s) o = grind (arith, not-error, or-both, or-second)
 only-deep unparened block.Code bare n a s o = record { one = bare; is = refl; path = refl; passes = tt }
 only-deep unparened block.Content bare n a s o = record { one = bare; is = refl; path = refl; passes = tt }
 only-deep unparened b (under head left d right) n a s o =
@@ -89,55 +80,32 @@ only-change : (change : NodeChange) (b : Block) (left : List Tree) (d : Deep) (r
 only-change change b (t ∷ left) d right n i a e s o = record { one = _; is = refl; first = length-changed change (t ∷ left); path = refl; passes = o }
 only-change change b [] d right n i a e s o =
     let f : i ≡ n = omega (arith, e) in
-    let h = only-deep change b d n a (subst (λ j. Stays change n j (path_in d)) f s) o in
-    record { one = first_hole right h.one; is = ap (map (first_hole right)) h.is; first = refl; path = h.path; passes = h.passes }
+    grind (arith, only-deep change b d n a (subst (λ j. Stays change n j (path_in d)) f s) o)
 
 -- ---- what several nodes become
 
 only-in : (head : Head) (kept : List Tree) (h : Hole) (q : List ℕ) → is_hollow head ≡ false → Open h.deep → path_in h.deep ≡ q → Only (in_node head kept h) (length kept) (length h.left ∷ q)
-only-in head kept h q e o p = record {
-  one = record { left = kept; deep = under head h.left h.deep h.right; right = [] };
-  is = ap (λ (b : Bool). if b then [] else record { left = kept; deep = under head h.left h.deep h.right; right = [] } ∷ []) (or-first (is_error head.kind) (has_text head.text) e);
-  first = refl;
-  path = ap (λ u. length h.left ∷ u) p;
-  passes = (e, o);
-}
+only-in head kept h q e o p = grind arith
 
 only-nodes : (head : Head) (kept : List Tree) (hs : List Hole) (n : ℕ) (q : List ℕ) → is_hollow head ≡ false → Only hs n q → Only (in_nodes head kept hs) (length kept) (n ∷ q)
-only-nodes head kept hs n q e h =
-    only-as (in_node head kept h.one) (in_nodes head kept hs) (length kept) (length kept) (length h.one.left ∷ q) (n ∷ q) (ap (in_nodes head kept) h.is) refl (ap (λ m. m ∷ q) h.first) (only-in head kept h.one q e h.passes h.path)
+only-nodes head kept hs n q e h = grind (arith, only-as, only-in)
 
 only-behind : (kept : List Tree) (hs : List Hole) (n : ℕ) (q : List ℕ) → Only hs n q → Only (after_nodes kept hs) (length kept + n) q
-only-behind kept hs n q h = record {
-  one = record h.one { left = kept ++ h.one.left };
-  is = ap (after_nodes kept) h.is;
-  first = length-append kept h.one.left ∙ ap (λ m. length kept + m) h.first;
-  path = h.path;
-  passes = h.passes;
-}
+only-behind kept hs n q h = grind (arith, length-append)
 
 sound-kind : (k : SyntaxKind) → is_error k ≡ false → is_hollow (inner_head k) ≡ false
 sound-kind k a = or-both (is_error k) false a refl
 
 lack-left : (count : ℕ) (error : Tree) (left : List Tree) → count ≤ length left → length (take count left ++ error ∷ drop count left) ≡ suc (length left)
-lack-left count error left l =
-    omega (arith, l, length-append (take count left) (error ∷ drop count left), length-take count left, length-drop count left)
+lack-left count error left l = grind (arith, length-append, length-take, length-drop)
 
 only-lack-behind : (count : ℕ) (error : Tree) (head : Head) (kept left : List Tree) (d : Deep) (right : List Tree) → is_hollow head ≡ false → Open d → count ≤ length left
     → Only (in_node head kept (lack_hole count error left d right)) (length kept) (suc (length left) ∷ path_in d)
-only-lack-behind count error head kept left d right e o l =
-    let g : Hole = record { left = take count left ++ error ∷ drop count left; deep = d; right = right } in
-    let other : Hole = record { left = left; deep = d; right = take (count - suc (length left)) right ++ error ∷ drop (count - suc (length left)) right } in
-    only-as (in_node head kept g) (in_node head kept (lack_hole count error left d right)) (length kept) (length kept) (length g.left ∷ path_in d) (suc (length left) ∷ path_in d)
-    (ap (λ (b : Bool). in_node head kept (if b then g else other)) (le-leb count (length left) l)) refl (ap (λ n. n ∷ path_in d) (lack-left count error left l)) (only-in head kept g (path_in d) e o refl)
+only-lack-behind count error head kept left d right e o l = grind (arith, only-as, le-leb, lack-left, only-in)
 
 only-lack-before : (count : ℕ) (error : Tree) (head : Head) (kept left : List Tree) (d : Deep) (right : List Tree) → is_hollow head ≡ false → Open d → length left < count
     → Only (in_node head kept (lack_hole count error left d right)) (length kept) (length left ∷ path_in d)
-only-lack-before count error head kept left d right e o l =
-    let g : Hole = record { left = take count left ++ error ∷ drop count left; deep = d; right = right } in
-    let other : Hole = record { left = left; deep = d; right = take (count - suc (length left)) right ++ error ∷ drop (count - suc (length left)) right } in
-    only-as (in_node head kept other) (in_node head kept (lack_hole count error left d right)) (length kept) (length kept) (length left ∷ path_in d) (length left ∷ path_in d)
-    (ap (λ (b : Bool). in_node head kept (if b then g else other)) (lt-leb count (length left) l)) refl refl (only-in head kept other (path_in d) e o refl)
+only-lack-before count error head kept left d right e o l = grind (arith, only-as, lt-leb, only-in)
 
 -- ---- a spot at a position
 
@@ -155,8 +123,7 @@ solid-node : {A : Type 0} (c : Spot A) → c.node.head ≡ block_head c.name →
 solid-node c e o = by-deep c.hole.deep o
   where
     by-name : (b : Block) (h : Head) → h ≡ block_head b → is_error h.kind ≡ false
-    by-name block.Code h e = ap (λ (g : Head). is_error g.kind) e
-    by-name block.Content h e = ap (λ (g : Head). is_error g.kind) e
+    by-name b h e = grind arith
 
     by-deep : (d : Deep) → Open d → is_error (fill d c.node).head.kind ≡ false
     by-deep bare o = by-name c.name c.node.head e
@@ -183,20 +150,7 @@ then-sits o p i q c l s =
     }
 
 pub after-sits : {A B : Type 0} (o : Outcome B) (p : Outcome A) (i j : ℕ) (q : List ℕ) (c : Spot A) → j ≡ i + length (hinted p.hints (less p.back o.nodes)) → Sits p i q c → Sits (joined o p) j q (after_spot o c)
-after-sits o p i j q c e s =
-    let before = hinted p.hints (less p.back o.nodes) in
-    let same : hinted c.hints (less c.back o.nodes) ≡ before = ap (λ u. hinted u (less c.back o.nodes)) s.hints ∙ ap (λ n. hinted p.hints (less n o.nodes)) s.back in
-    let at : length before + length c.hole.left ≡ j = omega (arith, e, s.first) in
-    record {
-      first = ap (λ u. length (u ++ c.hole.left)) same ∙ length-append before c.hole.left ∙ at;
-      path = s.path;
-      value = s.value;
-      back = ap (λ n. o.back + (n - length o.nodes)) s.back;
-      hints = ap (λ n. if nat_lt n (length o.nodes) then o.hints else (if nat_lt (length o.nodes) n then c.hints else o.hints ++ c.hints)) s.back ∙ ap (λ u. if nat_lt p.back (length o.nodes) then o.hints else (if nat_lt (length o.nodes) p.back then u else o.hints ++ u)) s.hints;
-      nodes = append_assoc (hinted c.hints (less c.back o.nodes)) c.hole.left (fill c.hole.deep c.node ∷ c.hole.right) ∙ ap (λ u. u ++ plug c.hole c.node) same ∙ ap (λ u. before ++ u) s.nodes;
-      head = s.head;
-      passes = s.passes;
-    }
+after-sits o p i j q c e s = grind (arith, length-append, append_assoc)
 
 pub last-sits : {A B : Type 0} (o : Outcome (B × A)) (i : ℕ) (q : List ℕ) (c : Spot (B × A)) → Sits o i q c → Sits (answered o.value.1 o) i q (last_spot c)
 last-sits o i q c s = record { first = s.first; path = s.path; value = ap (λ v. v.1) s.value; back = s.back; hints = s.hints; nodes = s.nodes; head = s.head; passes = s.passes }
@@ -205,21 +159,7 @@ last-sits o i q c s = record { first = s.first; path = s.path; value = ap (λ v.
 
 pub reshape-sits : {A : Type 0} (shape : Shape) (n : ℕ) (o : Outcome A) (i j : ℕ) (q r : List ℕ) (c : Spot A) → Sits o i q c → Only (wrap_hole shape (block_head c.name) (n + c.back) c.hole) j r
     → Any (Sits (reshaped shape n o) j r) (reshaped_spot shape n c)
-reshape-sits shape n o i j q r c s h =
-    let k = n + c.back in
-    let w = subst (Every (Wraps shape k c.hole (block_head c.name))) h.is (wraps-hole shape (block_head c.name) k c.hole (top-solid c.hole.deep c.name s.passes)) in
-    let same : k ≡ n + o.back = ap (λ m. n + m) s.back in
-    subst (λ gs. Any (Sits (reshaped shape n o) j r) (map (rehole (after_shape shape (drop k (plug c.hole c.node)) c.state) c) gs)) (sym h.is)
-    (inl (record {
-      first = h.first;
-      path = h.path;
-      value = s.value;
-      back = s.back;
-      hints = s.hints;
-      nodes = sym (w.0.nodes c.node s.head) ∙ ap (λ us. take k us ++ shaped shape (drop k us)) s.nodes ∙ ap (λ m. take m o.nodes ++ shaped shape (drop m o.nodes)) same;
-      head = s.head;
-      passes = h.passes;
-    }))
+reshape-sits shape n o i j q r c s h = grind (arith, wraps-hole, top-solid)
 
 -- ---- each position in what several nodes become
 
@@ -242,18 +182,7 @@ Goes {A} shape n o i j q r = (c : Spot A) → Sits o i q c → Only (wrap_hole s
 
 module _ {A : Type 0} (n : ℕ) (o : Outcome A) where
   goes-past : (shape : Shape) (i : ℕ) (q : List ℕ) → i < n + o.back → Goes shape n o i i q q
-  goes-past shape i q l c s =
-      let k = n + c.back in
-      let f = s.first in
-      let e = s.back in
-      let past = wrap_past shape (k - suc (length c.hole.left)) c.hole in
-      record {
-        one = past;
-        is = ap (λ (b : Bool). if b then wrap_in shape (block_head c.name) (take k c.hole.left) (drop k c.hole.left) c.hole.deep c.hole.right else past ∷ []) (lt-leb k (length c.hole.left) (omega (arith, l, f, e)));
-        first = f;
-        path = s.path;
-        passes = s.passes;
-      }
+  goes-past shape i q l c s = grind arith
 
   -- what comes after the first nodes
   record Behind (i : ℕ) (c : Spot A) : Type 0 where
@@ -263,22 +192,11 @@ module _ {A : Type 0} (n : ℕ) (o : Outcome A) where
     all : length (take (n + o.back) o.nodes) ≡ n + o.back
 
   behind-of : (i : ℕ) (q : List ℕ) (c : Spot A) → n + o.back ≤ i → Sits o i q c → Behind i c
-  behind-of i q c l s =
-      let w = sits-long o i q c s in
-      let y = length-take (n + o.back) o.nodes in
-      record {
-        is = le-leb (n + c.back) (length c.hole.left) (omega (arith, l, s.first, s.back));
-        kept = omega (arith, l, s.first, s.back, w, length-take (n + c.back) c.hole.left, y);
-        left = omega (arith, l, s.first, s.back, length-drop (n + c.back) c.hole.left);
-        all = omega (arith, l, w, y);
-      }
+  behind-of i q c l s = let w = sits-long o i q c s in grind (arith, length-take, le-leb, length-drop)
 
   goes-in : (shape : Shape) (i j : ℕ) (r : List ℕ) (c : Spot A) → Behind i c → (m : ℕ) (t : List ℕ) → m ≡ j → t ≡ r
       → Only (wrap_in shape (block_head c.name) (take (n + c.back) c.hole.left) (drop (n + c.back) c.hole.left) c.hole.deep c.hole.right) m t → Only (wrap_hole shape (block_head c.name) (n + c.back) c.hole) j r
-  goes-in shape i j r c b m t e f h =
-      let k = n + c.back in
-      only-as (wrap_in shape (block_head c.name) (take k c.hole.left) (drop k c.hole.left) c.hole.deep c.hole.right) (wrap_hole shape (block_head c.name) k c.hole) m j t r
-      (ap (λ (a : Bool). if a then wrap_in shape (block_head c.name) (take k c.hole.left) (drop k c.hole.left) c.hole.deep c.hole.right else wrap_past shape (k - suc (length c.hole.left)) c.hole ∷ []) b.is) e f h
+  goes-in shape i j r c b m t e f h = grind arith
 
   changed-hole : (change : NodeChange) (i : ℕ) (q : List ℕ) (c : Spot A) → change_by is_ordinary change ≡ true → n + o.back ≤ i → Stays change (n + o.back) i q → Sits o i q c
       → Only (change_hole change (block_head c.name) (drop (n + c.back) c.hole.left) c.hole.deep c.hole.right) (length (drop (n + c.back) c.hole.left)) (path_in c.hole.deep)
@@ -296,29 +214,19 @@ module _ {A : Type 0} (n : ℕ) (o : Outcome A) where
   goes-holds change k i j q a ak l e st c s =
       let b = behind-of i q c l s in
       let at : length (drop (n + c.back) c.hole.left) ≡ j = omega (arith, e, b.left) in
-      goes-in (holds change k) i _ (j ∷ q) c b _ (length (drop (n + c.back) c.hole.left) ∷ path_in c.hole.deep) b.kept (ap (λ m. m ∷ path_in c.hole.deep) at ∙ ap (λ r. j ∷ r) s.path)
-      (only-nodes (inner_head k) (take (n + c.back) c.hole.left) _ (length (drop (n + c.back) c.hole.left)) (path_in c.hole.deep) (sound-kind k ak) (changed-hole change i q c a l st s))
+      grind (arith, goes-in, only-nodes, sound-kind, changed-hole)
 
   goes-before : (count : ℕ) (message : List ℕ) (k : SyntaxKind) (i j : ℕ) (q : List ℕ) → is_error k ≡ false → n + o.back ≤ i → i ≡ j + (n + o.back) → j < count → Goes (lacks count message k) n o i (length (take (n + o.back) o.nodes)) q (j ∷ q)
-  goes-before count message k i j q ak l e few c s =
-      let b = behind-of i q c l s in
-      let at : length (drop (n + c.back) c.hole.left) ≡ j = omega (arith, e, b.left) in
-      goes-in (lacks count message k) i _ (j ∷ q) c b _ (length (drop (n + c.back) c.hole.left) ∷ path_in c.hole.deep) b.kept (ap (λ m. m ∷ path_in c.hole.deep) at ∙ ap (λ r. j ∷ r) s.path)
-      (only-lack-before count (error_of message []) (inner_head k) (take (n + c.back) c.hole.left) (drop (n + c.back) c.hole.left) c.hole.deep c.hole.right (sound-kind k ak) s.passes (omega (arith, at, few)))
+  goes-before count message k i j q ak l e few c s = let b = behind-of i q c l s in grind arith
 
   goes-behind : (count : ℕ) (message : List ℕ) (k : SyntaxKind) (i j : ℕ) (q : List ℕ) → is_error k ≡ false → n + o.back ≤ i → suc i ≡ j + (n + o.back) → count < j → Goes (lacks count message k) n o i (length (take (n + o.back) o.nodes)) q (j ∷ q)
   goes-behind count message k i j q ak l e more c s =
       let b = behind-of i q c l s in
       let at : suc (length (drop (n + c.back) c.hole.left)) ≡ j = omega (arith, e, b.left) in
-      goes-in (lacks count message k) i _ (j ∷ q) c b _ (suc (length (drop (n + c.back) c.hole.left)) ∷ path_in c.hole.deep) b.kept (ap (λ m. m ∷ path_in c.hole.deep) at ∙ ap (λ r. j ∷ r) s.path)
-      (only-lack-behind count (error_of message []) (inner_head k) (take (n + c.back) c.hole.left) (drop (n + c.back) c.hole.left) c.hole.deep c.hole.right (sound-kind k ak) s.passes (omega (arith, at, more)))
+      grind (arith, goes-in, only-lack-behind, sound-kind)
 
   goes-warns : (k : SyntaxKind) (message hint : List ℕ) (i j : ℕ) (q : List ℕ) → is_error k ≡ false → n + o.back ≤ i → i ≡ j + (n + o.back) → Goes (warns k message hint) n o i (length (take (n + o.back) o.nodes)) q (j ∷ q)
-  goes-warns k message hint i j q ak l e c s =
-      let b = behind-of i q c l s in
-      let at : length (drop (n + c.back) c.hole.left) ≡ j = omega (arith, e, b.left) in
-      goes-in (warns k message hint) i _ (j ∷ q) c b _ (length (drop (n + c.back) c.hole.left) ∷ path_in c.hole.deep) b.kept (ap (λ m. m ∷ path_in c.hole.deep) at ∙ ap (λ r. j ∷ r) s.path)
-      (only-in (warned_head k message hint) (take (n + c.back) c.hole.left) (record { left = drop (n + c.back) c.hole.left; deep = c.hole.deep; right = c.hole.right }) (path_in c.hole.deep) (sound-kind k ak) s.passes refl)
+  goes-warns k message hint i j q ak l e c s = let b = behind-of i q c l s in grind arith
 
   module _ (Q : ℕ → List ℕ → Type 0) (cs ds : List (Spot A)) where
     -- what becomes of a position where a spot sits, by where its hole goes

@@ -1,11 +1,11 @@
 -- The units of two texts that are asked the same before a stretch and after it.
 use Rattle.std.proofs.Common.{◌≡◌, ℕ, zero, suc, ◌+◌, ◌-◌, ◌<◌, ◌≤◌, ◌^◌, max, min, List, [], ◌∷◌, ◌++◌, length, take, drop, append_assoc, append-nil, refl, ap, sym, ◌∙◌, subst, arith, Bool, true, length-append, Some, None}
-use Rattle.typst_edits.proofs.Words.{take-append_seam, entry_kind_of, count_of, back_of, entry_of, entries_by, last_start, spliced, units_of, Units, units_by, Entry, EntryKind, Place, moved, moved_from, width, position, stretch, far, near, Mark, Note, State, Ask, shift, looked, marked, moved-sum, text_with, AllEndBy, AllBeginIn, Noting, noting, token_start, notes_in, entries_from, AllNotedBy, Look, no_log, logged, Outcome, start_point, CharClasses, markup_reading, rules, max_depth, whole, parsed, log, made-sum, AllFrom, asks_of, Sequence, turn_of, first_of, then_of}
+use Rattle.typst_edits.proofs.Words.{take-append_seam, back_of, entry_of, entries_by, last_start, spliced, units_of, Units, units_by, Entry, EntryKind, Place, moved, moved_from, width, position, stretch, far, near, Mark, Note, State, Ask, shift, looked, marked, moved-sum, text_with, AllEndBy, AllBeginIn, Noting, noting, token_start, notes_in, entries_from, AllNotedBy, Look, no_log, logged, Outcome, start_point, CharClasses, markup_reading, rules, max_depth, whole, parsed, log, made-sum, AllFrom, asks_of, Sequence, turn_of, first_of, then_of}
 use Rattle.std.proofs.Math.Seq.{drop-append_seam}
 use Rattle.typst_language.proofs.Places.{moved-ahead}
 use Rattle.typst_edits.specs.Splice.{SpliceLaw}
 use Rattle.typst_edits.proofs.Edit.{onto, past-is}
-use Rattle.typst_edits.proofs.Bytes.{note_with, note_by, notes_from, least_from, none_yet, fresh_notes, logged-notes, logged-least, least-around, noted-length, AllMarks, notes-one}
+use Rattle.typst_edits.proofs.Bytes.{note_by, notes_from, least_from, none_yet, fresh_notes, logged-notes, logged-least, least-around, noted-length, AllMarks, notes-one}
 use Rattle.typst_edits.proofs.Widths.{width-append, width-none, width-onto, stretch-to, moved-width, take-width}
 use Rattle.typst_edits.proofs.EmptyRuns.{Never, notes-none}
 use Rattle.typst_edits.proofs.Every.{Every}
@@ -72,10 +72,7 @@ start-same p front xs ys h =
 
 note-same : (lv : ℕ) (p : Noting) (front xs ys : List ℕ) (reach least : ℕ) → p.at + p.gap ≤ length front
     → note_by lv (record { before = []; ahead = front ++ xs }) reach least p.at p.gap p.fewer p.mark p.state ≡ note_by lv (record { before = []; ahead = front ++ ys }) reach least p.at p.gap p.fewer p.mark p.state
-note-same lv p front xs ys reach least h =
-    let here = note_with lv reach least p.fewer p.mark p.state in
-    ap (λ b. here b (token_start (record { before = []; ahead = front ++ xs }) p)) (position-same p.at front xs ys (omega (arith, h)))
-    ∙ ap (λ s. here (position (moved p.at (record { before = []; ahead = front ++ ys }))) s) (start-same p front xs ys h)
+note-same lv p front xs ys reach least h = grind (arith, position-same, start-same)
 
 pub front-same : (lv : ℕ) (front xs ys : List ℕ) (asks : List Ask) (p : Noting) (reach least : ℕ) → AllEndBy (length front) asks → AllNotedBy (length front) asks → p.at + p.gap ≤ length front
     → notes_from lv (record { before = []; ahead = front ++ xs }) reach least (asks ++ noting p ∷ []) ≡ notes_from lv (record { before = []; ahead = front ++ ys }) reach least (asks ++ noting p ∷ [])
@@ -119,13 +116,7 @@ far-behind n d early rest = let a = ap (stretch n) (moved-ahead d (record { befo
 
 near-behind : (n d : ℕ) (early rest : List ℕ) → n ≤ d → d ≤ length rest → near n (moved d (record { before = early; ahead = rest })) ≡ width early + (suc (width (take d rest)) - stretch n (onto (take d rest) []))
 unfolding near position
-near-behind n d early rest h k =
-    let late = onto (take d rest) [] in
-    let all : (moved_from d early rest).before ≡ late ++ early = passed-is d early rest ∙ onto-append (take d rest) early in
-    let fits : n ≤ length late = omega (arith, h, onto-length d [] rest k) in
-    let one : stretch n (moved_from d early rest).before ≡ stretch n late = ap (stretch n) all ∙ stretch-first n late early fits in
-    let two : stretch n late ≤ width late = subst (λ u. stretch n u ≤ width late) (append-nil late) (stretch-to n late [] fits) in
-    omega (arith, one, two, width-onto (take d rest) [], width-none, moved-width d early rest)
+near-behind n d early rest h k = grind (arith, passed-is, onto-append, onto-length, stretch-first, append-nil, stretch-to, width-onto, width-none, moved-width)
 
 -- Looks end and begin as far after the one byte as after the other.
 abbrev pub SameReach : ℕ → ℕ → ℕ → ℕ → Type 0
@@ -155,9 +146,7 @@ module _ (front mid rest : List ℕ) (past end : ℕ) (e : end ≡ (length front
   before = width (onto mid (onto front []))
 
   behind-place : (at : ℕ) → text_at at ≡ moved (past + at) (record { before = onto mid (onto front []); ahead = rest })
-  behind-place at =
-      let there : end + at ≡ (length front + length mid) + (past + at) = omega (arith, e) in
-      ap (λ n. moved n (text_with front mid rest)) there ∙ past-is (past + at) front mid rest
+  behind-place at = grind (arith, past-is)
 
   position-at : (at : ℕ) → position (text_at at) ≡ before + width (take (past + at) rest)
   position-at at = ap position (behind-place at) ∙ position-behind (past + at) (onto mid (onto front [])) rest
@@ -207,29 +196,16 @@ module _ (lv : ℕ) (front old new rest : List ℕ) (past end stop : ℕ) (e : e
   note-behind : (x r l t u at gap fewer : ℕ) (m : Mark) (s : State) → x ≤ top → SameReach b c r t → SameLeast top b c l u
       → entry_of (b + x) (note_by lv z r l (end + at) gap fewer m s) ≡ entry_of (c + x) (note_by lv w t u (stop + at) gap fewer m s)
   note-behind x r l t u at gap fewer m s h i j =
-      let start = start-at front old rest past end e at gap in
-      let start_new = start-at front new rest past stop f at gap in
-      let before = position-at front old rest past end e at in
-      let before_new = position-at front new rest past stop f at in
-      let reach = i (wide (past + (at + gap))) in
-      entry-same (entry_kind_of m s) (count_of m (lv - fewer)) _ _ _ _ _ _ _ _ (omega (arith, before, before_new)) (omega (arith, before, before_new, start, start_new)) (omega (arith, reach, start, start_new)) (j x h)
+      grind (arith, start-at front old rest past end e at gap, start-at front new rest past stop f at gap, position-at front old rest past end e at, position-at front new rest past stop f at, i (wide (past + (at + gap))))
 
   pub rear : (asks : List Ask) (x r l t u : ℕ) → x ≤ top → b + top < 2 ^ 64 - 1 → c + top < 2 ^ 64 - 1 → SameReach b c r t → SameLeast top b c l u → AllBeginIn past rest asks → Rear x r l t u asks
   rear [] x r l t u h big big_new i j g = record { entries = refl; back = j x h }
   rear (looked at look ∷ asks) x r l t u h big big_new i j g =
-      let o = rear asks x _ _ _ _ h big big_new (reach-same r t at look.front i) (least-same l u at look.back g.0 g.1 j) g.2 in
-      record { entries = o.entries; back = o.back }
+      grind (arith, rear asks x _ _ _ _ h big big_new (reach-same r t at look.front i) (least-same l u at look.back g.0 g.1 j) g.2)
   rear (marked at gap fewer m s ∷ asks) x r l t u h big big_new i j g =
       let y = wide (past + (at + gap)) in
       let o = rear asks y 0 (2 ^ 64 - 1) 0 (2 ^ 64 - 1) (take-width (past + (at + gap)) rest) big big_new (reach-none b c) (least-none top b c (2 ^ 64 - 1) big big_new) g in
-      let ns = notes_from lv z 0 (2 ^ 64 - 1) (shift end asks) in
-      let ms = notes_from lv w 0 (2 ^ 64 - 1) (shift stop asks) in
-      let first = note-behind x r l t u at gap fewer m s h i j in
-      let rest_same = ap (λ n. entries_by n ns) (start-at front old rest past end e at gap) ∙ o.entries ∙ ap (λ n. entries_by n ms) (sym (start-at front new rest past stop f at gap)) in
-      record {
-        entries = ap (λ n. n ∷ entries_by (position (moved gap (moved (end + at) z))) ns) first ∙ ap (λ es. entry_of (c + x) (note_by lv w t u (stop + at) gap fewer m s) ∷ es) rest_same;
-        back = ap (λ n. back_of (last_start n ns) (least_from lv z (2 ^ 64 - 1) (shift end asks))) (start-at front old rest past end e at gap) ∙ o.back ∙ ap (λ n. back_of (last_start n ms) (least_from lv w (2 ^ 64 - 1) (shift stop asks))) (sym (start-at front new rest past stop f at gap));
-      }
+      grind (arith, note-behind, start-at)
 
 -- ---- parts
 
@@ -375,8 +351,7 @@ splice-texts k front old new rest first p q own all own_new all_new behind back 
     (noted-first n first (noting p ∷ []) noted_all) (noted-last n first p noted_all) one (subst (λ a. Side max_depth w a own_new all_new behind back) same two) in
     let part = λ (a : Noting). entries_from (token_start w a) (logged max_depth w no_log own_new).notes in
     let units = λ (asks : List Ask). units_of (logged max_depth z no_log asks) in
-    ap (λ ls. units_of (logged max_depth w no_log ls)) now ∙ law
-    ∙ (λ v. spliced (from_is v) (from_is v + count_is v) (part (sym same v)) (units (sym was v)))
+    grind arith
 
 -- ---- after a token
 
@@ -400,11 +375,7 @@ side-ended lv z p q own all second looks rest own_is none all_is =
     let all_notes : fresh_notes lv z all ≡ ns ++ ms = ap (fresh_notes lv z) all_is ∙ notes-split lv z second rest q 0 none_yet in
     let ends : last_start tp ns ≡ tq = last-is lv z second q 0 none_yet tp in
     let least : least_from lv z none_yet all ≡ least_from lv z none_yet rest = ap (least_from lv z none_yet) all_is ∙ least-around lv z second q rest in
-    record {
-      entries = ap (entries_by tp) all_notes ∙ entries-append tp ns ms ∙ ap (λ n. entries_by tp ns ++ entries_by n ms) ends ∙ ap (λ u. entries_by tp u ++ entries_by tq ms) (sym own_notes);
-      ends = ap (λ u. back_of (last_start tp u) (least_from lv z none_yet all)) all_notes ∙ ap (λ n. back_of n (least_from lv z none_yet all)) (last-append tp ns ms ∙ ap (λ n. last_start n ms) ends)
-          ∙ ap (back_of (last_start tq ms)) least;
-    }
+    grind (arith, entries-append, last-append)
 
 -- where the note's token begins there
 pub side-closed : (lv : ℕ) (z : Place) (p q : Noting) (own all second looks : List Ask) (at : ℕ) (last : List Ask) → own ≡ second ++ noting q ∷ looks → AllMarks Never looks → all ≡ second ++ noting q ∷ shift at last
@@ -416,25 +387,13 @@ side-closed lv z p q own all second looks at last own_is none all_is begins =
 -- No note of its own is made, where the note's token begins there.
 pub side-open : (lv : ℕ) (z : Place) (p : Noting) (own all : List Ask) (at : ℕ) (last : List Ask) → AllMarks Never own → all ≡ shift at last → token_start z p ≡ position (moved at z)
     → Side lv z p own all (entries_at lv z at last) (back_at lv z at last)
-side-open lv z p own all at last none all_is begins =
-    let tp = token_start z p in
-    let ms = fresh_notes lv z (shift at last) in
-    let own_notes = notes-none lv z own 0 none_yet none in
-    record {
-      entries = ap (λ u. entries_by tp (fresh_notes lv z u)) all_is ∙ ap (λ n. entries_by n ms) begins ∙ ap (λ u. entries_by tp u ++ entries_at lv z at last) (sym own_notes);
-      ends = ap (λ u. back_of (last_start tp (fresh_notes lv z u)) (least_from lv z none_yet u)) all_is ∙ ap (λ n. back_of (last_start n ms) (least_from lv z none_yet (shift at last))) begins;
-    }
+side-open lv z p own all at last none all_is begins = grind (arith, notes-none)
 
 -- No note at all follows a note at the text's start.
 pub side-none : (lv : ℕ) (z : Place) (p : Noting) (own all : List Ask) → AllMarks Never own → AllMarks Never all → AllFrom 0 z all → token_start z p ≡ 0 → Side lv z p own all [] 0
 side-none lv z p own all bare none begun begins =
-    let tp = token_start z p in
-    let all_notes = notes-none lv z all 0 none_yet none in
     let back : back_of 0 (least_from lv z none_yet all) ≡ 0 = omega (arith, least-over lv 0 z all none_yet (omega arith) (omega arith) begun) in
-    record {
-      entries = ap (entries_by tp) all_notes ∙ ap (λ u. entries_by tp u ++ []) (sym (notes-none lv z own 0 none_yet bare));
-      ends = ap (λ u. back_of (last_start tp u) (least_from lv z none_yet all)) all_notes ∙ ap (λ n. back_of n (least_from lv z none_yet all)) begins ∙ back;
-    }
+    grind (arith, token_start z p, notes-none lv z all 0 none_yet none, notes-none)
 
 -- the same after two stretches, where the tokens begin at two places, as many characters after them
 pub record SameAfter (lv : ℕ) (z w : Place) (end stop at at_new : ℕ) (last : List Ask) : Type 0 where
@@ -460,10 +419,7 @@ same-after lv front old new rest past gap at at_new last at_is new_is big big_ne
     let r_is : position (moved at_new w) ≡ c + x = ap (λ n. position (moved n w)) new_is ∙ position-at front new rest past stop refl gap in
     let ns = fresh_notes lv z (shift end last) in
     let ms = fresh_notes lv w (shift stop last) in
-    record {
-      entries = ap (λ n. entries_by n ms) r_is ∙ sym behind.entries ∙ ap (λ n. entries_by n ns) (sym q_is);
-      back = ap (λ n. back_of (last_start n ms) (least_from lv w none_yet (shift stop last))) r_is ∙ sym behind.back ∙ ap (λ n. back_of (last_start n ns) (least_from lv z none_yet (shift end last))) (sym q_is);
-    }
+    grind arith
 
 -- directly after them
 pub same-at : (lv : ℕ) (front old new rest : List ℕ) (past : ℕ) (last : List Ask) → width (front ++ (old ++ rest)) < 2 ^ 64 - 1 → width (front ++ (new ++ rest)) < 2 ^ 64 - 1 → AllBeginIn past rest last
@@ -512,10 +468,7 @@ bare-shift d (marked at gap fewer m s ∷ asks) h = absurd h.0
 
 near-here : (at : ℕ) (look : Look) (z : Place) → look.back ≡ 0 → position (moved at z) < near look.back (moved (at + 0) z)
 unfolding near position stretch
-near-here at look z e =
-    let same : at + 0 ≡ at = omega arith in
-    let is : near look.back (moved (at + 0) z) ≡ near 0 (moved at z) = ap (λ n. near n (moved (at + 0) z)) e ∙ ap (λ n. near 0 (moved n z)) same in
-    omega (arith, is)
+near-here at look z e = grind arith
 
 pub each-from : (at : ℕ) (look : Look) (z : Place) (asks : List Ask) → look.back ≡ 0 → Every (λ a. a ≡ looked 0 look) asks → AllFrom (position (moved at z)) z (shift at asks)
 each-from at look z [] e h = tt

@@ -1,6 +1,6 @@
 -- The law of an edit inside a block, for whatever the language can say.
 use Rattle.std.proofs.Common.{◌≡◌, ℕ, suc, ◌+◌, ◌-◌, ◌≤◌, inl, inr, Bool, true, false, ◌&&◌, if◌then◌else◌, nat_le, List, [], ◌∷◌, ◌++◌, length, take, drop, length-append, length-take, length-drop, append_assoc, refl, ap, sym, ◌∙◌, subst, arith, ◌<◌, zero, max, nat_lt, map, Option, Some, None}
-use Rattle.typst_edits.proofs.Words.{take-append-le, drop-map, drop-append-le, SyntaxKind, is_error, Head, inner_head, Tree, forest, trees, inner_of, error_of, with_kind, text_of, topped, trees_forest, Point, point_of, gap_of, NodeChange, first_changed, without_parens, is_delimited, in_parens, Shape, shaped, after_node, after_shape, hinted, seen, is_sign, ends_with, renamed_last, parens_renamed, after_change, stays, turns_wrong, is_not, renamed, unparened, keeps, holds, lacks, warns, fails, under, Deep, fill, Hole, plug, stub, between_parens, changed_deep, first_hole, change_hole, in_node, in_nodes, after_nodes, lack_hole, warned_head, wrap_in, wrap_past, wrap_hole, Place, moved, Ask, SameIn, Outcome, Meaning, less, joined, followed, answered, turns, as_last, bound, repeated, before, reshaped, wrapped, nestings, nesting, grown, is_more, growths, growing, Framed, Backs, Within, same_in-shift, same_in-first, same_in-second, moved-sum, length-less, Spot, around, Fits, unit_at, block_head, then_spot, after_spot, valued, rehole, flat_map, ltb-true, Begin, and-second, grew, turns-enough, Spots, joined_spots, goes, last_spot, turns_spots, repeated_spots, reshaped_spot, wrapped_spot, nestings_spots, nesting_spots, grown_spot, growths_spots, growing_spots, drop-append-add, length-hinted, if-true, if-false}
+use Rattle.typst_edits.proofs.Words.{take-append-le, drop-map, drop-append-le, SyntaxKind, is_error, Head, inner_head, Tree, forest, trees_forest, Point, point_of, gap_of, NodeChange, first_changed, without_parens, is_delimited, in_parens, Shape, shaped, after_shape, hinted, seen, is_sign, ends_with, renamed_last, parens_renamed, after_change, stays, turns_wrong, is_not, renamed, unparened, keeps, holds, under, Deep, fill, Hole, plug, stub, between_parens, changed_deep, first_hole, change_hole, in_node, in_nodes, after_nodes, wrap_in, wrap_past, wrap_hole, Place, moved, Ask, SameIn, Outcome, Meaning, less, joined, followed, answered, turns, as_last, bound, repeated, before, reshaped, wrapped, nestings, nesting, grown, is_more, growths, growing, Framed, Backs, Within, same_in-shift, same_in-first, same_in-second, moved-sum, length-less, Spot, around, Fits, unit_at, block_head, then_spot, after_spot, valued, rehole, flat_map, ltb-true, Begin, and-second, grew, turns-enough, Spots, joined_spots, goes, last_spot, turns_spots, repeated_spots, reshaped_spot, wrapped_spot, nestings_spots, nesting_spots, grown_spot, growths_spots, growing_spots, drop-append-add, length-hinted, if-true, if-false}
 use Rattle.typst_language.specs.Shape.{changed, Seen}
 use Rattle.typst_edits.specs.Hole.Deep.{bare}
 use Rattle.typst_edits.specs.Hole.{top}
@@ -10,8 +10,7 @@ use Rattle.typst_language.proofs.Backs.{shape-counts, backs-turns, tidy-nestings
 use Rattle.typst_tree.proofs.Stretches.{le_from as le-is}
 use Rattle.typst_edits.proofs.Every.{Every, every-map, every-if, every-by, every-append, every-flat, every-any}
 use Rattle.typst_edits.proofs.Outcomes.{head-fill, then-around, after-around, same-outcome, seen-plug}
-use Rattle.std.proofs.lemmas.Bool.{leb-false, lt-ltb}
-use Rattle.typst_language.proofs.Parens.{other-stays}
+use Rattle.std.proofs.lemmas.Bool.{leb-false}
 use Rattle.typst_language.proofs.Frame.{framed-turns, framed-nestings, grew-asks}
 use Rattle.typst_kinds.specs.declared.kind.SyntaxKind.TheVariants as kind
 
@@ -46,22 +45,15 @@ after-more change t [] u us s = refl
 after-more change t (v ∷ ts) u us s = refl
 
 changes-more : (change : NodeChange) (h : Head) (t : Tree) (left : List Tree) (d : Deep) (right : List Tree) → Solid d h → Changes change h (t ∷ left) d right (record { left = first_changed change (t ∷ left); deep = d; right = right })
-changes-more change h t left d right solid = record {
-  nodes = λ x e. first-more change t left (fill d x ∷ right);
-  solid = solid;
-  state = λ x y s e f. after-more change t left (fill d x) right s ∙ sym (after-more change t left (fill d y) right s);
-  few = λ x s n e l. subst (λ (u : Point). u.empties ≤ length right) (sym (after-more change t left (fill d x) right s)) l;
-}
+changes-more change h t left d right solid = grind (arith, first-more, after-more)
 
 -- A node that is no error and doesn't become one.
 after-solid : (change : NodeChange) (t u : Tree) (right : List Tree) (s : Point) → changed change t ≡ u → is_error t.head.kind ≡ false → is_error u.head.kind ≡ false
     → after_change change (t ∷ right) s ≡ (elim right as (λ _. Point) [ [] ↦ record s { empties = 0; is_after_error = false } | v ∷ vs ↦ s ])
-after-solid change t u [] s e f g = ap (λ (b : Bool). if b then s else after_node (is_error (changed change t).head.kind) (text_of t) s) f ∙ ap (λ (v : Tree). after_node (is_error v.head.kind) (text_of t) s) e ∙ ap (λ (b : Bool). after_node b (text_of t) s) g
-after-solid change t u (v ∷ vs) s e f g = refl
+after-solid change t u right s e f g = grind arith
 
 few-right : (right : List Tree) (s : Point) → s.empties ≤ length right → (elim right as (λ _. Point) [ [] ↦ record s { empties = 0; is_after_error = false } | u ∷ us ↦ s ]).empties ≤ length right
-few-right [] s h = omega arith
-few-right (u ∷ us) s h = h
+few-right right s h = grind arith
 
 first-is : (change : NodeChange) (t : Tree) (ts : List Tree) → first_changed change (t ∷ ts) ≡ changed change t ∷ ts
 first-is stays t ts = refl
@@ -76,18 +68,7 @@ record Turns (change : NodeChange) (h : Head) (d e : Deep) : Type 0 where
   solid : Solid e h
 
 changes-first : (change : NodeChange) (h : Head) (d e : Deep) (right : List Tree) → Solid d h → Turns change h d e → Changes change h [] d right (first_hole right e)
-changes-first change h d e right solid t = record {
-  nodes = λ x i. first-is change (fill d x) right ∙ ap (λ u. u ∷ right) (t.node x i);
-  solid = t.solid;
-  state = λ x y s i j. after x s i ∙ sym (after y s j);
-  few = λ x s n i l. subst (λ (u : Point). u.empties ≤ length right) (sym (after x s i)) (few-right right s l);
-}
-  where
-    no-error : (f : Deep) → Solid f h → (x : Tree) → x.head ≡ h → is_error (fill f x).head.kind ≡ false
-    no-error f k x i = ap (λ (a : Head). is_error a.kind) (head-fill f x h i) ∙ k
-
-    after : (x : Tree) (s : Point) → x.head ≡ h → after_change change (fill d x ∷ right) s ≡ (elim right as (λ _. Point) [ [] ↦ record s { empties = 0; is_after_error = false } | u ∷ us ↦ s ])
-    after x s i = after-solid change (fill d x) (fill e x) right s (t.node x i) (no-error d solid x i) (no-error e t.solid x i)
+changes-first change h d e right solid t = grind arith
 
 -- ---- parens in math
 
@@ -113,33 +94,15 @@ renamed-past k (t ∷ v ∷ left) y u right = ap (λ ts. t ∷ ts) (renamed-past
 -- without its parens
 parens-off : (head : Head) (left : List Tree) (d : Deep) (right : List Tree) (h : Head) (x : Tree) → x.head ≡ h → (is_delimited head.kind && in_parens (left ++ stub d h ∷ right)) ≡ true
     → without_parens (fill (under head left d right) x) ≡ record { head = record head { kind = kind.Math }; kids = forest (parens_renamed (left ++ fill d x ∷ right)) }
-parens-off head left d right h x i e =
-    let ts = left ++ fill d x ∷ right in
-    let is = trees_forest ts in
-    let off : List Tree → Tree = λ us. record { head = record head { kind = kind.Math }; kids = forest (parens_renamed us) } in
-    ap (λ (b : Bool). if b then off (trees (forest ts)) else (fill (under head left d right) x))
-    (ap (λ us. is_delimited head.kind && in_parens us) is ∙ ap (λ (b : Bool). is_delimited head.kind && b) (parens-head left (fill d x) (stub d h) right (head-fill d x h i)) ∙ e)
-    ∙ ap off is
+parens-off head left d right h x i e = grind (arith, trees_forest, parens-head, head-fill)
 
 -- or as it was
 parens-on : (head : Head) (left : List Tree) (d : Deep) (right : List Tree) (h : Head) (x : Tree) → x.head ≡ h → (is_delimited head.kind && in_parens (left ++ stub d h ∷ right)) ≡ false
     → without_parens (fill (under head left d right) x) ≡ fill (under head left d right) x
-parens-on head left d right h x i e =
-    let ts = left ++ fill d x ∷ right in
-    ap (λ (b : Bool). if b then record { head = record head { kind = kind.Math }; kids = forest (parens_renamed (trees (forest ts))) } else (fill (under head left d right) x))
-    (ap (λ us. is_delimited head.kind && in_parens us) (trees_forest ts) ∙ ap (λ (b : Bool). is_delimited head.kind && b) (parens-head left (fill d x) (stub d h) right (head-fill d x h i)) ∙ e)
+parens-on head left d right h x i e = grind (arith, trees_forest, parens-head, head-fill)
 
 turns-between : (h head : Head) (left : List Tree) (d : Deep) (right : List Tree) → (is_delimited head.kind && in_parens (left ++ stub d h ∷ right)) ≡ true → Every (Turns unparened h (under head left d right)) (between_parens head left d right)
-turns-between h head [] d right e = tt
-turns-between h head (t ∷ left) d [] e = tt
-turns-between h head (t ∷ left) d (u ∷ right) e = (
-  record {
-    node = λ x i. parens-off head (t ∷ left) d (u ∷ right) h x i e
-        ∙ ap (λ ts. record { head = record head { kind = kind.Math }; kids = forest (with_kind kind.LeftParen t ∷ ts) }) (renamed-past kind.RightParen left (fill d x) u right);
-    solid = refl;
-  },
-  tt,
-)
+turns-between h head left d right e = grind (arith, parens-off, renamed-past)
 
 -- ---- the node with the hole changes
 
@@ -148,15 +111,9 @@ every-turns stays h d solid = (record { node = λ x i. refl; solid = solid }, tt
 every-turns (turns_wrong message) h d solid = tt
 every-turns (is_not thing) h d solid = tt
 every-turns (renamed kind) h bare solid = tt
-every-turns (renamed kind) h (under head left d right) solid =
-    every-if (Turns (renamed kind) h (under head left d right)) (is_error kind) [] _ (λ e. tt)
-    (λ e. (record { node = λ x i. (let t = fill (under head left d right) x in ap (λ (b : Bool). if b then t else topped t (record head { kind = kind })) solid); solid = e }, tt))
-every-turns unparened h bare solid =
-    every-if (Turns unparened h bare) (is_delimited h.kind) [] _ (λ e. tt)
-    (λ e. (record { node = λ x i. sym (other-stays x (ap (λ (a : Head). is_delimited a.kind) i ∙ e)); solid = solid }, tt))
-every-turns unparened h (under head left d right) solid =
-    every-if (Turns unparened h (under head left d right)) (is_delimited head.kind && in_parens (left ++ stub d h ∷ right)) (between_parens head left d right) _ (λ e. turns-between h head left d right e)
-    (λ e. (record { node = λ x i. parens-on head left d right h x i e; solid = solid }, tt))
+every-turns (renamed kind) h (under head left d right) solid = grind arith
+every-turns unparened h bare solid = grind arith
+every-turns unparened h (under head left d right) solid = grind (arith, every-if, turns-between, parens-on)
 
 every-changes : (change : NodeChange) (h : Head) (left : List Tree) (d : Deep) (right : List Tree) → Solid d h → Every (Changes change h left d right) (change_hole change h left d right)
 every-changes change h (t ∷ left) d right solid = (changes-more change h t left d right solid, tt)
@@ -184,36 +141,15 @@ wraps-node : (shape : Shape) (head : Head) (kept left : List Tree) (d : Deep) (r
     → ((x : Tree) → x.head ≡ h → shaped shape (left ++ fill d x ∷ right) ≡ record { head = head; kids = forest (plug p x) } ∷ [])
     → ((ts : List Tree) (s : Point) → after_shape shape ts s ≡ record s { empties = 0; is_after_error = false })
     → Every (WrapsIn shape kept left d right h) (in_node head kept p)
-wraps-node shape head kept left d right h p e f =
-    every-if (WrapsIn shape kept left d right h) (is_error head.kind) [] _ (λ t. tt)
-    (λ t. (
-      record {
-        nodes = λ x i. ap (λ u. kept ++ u) (e x i);
-        state = λ x y s i j. f (left ++ fill d x ∷ right) s ∙ sym (f (left ++ fill d y ∷ right) s);
-        few = λ x s i l. subst (λ (u : Point). u.empties ≤ 0) (sym (f (left ++ fill d x ∷ right) s)) (omega arith);
-        solid = t;
-      },
-      tt,
-    ))
+wraps-node shape head kept left d right h p e f = grind arith
 
 wraps-nodes : (change : NodeChange) (kind : _) (kept left : List Tree) (d : Deep) (right : List Tree) (h : Head) (ps : List Hole) → Every (Changes change h left d right) ps
     → Every (WrapsIn (holds change kind) kept left d right h) (in_nodes (inner_head kind) kept ps)
-wraps-nodes change kind kept left d right h [] e = tt
-wraps-nodes change kind kept left d right h (p ∷ ps) e =
-    wraps-node (holds change kind) (inner_head kind) kept left d right h p (λ x i. ap (λ u. inner_of kind (forest u) ∷ []) (e.0.nodes x i)) (λ ts s. refl)
+wraps-nodes change kind kept left d right h ps e = grind arith
 
 wraps-behind : (change : NodeChange) (kept left : List Tree) (d : Deep) (right : List Tree) (h : Head) (ps : List Hole) → Every (Changes change h left d right) ps
     → Every (WrapsIn (keeps change) kept left d right h) (after_nodes kept ps)
-wraps-behind change kept left d right h [] e = tt
-wraps-behind change kept left d right h (p ∷ ps) e = (
-  record {
-    nodes = λ x i. ap (λ u. kept ++ u) (e.0.nodes x i) ∙ sym (append_assoc kept p.left (fill p.deep x ∷ p.right));
-    state = λ x y s i j. e.0.state x y s i j;
-    few = λ x s i l. e.0.few x s 0 i l;
-    solid = e.0.solid;
-  },
-  tt,
-)
+wraps-behind change kept left d right h ps e = grind (arith, append_assoc)
 
 -- after the node with the hole
 take-past : (left : List Tree) (j : ℕ) (y : Tree) (right : List Tree) → take (length left + suc j) (left ++ y ∷ right) ≡ left ++ y ∷ take j right
@@ -225,40 +161,19 @@ drop-past left j y right = drop-append-add left (y ∷ right) (suc j)
 lack-at : (b : Bool) (count : ℕ) (error : Tree) (left : List Tree) (d : Deep) (right : List Tree) (x : Tree) → nat_le count (length left) ≡ b
     → take count (left ++ fill d x ∷ right) ++ error ∷ drop count (left ++ fill d x ∷ right)
     ≡ plug (if b then record { left = take count left ++ error ∷ drop count left; deep = d; right = right } else record { left = left; deep = d; right = take (count - suc (length left)) right ++ error ∷ drop (count - suc (length left)) right }) x
-lack-at true count error left d right x e =
-    let l = le-is count (length left) e in
-    ap (λ u. u ++ error ∷ drop count (left ++ fill d x ∷ right)) (take-append-le count left (fill d x ∷ right) l)
-    ∙ ap (λ u. take count left ++ error ∷ u) (drop-append-le count left (fill d x ∷ right) l)
-    ∙ sym (append_assoc (take count left) (error ∷ drop count left) (fill d x ∷ right))
+lack-at true count error left d right x e = grind (arith, le-is, take-append-le, drop-append-le, append_assoc)
 lack-at false count error left d right x e =
     let l = leb-false count (length left) e in
     let j = count - suc (length left) in
     let c : count ≡ length left + suc j = omega arith in
-    ap (λ n. take n (left ++ fill d x ∷ right) ++ error ∷ drop n (left ++ fill d x ∷ right)) c
-    ∙ ap (λ u. u ++ error ∷ drop (length left + suc j) (left ++ fill d x ∷ right)) (take-past left j (fill d x) right)
-    ∙ ap (λ u. (left ++ fill d x ∷ take j right) ++ error ∷ u) (drop-past left j (fill d x) right)
-    ∙ append_assoc left (fill d x ∷ take j right) (error ∷ drop j right)
+    grind (arith, take-past, drop-past, append_assoc)
 
 wraps-in : (shape : Shape) (kept left : List Tree) (d : Deep) (right : List Tree) (h : Head) → Solid d h → Every (WrapsIn shape kept left d right h) (wrap_in shape h kept left d right)
-wraps-in (keeps change) kept left d right h solid = wraps-behind change kept left d right h (change_hole change h left d right) (every-changes change h left d right solid)
-wraps-in (holds change kind) kept left d right h solid = wraps-nodes change kind kept left d right h (change_hole change h left d right) (every-changes change h left d right solid)
-wraps-in (lacks count message kind) kept left d right h solid =
-    wraps-node (lacks count message kind) (inner_head kind) kept left d right h (lack_hole count (error_of message []) left d right)
-    (λ x i. ap (λ u. inner_of kind (forest u) ∷ []) (lack-at (nat_le count (length left)) count (error_of message []) left d right x refl)) (λ ts s. refl)
-wraps-in (warns kind message hint) kept left d right h solid =
-    wraps-node (warns kind message hint) (warned_head kind message hint) kept left d right h (record { left = left; deep = d; right = right }) (λ x i. refl) (λ ts s. refl)
-wraps-in (fails message) kept left d right h solid = tt
+wraps-in shape kept left d right h solid = grind (arith, wraps-behind, every-changes, wraps-nodes, wraps-node, lack-at)
 
 -- the first nodes are apart
 wraps-apart : (shape : Shape) (k : ℕ) (hole : Hole) (h : Head) (g : Hole) → k ≤ length hole.left → WrapsIn shape (take k hole.left) (drop k hole.left) hole.deep hole.right h g → Wraps shape k hole h g
-wraps-apart shape k hole h g l e =
-    let split : (x : Tree) → drop k (plug hole x) ≡ drop k hole.left ++ fill hole.deep x ∷ hole.right = λ x. drop-append-le k hole.left (fill hole.deep x ∷ hole.right) l in
-    record {
-      nodes = λ x i. ap (λ u. u ++ shaped shape (drop k (plug hole x))) (take-append-le k hole.left (fill hole.deep x ∷ hole.right) l) ∙ ap (λ u. take k hole.left ++ shaped shape u) (split x) ∙ e.nodes x i;
-      state = λ x y s i j. ap (λ u. after_shape shape u s) (split x) ∙ e.state x y s i j ∙ sym (ap (λ u. after_shape shape u s) (split y));
-      few = λ x s i m. subst (λ u. (after_shape shape u s).empties ≤ length g.right) (sym (split x)) (e.few x s i m);
-      solid = e.solid;
-    }
+wraps-apart shape k hole h g l e = grind (arith, drop-append-le, take-append-le)
 
 -- The hole is before what becomes something else.
 wraps-past : (shape : Shape) (hole : Hole) (h : Head) (j : ℕ) → Solid hole.deep h → Wraps shape (length hole.left + suc j) hole h (wrap_past shape j hole)
@@ -365,53 +280,21 @@ lawful-then z w o n f c frames tidy l =
 -- ---- after something
 
 fits-after : {A B : Type 0} (o : Outcome B) (c : Spot A) (b d : Outcome (Unit {0})) (x : Tree) → b ≡ d → Fits (after_spot o c) b x → Fits c d x
-fits-after o c b d x e f = record {
-  state = sym (ap (λ u. u.state) e) ∙ f.state;
-  back = sym (ap (λ u. u.back) e) ∙ f.back;
-  hints = sym (ap (λ u. u.hints) e) ∙ f.hints;
-  nodes = sym (ap (λ u. u.nodes) e) ∙ f.nodes;
-  head = f.head;
-}
+fits-after o c b d x e f = grind arith
 
 -- The block is read at the same place.
 unit-after : {A B : Type 0} (o : Outcome B) (c : Spot A) (z : Place) → unit_at (after_spot o c) z ≡ unit_at c (moved o.taken z)
 unit-after o c z = ap (λ u. c.reads u (point_of c.start)) (moved-sum o.taken c.at z)
 
 pub edits-after : {A B : Type 0} (z w : Place) (o : Outcome B) (c : Spot A) (x : Tree) → Edits z w (after_spot o c) x → Edits (moved o.taken z) (moved o.taken w) c x
-edits-after z w o c x e =
-    let b = unit-after o c z in
-    let d = unit-after o c w in
-    let zs : (k : ℕ) → moved (c.at + k) (moved o.taken z) ≡ moved ((o.taken + c.at) + k) z = λ k. (let f : o.taken + (c.at + k) ≡ (o.taken + c.at) + k = omega arith in sym (moved-sum o.taken (c.at + k) z) ∙ ap (λ j. moved j z) f) in
-    let ws : (k : ℕ) → moved (c.at + k) (moved o.taken w) ≡ moved ((o.taken + c.at) + k) w = λ k. (let f : o.taken + (c.at + k) ≡ (o.taken + c.at) + k = omega arith in sym (moved-sum o.taken (c.at + k) w) ∙ ap (λ j. moved j w) f) in
-    record {
-      before = same_in-shift o.taken c.before z w (same_in-second o.asks _ z w e.before);
-      fits = fits-after o c _ _ x d e.fits;
-      covers = subst (λ u. 0 < u.taken) b e.covers;
-      some = subst (λ u. 0 < u.taken) d e.some;
-      after = same_in-at c.after _ _ _ _ (ap (λ u. moved (c.at + u.taken) (moved o.taken z)) (sym b) ∙ zs (unit_at (after_spot o c) z).taken)
-          (ap (λ u. moved (c.at + u.taken) (moved o.taken w)) (sym d) ∙ ws (unit_at (after_spot o c) w).taken) e.after;
-    }
+edits-after z w o c x e = grind (arith, unit-after, moved-sum, same_in-shift, same_in-second, fits-after, same_in-at)
 
 around-after : {A B : Type 0} (o : Outcome B) (c : Spot A) (z : Place) (q : Outcome A) (x : Tree) → q ≡ around c (unit_at c (moved o.taken z)) x → joined o q ≡ around (after_spot o c) (unit_at (after_spot o c) z) x
 around-after o c z q x e = ap (joined o) e ∙ after-around o c (unit_at c (moved o.taken z)) x ∙ ap (λ u. around (after_spot o c) u x) (sym (unit-after o c z))
 
 pub lawful-after : {A B : Type 0} (z w : Place) (o n : Outcome B) (f : B → Meaning A) (c : Spot A) → (SameIn o.asks z w → n ≡ o)
     → Lawful (moved o.taken z) (moved o.taken w) (f o.value (moved o.taken z) o.state) (f o.value (moved o.taken w) o.state) c → Lawful z w (followed o f z) (followed n f w) (after_spot o c)
-lawful-after z w o n f c frames l =
-    let b = unit-after o c z in
-    record {
-      old = around-after o c z _ c.node l.old;
-      fits = record {
-        state = ap (λ u. u.state) b ∙ l.fits.state;
-        back = ap (λ u. u.back) b ∙ l.fits.back;
-        hints = ap (λ u. u.hints) b ∙ l.fits.hints;
-        nodes = ap (λ u. u.nodes) b ∙ l.fits.nodes;
-        head = l.fits.head;
-      };
-      few = l.few;
-      solid = l.solid;
-      swaps = λ x e. ap (λ u. followed u f w) (frames (same_in-first o.asks _ z w e.before)) ∙ around-after o c w _ x (l.swaps x (edits-after z w o c x e));
-    }
+lawful-after z w o n f c frames l = grind (arith, unit-after, around-after, same_in-first, edits-after)
 
 -- What an edit inside each block of a reading gives.
 abbrev pub Inside : {A : Type 0} → Meaning A → Spots A → Type 0
@@ -423,13 +306,7 @@ lawful-same z w o p n k c e l f = record { old = e ∙ l.old; fits = l.fits; few
 -- What is made of an outcome, whatever a block in it gives, of a spot with the same block: with what its own state and hole say.
 pub lawful-by : {A B : Type 0} (f : Outcome A → Outcome B) (z w : Place) (o n : Outcome A) (c : Spot A) (d : Spot B) → Lawful z w o n c → ((b : Outcome (Unit {0})) (x : Tree) → x.head ≡ block_head c.name → f (around c b x) ≡ around d b x)
     → ((y : Place) → unit_at c y ≡ unit_at d y) → c.node ≡ d.node → Fits d (unit_at d z) d.node → d.state.empties ≤ length d.hole.right → Solid d.hole.deep (block_head d.name) → ((x : Tree) → Edits z w d x → Edits z w c x) → Lawful z w (f o) (f n) d
-lawful-by f z w o n c d l same units node fits few solid edits = record {
-  old = ap f l.old ∙ same (unit_at c z) c.node l.fits.head ∙ ap (λ b. around d b c.node) (units z) ∙ ap (around d (unit_at d z)) node;
-  fits = fits;
-  few = few;
-  solid = solid;
-  swaps = λ x e. ap f (l.swaps x (edits x e)) ∙ same (unit_at c w) x (edits x e).fits.head ∙ ap (λ b. around d b x) (units w);
-}
+lawful-by f z w o n c d l same units node fits few solid edits = grind arith
 
 pub every-same : {A : Type 0} (z w : Place) (o p n k : Outcome A) (xs ys : List (Spot A)) → p ≡ o → k ≡ n → ys ≡ xs → Every (Lawful z w o n) xs → Every (Lawful z w p k) ys
 every-same z w o p n k xs ys e f g h = rw (e, f, g) h
@@ -448,13 +325,7 @@ joined-inside z w o n f cs ds frames tidy same i j =
 
 -- with another answer, state and hole
 pub edits-as : {A B : Type 0} (z w : Place) (v : B) (s : Point) (g : Hole) (c : Spot A) (x : Tree) → Edits z w (rehole s (valued v c) g) x → Edits z w c x
-edits-as z w v s g c x e = record {
-  before = e.before;
-  fits = record { state = e.fits.state; back = e.fits.back; hints = e.fits.hints; nodes = e.fits.nodes; head = e.fits.head };
-  covers = e.covers;
-  some = e.some;
-  after = e.after;
-}
+edits-as z w v s g c x e = grind arith
 
 pub edits-last : {A B : Type 0} (z w : Place) (c : Spot (B × A)) (x : Tree) → Edits z w (last_spot c) x → Edits z w c x
 edits-last z w c x e = edits-as z w c.value.1 c.state c.hole c x e
@@ -469,8 +340,7 @@ lawful-last z w o n c l = lawful-by second z w o n c (last_spot c) l (λ b x e. 
 
 -- A part with a block in it takes something, before and after.
 pub took-same : {A : Type 0} (z w : Place) (o n : Outcome A) (c : Spot A) (x : Tree) → Lawful z w o n c → Edits z w c x → nat_lt 0 n.taken ≡ nat_lt 0 o.taken
-took-same z w o n c x l e =
-    lt-ltb 0 n.taken (omega (arith, ap (λ u. u.taken) (l.swaps x e), e.some)) ∙ sym (lt-ltb 0 o.taken (omega (arith, ap (λ u. u.taken) l.old, e.covers)))
+took-same z w o n c x l e = grind arith
 
 pub value-same : {A : Type 0} (z w : Place) (o n : Outcome A) (c : Spot A) (x : Tree) → Lawful z w o n c → Edits z w c x → n.value ≡ o.value
 value-same z w o n c x l e = ap (λ u. u.value) (l.swaps x e) ∙ sym (ap (λ u. u.value) l.old)
@@ -541,9 +411,7 @@ around-rehole shape n c g b x e f h = same-outcome c.value _ _ _ _ _ _ _ _ _ _ _
 
 pub lawful-reshaped : {A : Type 0} (shape : Shape) (n : ℕ) (z w : Place) (o p : Outcome A) (c : Spot A) (g : Hole) → Wraps shape (n + c.back) c.hole (block_head c.name) g
     → Lawful z w o p c → Lawful z w (reshaped shape n o) (reshaped shape n p) (rehole (wrap_state shape (n + c.back) c) c g)
-lawful-reshaped shape n z w o p c g h l =
-    lawful-by (reshaped shape n) z w o p c (rehole (wrap_state shape (n + c.back) c) c g) l (λ b x e. around-rehole shape n c g b x e l.fits.head h) (λ y. refl) refl
-    (record { state = l.fits.state; back = l.fits.back; hints = l.fits.hints; nodes = l.fits.nodes; head = l.fits.head }) (h.few c.node c.state l.fits.head l.few) h.solid (edits-rehole z w _ c g)
+lawful-reshaped shape n z w o p c g h l = grind arith
 
 -- By a shape that may be another in the new text, unless the edit is inside.
 pub every-reshaped : {A : Type 0} (shape other : Shape) (n : ℕ) (z w : Place) (o p : Outcome A) (c : Spot A) → Lawful z w o p c → ((x : Tree) → Edits z w c x → other ≡ shape)
@@ -564,9 +432,7 @@ around-wrapped f n c g b x e h i =
 
 lawful-wrapped : {A : Type 0} (f : A → Shape) (n : ℕ) (z w : Place) (o p : Outcome A) (c : Spot A) (g : Hole) → Wraps (f c.value) (n + c.back) c.hole (block_head c.name) g
     → Lawful z w o p c → Lawful z w (wrapped f n o) (wrapped f n p) (valued (wrapped_value n c) (rehole (wrap_state (f c.value) (n + c.back) c) c g))
-lawful-wrapped f n z w o p c g h l =
-    lawful-by (wrapped f n) z w o p c (valued (wrapped_value n c) (rehole (wrap_state (f c.value) (n + c.back) c) c g)) l (λ b x e. around-wrapped f n c g b x e l.fits.head h) (λ y. refl) refl
-    (record { state = l.fits.state; back = l.fits.back; hints = l.fits.hints; nodes = l.fits.nodes; head = l.fits.head }) (h.few c.node c.state l.fits.head l.few) h.solid (λ x e. edits-as z w (wrapped_value n c) (wrap_state (f c.value) (n + c.back) c) g c x e)
+lawful-wrapped f n z w o p c g h l = grind (arith, lawful-by, around-wrapped, edits-as)
 
 map-both : {X Y Z : Type 0} (f : Y → Z) (g : X → Y) (xs : List X) → map f (map g xs) ≡ map (λ x. f (g x)) xs
 map-both f g [] = refl

@@ -1,5 +1,5 @@
 -- The byte at which the children begin of the node at the end of a path, in a tree with a hole there; spans aside it is the same.
-use Rattle.std.proofs.Common.{◌≡◌, ℕ, zero, suc, ◌+◌, List, [], ◌∷◌, ◌++◌, length, take, length-append, Option, Some, None, refl, ap, sym, ◌∙◌, arith}
+use Rattle.std.proofs.Common.{◌≡◌, ℕ, zero, suc, ◌+◌, List, [], ◌∷◌, ◌++◌, length, take, length-append, Option, Some, refl, ap, sym, ◌∙◌, arith}
 use Rattle.typst_edits.proofs.Words.{slice_get, option_map, take-append_seam, inner_head, Tree, Forest, none, more, forest, trees, bare, bare_forest, inner_of, start_at, or_none, texts, Deep, fill, path_in, Hole, plug, path_of, under}
 use Rattle.typst_tree.specs.Tree.{joined}
 use Rattle.typst_edits.specs.Hole.Deep.{bare as alone}
@@ -22,8 +22,7 @@ got-bare zero (more h ks r) = refl
 got-bare (suc i) (more h ks r) = got-bare i r
 
 or-bare : (f : Tree → ℕ) → ((t : Tree) → f (bare t) ≡ f t) → (o : Option Tree) → or_none f (option_map bare o) ≡ or_none f o
-or-bare f h None = refl
-or-bare f h (Some t) = h t
+or-bare f h o = grind arith
 
 start-bare : (path : List ℕ) (i : ℕ) (t : Tree) → start_at path i (bare t) ≡ start_at path i t
 start-bare [] i t = ap (λ xs. length t.head.text + length xs) (taken-bare i t.kids)

@@ -1,7 +1,7 @@
 -- Each expression of markup begins by taking the token at hand, so everything after some pieces is the same, except for the trivia before it.
-use Rattle.std.proofs.Common.{◌≡◌, ℕ, ◌+◌, ◌-◌, ◌<◌, ◌≤◌, Bool, true, false, ◌||◌, if◌then◌else◌, nat_lt, List, [], ◌∷◌, ◌++◌, length, take, drop, map, length-append, append_assoc, Some, refl, ap, sym, ◌∙◌, subst, arith, ◌&&◌, ◌==◌, Option}
+use Rattle.std.proofs.Common.{◌≡◌, ℕ, ◌+◌, ◌-◌, ◌<◌, ◌≤◌, Bool, true, false, ◌||◌, if◌then◌else◌, nat_lt, List, [], ◌∷◌, ◌++◌, length, take, drop, map, length-append, append_assoc, Some, refl, ap, sym, ◌∙◌, subst, arith, ◌==◌, Option}
 use Rattle.std.proofs.Math.Seq.{drop-append_seam}
-use Rattle.typst_edits.proofs.Words.{take-append_seam, map-append, SyntaxKind, is_error, Place, moved, Tree, text_of, Look, Call, Reading, Ask, shift, shift_one, sunk, SameIn, looked, as_at_hand, len_at, hand_at, hand_asks, asks_column, column_look, AtHand, column_at, Trivia, Point, Making, hinted, Shape, shaped, after_shape, after_node, seen, peek, eat_making, eat, flush_trivia, node, unexpected, within, Parser, ◌>>=◌, ◌>>◌, at_token, column, takes, does, next, wraps, scoped, calls, gives, pick, repeat, Outcome, Meaning, Level, plain, less, standing, joined, followed, inside, wrapped, renewed, left, taken_node, run, answered, as_last, repeated, hand_of, hand_asks_of, asked, flushed_state, Tidy, Backs, Within, moved-sum, less-none, length-less, less-append, lt-ltb, Block, MarkupExpr, Newlines, anywhere, too_deep, deeper, is_end, itself, surprise, of_kind, hand-takes, Sane, sane-run, same_in-first, ends, note_piece, markup_turn, markup_head, markup_by, markup_expr, minds, goes, left-empties, length-hinted, hinted-append, MarkupHead, if-true, if-false}
+use Rattle.typst_edits.proofs.Words.{take-append_seam, map-append, SyntaxKind, is_error, Place, moved, Tree, text_of, Look, Call, Reading, Ask, shift, shift_one, sunk, SameIn, looked, as_at_hand, len_at, hand_at, hand_asks, asks_column, column_look, AtHand, column_at, Trivia, Point, Making, hinted, Shape, shaped, after_shape, after_node, seen, peek, eat_making, eat, flush_trivia, node, unexpected, within, Parser, ◌>>=◌, ◌>>◌, at_token, column, takes, does, next, wraps, scoped, calls, gives, pick, repeat, Outcome, Meaning, Level, plain, less, standing, joined, followed, inside, wrapped, renewed, left, taken_node, run, answered, as_last, repeated, hand_of, hand_asks_of, asked, flushed_state, Tidy, Backs, Within, moved-sum, less-none, length-less, less-append, Block, MarkupExpr, Newlines, anywhere, too_deep, deeper, is_end, itself, surprise, of_kind, hand-takes, Sane, sane-run, same_in-first, ends, note_piece, markup_turn, markup_head, markup_by, markup_expr, minds, goes, left-empties, length-hinted, hinted-append, MarkupHead, if-true, if-false}
 use Rattle.typst_language.specs.Hand.{judged}
 use Rattle.typst_language.specs.Steps.{convert_and_eat}
 use Rattle.typst_language.proofs.Places.{take-all}
@@ -40,9 +40,7 @@ unfolding less
 none-less n = take-all (0 - n) [] (omega arith)
 
 pub less-behind : (n : ℕ) (xs ys : List Tree) → n ≤ length ys → less n (xs ++ ys) ≡ xs ++ less n ys
-less-behind n xs ys h =
-    let e : n - length ys ≡ 0 = omega (arith, h) in
-    less-append n xs ys ∙ ap (λ j. less j xs ++ less n ys) e ∙ ap (λ u. u ++ less n ys) (less-none xs)
+less-behind n xs ys h = grind (arith, less-append, less-none)
 
 pub drop-front : {A : Type 0} (xs ys : List A) (n : ℕ) → n ≡ length xs → drop n (xs ++ ys) ≡ ys
 drop-front xs ys n e = ap (λ j. drop j (xs ++ ys)) e ∙ drop-append_seam xs ys
@@ -51,9 +49,7 @@ pub take-front : {A : Type 0} (xs ys : List A) (n : ℕ) → n ≡ length xs →
 take-front xs ys n e = ap (λ j. take j (xs ++ ys)) e ∙ take-append_seam xs ys
 
 pub none-of : (b c : Bool) (hs js : List (List ℕ)) → hs ≡ [] → js ≡ [] → (if b then hs else (if c then js else hs ++ js)) ≡ []
-none-of true c hs js e f = e
-none-of false true hs js e f = f
-none-of false false hs js e f = ap (λ u. u ++ js) e ∙ f
+none-of b c hs js e f = grind arith
 
 -- ---- one outcome after the trivia, and one that has them before it
 
@@ -80,10 +76,7 @@ pub record Led {A : Type 0} (t : Trivia) (us : List Tree) (trims : Bool) (o c : 
   pub few : c.state.empties < length front.rest
 
 pub standing-led : {A B : Type 0} (xs rest : List Tree) (o : Outcome B) (q : Outcome A) → o.nodes ≡ xs ++ rest → q.back < length rest → standing q o.nodes ≡ xs ++ (hinted q.hints (less q.back rest) ++ q.nodes)
-standing-led xs rest o q e h =
-    let some : 0 < length (less q.back rest) = omega (arith, length-less q.back rest, h) in
-    ap (λ ts. hinted q.hints (less q.back ts) ++ q.nodes) e ∙ ap (λ ts. hinted q.hints ts ++ q.nodes) (less-behind q.back xs rest (omega (arith, h)))
-    ∙ ap (λ ts. ts ++ q.nodes) (hinted-append q.hints xs (less q.back rest) some) ∙ append_assoc xs (hinted q.hints (less q.back rest)) q.nodes
+standing-led xs rest o q e h = grind (arith, length-less, less-behind, hinted-append, append_assoc)
 
 -- After it everything is the same.
 pub led-joined : {A B : Type 0} (t : Trivia) (us : List Tree) (trims : Bool) (o c : Outcome B) (q : Outcome A) → Led t us trims o c → Tidy c.state q → Led t us trims (joined o q) (joined c q)
@@ -200,22 +193,16 @@ abbrev pub Takes : {A : Type 0} → Reading → Place → Trivia → Trivia → 
 Takes h z t u trims m = (r : Reading) (e d : ℕ) (a b : Bool) → (trims ≡ true → e ≡ d) → Led t u.nodes trims (m z (before_trivia r h e a t)) (m (moved t.gap z) (before_trivia r h d b (after_trivia u)))
 
 pub same-renewed : (b : Bool) (text : List ℕ) (r h : Reading) (e d : ℕ) (i j : Bool) (t u : Trivia) → renewed (after_node b text (before_trivia r h e i t)) ≡ renewed (after_node b text (before_trivia r h d j u))
-same-renewed true text r h e d i j t u = refl
-same-renewed false text r h e d i j t u = refl
+same-renewed b text r h e d i j t u = grind arith
 
 same-back : (trims : Bool) (e d : ℕ) → (trims ≡ true → e ≡ d) → (if trims then e else 0) ≡ (if trims then d else 0)
-same-back true e d h = h refl
-same-back false e d h = refl
+same-back trims e d h = grind arith
 
 pub no-back : (trims : Bool) (d : ℕ) → trims ≡ false → (if trims then d else 0) ≡ 0
-no-back true d h = cc
-no-back false d h = refl
+no-back trims d h = grind arith
 
 two-asks : (b d : Bool) (g : ℕ) (x y : Look) → d ≡ b → (looked g x ∷ []) ++ (if b then looked g y ∷ [] else []) ≡ shift g ((looked 0 x ∷ []) ++ (if d then looked 0 y ∷ [] else []))
-two-asks true true g x y same = let e : g ≡ g + 0 = omega arith in ap (λ n. looked n x ∷ looked n y ∷ []) e
-two-asks false false g x y same = let e : g ≡ g + 0 = omega arith in ap (λ n. looked n x ∷ []) e
-two-asks true false g x y same = cc
-two-asks false true g x y same = cc
+two-asks b d g x y same = grind arith
 
 module _ (l : Level) (h : Reading) (z : Place) (t u : Trivia) (alike : SameJudged h t u) where
   -- The looks at the token are the same.
@@ -382,9 +369,7 @@ pub record Taking (l : Level) (stops : SyntaxKind → Bool) : Type 0 where
 -- ---- all after some pieces
 
 pub goes-same : {A : Type 0} (t : Trivia) (us : List Tree) (trims : Bool) (o c : Outcome (Bool × A)) → Led t us trims o c → goes o ≡ goes c
-goes-same t us trims o c h =
-    let more : 0 < o.taken = omega (arith, h.some, h.front.taken) in
-    ap (λ v. v.0 && nat_lt 0 o.taken) h.front.value ∙ ap (λ b. c.value.0 && b) (lt-ltb 0 o.taken more ∙ sym (lt-ltb 0 c.taken h.some))
+goes-same t us trims o c h = grind arith
 
 module _ {A : Type 0} (m : A → Meaning (Bool × A)) (within : (x : A) → Within (m x)) where
   -- a turn that goes on, and one that doesn't
@@ -420,8 +405,7 @@ pub record KnownFlush (s : Point) : Type 0 where
 
 -- The end is a stop.
 pub end-by : (stops : SyntaxKind → Bool) → stops kind.End ≡ true → (n : ℕ) (k : SyntaxKind) → ends stops n k ≡ false → is_end k ≡ false
-end-by stops e n kind.End f = let g : true ≡ false = sym e ∙ f in cc
-end-by stops e n _ f = refl
+end-by stops e n k f = grind arith
 
 module _ (l : Level) (stops : SyntaxKind → Bool) (taking : Taking l stops) where
   -- all after some pieces
@@ -450,12 +434,10 @@ module _ (l : Level) (stops : SyntaxKind → Bool) (taking : Taking l stops) whe
   unfolding run markup_turn
   first-seen x q w p true g same =
       let m : Bool × ℕ → Meaning (Bool × (Bool × ℕ)) = λ (v : Bool × ℕ). run l (markup_turn true stops v) in
-      let is = one-turn m (λ n. (sane-run l taking.calls_sane taking.blocks_sane (markup_turn true stops n)).within) x q p g in
-      same_in-first (hand_asks_of l q p) _ q w (same_in-first (m x q p).asks _ q w (subst (λ (o : Outcome (Bool × ℕ)). SameIn o.asks q w) is same))
+      grind (arith, one-turn m (λ n. (sane-run l taking.calls_sane taking.blocks_sane (markup_turn true stops n)).within) x q p g, same_in-first)
   first-seen x q w p false g same =
       let m : Bool × ℕ → Meaning (Bool × (Bool × ℕ)) = λ (v : Bool × ℕ). run l (markup_turn true stops v) in
-      let is = last-turn m (λ n. (sane-run l taking.calls_sane taking.blocks_sane (markup_turn true stops n)).within) x q p g in
-      same_in-first (hand_asks_of l q p) _ q w (subst (λ (o : Outcome (Bool × ℕ)). SameIn o.asks q w) is same)
+      grind (arith, last-turn m (λ n. (sane-run l taking.calls_sane taking.blocks_sane (markup_turn true stops n)).within) x q p g, same_in-first)
 
   pub hand-seen : (x : Bool × ℕ) (q w : Place) (p : Point) → SameIn (behind x q p).asks q w → SameIn (hand_asks_of l q p) q w
   unfolding run

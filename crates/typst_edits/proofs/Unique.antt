@@ -51,12 +51,7 @@ pub one-answer-law : OpensApartLaw → OneAnswerLaw
 one-answer-law apart k front old new rest root now other range another same (part es c ls ts split refused gives is start end) (part fs d ms us split_other refused_other gives_other is_other start_other end_other) =
     let one : c ≡ d = first-one (Refused k front old new rest root) es c ls fs d ms (sym split ∙ split_other) refused refused_other (not-refused apart k front old new rest root c ts now gives is) (not-refused apart k front old new rest root d us other gives_other is_other) in
     let nodes : ts ≡ us = unique-law apart k front old new rest root c ts us same (chosen-of _ es c ls split) gives (subst (λ b. Gives k front old new rest b us) (sym one) gives_other) in
-    let placed : replaced_at c.path c.from c.to ts root ≡ replaced_at d.path d.from d.to us root = λ i. replaced_at (one i).path (one i).from (one i).to (nodes i) root in
-    let from = ap (λ (b : Candidate). b.start) one in
-    let to = ap (λ (b : Candidate). b.end) one in
-    let starts : range.start ≡ another.start = start ∙ from ∙ sym start_other in
-    let ends : range.end ≡ another.end = omega (arith, to, end, end_other) in
-    (some-is now other (sym is ∙ placed ∙ is_other), (λ i. record { start = starts i; end = ends i }))
+    grind arith
 one-answer-law apart k front old new rest root now other range another same (part es c ls ts split refused gives is start end) (whole refused_other is_other bytes_other) =
     absurd (not-refused apart k front old new rest root c ts now gives is (among (Refused k front old new rest root) c _ (chosen-of _ es c ls split) refused_other))
 one-answer-law apart k front old new rest root now other range another same (whole refused is bytes) (part fs d ms us split_other refused_other gives_other is_other start_other end_other) =

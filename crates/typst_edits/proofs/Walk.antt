@@ -1,10 +1,10 @@
 -- Where a block of a text stands, and that the steps by places lead to each block that covers the stretch strictly.
-use Rattle.std.proofs.Common.{◌≡◌, ℕ, suc, ◌+◌, ◌-◌, ◌≤◌, Bool, true, false, ◌&&◌, if◌then◌else◌, nat_le, List, [], ◌∷◌, ◌++◌, length, take, drop, append_assoc, append-nil, refl, ap, sym, ◌∙◌, subst, arith, zero, ◌<◌, max, length-append, encode_utf8, encode_utf8_all, nat_lt, map, length-take, option_map, Some, None}
-use Rattle.typst_edits.proofs.Words.{is_error, Head, inner_head, Place, moved, Tree, error_of, text_of, trees, CharClasses, Block, Call, utf8_ahead, Point, forgot, point_of, NodeChange, Shape, hinted, is_delimited, in_parens, stays, turns_wrong, is_not, renamed, unparened, keeps, holds, lacks, warns, fails, Parser, flushes, does, Rules, meaning_of, level_of, Outcome, Level, blockless, answered, joined, less, done, run, start_point, Tidy, Stands, Sane, sane-run, sane-meaning, sane-block, sane-plain, texts, texts-append, text-shaped, texts-one, texts-first, text-add, same-hinted, kept-joined, Holds, Deep, Hole, stub, between_parens, changed_deep, first_hole, change_hole, in_node, in_nodes, after_nodes, lack_hole, warned_head, wrap_in, wrap_past, wrap_hole, plug, fill, path_in, path_of, under, Spot, block_head, after_spot, rehole, ended, unit_at, here_spot, Spots, level_spots, level_seconds, width, ahead-left, markup_reading, rules, max_depth, start_of, whole, parsed, Among, text_with, blocks_of_text, block_at, Named, width-positive, and_right, take-append-drop, lawful-block, if-true, if-false}
+use Rattle.std.proofs.Common.{◌≡◌, ℕ, suc, ◌+◌, ◌-◌, ◌≤◌, Bool, true, false, ◌&&◌, if◌then◌else◌, List, [], ◌∷◌, ◌++◌, length, take, drop, append_assoc, append-nil, refl, ap, sym, ◌∙◌, subst, arith, zero, ◌<◌, max, length-append, encode_utf8, encode_utf8_all, nat_lt, map, length-take, option_map, Some}
+use Rattle.typst_edits.proofs.Words.{is_error, Head, Place, moved, Tree, error_of, text_of, trees, CharClasses, Block, Call, utf8_ahead, Point, forgot, point_of, NodeChange, Shape, hinted, is_delimited, stays, turns_wrong, is_not, renamed, unparened, keeps, Parser, flushes, does, Rules, meaning_of, level_of, Outcome, Level, blockless, answered, joined, less, done, run, start_point, Tidy, Stands, Sane, sane-run, sane-meaning, sane-block, sane-plain, texts, texts-append, text-shaped, texts-one, texts-first, text-add, same-hinted, kept-joined, Holds, Deep, Hole, between_parens, changed_deep, first_hole, change_hole, in_node, in_nodes, after_nodes, wrap_in, wrap_hole, plug, fill, path_in, path_of, under, Spot, block_head, after_spot, rehole, ended, unit_at, here_spot, Spots, level_spots, level_seconds, width, ahead-left, markup_reading, rules, max_depth, start_of, whole, parsed, Among, text_with, blocks_of_text, block_at, Named, width-positive, and_right, take-append-drop, lawful-block, if-true, if-false}
 use Rattle.typst_lines.specs.Place.{char_width}
 use Rattle.typst_language.proofs.Leaves.{texts-same, kept-grown}
 use Rattle.typst_edits.specs.Hole.Deep.{bare}
-use Rattle.std.proofs.lemmas.Bool.{and_from, lt-ltb, le-ltb}
+use Rattle.std.proofs.lemmas.Bool.{and_from, le-ltb}
 use Rattle.typst_language.proofs.Backs.{tidy-grew}
 use Rattle.typst_edits.proofs.Every.{Every, every-map, every-if}
 use Rattle.typst_edits.proofs.Names.{Walks, Steps, each-level, each-second-level, named-level}
@@ -16,7 +16,6 @@ use Rattle.typst_edits.proofs.Spots.{Lawful}
 use Rattle.typst_edits.proofs.Law.{inside-level}
 use Rattle.typst_edits.specs.Walk.{Step, over, walk, walk_to, WalkLaw}
 use Rattle.typst_edits.proofs.Widths.{width-append, width-before, width-over}
-use Rattle.typst_kinds.specs.declared.kind.SyntaxKind.TheVariants as kind
 
 -- ---- where a block of a reading stands: what the nodes before its own hold are the characters before it
 
@@ -35,9 +34,7 @@ Alike text gs = Every (λ g. left_text g ≡ text) gs
 
 -- The node with the hole changes.
 alike-between : (head : Head) (left : List Tree) (d : Deep) (right : List Tree) → Every (λ (e : Deep). deep_text e ≡ head.text ++ (texts left ++ deep_text d)) (between_parens head left d right)
-alike-between head [] d right = tt
-alike-between head (t ∷ left) d [] = tt
-alike-between head (t ∷ left) d (u ∷ right) = (ap (λ x. head.text ++ (x ++ deep_text d)) (text-shaped (keeps (renamed kind.LeftParen)) (t ∷ left)), tt)
+alike-between head left d right = grind arith
 
 alike-deep : (change : NodeChange) (h : Head) (d : Deep) → Every (λ (e : Deep). deep_text e ≡ deep_text d) (changed_deep change h d)
 alike-deep stays h d = (refl, tt)
@@ -46,8 +43,7 @@ alike-deep (is_not thing) h d = tt
 alike-deep (renamed kind) h bare = tt
 alike-deep (renamed kind) h (under head left d right) = every-if (λ (e : Deep). deep_text e ≡ deep_text (under head left d right)) (is_error kind) [] _ (λ e. tt) (λ e. (refl, tt))
 alike-deep unparened h bare = every-if (λ (e : Deep). deep_text e ≡ []) (is_delimited h.kind) [] _ (λ e. tt) (λ e. (refl, tt))
-alike-deep unparened h (under head left d right) =
-    every-if (λ (e : Deep). deep_text e ≡ deep_text (under head left d right)) (is_delimited head.kind && in_parens (left ++ stub d h ∷ right)) (between_parens head left d right) _ (λ e. alike-between head left d right) (λ e. (refl, tt))
+alike-deep unparened h (under head left d right) = grind (arith, every-if, alike-between)
 
 -- The first node changes.
 alike-changed : (change : NodeChange) (h : Head) (left : List Tree) (d : Deep) (right : List Tree) → Alike (texts left ++ deep_text d) (change_hole change h left d right)
@@ -55,15 +51,13 @@ alike-changed change h (t ∷ left) d right = (ap (λ x. x ++ deep_text d) (text
 alike-changed change h [] d right = every-map (λ (e : Deep). deep_text e ≡ deep_text d) (λ (g : Hole). left_text g ≡ deep_text d) (first_hole right) (λ e i. i) (changed_deep change h d) (alike-deep change h d)
 
 alike-behind : (kept : List Tree) (text : List ℕ) (gs : List Hole) → Alike text gs → Alike (texts kept ++ text) (after_nodes kept gs)
-alike-behind kept text [] h = tt
-alike-behind kept text (g ∷ gs) h = (ap (λ x. x ++ deep_text g.deep) (texts-append kept g.left) ∙ append_assoc (texts kept) (texts g.left) (deep_text g.deep) ∙ ap (λ x. texts kept ++ x) h.0, tt)
+alike-behind kept text gs h = grind (arith, texts-append, append_assoc)
 
 alike-node : (head : Head) (kept : List Tree) (text : List ℕ) (g : Hole) → head.text ≡ [] → left_text g ≡ text → Alike (texts kept ++ text) (in_node head kept g)
 alike-node head kept text g e h = every-if (λ (u : Hole). left_text u ≡ texts kept ++ text) (is_error head.kind) [] (record { left = kept; deep = under head g.left g.deep g.right; right = [] } ∷ []) (λ t. tt) (λ t. (ap (λ x. texts kept ++ (x ++ (texts g.left ++ deep_text g.deep))) e ∙ ap (λ x. texts kept ++ x) h, tt))
 
 alike-nodes : (head : Head) (kept : List Tree) (text : List ℕ) (gs : List Hole) → head.text ≡ [] → Alike text gs → Alike (texts kept ++ text) (in_nodes head kept gs)
-alike-nodes head kept text [] e h = tt
-alike-nodes head kept text (g ∷ gs) e h = alike-node head kept text g e h.0
+alike-nodes head kept text gs e h = grind arith
 
 texts-lacking : (count : ℕ) (message : List ℕ) (ts : List Tree) → texts (take count ts ++ error_of message [] ∷ drop count ts) ≡ texts ts
 texts-lacking count message ts = texts-append (take count ts) (error_of message [] ∷ drop count ts) ∙ sym (texts-append (take count ts) (drop count ts)) ∙ ap texts (take-append-drop count ts)
@@ -75,20 +69,14 @@ alike-lacking count message left d right true = ap (λ x. x ++ deep_text d) (tex
 alike-lacking count message left d right false = refl
 
 alike-in : (shape : Shape) (h : Head) (kept left : List Tree) (d : Deep) (right : List Tree) → Alike (texts kept ++ (texts left ++ deep_text d)) (wrap_in shape h kept left d right)
-alike-in (keeps change) h kept left d right = alike-behind kept _ _ (alike-changed change h left d right)
-alike-in (holds change kind) h kept left d right = alike-nodes (inner_head kind) kept _ _ refl (alike-changed change h left d right)
-alike-in (lacks count message kind) h kept left d right = alike-node (inner_head kind) kept _ (lack_hole count (error_of message []) left d right) refl (alike-lacking count message left d right (nat_le count (length left)))
-alike-in (warns kind message hint) h kept left d right = alike-node (warned_head kind message hint) kept _ (record { left = left; deep = d; right = right }) refl refl
-alike-in (fails message) h kept left d right = tt
+alike-in shape h kept left d right = grind (arith, alike-behind, alike-changed, alike-nodes, alike-node, alike-lacking)
 
 -- What is before the hole holds the same.
 alike-wrapped : (shape : Shape) (h : Head) (k : ℕ) (hole : Hole) → Alike (left_text hole) (wrap_hole shape h k hole)
 alike-wrapped shape h k hole =
     let e : texts (take k hole.left) ++ (texts (drop k hole.left) ++ deep_text hole.deep) ≡ left_text hole =
     sym (append_assoc (texts (take k hole.left)) (texts (drop k hole.left)) (deep_text hole.deep)) ∙ ap (λ x. x ++ deep_text hole.deep) (sym (texts-append (take k hole.left) (drop k hole.left)) ∙ ap texts (take-append-drop k hole.left)) in
-    every-if (λ (g : Hole). left_text g ≡ left_text hole) (nat_le k (length hole.left)) (wrap_in shape h (take k hole.left) (drop k hole.left) hole.deep hole.right) (wrap_past shape (k - suc (length hole.left)) hole ∷ [])
-    (λ t. subst (λ x. Alike x (wrap_in shape h (take k hole.left) (drop k hole.left) hole.deep hole.right)) e (alike-in shape h (take k hole.left) (drop k hole.left) hole.deep hole.right))
-    (λ t. (refl, tt))
+    grind (arith, every-if, alike-in)
 
 -- ---- a block in a larger whole
 
@@ -254,10 +242,7 @@ length-texts t ts = ap length (texts-first t ts) ∙ length-append (text_of t) (
 module _ (from to : ℕ) (order : from ≤ to) where
   over-at : (at : ℕ) (left : List Tree) (y : Tree) (right : List Tree) → at + length (texts left) < from → to < (at + length (texts left)) + length (text_of y)
       → over from to at (left ++ y ∷ right) ≡ Some (record { index = length left; start = at + length (texts left); node = y })
-  over-at at [] y right h i =
-      let e : at ≡ at + 0 = omega arith in
-      first-if (nat_lt at from) (nat_lt to (at + length (text_of y))) _ _ (lt-ltb at from (omega (arith, h))) (lt-ltb to (at + length (text_of y)) (omega (arith, i)))
-      ∙ ap (λ n. Some (record { index = 0; start = n; node = y })) e
+  over-at at [] y right h i = grind arith
   over-at at (t ∷ left) y right h i =
       let end = at + length (text_of t) in
       let l = length-texts t left in
@@ -284,8 +269,7 @@ module _ (from to : ℕ) (order : from ≤ to) where
 
   walk-over : (n at : ℕ) (left : List Tree) (y : Tree) (right : List Tree) → at + length (texts left) < from → to < (at + length (texts left)) + length (text_of y)
       → walk (suc n) from to at (left ++ y ∷ right) ≡ record { index = length left; start = at + length (texts left); node = y } ∷ walk n from to ((at + length (texts left)) + length y.head.text) (trees y.kids)
-  walk-over n at left y right h i =
-      ap (λ o. elim o as (λ _. List Step) [ None ↦ [] | Some s ↦ s ∷ walk n from to (s.start + length s.node.head.text) (trees s.node.kids) ]) (over-at at left y right h i)
+  walk-over n at left y right h i = grind (arith, over-at)
 
   walk-in : (d : Deep) (x : Tree) (at : ℕ) → at + length (deep_text d) < from → to < (at + length (deep_text d)) + length (text_of x)
       → walk (length (path_in d)) from to (at + length (fill d x).head.text) (trees (fill d x).kids) ≡ steps_in d x at
@@ -304,16 +288,7 @@ module _ (from to : ℕ) (order : from ≤ to) where
   steps_of h x = let next = length (texts h.left) in record { index = length h.left; start = next; node = fill h.deep x } ∷ steps_in h.deep x next
 
   walk-hole : (h : Hole) (x : Tree) → length (left_text h) < from → to < length (left_text h) + length (text_of x) → walk (length (path_of h)) from to 0 (plug h x) ≡ steps_of h x
-  walk-hole h x i j =
-      let y = fill h.deep x in
-      let next = length (texts h.left) in
-      let g = length-append (texts h.left) (deep_text h.deep) in
-      let long : length (path_of h) ≡ suc (length (path_in h.deep)) = omega arith in
-      let zero_is : 0 + next ≡ next = omega arith in
-      ap (λ n. walk n from to 0 (plug h x)) long
-      ∙ walk-over (length (path_in h.deep)) 0 h.left y h.right (omega (arith, i, g)) (omega (arith, j, g, size-fill h.deep x))
-      ∙ ap (λ n. record { index = length h.left; start = n; node = y } ∷ walk (length (path_in h.deep)) from to (n + length y.head.text) (trees y.kids)) zero_is
-      ∙ ap (λ ss. record { index = length h.left; start = next; node = y } ∷ ss) (walk-in h.deep x next (omega (arith, i, g)) (omega (arith, j, g)))
+  walk-hole h x i j = grind (arith, length-append, walk-over, size-fill, walk-in)
 
   -- ---- the steps
 

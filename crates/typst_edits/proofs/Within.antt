@@ -1,5 +1,5 @@
 -- Each look is at a place of the text, or at its end.
-use Rattle.std.proofs.Common.{ℕ, zero, suc, ◌+◌, ◌≤◌, max, false, List, [], ◌∷◌, ◌++◌, length, Option, Some, None, ap, arith}
+use Rattle.std.proofs.Common.{ℕ, zero, suc, ◌+◌, ◌≤◌, max, false, List, [], ◌∷◌, ◌++◌, length, Option, ap, arith}
 use Rattle.typst_edits.proofs.Words.{SyntaxMode, Place, moved, CharClasses, look, Block, Call, Reading, Ask, shift, sunk, looked, marked, len_at, at_trivia, asks_by, ahead_asks, ahead_of, ahead_asks_of, asks_column, column_look, hand_at, hand_asks, Rules, meaning_of, level_of, blocks_of, Trivia, Point, gap_of, forgot, itself, peek, Op, Parser, ◌>>◌, hand, so, further, column, erred, takes, takes_so, flushes, complains, advises, marks, is_deepest, does, Outcome, Meaning, Level, bound, inside, bounded, blockless, same_mode, hand_of, hand_asks_of, done, run, Within, Sane, sane-run, sane-meaning, sane-block, sane-plain, ahead-left, moved-sum, shape-known, on_both}
 use Rattle.typst_edits.proofs.Traversal.{Parts, all-run}
 use Rattle.typst_edits.proofs.Looks.{OfLooks, looks-both, looks-by, looks-only, looks-shifted}
@@ -35,8 +35,7 @@ trivia-within k m (suc n) z =
 
 ahead-within : (k : CharClasses) (m : SyntaxMode) (known : Option Trivia) (z : Place) → AllAt (max (gap_of known) (length z.ahead)) (ahead_asks_of k m known z)
 unfolding ahead_asks
-ahead-within k m None z = at-more (length z.ahead) (max 0 (length z.ahead)) (asks_by k m (length z.ahead) z) (omega arith) (trivia-within k m (length z.ahead) z)
-ahead-within k m (Some t) z = (omega arith, tt)
+ahead-within k m known z = grind (arith, at-more, trivia-within)
 
 hand-within : (k : CharClasses) (held : Reading) (known : Option Trivia) (z : Place) → (hand_at k held known z).gap ≤ max (gap_of known) (length z.ahead) → AllAt (max (gap_of known) (length z.ahead)) (hand_asks k held known z)
 unfolding hand_at hand_asks

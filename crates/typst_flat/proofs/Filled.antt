@@ -1,55 +1,31 @@
 -- The records of the nodes that a walk has come to are in an array.
-use Rattle.std.proofs.Common.{◌≡◌, ℕ, ◌+◌, ◌<◌, ◌≤◌, List, [], map, set, length, ap, sym, ◌∙◌, arith}
+use Rattle.std.proofs.Common.{◌≡◌, ℕ, ◌+◌, ◌<◌, ◌≤◌, List, [], set, length, arith}
 use Rattle.std.proofs.lemmas.List.{length-map}
 use Rattle.typst_tree.specs.Tree.{Tree, nodes}
-use Rattle.typst_tree.specs.Steps.{At, at, offset_of, end_of}
-use Rattle.typst_flat.specs.Records.{filled, met_in, node_record, records_in}
+use Rattle.typst_tree.specs.Steps.{at, offset_of, end_of}
+use Rattle.typst_flat.specs.Records.{filled, node_record, records_in}
 use Rattle.typst_flat.specs.Placed.{Course, IsFilled, Moves}
 use Rattle.typst_flat.specs.Walk.{ahead_from}
 use Rattle.typst_flat.specs.declared.records.Node.{Node}
 use Rattle.typst_flat.specs.declared.records.Stretch.{Stretch}
 use Rattle.typst_flat.proofs.Filling.{first_left, left_next, none_left, step_fits, step_full}
-use Rattle.typst_flat.proofs.Placing.{goes_on, one_meets, one_passes}
+use Rattle.typst_flat.proofs.Placing.{one_meets, one_passes}
 
 -- past a node that ends before the stretch
 pub put_past : (s : Stretch) (root : Tree) (n count : ℕ) (array old : List Node) → n < nodes root → offset_of (at root n) ≤ s.end → end_of (at root n) < s.start → IsFilled s root n count array old → IsFilled s root (n + 1) count array old
-put_past s root n count array old less reaches early f =
-    record { left = f.left ∙ one_passes s root n less reaches early; short = f.short; put = f.put }
+put_past s root n count array old less reaches early f = grind (arith, one_passes)
 
 -- one that meets it, and whose record fits
 pub put_fits : (s : Stretch) (root : Tree) (n count : ℕ) (array old : List Node) (y : Node) → n < nodes root → offset_of (at root n) ≤ s.end → s.start ≤ end_of (at root n) → y ≡ node_record (at root n) → count < length array → IsFilled s root n count array old → IsFilled s root (n + 1) (count + 1) (set array count y) old
-put_fits s root n count array old y less reaches begins is fits f =
-    let met : List At = met_in s root in
-    let rest : List At = ahead_from s root (n + 1) in
-    let here = f.left ∙ one_meets s root n less reaches begins in
-    let first = first_left count met (at root n) rest here in
-    record {
-      left = left_next count met (at root n) rest here;
-      short = omega (arith, first.within);
-      put = step_fits node_record count met (at root n) rest array old y here f.put is fits;
-    }
+put_fits s root n count array old y less reaches begins is fits f = grind (arith, one_meets, first_left, left_next, step_fits)
 
 -- or doesn't
 pub put_full : (s : Stretch) (root : Tree) (n count : ℕ) (array old : List Node) → n < nodes root → offset_of (at root n) ≤ s.end → s.start ≤ end_of (at root n) → length array ≤ count → IsFilled s root n count array old → IsFilled s root (n + 1) (count + 1) array old
-put_full s root n count array old less reaches begins full f =
-    let met : List At = met_in s root in
-    let rest : List At = ahead_from s root (n + 1) in
-    let here = f.left ∙ one_meets s root n less reaches begins in
-    let first = first_left count met (at root n) rest here in
-    record {
-      left = left_next count met (at root n) rest here;
-      short = omega (arith, first.within);
-      put = step_full node_record count met (at root n) rest array old here f.put full;
-    }
+put_full s root n count array old less reaches begins full f = grind (arith, one_meets, first_left, left_next, step_full)
 
 -- the walk goes on, past nodes that don't meet it
 pub put_on : (s : Stretch) (root : Tree) (v w : Course) (count : ℕ) (array old : List Node) → v.root.now ≡ root → w.root.now ≡ v.root.now → v.stretch ≡ s → Moves v w → IsFilled s root (v.number + 1) count array old → IsFilled s root w.number count array old
-put_on s root v w count array old same still stretch m f =
-    record {
-      left = f.left ∙ ((λ i. ahead_from s (sym same i) (v.number + 1)) ∙ (goes_on s v w stretch still m ∙ (λ i. ahead_from s ((still ∙ same) i) w.number)));
-      short = f.short;
-      put = f.put;
-    }
+put_on s root v w count array old same still stretch m f = grind arith
 
 -- no node is left that meets it
 pub record Put (s : Stretch) (root : Tree) (count : ℕ) (array old : List Node) : Type 0 where
@@ -57,9 +33,4 @@ pub record Put (s : Stretch) (root : Tree) (count : ℕ) (array old : List Node)
   pub array_is : array ≡ filled (records_in s root) old
 
 pub put_all : (s : Stretch) (root : Tree) (n count : ℕ) (array old : List Node) → ahead_from s root n ≡ [] → IsFilled s root n count array old → Put s root count array old
-put_all s root n count array old none f =
-    let all = none_left count (met_in s root) (f.left ∙ none) f.short in
-    record {
-      count_is = sym (length-map (met_in s root) node_record ∙ all.1);
-      array_is = f.put ∙ ap (λ xs. filled (map node_record xs) old) all.0;
-    }
+put_all s root n count array old none f = grind (arith, none_left, length-map)

@@ -33,11 +33,8 @@ pub record First {A : Type 0} (n : ℕ) (xs : List A) (x : A) (ys : List A) : Ty
 pub first_left : {A : Type 0} (n : ℕ) (xs : List A) (x : A) (ys : List A) → drop n xs ≡ x ∷ ys → First n xs x ys
 first_left zero [] x ys e = absurd (cc)
 first_left (suc n) [] x ys e = absurd (cc)
-first_left zero (z ∷ xs) x ys e =
-    record { before = cc; behind = cc; within = omega arith; long = refl }
-first_left (suc n) (z ∷ xs) x ys e =
-    let f = first_left n xs x ys e in
-    record { before = ap (λ zs. z ∷ zs) f.before; behind = f.behind; within = omega (arith, f.within); long = ap suc f.long }
+first_left zero (z ∷ xs) x ys e = grind arith
+first_left (suc n) (z ∷ xs) x ys e = grind (arith, first_left n xs x ys e)
 
 -- the same with the next number as a sum
 pub taken_next : {A : Type 0} (n : ℕ) (xs : List A) (x : A) (ys : List A) → drop n xs ≡ x ∷ ys → take (n + 1) xs ≡ take n xs ++ x ∷ []
@@ -54,20 +51,11 @@ none_left (suc n) (z ∷ xs) e h = let w = none_left n xs e (omega (arith, h)) i
 
 -- the record of the next element is put behind the others, where it fits
 pub step_fits : {A B : Type 0} (f : A → B) (n : ℕ) (xs : List A) (x : A) (ys : List A) (room old : List B) (y : B) → drop n xs ≡ x ∷ ys → room ≡ filled (map f (take n xs)) old → y ≡ f x → n < length room → set room n y ≡ filled (map f (take (n + 1) xs)) old
-step_fits f n xs x ys room old y e h g l =
-    let len : length (map f (take n xs)) ≡ n = length-map (take n xs) f ∙ (first_left n xs x ys e).long in
-    let all : length room ≡ length old = ap length h ∙ length_filled (map f (take n xs)) old in
-    let mapped : map f (take n xs) ++ f x ∷ [] ≡ map f (take (n + 1) xs) = sym (ap (map f) (taken_next n xs x ys e) ∙ map-append f (take n xs) (x ∷ [])) in
-    (λ i. set (h i) (sym len i) (g i))
-    ∙ (filled_more (map f (take n xs)) old (f x) (omega (arith, l, len, all)) ∙ ap (λ ys. filled ys old) mapped)
+step_fits f n xs x ys room old y e h g l = grind (arith, length-map, first_left, length_filled, taken_next, map-append, filled_more)
 
 -- where it doesn't fit, nothing changes
 pub step_full : {A B : Type 0} (f : A → B) (n : ℕ) (xs : List A) (x : A) (ys : List A) (room old : List B) → drop n xs ≡ x ∷ ys → room ≡ filled (map f (take n xs)) old → length room ≤ n → room ≡ filled (map f (take (n + 1) xs)) old
-step_full f n xs x ys room old e h l =
-    let len : length (map f (take n xs)) ≡ n = length-map (take n xs) f ∙ (first_left n xs x ys e).long in
-    let all : length room ≡ length old = ap length h ∙ length_filled (map f (take n xs)) old in
-    let mapped : map f (take n xs) ++ f x ∷ [] ≡ map f (take (n + 1) xs) = sym (ap (map f) (taken_next n xs x ys e) ∙ map-append f (take n xs) (x ∷ [])) in
-    h ∙ (filled_full (map f (take n xs)) old (f x) (omega (arith, l, len, all)) ∙ ap (λ ys. filled ys old) mapped)
+step_full f n xs x ys room old e h l = grind (arith, length-map, first_left, length_filled, taken_next, map-append, filled_full)
 
 -- one byte more of a text behind what stands in the array
 pub byte_fits : (bs before old room : List ℕ) (i a b : ℕ) → a ≡ saturated (length before) → room ≡ filled (before ++ take i bs) old → b ≡ get_or bs i 0 → i < length bs → saturated (a + i) < length room → length room < 2 ^ 64 → set room (saturated (a + i)) b ≡ filled (before ++ take (i + 1) bs) old
@@ -77,8 +65,7 @@ byte_fits bs before old room i a b e h g l m w =
     let all : length room ≡ length old = ap length h ∙ length_filled (before ++ take i bs) old in
     let place : saturated (a + i) ≡ length (before ++ take i bs) = omega (arith, e, len, m, w) in
     let longer : (before ++ take i bs) ++ get_or bs i 0 ∷ [] ≡ before ++ take (i + 1) bs = append_assoc before (take i bs) (get_or bs i 0 ∷ []) ∙ ap (λ ys. before ++ ys) (sym (take_more bs i 0 l)) in
-    (λ k. set (h k) (place k) (g k))
-    ∙ (filled_more (before ++ take i bs) old (get_or bs i 0) (omega (arith, m, place, all)) ∙ ap (λ ys. filled ys old) longer)
+    grind (arith, filled_more)
 
 pub byte_full : (bs before old room : List ℕ) (i a : ℕ) → a ≡ saturated (length before) → room ≡ filled (before ++ take i bs) old → i < length bs → length room ≤ saturated (a + i) → room ≡ filled (before ++ take (i + 1) bs) old
 byte_full bs before old room i a e h l m =

@@ -1,11 +1,10 @@
 -- Tags stand in their list at the places that their numbers say.
-use Rattle.std.proofs.Common.{◌≡◌, ℕ, ◌+◌, ◌-◌, ◌<◌, length, map, Some, refl, lit<}
+use Rattle.std.proofs.Common.{◌≡◌, ℕ, ◌+◌, ◌-◌, length, map, Some, refl, arith}
 use Rattle.std.specs.List.{range_with_len}
 use Rattle.std.specs.Prelude.{slice_get}
 use Rattle.typst_kinds.proofs.Places.{numbered}
 use Rattle.typst_highlight.specs.Tags.{all_tags}
 use Rattle.typst_highlight.specs.declared.tags.Tag.{Tag}
-use Rattle.typst_highlight.specs.declared.tags.Tag.TheVariants as tag
 use Rattle.typst_flat.specs.Codes.{tag_code}
 
 tags_rise : map (λ t. tag_code (Some t)) all_tags ≡ range_with_len 1 22
@@ -15,13 +14,7 @@ many_tags : length all_tags ≡ 22
 many_tags = refl
 
 pub tag_here : (t : Tag) → slice_get all_tags (tag_code (Some t) - 1) ≡ Some t
-tag_here tag.Comment = refl
-tag_here _ = refl
+tag_here t = grind arith
 
 pub tag_there : (n : ℕ) (t : Tag) → slice_get all_tags n ≡ Some t → tag_code (Some t) ≡ 1 + n
 tag_there n t e = numbered (λ t. tag_code (Some t)) all_tags 1 22 n t tags_rise many_tags e
-
--- no tag has the number 0
-pub tag_above : (t : Tag) → 0 < tag_code (Some t)
-tag_above tag.Comment = lit< tt
-tag_above _ = lit< tt

@@ -1,5 +1,5 @@
 -- A node that doesn't meet a stretch has none below it that does.
-use Rattle.std.proofs.Common.{◌≡◌, ℕ, zero, suc, ◌+◌, ◌<◌, ◌≤◌, true, false, List, [], ◌∷◌, ◌++◌, length, map, Option, Some, refl, ap, sym, subst, ◌∙◌, arith, inl, inr, append-nil, length-append}
+use Rattle.std.proofs.Common.{◌≡◌, ℕ, zero, suc, ◌+◌, ◌<◌, ◌≤◌, false, List, [], ◌∷◌, ◌++◌, length, map, Option, Some, refl, ap, sym, subst, ◌∙◌, arith, inl, inr, append-nil, length-append}
 use Rattle.std.specs.List.{filter}
 use Rattle.std.proofs.lemmas.Bool.{cases_lt}
 use Rattle.std.proofs.lemmas.Bool.Decides.{nat_tests}
@@ -76,10 +76,7 @@ outside s root n h ks r front back up st e j l m =
 
 -- numbers whose nodes don't meet a stretch
 pub passed_over : (s : Stretch) (root : Tree) (n many c : ℕ) → ((j : ℕ) → n ≤ j → j < n + many → meets s (at root j) ≡ false) → filter (meets s) (map (at root) (numbers_from n (many + c))) ≡ filter (meets s) (map (at root) (numbers_from (n + many) c))
-passed_over s root n zero c h =
-    let same : zero + c ≡ c = omega arith in
-    let number : n ≡ n + zero = omega arith in
-    ap (λ k. filter (meets s) (map (at root) (numbers_from n k))) same ∙ ap (λ k. filter (meets s) (map (at root) (numbers_from k c))) number
+passed_over s root n zero c h = grind arith
 passed_over s root n (suc many) c h =
     let fails : meets s (at root n) ≡ false = h n (omega arith) (omega arith) in
     let total : suc many + c ≡ suc (many + c) = omega arith in
@@ -89,9 +86,3 @@ passed_over s root n (suc many) c h =
     ∙ (first
     ∙ (passed_over s root (n + 1) many c (λ j l m. h j (omega (arith, l)) (omega (arith, m)))
     ∙ ap (λ k. filter (meets s) (map (at root) (numbers_from k c))) number))
-
--- the first number, whose node meets the stretch
-pub come_to : (s : Stretch) (root : Tree) (n c : ℕ) → meets s (at root n) ≡ true → filter (meets s) (map (at root) (numbers_from n (1 + c))) ≡ at root n ∷ filter (meets s) (map (at root) (numbers_from (n + 1) c))
-come_to s root n c e =
-    let total : 1 + c ≡ suc c = omega arith in
-    ap (λ k. filter (meets s) (map (at root) (numbers_from n k))) total ∙ rw e refl

@@ -1,6 +1,5 @@
 -- The walk through the nodes of a tree with their tags, step by step.
-use Rattle.std.proofs.Common.{◌≡◌, ℕ, zero, suc, ◌+◌, ◌-◌, ◌^◌, ◌<◌, ◌≤◌, true, false, ◌&&◌, not, List, [], ◌∷◌, ◌++◌, length, map, take, drop, Option, None, Some, refl, ap, sym, subst, ◌∙◌, arith, cond, append_assoc, append-nil, length-append}
-use Rattle.std.specs.Prelude.{option_and_then}
+use Rattle.std.proofs.Common.{◌≡◌, ℕ, zero, suc, ◌+◌, ◌-◌, ◌^◌, ◌<◌, ◌≤◌, true, false, ◌&&◌, not, List, [], ◌∷◌, ◌++◌, length, map, take, drop, Option, None, Some, refl, ap, sym, subst, ◌∙◌, arith, append_assoc, append-nil, length-append}
 use Rattle.std.specs.List.{filter}
 use Rattle.std.proofs.lemmas.Bool.Decides.{nat_tests}
 use Rattle.typst_kinds.specs.Head.{Head}
@@ -14,16 +13,15 @@ use Rattle.typst_tree.specs.declared.boundary.Boundary.{Boundary}
 use Rattle.typst_tree.proofs.Boundaries.{kids_are}
 use Rattle.typst_tree.proofs.ReplacesChildren.{start_le}
 use Rattle.typst_tree.proofs.WalksInPreorder.{length_places}
-use Rattle.typst_highlight.specs.declared.tags.Tag.{Tag}
 use Rattle.typst_highlight.specs.declared.context.Context.{Context}
 use Rattle.typst_highlight.specs.declared.context.Trail.{Trail}
 use Rattle.typst_highlight.specs.declared.progress.Waiting.{Waiting}
-use Rattle.typst_highlight.specs.Nodes.{kind_if, name_tag, tag_of}
+use Rattle.typst_highlight.specs.Nodes.{tag_of}
 use Rattle.typst_highlight.specs.Rules.{is_dot, is_name}
 use Rattle.typst_highlight.specs.Spans.{numbers_from}
-use Rattle.typst_highlight.specs.Walk.{tree_of, ahead_of, end, first_ahead, first_leaf, joined, resumed, root_context, tag, waiting, within, past, passed, dotted}
+use Rattle.typst_highlight.specs.Walk.{tree_of, ahead_of, end, first_ahead, first_leaf, joined, resumed, root_context, tag, waiting, within, past, passed}
 use Rattle.typst_highlight.proofs.Rows.{Stand, here, below, behind, alone, parent_here}
-use Rattle.typst_highlight.proofs.Leaves.{ahead_at, ahead_is, first_law, offset_behind, own_name, prev_here, trail_at}
+use Rattle.typst_highlight.proofs.Leaves.{ahead_at, ahead_is, first_law, offset_behind, prev_here, trail_at}
 use Rattle.typst_highlight.proofs.Contexts.{Fits, fits_below, fits_behind, fits_root, passed_here}
 use Rattle.typst_highlight.proofs.Trees.{tag_law}
 use Rattle.typst_highlight.proofs.Nears.{Alike, Near, past_near, passed_near, same_context, tag_near, within_near}
@@ -34,7 +32,7 @@ use Rattle.typst_flat.specs.Placed.{AreReady, Course, EndsIn, IsBehind, IsPlaced
 use Rattle.typst_flat.specs.declared.placed.PlacedNode.{PlacedNode}
 use Rattle.typst_flat.specs.declared.records.Stretch.{Stretch}
 use Rattle.typst_flat.proofs.Endings.{no_kids}
-use Rattle.typst_flat.proofs.Passed.{come_to, outside, passed_over}
+use Rattle.typst_flat.proofs.Passed.{outside, passed_over}
 use Rattle.typst_flat.proofs.Steps.{up_of, within_nodes}
 
 -- ---- what is around the nodes of a row
@@ -75,21 +73,7 @@ moved : {X : Type 0} (P : Tree → ℕ → X → Type 0) (root r : Tree) (n m : 
 moved P root r n m f g e h k p = subst (λ x. P x m g) (sym e) (subst (λ x. P root x g) (sym h) (subst (λ x. P root n x) (sym k) p))
 
 stays_at : (w : Course) (root : Tree) (n : ℕ) (f : Forest) (front back : List Tree) (up : Option ℕ) (c : Context) (ws : List Waiting) (b : Boundary) → nodes root < 2 ^ 64 - 1 → IsBoundary root b → Stand root n f front back up → Goes root n f up c → AreReady root (n + count f) ws → cut (up_number up) ≡ w.parent → w.root.now ≡ root → w.near ≡ b → w.number ≡ n → forest w.nodes.now ≡ f → joined w.progress ≡ c → waiting w.progress ≡ ws → Stays w
-stays_at w root n f front back up c ws b few known stands goes ready above eroot eb en ef ec ews =
-    let total : w.number + count (forest w.nodes.now) ≡ n + count f = (λ i. en i + count (ef i)) in
-    record {
-      counted = subst (λ x. nodes x < 2 ^ 64 - 1) (sym eroot) few;
-      boundary = subst (λ x. IsBoundary x w.near) (sym eroot) (subst (IsBoundary root) (sym eb) known);
-      front = front;
-      back = back;
-      up = up;
-      stands = moved (λ x m g. Stand x m g front back up) root w.root.now n w.number f (forest w.nodes.now) eroot en ef stands;
-      above = above;
-      context = goes.context;
-      fits = moved (λ x m g. Fits x m g up goes.context) root w.root.now n w.number f (forest w.nodes.now) eroot en ef goes.fits;
-      near = subst (λ x. Near x goes.context) (sym ec) goes.near;
-      ready = moved AreReady root w.root.now (n + count f) (w.number + count (forest w.nodes.now)) ws (waiting w.progress) eroot total ews ready;
-    }
+stays_at w root n f front back up c ws b few known stands goes ready above eroot eb en ef ec ews = grind arith
 
 -- ---- steps
 
@@ -106,19 +90,7 @@ record First (w : Course) (t : Tree) (r : Forest) : Type 0 where
   ready : AreReady w.root.now (w.number + count (more t.head t.kids r)) (waiting w.progress)
 
 first_of : (w : Course) (t : Tree) (r : List Tree) → Stays w → w.nodes.now ≡ t ∷ r → First w t (forest r)
-first_of w t r s e =
-    let row : forest w.nodes.now ≡ more t.head t.kids (forest r) = ap forest e in
-    record {
-      front = s.front;
-      back = s.back;
-      up = s.up;
-      stands = subst (λ g. Stand w.root.now w.number g s.front s.back s.up) row s.stands;
-      above = s.above;
-      context = s.context;
-      fits = subst (λ g. Fits w.root.now w.number g s.up s.context) row s.fits;
-      near = s.near;
-      ready = subst (λ g. AreReady w.root.now (w.number + count g) (waiting w.progress)) row s.ready;
-    }
+first_of w t r s e = grind arith
 
 -- it is one of the tree's
 pub is_within : (w : Course) (t : Tree) (r : List Tree) → Stays w → w.nodes.now ≡ t ∷ r → w.number + nodes t ≤ nodes w.root.now
@@ -205,9 +177,7 @@ stays_below_last v w t s e inner root near number up kids around rows =
 
 -- back behind a node
 ended_row : (v : Course) → Stays v → v.nodes.now ≡ [] → AreReady v.root.now v.number (waiting v.progress)
-ended_row v s e =
-    let number : v.number + count (forest v.nodes.now) ≡ v.number = omega (arith, ap (λ xs. count (forest xs)) e) in
-    subst (λ m. AreReady v.root.now m (waiting v.progress)) number s.ready
+ended_row v s e = grind arith
 
 pub stays_back : (v w : Course) (x : Waiting) → Stays v → v.nodes.now ≡ [] → waiting v.progress ≡ x ∷ waiting w.progress → joined w.progress ≡ resumed x (waiting w.progress) v.progress.trail → w.parent ≡ x.parent → w.root.now ≡ v.root.now → w.near ≡ v.near → w.number ≡ v.number → w.nodes.now ≡ x.nodes.now → Stays w
 stays_back v w x s e rows around above root near number row =
@@ -245,21 +215,14 @@ at_root w root b few known same near number up row around rows =
 
 -- of the node at hand and those after it, those that meet a stretch: it is the first of them
 pub one_meets : (s : Stretch) (root : Tree) (n : ℕ) → n < nodes root → offset_of (at root n) ≤ s.end → s.start ≤ end_of (at root n) → ahead_from s root n ≡ at root n ∷ ahead_from s root (n + 1)
-one_meets s root n less reaches begins =
-    let passes : meets s (at root n) ≡ true = grind (arith, nat_tests, reaches, begins) in
-    let whole : nodes root - n ≡ 1 + (nodes root - (n + 1)) = omega (arith, less) in
-    ap (λ k. filter (meets s) (map (at root) (numbers_from n k))) whole ∙ come_to s root n (nodes root - (n + 1)) passes
+one_meets s root n less reaches begins = grind arith
 
 ends_early : (s : Stretch) (a : At) → end_of a < s.start → meets s a ≡ false
 ends_early s a h = grind (arith, nat_tests, h)
 
 -- or it ends before the stretch
 pub one_passes : (s : Stretch) (root : Tree) (n : ℕ) → n < nodes root → offset_of (at root n) ≤ s.end → end_of (at root n) < s.start → ahead_from s root n ≡ ahead_from s root (n + 1)
-one_passes s root n less reaches early =
-    let fails : meets s (at root n) ≡ false = ends_early s (at root n) early in
-    let whole : nodes root - n ≡ 1 + (nodes root - (n + 1)) = omega (arith, less) in
-    let only : (j : ℕ) → n ≤ j → j < n + 1 → meets s (at root j) ≡ false = λ j l m. let number : n ≡ j = omega (arith, l, m) in subst (λ k. meets s (at root k) ≡ false) number fails in
-    ap (λ k. filter (meets s) (map (at root) (numbers_from n k))) whole ∙ passed_over s root n 1 (nodes root - (n + 1)) only
+one_passes s root n less reaches early = grind arith
 
 -- a node that ends before the stretch doesn't meet it, nor does what is below it
 early_passes : (s : Stretch) (root : Tree) (n : ℕ) (t : Tree) (r : Forest) (front back : List Tree) (up : Option ℕ) → Stand root n (more t.head t.kids r) front back up → end_of (at root n) < s.start → ahead_from s root n ≡ ahead_from s root (n + nodes t)
@@ -322,9 +285,7 @@ sought_on w (suc i) (t ∷ ts) start n p few early =
 
 -- where the first child of the root begins
 first_begins : (w : Course) → Stays w → w.number ≡ 1 → length w.root.now.head.text < 2 ^ 64 → length w.root.now.head.text ≡ (joined w.progress).offset
-first_begins w s one few =
-    let there : (joined w.progress).offset ≡ offset_of (at w.root.now 1) = s.near.offset ∙ (s.fits.offset ∙ ap (λ k. offset_of (at w.root.now k)) one) in
-    omega (arith, there, few, ap length (append-nil w.root.now.head.text))
+first_begins w s one few = grind (arith, append-nil)
 
 -- at a boundary among the root's children
 pub sought_near : (w : Course) (b : Boundary) (ts : List Tree) → Stays w → w.number ≡ 1 → forest w.nodes.now ≡ w.root.now.kids → length (text_of w.root.now) < 2 ^ 64 → IsBoundary w.root.now b → (0 < b.index → b.bytes < w.stretch.start) → ts ≡ drop b.index w.nodes.now → IsSought w ts b.bytes (1 + b.nodes)
@@ -338,18 +299,13 @@ sought_near w b ts s one row few is early later =
     let begun : IsSought w kids own 1 = sought_here w kids own 1 s (sym same) (first_begins w s one (omega (arith, few, most))) (sym one) in
     let there : IsSought w (drop i kids) (own + length (text_in (forest (take i kids)))) (1 + count (forest (take i kids))) = sought_on w i kids own 1 begun (omega (arith, few, most)) (λ some. omega (arith, early some, is.bytes)) in
     let rest : drop i kids ≡ ts = ap (drop i) (sym same) ∙ sym later in
-    subst (λ us. IsSought w us b.bytes (1 + b.nodes)) rest
-    (subst (λ m. IsSought w (drop i kids) m (1 + b.nodes)) (sym is.bytes)
-    (subst (λ m. IsSought w (drop i kids) (own + length (text_in (forest (take i kids)))) (1 + m)) (sym is.nodes) there))
+    grind arith
 
 -- the root is the node of number 0
 pub first_is_root : (w : Course) (t : Tree) (r : List Tree) → Stays w → w.nodes.now ≡ t ∷ r → w.number ≡ 0 → t ≡ w.root.now
 first_is_root w t r s e none_before =
     let f = first_of w t r s e in
     sym (here w.root.now w.number t f.front _ f.stands.whole f.stands.number) ∙ ap (λ k. node_of (at w.root.now k)) none_before
-
-no_dotted : (k : SyntaxKind) (x : Option Tag) → is_dot k ≡ false → dotted (Some k) x ≡ None
-no_dotted k x e = ap (λ b. cond b x None) e
 
 -- the leaves before a node, where the last one is neither a name nor a dot
 abbrev one_leaf : SyntaxKind → Trail
@@ -359,15 +315,7 @@ trail_near : (root : Tree) (q : ℕ) (t : Tree) (front rest : List Tree) (k : Sy
 trail_near root q t front rest k e n is_so kind no_name no_dot =
     let last : prev_leaf (at root (q + 1)) ≡ Some (at root q) = prev_here root q t front rest e n is_so in
     let own_kind : kind_of (at root q) ≡ k = ap (λ x. x.head.kind) (here root q t front rest e n) ∙ kind in
-    let before : kind_if (prev_leaf (at root (q + 1))) ≡ Some k = ap kind_if last ∙ ap (λ x. Some x) own_kind in
-    let nameless : is_name (kind_of (at root q)) ≡ false = ap is_name own_kind ∙ no_name in
-    let own : own_name (at root q) ≡ None = ap (λ b. cond b (name_tag (q + 1) (at root q)) None) nameless in
-    let earlier : Option Tag = option_and_then own_name (option_and_then prev_leaf (prev_leaf (at root (q + 1)))) in
-    record {
-      before = sym before;
-      name = sym (ap (option_and_then own_name) last ∙ own);
-      dotted = no_dotted k None no_dot ∙ sym (ap (λ o. dotted o earlier) before ∙ no_dotted k earlier no_dot);
-    }
+    grind arith
 
 split_seam : (front init behind_it back : List Tree) (x : Tree) → front ++ (((init ++ x ∷ []) ++ behind_it) ++ back) ≡ (front ++ init) ++ (x ∷ (behind_it ++ back))
 split_seam front init behind_it back x = simp append_assoc refl
@@ -407,33 +355,19 @@ pub passes_none : (v : Course) → Passes v v
 passes_none v = record { onward = omega arith; still = λ e. refl; left = refl }
 
 pub passes_to : (v w : Course) (r : List Tree) (e n : ℕ) → IsSought v r e n → v.number < n → w.number ≡ n → Passes v w
-passes_to v w r e n q on number =
-    record { onward = omega (arith, q.onward, number); still = λ same. absurd (omega (arith, on, number, same)); left = q.left ∙ ap (ahead_from v.stretch v.root.now) (sym number) }
+passes_to v w r e n q on number = grind arith
 
 pub passes_on : (u v w : Course) → v.root.now ≡ u.root.now → v.stretch ≡ u.stretch → Passes u v → Passes v w → Passes u w
-passes_on u v w root stretch p q =
-    record {
-      onward = omega (arith, p.onward, q.onward);
-      still = λ same. q.still (omega (arith, p.onward, q.onward, same)) ∙ p.still (omega (arith, p.onward, q.onward, same));
-      left = p.left ∙ ((λ i. ahead_from (sym stretch i) (sym root i) v.number) ∙ (q.left ∙ (λ i. ahead_from (stretch i) (root i) w.number)));
-    }
+passes_on u v w root stretch p q = grind arith
 
 -- ---- a step of the walk
 
 pub moves_one : (v w : Course) → v.number < nodes v.root.now → w.number ≡ v.number + 1 → Stays w → Moves v w
-moves_one v w less number s =
-    record { within = less; onward = omega (arith, number); left = ap (ahead_from v.stretch v.root.now) (sym number); stays = s }
+moves_one v w less number s = grind arith
 
 pub moves_by : (v u w : Course) → v.number < nodes v.root.now → u.root.now ≡ v.root.now → u.stretch ≡ v.stretch → u.number ≡ v.number + 1 → Passes u w → Stays w → Moves v w
-moves_by v u w less root stretch number p s =
-    record {
-      within = less;
-      onward = omega (arith, number, p.onward);
-      left = (λ i. ahead_from (sym stretch i) (sym root i) (sym number i)) ∙ (p.left ∙ (λ i. ahead_from (stretch i) (root i) w.number));
-      stays = s;
-    }
+moves_by v u w less root stretch number p s = grind arith
 
 -- what is left of a stretch behind the next node
 pub goes_on : (s : Stretch) (v w : Course) → v.stretch ≡ s → w.root.now ≡ v.root.now → Moves v w → ahead_from s v.root.now (v.number + 1) ≡ ahead_from s w.root.now w.number
-goes_on s v w stretch root m =
-    (λ i. ahead_from (sym stretch i) v.root.now (v.number + 1)) ∙ (m.left ∙ (λ i. ahead_from (stretch i) (sym root i) w.number))
+goes_on s v w stretch root m = grind arith

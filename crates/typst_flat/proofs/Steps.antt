@@ -13,13 +13,13 @@ use Rattle.typst_tree.specs.Steps.{At, at, node_of, offset_of, parent, children}
 use Rattle.typst_tree.specs.Linked.{left}
 use Rattle.typst_tree.proofs.WalksInPreorder.{length_places, length_preorder}
 use Rattle.typst_highlight.specs.Walk.{tree_of}
-use Rattle.typst_highlight.proofs.Rows.{Stand, here, below, behind, alone, parent_here}
+use Rattle.typst_highlight.proofs.Rows.{Stand, here, below, behind, alone}
 use Rattle.typst_highlight.specs.Spans.{numbers_from}
 use Rattle.typst_flat.specs.Records.{number_if, meets}
 use Rattle.typst_flat.specs.Walk.{RowStands, IsReady, IsAt, ahead_from, up_number}
 use Rattle.typst_flat.specs.declared.records.Stretch.{Stretch}
 use Rattle.typst_flat.specs.declared.walk.Row.{Row}
-use Rattle.typst_flat.proofs.Passed.{outside, passed_over, come_to}
+use Rattle.typst_flat.proofs.Passed.{outside, passed_over}
 
 -- trees that stand side by side end before the tree's nodes do
 pub within_nodes : (root : Tree) (k : ℕ) (f : Forest) (front back : List Tree) (up : Option ℕ) → Stand root k f front back up → k + count f ≤ nodes root
@@ -43,8 +43,7 @@ some_nodes root n above ws c = omega (arith, size_here root n above ws c)
 
 -- at the root nothing is left but all
 pub begun : (root : Tree) (n : ℕ) (ws : List Row) → n ≡ 0 → ws ≡ [] → IsReady root n (reverse ws)
-begun root n [] z e = λ h. absurd (omega (arith, z, h))
-begun root n (w ∷ ws) z e = absurd (cc)
+begun root n ws z e = grind arith
 
 -- a row without nodes is done
 none_row : (root : Tree) (n : ℕ) (f : Forest) → map (at root) (numbers n f) ≡ [] → count f ≡ 0
@@ -52,16 +51,12 @@ none_row root n none e = refl
 none_row root n (more h ks r) e = absurd (cc)
 
 pub closed : (root : Tree) (n : ℕ) (w : Row) (ws : List Row) → IsReady root n (w ∷ ws) → left w.nodes ≡ [] → IsReady root n ws
-closed root n w ws ready e =
-    let nothing : count ready.0.trees ≡ 0 = none_row root n ready.0.trees (sym ready.0.row ∙ e) in
-    let same : n + count ready.0.trees ≡ n = omega (arith, nothing) in
-    subst (λ m. IsReady root m ws) same ready.1
+closed root n w ws ready e = grind (arith, none_row)
 
 -- the first node of a row
 taken_from : (root : Tree) (n : ℕ) (f : Forest) (front back : List Tree) (w v : Row) (ws : List Row) (child : At) → Stand root n f front back (Some w.parent) → left w.nodes ≡ map (at root) (numbers n f) → 0 < n → IsReady root (n + count f) ws → left w.nodes ≡ child ∷ left v.nodes → v.parent ≡ w.parent → (child ≡ at root n) × IsAt root n w.parent (v ∷ ws)
 taken_from root n none front back w v ws child s e h ready f g = absurd (let wrong : [] ≡ child ∷ left v.nodes = sym e ∙ f in cc)
 taken_from root n (more hd ks r) front back w v ws child s e h ready f g =
-    let cons : at root n ∷ map (at root) (numbers (n + 1 + count ks) r) ≡ child ∷ left v.nodes = sym e ∙ f in
     let first : child ≡ at root n = cc in
     let number : n + 1 + count ks ≡ n + (1 + count ks) = omega arith in
     let rest : left v.nodes ≡ map (at root) (numbers (n + 1 + count ks) r) = cc in
@@ -98,13 +93,11 @@ entered root n above w ws a c e f g =
     (record { trees = c.kids; front = front; back = back; stands = stands; row = here_row; begun = omega arith }, subst (λ m. IsReady root m ws) total c.ready)
 
 pub up_of : (root : Tree) (up : Option ℕ) → number_if (option_map (at root) up) ≡ up_number up
-up_of root None = refl
-up_of root (Some n) = refl
+up_of root up = grind arith
 
 -- the parent of the node at hand
 pub parent_is : (root : Tree) (n above : ℕ) (ws : List Row) → IsAt root n above ws → above ≡ number_if (parent (at root n))
-parent_is root n above ws c =
-    sym (ap number_if (parent_here root n c.head c.kids c.later c.front c.back c.up c.stands) ∙ (up_of root c.up ∙ c.above_is))
+parent_is root n above ws c = grind arith
 
 -- of a node that doesn't meet the stretch nothing is left, nor of what is below it
 pub skipped : (s : Stretch) (root : Tree) (n above : ℕ) (ws : List Row) → IsAt root n above ws → meets s (at root n) ≡ false → ahead_from s root n ≡ ahead_from s root (n + nodes (node_of (at root n)))
@@ -118,11 +111,7 @@ skipped s root n above ws c e =
 
 -- a node that meets it comes first
 pub came : (s : Stretch) (root : Tree) (n above : ℕ) (ws : List Row) → IsAt root n above ws → meets s (at root n) ≡ true → ahead_from s root n ≡ at root n ∷ ahead_from s root (n + 1)
-came s root n above ws c e =
-    let most : n + nodes (node_of (at root n)) ≤ nodes root = within root n above ws c in
-    let size : nodes (node_of (at root n)) ≡ 1 + count c.kids = size_here root n above ws c in
-    let whole : nodes root - n ≡ 1 + (nodes root - (n + 1)) = omega (arith, most, size) in
-    ap (λ k. filter (meets s) (map (at root) (numbers_from n k))) whole ∙ come_to s root n (nodes root - (n + 1)) e
+came s root n above ws c e = let most : n + nodes (node_of (at root n)) ≤ nodes root = within root n above ws c in grind arith
 
 -- what is before a number is no longer than what is before a later one
 before_more : (n m : ℕ) (xs : List Tree) → n ≤ m → length (texts (take n xs)) ≤ length (texts (take m xs))
@@ -140,15 +129,11 @@ pub beyond : (s : Stretch) (root : Tree) (n : ℕ) → s.end < offset_of (at roo
 beyond s root n h =
     let many : ℕ = nodes root - n in
     let all : many ≡ many + 0 = omega arith in
-    ap (λ k. filter (meets s) (map (at root) (numbers_from n k))) all
-    ∙ passed_over s root n many 0 (λ j l m. behind_end s (at root j) (omega (arith, h, before_more n j (places root) l)))
+    grind (arith, passed_over, before_more)
 
 -- a node without children is passed
 pub entered_leaf : (root : Tree) (n above d : ℕ) (ws : List Row) (t : Tree) (a : At) → IsAt root n above ws → t ≡ node_of a → a ≡ at root n → d ≡ saturated (nodes t) → d ≤ 1 → IsReady root (n + 1) ws
-entered_leaf root n above d ws t a c e f g l =
-    let same : nodes t ≡ nodes (node_of (at root n)) = ap nodes (e ∙ ap node_of f) in
-    let one : n + nodes (node_of (at root n)) ≡ n + 1 = omega (arith, same, g, l, size_here root n above ws c) in
-    subst (λ m. IsReady root m ws) one c.ready
+entered_leaf root n above d ws t a c e f g l = grind arith
 
 -- behind the last number is nothing
 pub ended : (s : Stretch) (root : Tree) (n : ℕ) → n ≡ nodes root → ahead_from s root n ≡ []
@@ -164,9 +149,7 @@ pub closed_row : (root : Tree) (n : ℕ) (old new : List Row) (w : Row) → IsRe
 closed_row root n old new w ready e f = closed root n w (reverse new) (popped root n old new w ready e) f
 
 pub taken_row : (root : Tree) (n : ℕ) (old new pushed : List Row) (w v : Row) (child : At) → IsReady root n (reverse old) → old ≡ new ++ w ∷ [] → pushed ≡ new ++ v ∷ [] → left w.nodes ≡ child ∷ left v.nodes → v.parent ≡ w.parent → (child ≡ at root n) × IsAt root n w.parent (reverse pushed)
-taken_row root n old new pushed w v child ready e f g h =
-    let t = taken root n w v (reverse new) child (popped root n old new w ready e) g h in
-    (t.0, subst (IsAt root n w.parent) (sym (ap reverse f ∙ reverse-append new (v ∷ []))) t.1)
+taken_row root n old new pushed w v child ready e f g h = grind (arith, taken root n w v (reverse new) child (popped root n old new w ready e) g h, reverse-append)
 
 pub entered_row : (root : Tree) (n above : ℕ) (old pushed : List Row) (w : Row) (a : At) → IsAt root n above (reverse old) → a ≡ at root n → left w.nodes ≡ children a → w.parent ≡ n → pushed ≡ old ++ w ∷ [] → IsReady root (n + 1) (reverse pushed)
 entered_row root n above old pushed w a c e f g h =

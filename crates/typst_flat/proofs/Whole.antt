@@ -18,9 +18,7 @@ kept p (x ∷ xs) h = let holds : p x ≡ true = h x in rw (holds, kept p xs h) 
 
 -- what a walk has still to come to before its first step
 pub ahead_first : (s t : Stretch) (r root : Tree) (n : ℕ) → t ≡ s → r ≡ root → n ≡ 0 → met_in s root ≡ filter (meets t) (map (at r) (numbers_from n (nodes r - n)))
-ahead_first s t r root n e f g =
-    let many : nodes r - n ≡ nodes root = omega (arith, g, ap nodes f) in
-    sym (λ i. filter (meets (e i)) (map (at (f i)) (numbers_from (g i) (many i))))
+ahead_first s t r root n e f g = grind arith
 
 pub all_first : (t : Stretch) (r root : Tree) (n : ℕ) → t.start ≡ 0 → t.end ≡ 2 ^ 64 - 1 → r ≡ root → n ≡ 0 → all_of root ≡ filter (meets t) (map (at r) (numbers_from n (nodes r - n)))
 all_first t r root n a b f g = sym (kept (meets t) (all_of root) (λ x. meets_all t x a b)) ∙ ahead_first t t r root n refl f g

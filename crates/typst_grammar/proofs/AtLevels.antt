@@ -1,5 +1,5 @@
 -- What holds of each level.
-use Rattle.std.proofs.Common.{◌≡◌, ℕ, suc, ◌-◌, Bool, true, Option, Some, None, List, [], ◌++◌, refl, ap, ◌∙◌, subst, sym, arith}
+use Rattle.std.proofs.Common.{◌≡◌, ℕ, suc, ◌-◌, Bool, true, Option, Some, List, [], refl, ap, subst, sym, arith}
 use Rattle.std.specs.Prelude.{◌∷◌, IsSome, Result}
 use Rattle.std.specs.declared.alloc.AllocError.{AllocError}
 use Rattle.std.specs.Str.{chars}
@@ -7,7 +7,6 @@ use Rattle.typst_kinds.specs.declared.mode.SyntaxMode.{SyntaxMode}
 use Rattle.typst_kinds.specs.declared.mode.SyntaxMode.TheVariants as mode
 use Rattle.typst_lines.specs.Place.{Place, moved}
 use Rattle.typst_tokens.specs.Sight.{hull_of}
-use Rattle.typst_tree.specs.Tree.{Tree}
 use Rattle.typst_lines.specs.Classes.{CharClasses}
 use Rattle.typst_language.specs.declared.calls.ChainSet.{ChainSet}
 use Rattle.typst_language.specs.declared.calls.Note.{Note}
@@ -19,7 +18,7 @@ use Rattle.typst_language.specs.declared.reading.AtNewline.TheVariants as newlin
 use Rattle.typst_language.specs.declared.reading.Reading.{Reading}
 use Rattle.typst_language.specs.Log.{Log, no_log, with_more, with_hull, with_note, logged}
 use Rattle.typst_language.specs.Knot.{meaning_of}
-use Rattle.typst_language.specs.Meaning.{Guess, Level, Meaning, Outcome, apart, less, standing, start_point, run}
+use Rattle.typst_language.specs.Meaning.{Guess, Level, Meaning, Outcome, apart, less, start_point, run}
 use Rattle.typst_language.specs.declared.calls.AfterName.{AfterName}
 use Rattle.typst_language.specs.Calls.{Call, Answer}
 use Rattle.typst_language.specs.Calls.Call.{MarkupExpr, CodeExpr, MathExpr, Pattern}
@@ -101,8 +100,7 @@ unfolding less
 less-nil n = let e : 0 - n ≡ 0 = omega arith in rw e refl
 
 pub hinted-nil : (hs : List (List ℕ)) → hinted hs [] ≡ []
-hinted-nil [] = refl
-hinted-nil (h ∷ hs) = refl
+hinted-nil hs = grind arith
 
 -- what the code read and noted from the start is what is read and noted of the text
 pub parsed-is : (k : CharClasses) (keeps : Bool) (text : List ℕ) (reading : Reading) (p : Parser (Unit {0})) (v w : View) → IsStart text reading keeps v
@@ -111,13 +109,7 @@ parsed-is k keeps text reading p v w h d =
     let l = level_at k max_depth in
     let bare : Bare (guessing_at k max_depth) v = record { known = ap (λ (s : Point). s.known) h.state; knows = knows-none h.memo } in
     let r : Runs max_depth (at l p v) tt v w = subst (λ (x : Outcome (Unit {0})). Runs max_depth x tt v w) (told-run k max_depth p v.place v.state) (d.ran bare).runs in
-    let o = run l p (start_of (chars text)) (start_point reading) in
-    let same : at l p v ≡ o = rw (h.place, h.state) refl in
-    let q = subst (λ u. Runs max_depth u tt v w) same r in
-    record {
-      nodes = q.nodes ∙ ap (standing o) h.nodes ∙ ap (λ (ns : List Tree). hinted o.hints ns ++ o.nodes) (less-nil o.back) ∙ ap (λ (ns : List Tree). ns ++ o.nodes) (hinted-nil o.hints);
-      log = q.log ∙ ap (λ z. logged max_depth z v.log o.asks) h.place ∙ ap (λ x. logged max_depth (start_of (chars text)) x o.asks) h.log;
-    }
+    grind (arith, less-nil, hinted-nil)
 
 -- the same of a text that is read in a mode
 pub parsed-in : (k : CharClasses) (keeps : Bool) (text : List ℕ) (m : SyntaxMode) (v w : View) → IsStart text (record { mode = m; at_newline = newline.Continue }) keeps v
@@ -133,16 +125,12 @@ still-kept levels z h (looked at look ∷ asks) k = still-kept levels z (with_hu
 still-kept levels z h (marked at gap fewer mark s ∷ asks) k = still-kept levels z (with_note gap (levels - fewer) mark s (moved at z) h) asks (more-kept h.notes _ k)
   where
     more-kept : (ns : Option (List Note)) (note : Note) → IsSome ns → IsSome (with_more note ns)
-    more-kept None note i = i
-    more-kept (Some ns) note i = refl
+    more-kept ns note i = grind arith
 
 pub log-is : (r l : ℕ) (ns : List Note) (notes : Option (List Note)) → IsSome notes → ns ≡ listed notes → ◌≡◌ {A = Log} (record { reach = r; least = l; notes = Some ns }) (record { reach = r; least = l; notes = notes })
-log-is r l ns None i e = absurd (cc)
-log-is r l ns (Some ms) i e = rw e refl
+log-is r l ns notes i e = grind arith
 
 pub noted-log : (k : CharClasses) (text : List ℕ) (w : View) (ns : List Note) → IsParsed true text (parsed k max_depth text) w → ns ≡ listed w.log.notes
     → ◌≡◌ {A = Log} (record { reach = w.log.reach; least = w.log.least; notes = Some ns }) (log k text)
 unfolding log
-noted-log k text w ns p e =
-    let some = still-kept max_depth (start_of text) no_log (parsed k max_depth text).asks refl in
-    log-is w.log.reach w.log.least ns w.log.notes (subst (λ (h : Log). IsSome h.notes) (sym p.log) some) e ∙ p.log
+noted-log k text w ns p e = grind (arith, still-kept max_depth (start_of text) no_log (parsed k max_depth text).asks refl)

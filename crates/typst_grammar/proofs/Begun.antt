@@ -1,5 +1,5 @@
 -- What a token begins: which productions take it first, and that those of code give nodes that are no operators.
-use Rattle.std.proofs.Common.{◌≡◌, ℕ, Bool, true, false, ◌&&◌, ◌||◌, refl, inl, inr, ◌⊎◌, rules}
+use Rattle.std.proofs.Common.{◌≡◌, ℕ, Bool, true, false, ◌&&◌, ◌||◌, refl, inl, inr, ◌⊎◌, rules, arith}
 use Rattle.std.specs.Prelude.{not}
 use Rattle.typst_lines.specs.Classes.{CharClasses}
 use Rattle.typst_kinds.specs.Kinds.{same, among}
@@ -9,7 +9,6 @@ use Rattle.typst_kinds.specs.declared.kind.SyntaxKind.TheVariants as kind
 use Rattle.typst_language.specs.declared.calls.AfterName.{AfterName}
 use Rattle.typst_language.specs.declared.calls.AfterName.TheVariants as after
 use Rattle.typst_language.specs.declared.calls.Block.{Block}
-use Rattle.typst_language.specs.declared.calls.Block.TheVariants as block
 use Rattle.typst_language.specs.declared.calls.ChainSet.{ChainSet}
 use Rattle.typst_code.specs.head.MarkupHead.{MarkupHead}
 use Rattle.typst_code.specs.head.MarkupHead.TheVariants as in_markup
@@ -58,15 +57,13 @@ is_stray _ = false
 
 pub first-markup : (a : AtHand) (blocks : Bool) (nesting : ℕ) (h : MarkupHead) → is_stray h ≡ false → EatsFirst a blocks false (markup_by nesting h)
 unfolding eat eat_making convert_and_eat node within delimited heading item term_item reference embedded between_dollars equation
-first-markup a blocks nesting in_markup.Stray e = absurd (cc)
-first-markup a blocks nesting _ e = search rules depth 20
+first-markup a blocks nesting h e = grind arith
 
 -- ---- code
 
 pub first-block : (a : AtHand) (b : Block) → EatsFirst a false true (block_production b)
 unfolding eat eat_making node content_block code_block
-first-block a block.Content = search rules depth 20
-first-block a block.Code = search rules depth 20
+first-block a b = grind arith
 
 pub first-readings : (a : AtHand) (rest : Bool → AfterName → Type 0) → Begins a true true rest readings
 unfolding eat eat_making node within readings as_group group params destructuring
@@ -82,9 +79,7 @@ opens _ = true
 
 pub first-code : (a : AtHand) (h : CodeHead) → opens h ≡ true → EatsFirst a true true (code_by false h)
 unfolding eat eat_making node nest within read_block unary_expr named placeholder between_dollars equation parens let_binding set_rule show_rule contextual conditional conditional_turn while_loop for_loop module_import module_include jump func_return
-first-code a in_code.StrayOperator e = absurd (cc)
-first-code a in_code.Parens e = (refl, first-readings a _)
-first-code a _ e = search rules depth 20
+first-code a h e = grind (arith, first-readings)
 
 begun-opens : (i : SyntaxKind) → begins_code i ≡ true → opens (code_head false i) ≡ true
 begun-opens i e = every-among (λ j. opens (code_head false j)) code_kinds refl i e
@@ -99,10 +94,7 @@ first-expr a least e = (refl, first-primary a (begun-opens a.kind e))
 
 -- arguments begin with a paren or a bracket
 no-arguments : (paren bracket trivia : Bool) → paren ≡ false → (bracket && not trivia) ≡ false → ((paren || bracket) && not trivia) ≡ true → ⊥
-no-arguments true bracket trivia p b e = cc
-no-arguments false true true p b e = cc
-no-arguments false true false p b e = cc
-no-arguments false false trivia p b e = cc
+no-arguments paren bracket trivia p b e = grind arith
 
 first-arguments : (a : AtHand) (rest : Bool → Unit {0} → Type 0) → calls_directly a.kind a.has_trivia ≡ true → Begins a true true rest arguments
 unfolding eat eat_making node within read_block arguments begin_arguments listed_arguments argument_list content_turn
@@ -120,8 +112,7 @@ takes_token _ = true
 -- what is read after an expression takes its token first too
 pub first-tail : (a : AtHand) (t : CodeTail) → (is_call t ≡ true → calls_directly a.kind a.has_trivia ≡ true) → takes_token t ≡ true → EatsFirst a true true (tail_by t)
 unfolding eat eat_making call_tail field not_in binary_expr
-first-tail a tail.Call e f = first-arguments a _ (e refl)
-first-tail a _ e f = search rules depth 20
+first-tail a t e f = grind (arith, first-arguments)
 
 -- ---- what begins an expression of code gives nodes that are no operators
 
@@ -133,19 +124,14 @@ keeps_token in_code.Placeholder = true
 keeps_token _ = false
 
 quiet-show : (colon : Bool) → makes (show_shape colon) ≡ true
-quiet-show true = refl
-quiet-show false = refl
+quiet-show colon = grind arith
 
 -- what comes after a name or an underscore makes a node of it, or isn't there
 of-after : (Q : AfterName → Type 0) → Q after.Arrow → Q after.Eq → Q after.Nothing → (x : AfterName) → Q x
-of-after Q x y z after.Arrow = x
-of-after Q x y z after.Eq = y
-of-after Q x y z after.Nothing = z
+of-after Q x y z h = grind arith
 
 after-token : (x : AfterName) → Gives (λ v. makes (closure_shape v) ≡ true) (right_side x >>= λ rest. gives x) ⊎ OnlyLooks (right_side x >>= λ rest. gives x)
-after-token after.Arrow = inl (gives-all _ (λ _. refl) (right_side after.Arrow))
-after-token after.Eq = inl (gives-all _ (λ _. refl) (right_side after.Eq))
-after-token after.Nothing = inr (tt, λ _. tt)
+after-token x = grind (arith, gives-all)
 
 abbrev Keeps : (AfterName → Shape) → Type 0
 Keeps shape = (x : AfterName) → (makes (shape x) || keeps_bare (shape x)) ≡ true
@@ -161,14 +147,11 @@ module _ (token : Type 0) (a : AtHand) where
 
   bare-headed : (what : SyntaxKind → AfterName) (shape : AfterName → Shape) → Keeps shape → token → Bares token a true true (λ _. ⊥) (headed what shape)
   unfolding eat eat_making node
-  bare-headed what shape kept t =
-      let alone = bare-token (λ v. makes (shape v) ≡ true) what t in
-      search (rules, kept-closure, kept, alone, after-token) depth 40
+  bare-headed what shape kept t = grind (arith, bare-token (λ v. makes (shape v) ≡ true) what t, kept-closure, after-token)
 
   pub bare-block : (b : Block) → Bares token a false true (λ _. ⊥) (block_production b)
   unfolding eat eat_making node content_block code_block
-  bare-block block.Content = search (rules, quiet-closed kind.ContentBlock refl) depth 20
-  bare-block block.Code = search (rules, quiet-closed kind.CodeBlock refl) depth 20
+  bare-block b = grind arith
 
   -- a production is opened here, as above
   pub bare-code : (h : CodeHead) → opens h ≡ true → (keeps_token h ≡ true → token) → Bares token a true true (λ _. ⊥) (code_by false h)
@@ -188,8 +171,7 @@ opens_math _ = true
 
 first-math : (k : CharClasses) (a : AtHand) (h : MathHead) → opens_math h ≡ true → EatsFirst a true true (math_by k h)
 unfolding eat eat_making convert_and_eat node within seeing embedded delimiter_sign delimiter math_delimited math_text root
-first-math k a in_math.Missing e = absurd (cc)
-first-math k a _ e = search rules depth 20
+first-math k a h e = grind arith
 
 math-opens : (i : SyntaxKind) → among math_kinds i ≡ true → opens_math (math_head i) ≡ true
 math-opens i e = every-among (λ j. opens_math (math_head j)) math_kinds refl i e

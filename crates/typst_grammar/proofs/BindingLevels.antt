@@ -1,5 +1,5 @@
 -- What is read at each level binds, where what it calls does.
-use Rattle.std.proofs.Common.{◌≡◌, ℕ, Bool, true, false, refl}
+use Rattle.std.proofs.Common.{◌≡◌, ℕ, Bool, true, false, refl, arith}
 use Rattle.typst_kinds.specs.declared.kind.SyntaxKind.{SyntaxKind}
 use Rattle.typst_kinds.specs.declared.kind.SyntaxKind.TheVariants as kind
 use Rattle.typst_lines.specs.Place.{Place}
@@ -18,7 +18,7 @@ use Rattle.typst_language.specs.Syntax.{Parser}
 use Rattle.typst_code.specs.Markup.{content_block}
 use Rattle.typst_code.specs.Sequences.{code_block}
 use Rattle.typst_grammar.specs.Grammar.{block_production, rules, meaning, level_at}
-use Rattle.typst_grammar.proofs.Fine.{All, shape_by, unbinary, tame_kind, tame-unbinary}
+use Rattle.typst_grammar.proofs.Fine.{All, unbinary, tame_kind, tame-unbinary}
 use Rattle.typst_grammar.proofs.FineRuns.{AllBind, gives-all, PlainBy, plain-weaker, Still, binds-run}
 use Rattle.typst_grammar.proofs.Proper.{free, Proper, proper-plain}
 use Rattle.typst_grammar.proofs.PlainParts.{inside_content, proper-inside-content}
@@ -37,11 +37,7 @@ module _ (k : CharClasses) where
   -- of its node no more is asked than that it is no binary one
   unbinary-node : (i : SyntaxKind) (p : Parser Bool) → unbinary i ≡ true → Proper free p → PlainBy unbinary (node (encloses i) p)
   unfolding node
-  unbinary-node i p e w = (refl, λ _. ((gives-all (λ closed. shape_by unbinary (encloses i closed) ≡ true) enclosed p, no-binary p w), λ _. tt))
-    where
-      enclosed : (closed : Bool) → shape_by unbinary (encloses i closed) ≡ true
-      enclosed true = e
-      enclosed false = e
+  unbinary-node i p e w = grind (arith, gives-all, no-binary)
 
   plain-block : (b : Block) → PlainBy unbinary (block_production b)
   unfolding content_block code_block

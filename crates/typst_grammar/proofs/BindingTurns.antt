@@ -1,5 +1,5 @@
 -- A binary node that an operator makes binds.
-use Rattle.std.proofs.Common.{◌≡◌, ℕ, suc, Bool, true, false, ◌||◌, if◌then◌else◌, nat_lt, nat_le, List, [], ◌∷◌, ◌++◌, Option, Some, None, refl, ap, ◌∙◌, subst, arith}
+use Rattle.std.proofs.Common.{◌≡◌, ℕ, suc, Bool, true, false, ◌||◌, if◌then◌else◌, nat_lt, nat_le, List, [], ◌∷◌, ◌++◌, Option, Some, None, refl, subst, arith}
 use Rattle.std.proofs.lemmas.Bool.Decides.{nat_tests}
 use Rattle.typst_kinds.specs.Kinds.{same, is_error, is_trivia}
 use Rattle.typst_kinds.specs.Operators.{binary_of, binary_precedence}
@@ -9,12 +9,11 @@ use Rattle.typst_kinds.specs.declared.operator.BinOp.{BinOp}
 use Rattle.typst_kinds.specs.declared.operator.BinOp.TheVariants as binary
 use Rattle.typst_tree.specs.Tree.{Tree, forest, inner_of}
 use Rattle.typst_tree.proofs.SpansAside.{trees_forest}
-use Rattle.typst_language.proofs.Within.{on_if}
 use Rattle.typst_code.specs.declared.heads.CodeTail.{CodeTail}
 use Rattle.typst_code.specs.declared.heads.CodeTail.TheVariants as tail
 use Rattle.typst_code.specs.Arguments.{calls_directly}
 use Rattle.typst_code.specs.Expressions.{binary_tail, code_tail}
-use Rattle.typst_grammar.specs.Binding.{any_errors, has_errors, first_sign, operator_of, binds_by, left_binds, right_binds, right_least, operands_bind, node_binds}
+use Rattle.typst_grammar.specs.Binding.{any_errors, has_errors, first_sign, operator_of, binds_by, left_binds, right_binds, right_least, node_binds}
 use Rattle.typst_grammar.proofs.Signs.{sign_of, NoSign}
 use Rattle.typst_grammar.proofs.Fine.{All, or-left, or-right, or-both, and-both}
 use Rattle.typst_grammar.proofs.Heads.{LastIs}
@@ -30,8 +29,7 @@ module _ (sgn : Tree) (rs : List Tree) where
   left-is n (t ∷ ls) h b e = by-trivia (is_trivia t.head.kind) (left-is n ls h.1 b e)
     where
       by-trivia : (x : Bool) → left_binds n (ls ++ sgn ∷ rs) ≡ true → (if x then left_binds n (ls ++ sgn ∷ rs) else binds_by n t) ≡ true
-      by-trivia true r = r
-      by-trivia false r = h.0
+      by-trivia x r = grind arith
 
 -- the last of them
 right-of : (n : ℕ) (rs : List Tree) → LastIs (Unit {0}) (BindsBy n) rs → right_binds n rs ≡ true
@@ -51,14 +49,7 @@ bare-binds n t e = rw (e, binds_by) refl
 -- an operator between what binds as it asks for
 pub binary-binds : (op : BinOp) (ls : List Tree) (sgn : Tree) (rs : List Tree) → first_sign false (ls ++ sgn ∷ rs) ≡ Some op → is_trivia sgn.head.kind ≡ false → operator_of sgn ≡ None → All NoSign ls → All (BindsBy (binary_precedence op)) ls → LastIs (Unit {0}) (BindsBy (right_least op)) rs
     → (operator_of (inner_of kind.Binary (forest (ls ++ sgn ∷ rs))) ≡ Some op) × (node_binds (inner_of kind.Binary (forest (ls ++ sgn ∷ rs))) ≡ true)
-binary-binds op ls sgn rs s e none no_signs left right =
-    let ts = ls ++ sgn ∷ rs in
-    let is : operator_of (inner_of kind.Binary (forest ts)) ≡ Some op = ap (first_sign false) (trees_forest ts) ∙ s in
-    let bare : (n : ℕ) → BindsBy n sgn = (λ n. bare-binds n sgn none) in
-    let both : operands_bind op ts ≡ true = and-both (left_binds (binary_precedence op) ts) (right_binds (right_least op) ts)
-    (left-is sgn rs (binary_precedence op) ls left (bare (binary_precedence op)) e)
-    (right-of (right_least op) ts (last-after (right_least op) ls sgn rs right (bare (right_least op)))) in
-    (is, rw (is, node_binds) (ap (operands_bind op) (trees_forest ts) ∙ both))
+binary-binds op ls sgn rs s e none no_signs left right = grind (arith, trees_forest, bare-binds, and-both, left-is, right-of, last-after)
 
 -- ---- errors
 
@@ -112,8 +103,7 @@ tight-binds k op t e h = by-operator (operator_of t) h
     by-sign b o i l = at-least (binary_precedence op) b (subst (λ (x : Option BinOp). (elim x as (λ _. Bool) [ None ↦ true | Some y ↦ nat_lt (binary_precedence y) (suc b) ]) ≡ true) i l)
 
     by-operator : (o : Option BinOp) → (elim o as (λ _. Type 0) [ None ↦ Unit {0} | Some x ↦ below (suc (binary_precedence x)) k ≡ true ]) → (elim o as (λ _. Bool) [ None ↦ true | Some x ↦ nat_le (binary_precedence op) (binary_precedence x) ]) ≡ true
-    by-operator None l = refl
-    by-operator (Some x) l = by-sign (binary_precedence x) (sign_of k) e l
+    by-operator o l = grind arith
 
 -- ---- which tail comes
 
@@ -134,11 +124,7 @@ module _ (least : ℕ) where
   enough b l = grind (arith, nat_tests)
 
   tests : (a b c : Bool) (o : Option BinOp) → Tests a b c o (tail_of a b c o)
-  tests true b c o = refl
-  tests false true c o = refl
-  tests false false true o = on_if (Tests false false true o) (nat_lt (binary_precedence binary.NotIn) least) tail.Nothing tail.NotIn (λ e. e) (λ e. (refl, enough (binary_precedence binary.NotIn) e))
-  tests false false false None = refl
-  tests false false false (Some op) = on_if (Tests false false false (Some op)) (nat_lt (binary_precedence op) least) tail.Nothing (tail.Binary op) (λ e. e) (λ e. (refl, (refl, enough (binary_precedence op) e)))
+  tests a b c o = grind arith
 
   pub tail-comes : (k : SyntaxKind) (has_trivia : Bool) (t : CodeTail) → code_tail false least k has_trivia ≡ t → Tests (calls_directly k has_trivia) (same kind.Dot k) (same kind.Not k) (binary_of k) t
   tail-comes k has_trivia t e = subst (λ (x : CodeTail). Tests (calls_directly k has_trivia) (same kind.Dot k) (same kind.Not k) (binary_of k) x) e (tests (calls_directly k has_trivia) (same kind.Dot k) (same kind.Not k) (binary_of k))

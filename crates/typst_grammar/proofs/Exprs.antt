@@ -1,33 +1,31 @@
 -- Expressions with operators bind.
 use Rattle.std.proofs.lemmas.Bool.Decides.{nat_tests}
-use Rattle.std.proofs.Common.{◌==◌, if◌then◌else◌, codes, take, ◌≡◌, ℕ, suc, ◌+◌, ◌≤◌, Bool, true, false, List, [], length, Option, refl, ap, sym, ◌∙◌, ◌⊎◌, inl, inr, subst, arith}
+use Rattle.std.proofs.Common.{◌==◌, if◌then◌else◌, ◌≡◌, ℕ, suc, ◌≤◌, Bool, true, false, List, [], length, Option, refl, ◌⊎◌, inl, inr, subst, arith}
 use Rattle.typst_lines.specs.Place.{Place, moved}
-use Rattle.typst_tree.specs.Tree.{Tree, forest}
+use Rattle.typst_tree.specs.Tree.{forest}
 use Rattle.typst_lines.specs.Classes.{CharClasses}
 use Rattle.typst_language.specs.Calls.Call.{CodeExpr}
-use Rattle.typst_language.specs.Depth.{anywhere, skip_one, too_deep, deeper}
+use Rattle.typst_language.specs.Depth.{anywhere, too_deep, deeper}
 use Rattle.typst_language.specs.Knot.{meaning_of}
-use Rattle.typst_language.specs.declared.reading.AtNewline.TheVariants.{Continue}
 use Rattle.typst_language.specs.Syntax.{◌>>◌}
-use Rattle.typst_language.specs.Syntax.Parser.{gives, repeat}
+use Rattle.typst_language.specs.Syntax.Parser.{gives}
 use Rattle.typst_code.specs.Expressions.{code_expr, code_primary, code_tail, code_tail_turn}
 use Rattle.typst_language.specs.Hand.{Hand, as_at_hand}
 use Rattle.typst_language.specs.Point.{Point, pending}
-use Rattle.typst_language.specs.Shape.{Shape, shaped}
-use Rattle.typst_language.specs.Shape.Shape.{fails}
+use Rattle.typst_language.specs.Shape.{Shape}
 use Rattle.typst_language.specs.Steps.{grow, node, within}
-use Rattle.typst_language.specs.Meaning.{Outcome, Level, plain, deeper_by_one, inside, reshaped, joined, bound, growths, growing, hand_of, hand_asks_of, asked, run}
+use Rattle.typst_language.specs.Meaning.{Outcome, Level, plain, deeper_by_one, joined, bound, growths, growing, hand_of, hand_asks_of, asked, run}
 use Rattle.typst_language.proofs.Ends.{hand-again}
 use Rattle.typst_language.proofs.Knot.{sane-at}
 use Rattle.typst_language.proofs.Places.{no-end}
 use Rattle.typst_grammar.specs.Grammar.{rules, level_at}
 use Rattle.typst_grammar.specs.Binding.{any_errors}
-use Rattle.typst_grammar.proofs.Fine.{All, Fines, is_ordinary}
+use Rattle.typst_grammar.proofs.Fine.{All, is_ordinary}
 use Rattle.typst_grammar.proofs.FineRuns.{if_by, Gives, gives-run, PlainBy, Still, still-hand}
-use Rattle.typst_grammar.proofs.Heads.{LastIs, standing-none}
+use Rattle.typst_grammar.proofs.Heads.{standing-none}
 use Rattle.typst_grammar.proofs.Proper.{ordinary, proper-deep}
 use Rattle.typst_grammar.proofs.PlainCode.{gives-tail, proper-primary, proper-tail-turn}
-use Rattle.typst_grammar.proofs.Grown.{errors-after, kind_at, Ended, Grown, Operand, operand-growths}
+use Rattle.typst_grammar.proofs.Grown.{errors-after, Grown, Operand, operand-growths}
 use Rattle.typst_grammar.proofs.BindingLevels.{CallsBind, DeeperOperands, level-binds}
 use Rattle.typst_grammar.proofs.Lost.{Holds, Lost, operand-lost}
 use Rattle.typst_grammar.proofs.Primary.{primary-begins}
@@ -64,17 +62,7 @@ ordinary-expr least = (
 
 -- after a look
 operand-after : (k : CharClasses) (least : ℕ) {A B : Type 0} (z : Place) (s t : Point) (b : B) (asks : List _) (m : Bool) (o : Outcome A) → t.is_after_error ≡ s.is_after_error → Operand k least z t o → Operand k least z s (joined (record (plain b t) { asks = asks; met = m }) o)
-operand-after k least z s t b asks m o e h =
-    let e2 = standing-none o in
-    let same : 0 + o.taken ≡ o.taken = omega arith in
-    let there = ap (λ (n : ℕ). kind_at k least (moved n z) o.state) same in
-    let f = h.last in
-    record {
-      binds = record { nodes = subst (λ (ts : List Tree). Fines ts) (sym e2) h.binds.nodes; known = h.binds.known };
-      last = λ sane. subst (λ (ts : List Tree). LastIs (s.is_after_error ≡ true) (Ended k least (kind_at k least (moved (0 + o.taken) z) o.state)) ts) (sym e2)
-          (subst (λ i. LastIs (s.is_after_error ≡ true) (Ended k least i) o.nodes) (sym there)
-          (subst (λ (a : Bool). LastIs (a ≡ true) (Ended k least (kind_at k least (moved o.taken z) o.state)) o.nodes) e (f (subst (λ (ts : List Tree). any_errors (forest ts) ≡ false) e2 sane))));
-    }
+operand-after k least z s t b asks m o e h = grind (arith, standing-none)
 
 module _ (k : CharClasses) (levels : ℕ) (d : CallsBind k levels) (ops : DeeperOperands k levels) (least : ℕ) where
   abbrev l : Level
@@ -122,18 +110,7 @@ module _ (k : CharClasses) where
 
   too-wrong : (z : Place) (s : Point) → any_errors (forest (run (level_at k 0) (too_deep anywhere >> gives (tt {0})) z s).nodes) ≡ false → ⊥
   unfolding run too_deep node
-  too-wrong z s sane =
-      let l = level_at k 0 in
-      let t = asked (hand_of l z s) s in
-      let n = length (hand_of l z s).trivia in
-      let o = run l (within (λ r. record r { at_newline = Continue }) (repeat (skip_one anywhere) 0)) z t in
-      let w = reshaped (fails (codes "maximum parsing depth exceeded")) n o in
-      let x = run l (node (λ _. fails (codes "maximum parsing depth exceeded")) (within (λ r. record r { at_newline = Continue }) (repeat (skip_one anywhere) 0))) z s in
-      let y = run l (too_deep anywhere) z s in
-      let inner : x.nodes ≡ w.nodes = standing-none (joined w (plain o.value w.state)) ∙ sym (no-end w.nodes) in
-      let all : (run l (too_deep anywhere >> gives (tt {0})) z s).nodes ≡ w.nodes = sym (no-end y.nodes) ∙ sym (no-end x.nodes) ∙ inner in
-      let last = errors-after (take (n + o.back) o.nodes) (shaped (fails (codes "maximum parsing depth exceeded")) (inside n o)) (subst (λ (ts : List Tree). any_errors (forest ts) ≡ false) all sane) in
-      cc
+  too-wrong z s sane = grind (arith, standing-none, no-end, errors-after)
 
   pub limit-binds : CallsBind k 0 → DeeperOperands k 0
   unfolding run deeper

@@ -1,15 +1,15 @@
 -- Trees that bind where they have no errors.
-use Rattle.std.proofs.Common.{◌≡◌, ℕ, zero, suc, Bool, true, false, ◌&&◌, ◌||◌, if◌then◌else◌, List, [], ◌∷◌, ◌++◌, take, drop, None, refl, sym, subst, ◌⊎◌, inl, inr}
+use Rattle.std.proofs.Common.{◌≡◌, ℕ, zero, suc, Bool, true, false, ◌&&◌, ◌||◌, if◌then◌else◌, List, [], ◌∷◌, ◌++◌, take, drop, None, refl, ◌⊎◌, inl, inr, arith}
 use Rattle.std.proofs.lemmas.Bool.{and_parts}
 use Rattle.typst_kinds.specs.Kinds.{same, is_error}
 use Rattle.typst_kinds.specs.Names.{name_of}
 use Rattle.typst_kinds.specs.declared.kind.SyntaxKind.{SyntaxKind}
 use Rattle.typst_kinds.specs.declared.kind.SyntaxKind.TheVariants as kind
 use Rattle.typst_tree.specs.Diagnostic.{hint_with}
-use Rattle.typst_tree.specs.Messages.{made_unexpected, made_expected, expected_error, expected_message, unexpected_message, is_lost_name, keyword_hint}
-use Rattle.typst_tree.specs.Tree.{Tree, Forest, forest, trees, text_of, leaf_of, inner_of, error_of, topped, with_kind, made_error, advised, all_advised}
+use Rattle.typst_tree.specs.Messages.{made_unexpected, made_expected, unexpected_message}
+use Rattle.typst_tree.specs.Tree.{Tree, forest, text_of, leaf_of, inner_of, error_of, topped, with_kind, made_error, advised, all_advised}
 use Rattle.typst_tree.proofs.SpansAside.{forest_trees}
-use Rattle.typst_language.specs.Shape.{Making, made, hinted_last, hinted, NodeChange, is_delimited, in_parens, renamed_last, parens_renamed, without_parens, on_first, first_changed, Shape, shaped}
+use Rattle.typst_language.specs.Shape.{Making, made, hinted_last, hinted, NodeChange, is_delimited, renamed_last, parens_renamed, without_parens, on_first, first_changed, Shape, shaped}
 use Rattle.typst_language.specs.Shape.Making.{itself, of_kind, surprise, wanted}
 use Rattle.typst_language.specs.Shape.NodeChange.{stays, turns_wrong, is_not, renamed, unparened}
 use Rattle.typst_language.specs.Shape.Shape.{keeps, holds, lacks, warns, fails}
@@ -20,20 +20,16 @@ use Rattle.typst_grammar.specs.Binding.{any_errors, has_errors, first_sign, oper
 -- ---- tests
 
 pub or-left : (a b : Bool) → (a || b) ≡ false → a ≡ false
-or-left true b h = absurd (cc)
-or-left false b h = refl
+or-left a b h = grind arith
 
 pub or-right : (a b : Bool) → (a || b) ≡ false → b ≡ false
-or-right true b h = absurd (cc)
-or-right false b h = h
+or-right a b h = grind arith
 
 pub or-both : (a b : Bool) → a ≡ false → b ≡ false → (a || b) ≡ false
-or-both true b h i = absurd (cc)
-or-both false b h i = i
+or-both a b h i = grind arith
 
 pub and-both : (a b : Bool) → a ≡ true → b ≡ true → (a && b) ≡ true
-and-both true b h i = i
-and-both false b h i = absurd (cc)
+and-both a b h i = grind arith
 
 -- ---- several trees
 
@@ -52,8 +48,7 @@ all-last P f hints (t ∷ []) h = (on_both P (is_error t.head.kind) (all_advised
 all-last P f hints (t ∷ u ∷ ts) h = (h.0, all-last P f hints (u ∷ ts) h.1)
 
 pub all-hinted : (P : Tree → Type 0) → Steady P → (hints : List (List ℕ)) (ts : List Tree) → All P ts → All P (hinted hints ts)
-all-hinted P f [] ts h = h
-all-hinted P f (hint ∷ hints) ts h = all-last P f (hint ∷ hints) ts h
+all-hinted P f hints ts h = grind (arith, all-last)
 
 -- ---- trees that bind where they have no errors
 
@@ -115,8 +110,7 @@ fines-last hints (t ∷ u ∷ ts) (f, inl e) = (f, inl e)
 fines-last hints (t ∷ u ∷ ts) (f, inr h) = (f, inr (fines-last hints (u ∷ ts) h))
 
 pub fines-hinted : (hints : List (List ℕ)) (ts : List Tree) → Fines ts → Fines (hinted hints ts)
-fines-hinted [] ts h = h
-fines-hinted (hint ∷ hints) ts h = fines-last (hint ∷ hints) ts h
+fines-hinted hints ts h = grind (arith, fines-last)
 
 -- where there is none they all do
 pub fines-sane : (ts : List Tree) → any_errors (forest ts) ≡ false → Fines ts → All Fine ts
@@ -160,43 +154,20 @@ module _ (k : SyntaxKind) (e : same kind.Binary k ≡ false) (t : Tree) where
 
   -- it has errors where it had them
   pub errors-kind : has_errors (with_kind k t) ≡ false → has_errors t ≡ false
-  errors-kind =
-      on_if (λ (u : Tree). has_errors u ≡ false → has_errors t ≡ false) (is_error t.head.kind) t renamed-to (λ _ n. n)
-      (λ i n. or-both (is_error t.head.kind) (any_errors t.kids) i (or-right (is_error k) (any_errors t.kids) n))
+  errors-kind = grind arith
 
 pub fine-wrong : (message : List ℕ) (t : Tree) → Fine t → Fine (made_error message t)
 fine-wrong message t h = on_both Fine (is_error t.head.kind) t (error_of message (text_of t)) h (fine-error message (text_of t))
 
 pub fine-wanted : (thing : List ℕ) (t : Tree) → Fine t → Fine (made_expected thing t)
-fine-wanted thing t h =
-    on_both Fine (is_error t.head.kind) t (expected_error thing t) h
-    (on_both Fine (is_lost_name t.head.kind thing)
-    (advised (hint_with None (keyword_hint (text_of t))) (error_of (expected_message thing (name_of t.head.kind)) (text_of t)))
-    (error_of (expected_message thing (name_of t.head.kind)) (text_of t)) (λ n. absurd (cc)) (λ n. absurd (cc)))
+fine-wanted thing t h = grind arith
 
 -- several of which some have another kind
 abbrev Kept : List Tree → List Tree → Type 0
 Kept ts us = (any_errors (forest us) ≡ false → any_errors (forest ts) ≡ false) × (all_bind (forest ts) ≡ true → all_bind (forest us) ≡ true)
 
 kept-first : (t u : Tree) (ts us : List Tree) → (has_errors u ≡ false → has_errors t ≡ false) → (binds t ≡ true → binds u ≡ true) → Kept ts us → Kept (t ∷ ts) (u ∷ us)
-kept-first t u ts us e b h = (
-  λ n.
-      (let k = is_error u.head.kind in
-      let a = any_errors u.kids in
-      let r = any_errors (forest us) in
-      let n2 = or-right k (a || r) n in
-      let old = e (or-both k a (or-left k (a || r) n) (or-left a r n2)) in
-      or-both (is_error t.head.kind) (any_errors t.kids || any_errors (forest ts)) (or-left (is_error t.head.kind) (any_errors t.kids) old)
-      (or-both (any_errors t.kids) (any_errors (forest ts)) (or-right (is_error t.head.kind) (any_errors t.kids) old) (h.0 (or-right a r n2)))),
-  λ n.
-      (let x = node_binds t in
-      let a = all_bind t.kids in
-      let r = all_bind (forest ts) in
-      let n2 = (and_parts x (a && r) n).1 in
-      let new = b (and-both x a (and_parts x (a && r) n).0 (and_parts a r n2).0) in
-      and-both (node_binds u) (all_bind u.kids && all_bind (forest us)) (and_parts (node_binds u) (all_bind u.kids) new).0
-      (and-both (all_bind u.kids) (all_bind (forest us)) (and_parts (node_binds u) (all_bind u.kids) new).1 (h.1 (and_parts a r n2).1))),
-)
+kept-first t u ts us e b h = grind (arith, or-right, or-both, or-left, and_parts, and-both)
 
 kept-last : (k : SyntaxKind) → same kind.Binary k ≡ false → (ts : List Tree) → Kept ts (renamed_last k ts)
 kept-last k e [] = (λ n. n, λ n. n)
@@ -208,21 +179,10 @@ kept-parens [] = (λ n. n, λ n. n)
 kept-parens (t ∷ ts) = kept-first t (with_kind kind.LeftParen t) ts (renamed_last kind.RightParen ts) (errors-kind kind.LeftParen refl t) (binds-kind kind.LeftParen refl t) (kept-last kind.RightParen refl ts)
 
 delimited-sound : (k : SyntaxKind) → is_delimited k ≡ true → is_error k ≡ false
-delimited-sound kind.MathDelimited h = refl
-delimited-sound _ h = absurd (cc)
+delimited-sound k h = grind arith
 
 fine-parens : (t : Tree) → Fine t → Fine (without_parens t)
-fine-parens t h =
-    let ts = trees t.kids in
-    let new : Tree = record { head = record t.head { kind = kind.Math }; kids = forest (parens_renamed ts) } in
-    on_if Fine (is_delimited t.head.kind && in_parens ts) new t
-    (λ d n.
-    (let k = kept-parens ts in
-    let same-kids = forest_trees t.kids in
-    let old = subst (λ (f : Forest). any_errors f ≡ false) same-kids (k.0 n) in
-    let b = h (or-both (is_error t.head.kind) (any_errors t.kids) (delimited-sound t.head.kind (and_parts (is_delimited t.head.kind) (in_parens ts) d).0) old) in
-    k.1 (subst (λ (f : Forest). all_bind f ≡ true) (sym same-kids) (and_parts (node_binds t) (all_bind t.kids) b).1)))
-    (λ _. h)
+fine-parens t h = grind (arith, on_if, kept-parens, forest_trees, or-both, delimited-sound, and_parts)
 
 -- ---- what becomes of several nodes
 
@@ -273,28 +233,15 @@ pub tame-ordinary : (k : SyntaxKind) → tame_kind k ≡ true → is_ordinary k 
 tame-ordinary k h = (and_parts (is_ordinary k) (unbinary k) h).0
 
 pub is-unbinary : (k : SyntaxKind) → unbinary k ≡ true → same kind.Binary k ≡ false
-is-unbinary k h = by-test (same kind.Binary k) h
-  where
-    by-test : (b : Bool) → (if b then false else true) ≡ true → b ≡ false
-    by-test true h = absurd (cc)
-    by-test false h = refl
+is-unbinary k h = grind arith
 
 -- what allows more
 module _ (f g : SyntaxKind → Bool) (more : (k : SyntaxKind) → f k ≡ true → g k ≡ true) where
-  change-weaker : (change : NodeChange) → change_by f change ≡ true → change_by g change ≡ true
-  change-weaker (renamed k) h = more k h
-  change-weaker _ h = refl
-
   pub shape-weaker : (shape : Shape) → shape_by f shape ≡ true → shape_by g shape ≡ true
-  shape-weaker (keeps change) h = change-weaker change h
-  shape-weaker (holds change k) h = and-both (change_by g change) (g k) (change-weaker change (and_parts (change_by f change) (f k) h).0) (more k (and_parts (change_by f change) (f k) h).1)
-  shape-weaker (lacks count message k) h = more k h
-  shape-weaker (warns k message hint) h = more k h
-  shape-weaker (fails message) h = refl
+  shape-weaker shape h = grind arith
 
   pub making-weaker : (making : Making) → making_by f making ≡ true → making_by g making ≡ true
-  making-weaker (of_kind k) h = more k h
-  making-weaker _ h = refl
+  making-weaker making h = grind arith
 
 -- an error stays one
 abbrev Wrong : Tree → Type 0
@@ -304,18 +251,13 @@ wrong-wrong : (message : List ℕ) (t : Tree) → Wrong t → Wrong (made_error 
 wrong-wrong message t e = on_both Wrong (is_error t.head.kind) t (error_of message (text_of t)) e refl
 
 wrong-wanted : (thing : List ℕ) (t : Tree) → Wrong t → Wrong (made_expected thing t)
-wrong-wanted thing t e =
-    on_both Wrong (is_error t.head.kind) t (expected_error thing t) e
-    (on_both Wrong (is_lost_name t.head.kind thing) (advised (hint_with None (keyword_hint (text_of t))) (error_of (expected_message thing (name_of t.head.kind)) (text_of t)))
-    (error_of (expected_message thing (name_of t.head.kind)) (text_of t)) refl refl)
+wrong-wanted thing t e = grind arith
 
 wrong-kind : (k : SyntaxKind) (t : Tree) → Wrong t → Wrong (with_kind k t)
 wrong-kind k t e = on_if Wrong (is_error t.head.kind) t (topped t (record t.head { kind = k })) (λ _. e) (λ i. absurd (cc))
 
 wrong-parens : (t : Tree) → Wrong t → Wrong (without_parens t)
-wrong-parens t e =
-    on_if Wrong (is_delimited t.head.kind && in_parens (trees t.kids)) _ t
-    (λ d. let x = delimited-sound t.head.kind (and_parts (is_delimited t.head.kind) (in_parens (trees t.kids)) d).0 in absurd (cc)) (λ _. e)
+wrong-parens t e = grind arith
 
 fines-first : (f : Tree → Tree) → ((t : Tree) → Fine t → Fine (f t)) → ((t : Tree) → Wrong t → Wrong (f t)) → (ts : List Tree) → Fines ts → Fines (on_first f ts)
 fines-first f g w [] h = tt
@@ -331,10 +273,8 @@ fines-change unparened ts e h = fines-first without_parens fine-parens wrong-par
 
 fines-shaped : (shape : Shape) (ts : List Tree) → shape_by unbinary shape ≡ true → Fines ts → Fines (shaped shape ts)
 fines-shaped (keeps change) ts e h = fines-change change ts e h
-fines-shaped (holds change k) ts e h =
-    (fine-over k (first_changed change ts) (is-unbinary k (and_parts (change_by unbinary change) (unbinary k) e).1) (fines-change change ts (and_parts (change_by unbinary change) (unbinary k) e).0 h), inr tt)
-fines-shaped (lacks count message k) ts e h =
-    (fine-over k (take count ts ++ error_of message [] ∷ drop count ts) (is-unbinary k e) (fines-append (take count ts) (error_of message [] ∷ drop count ts) (fines-take count ts h) (fine-error message [], inl refl)), inr tt)
+fines-shaped (holds change k) ts e h = grind (arith, fine-over, is-unbinary, and_parts, fines-change)
+fines-shaped (lacks count message k) ts e h = grind (arith, fine-over, is-unbinary, fines-append, fines-take, fine-error)
 fines-shaped (warns k message hint) ts e h = (fine-over k ts (is-unbinary k e) h, inr tt)
 fines-shaped (fails message) ts e h = (λ n. absurd (cc), inl refl)
 

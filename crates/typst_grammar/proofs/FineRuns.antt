@@ -1,5 +1,5 @@
 -- Parsers that give trees which bind where they have no errors: the words of the language.
-use Rattle.std.proofs.Common.{◌≡◌, ℕ, zero, suc, ◌+◌, ◌-◌, Bool, true, false, if◌then◌else◌, nat_lt, List, [], ◌∷◌, ◌++◌, length, take, drop, Option, Some, None, refl, ap, sym, subst, encode_utf8_all, ◌==◌, ◌&&◌, inl, inr}
+use Rattle.std.proofs.Common.{◌≡◌, ℕ, zero, suc, ◌+◌, ◌-◌, Bool, true, false, if◌then◌else◌, nat_lt, List, [], ◌∷◌, ◌++◌, length, take, drop, Option, Some, None, refl, ap, sym, subst, encode_utf8_all, ◌&&◌, inl, inr, arith}
 use Rattle.std.proofs.lemmas.Bool.{and_parts}
 use Rattle.std.specs.Prelude.{codes}
 use Rattle.typst_lines.specs.Classes.{CharClasses}
@@ -10,12 +10,12 @@ use Rattle.typst_kinds.specs.declared.mode.SyntaxMode.{SyntaxMode}
 use Rattle.typst_lines.specs.Place.{Place, moved}
 use Rattle.typst_tree.specs.Diagnostic.{hint_with}
 use Rattle.typst_tree.specs.Tree.{Tree, leaf_of, error_of, advised, all_advised}
-use Rattle.typst_language.specs.Raw.{raw_node, delimited_node, closed_node, block_node, inline_node, delimited, two_delimiters, tag_leaves, is_pair, before_ticks, ticks}
+use Rattle.typst_language.specs.Raw.{raw_node, delimited_node, closed_node, delimited, two_delimiters, tag_leaves, is_pair, before_ticks, ticks}
 use Rattle.typst_language.specs.RawLines.{leaf, RawLine, trimmed, first_line, later_lines, is_blank, dedent, front, closing, line_leaves, first_leaves, block_of, block_leaves, inline_leaves}
-use Rattle.typst_language.specs.RawTag.{tag, warned, is_whole, only_tag}
+use Rattle.typst_language.specs.RawTag.{warned, is_whole, only_tag}
 use Rattle.typst_language.specs.Faults.{hints, message}
 use Rattle.typst_language.specs.Fields.{field_node, fields_node, name_node, named_node, names_of, access_node}
-use Rattle.typst_language.specs.Nodes.{token_node, plain_node, fault_node, is_raw, has_fields}
+use Rattle.typst_language.specs.Nodes.{token_node, fault_node, is_raw, has_fields}
 use Rattle.typst_tokens.specs.declared.token.Fault.{Fault}
 use Rattle.typst_tokens.specs.declared.token.Token.{Token}
 use Rattle.typst_language.specs.declared.calls.Block.{Block}
@@ -25,12 +25,11 @@ use Rattle.typst_language.specs.declared.calls.Mark.TheVariants as mark
 use Rattle.typst_language.specs.declared.reading.Reading.{Reading}
 use Rattle.typst_language.specs.Point.{Point, Trivia, pending}
 use Rattle.typst_language.specs.Hand.{Ahead, ahead, ahead_by, after_trivia, direct, hand_at, token_at, len_at, at_trivia, token_by, len_by}
-use Rattle.typst_language.specs.Shape.{changed, Shape, hinted, after_node, after_shape}
-use Rattle.typst_language.specs.Shape.Shape.{keeps, holds}
+use Rattle.typst_language.specs.Shape.{Shape, after_node, after_shape}
 use Rattle.typst_language.specs.Syntax.{Op, Begin, Parser}
-use Rattle.typst_language.specs.Syntax.Op.{so, erred, takes, takes_so, flushes, complains, advises, marks, is_deepest}
+use Rattle.typst_language.specs.Syntax.Op.{erred, takes, takes_so, flushes, complains, advises, marks, is_deepest}
 use Rattle.typst_language.specs.Syntax.Parser.{gives, does, next, pick, repeat, wraps, grows, nests, scoped, either, calls, block}
-use Rattle.typst_language.specs.Meaning.{Outcome, Meaning, Level, less, joined, answered, turns, as_last, bound, repeated, before, reshaped, grown, is_more, growths, growing, nestings, nesting, bounded, given_up, plain, same_mode, entered, left, taken_node, node_by, reader_so, gave, hand_of, hand_asks_of, done, run}
+use Rattle.typst_language.specs.Meaning.{Outcome, Meaning, Level, less, joined, answered, turns, as_last, bound, repeated, before, reshaped, grown, is_more, growths, growing, nestings, nesting, bounded, given_up, plain, entered, left, taken_node, node_by, reader_so, gave, hand_of, hand_asks_of, done, run}
 use Rattle.typst_language.proofs.Within.{on_both, on_if}
 use Rattle.typst_grammar.specs.Binding.{has_errors, operator_of}
 use Rattle.typst_grammar.proofs.Signs.{sign_of}
@@ -65,16 +64,14 @@ fine-access taken = by-names (names_of taken)
 
 -- raw texts
 fine-trimmed : (cs : List ℕ) → All Fine (trimmed cs)
-fine-trimmed [] = tt
-fine-trimmed (c ∷ cs) = (λ n. refl, tt)
+fine-trimmed cs = grind arith
 
 fine-lines : (d : ℕ) (held : List ℕ) (rs : List RawLine) (closing : List ℕ) → All Fine (line_leaves d held rs closing)
 fine-lines d held [] closing = fine-trimmed (held ++ closing)
 fine-lines d held (r ∷ rs) closing = (λ n. refl, (λ n. refl, fine-lines d [] rs closing))
 
 fine-start : (cs : List ℕ) → All Fine (first_leaves cs)
-fine-start [] = (λ n. refl, tt)
-fine-start (c ∷ cs) = on_both (All Fine) (c == 32) _ _ (λ n. refl, (λ n. refl, tt)) (λ n. refl, tt)
+fine-start cs = grind arith
 
 fine-block : (cs : List ℕ) → All Fine (block_leaves cs)
 unfolding block_leaves
@@ -88,8 +85,7 @@ unfolding inline_leaves
 fine-inline cs = (λ n. refl, fine-lines 0 [] (later_lines cs) [])
 
 fine-tag : (cs : List ℕ) → All Fine (tag_leaves cs)
-fine-tag [] = tt
-fine-tag (c ∷ cs) = (λ n. refl, tt)
+fine-tag cs = grind arith
 
 fine-delimited : (delim : List ℕ) (leaves : List Tree) → All Fine leaves → Fine (delimited delim leaves)
 fine-delimited delim leaves h =
@@ -101,11 +97,7 @@ unfolding warned
 fine-warned n now cs t h = on_both Fine (is_whole now cs) (only_tag n now t) t h h
 
 fine-closed : (delim inner : List ℕ) → Fine (closed_node delim inner)
-fine-closed delim inner =
-    on_both Fine (nat_lt 2 (length delim)) (block_node delim inner) (inline_node delim inner)
-    (fine-warned (length delim) (tag inner) inner _
-    (fine-delimited delim _ (all-append Fine (tag_leaves (tag inner)) (block_leaves (drop (length (tag inner)) inner)) (fine-tag (tag inner)) (fine-block (drop (length (tag inner)) inner)))))
-    (fine-delimited delim _ (fine-inline inner))
+fine-closed delim inner = grind (arith, on_both, fine-warned, fine-delimited, all-append, fine-tag, fine-block, fine-inline)
 
 fine-raw : (cs : List ℕ) → Fine (raw_node cs)
 unfolding raw_node
@@ -120,12 +112,7 @@ fine-raw cs = by-sides (ticks cs) (drop (length (ticks cs)) cs)
 
 -- the node of a token
 pub fine-token : (k : CharClasses) (t : Token) (taken : List ℕ) → Fine (token_node k t taken)
-fine-token k t taken = elim t.fault as (λ o. Fine (elim o as (λ _. Tree) [ None ↦ plain_node k t taken | Some f ↦ fault_node f taken ])) [
-  | None ↦ on_both Fine (is_error t.kind) (error_of [] (encode_utf8_all taken)) _ (fine-error [] (encode_utf8_all taken))
-      (on_both Fine (is_raw t.kind) (raw_node taken) _ (fine-raw taken)
-      (on_both Fine (has_fields t.kind) (access_node taken) (leaf_of t.kind (encode_utf8_all taken)) (fine-access taken) (fine-leaf t.kind (encode_utf8_all taken))))
-  | Some f ↦ fine-fault f taken
-]
+fine-token k t taken = grind (arith, on_both, fine-error, fine-raw, fine-access, fine-leaf, fine-fault)
 
 -- ---- trivia
 
@@ -140,17 +127,10 @@ still-error t f e = record { fine = f; no_sign = ap sign_of e; no_operator = no-
 
 still-plain : (k : CharClasses) (i : SyntaxKind) (taken : List ℕ) → is_trivia i ≡ true
     → Still (if is_error i then error_of [] (encode_utf8_all taken) else (if is_raw i then raw_node taken else (if has_fields i then access_node taken else leaf_of i (encode_utf8_all taken))))
-still-plain k kind.Space taken h = record { fine = λ n. refl; no_sign = refl; no_operator = refl }
-still-plain k kind.Parbreak taken h = record { fine = λ n. refl; no_sign = refl; no_operator = refl }
-still-plain k kind.LineComment taken h = record { fine = λ n. refl; no_sign = refl; no_operator = refl }
-still-plain k kind.BlockComment taken h = record { fine = λ n. refl; no_sign = refl; no_operator = refl }
-still-plain k _ taken h = absurd (cc)
+still-plain k i taken h = grind arith
 
 still-token : (k : CharClasses) (t : Token) (taken : List ℕ) → is_trivia t.kind ≡ true → Still (token_node k t taken)
-still-token k t taken h = elim t.fault as (λ o. Still (elim o as (λ _. Tree) [ None ↦ plain_node k t taken | Some f ↦ fault_node f taken ])) [
-  | None ↦ still-plain k t.kind taken h
-  | Some f ↦ still-error (fault_node f taken) (fine-fault f taken) (kind-advised (hints f taken) (error_of (message f taken) (encode_utf8_all taken)))
-]
+still-token k t taken h = grind (arith, still-plain, still-error, fine-fault, kind-advised)
 
 still-ahead : (k : CharClasses) (m : SyntaxMode) (n : ℕ) (z : Place) → All Still (ahead_by k m n z).trivia
 still-ahead k m zero z = tt
@@ -163,8 +143,7 @@ still-ahead k m (suc n) z =
 
 still-known : (k : CharClasses) (held : Reading) (known : Option Trivia) (z : Place) → All Still (pending known) → All Still (hand_at k held known z).trivia
 unfolding hand_at ahead
-still-known k held None z h = still-ahead k held.mode (length z.ahead) z
-still-known k held (Some t) z h = h
+still-known k held known z h = grind (arith, still-ahead)
 
 pub still-hand : (l : Level) (z : Place) (s : Point) → All Still (pending s.known) → All Still (hand_of l z s).trivia
 still-hand l z s h = still-known l.classes s.held s.known z h
@@ -188,10 +167,7 @@ unfolding less
 fines-less n ts h = fines-take (length ts - n) ts h
 
 pub binds-joined : {A B : Type 0} (o : Outcome B) (p : Outcome A) → Binds o → Binds p → Binds (joined o p)
-binds-joined o p h k = record {
-  nodes = fines-append (hinted p.hints (less p.back o.nodes)) p.nodes (fines-hinted p.hints (less p.back o.nodes) (fines-less p.back o.nodes h.nodes)) k.nodes;
-  known = k.known;
-}
+binds-joined o p h k = grind (arith, fines-append, fines-hinted, fines-less)
 
 binds-if : {A : Type 0} (b : Bool) (x y : Outcome A) → Binds x → Binds y → Binds (if b then x else y)
 binds-if b x y p q = on_both Binds b x y p q
@@ -209,27 +185,16 @@ binds-turns m h (suc n) x z s k =
     (record { nodes = first.nodes; known = first.known })
 
 after-node-known : (b : Bool) (text : List ℕ) (s : Point) → (after_node b text s).known ≡ s.known
-after-node-known true text s = refl
-after-node-known false text s = refl
+after-node-known b text s = grind arith
 
 pub after-shape-known : (shape : Shape) (ts : List Tree) (s : Point) → (after_shape shape ts s).known ≡ s.known
-after-shape-known (keeps change) (t ∷ []) s =
-    on_both (λ (u : Point). u.known ≡ s.known) (is_error t.head.kind) s (after_node (is_error (changed change t).head.kind) _ s) refl (after-node-known (is_error (changed change t).head.kind) _ s)
-after-shape-known _ ts s = refl
+after-shape-known shape ts s = grind (arith, on_both, after-node-known)
 
 pub still-shaped : (shape : Shape) (ts : List Tree) (s : Point) → All Still (pending s.known) → All Still (pending (after_shape shape ts s).known)
 still-shaped shape ts s h = subst (λ (x : Option Trivia). All Still (pending x)) (sym (after-shape-known shape ts s)) h
 
 pub binds-reshaped : {A : Type 0} (shape : Shape) → shape_by unbinary shape ≡ true → (n : ℕ) (o : Outcome A) → Binds o → Binds (reshaped shape n o)
-binds-reshaped shape e n o h =
-    let m = n + o.back in
-    record {
-      nodes = fines-reshaped m shape o.nodes e h.nodes;
-      known = still-shaped shape (drop m o.nodes) o.state h.known;
-    }
-
-still-left : (outer : Reading) (s : Point) → All Still (pending s.known) → All Still (pending (left outer s).known)
-still-left outer s h = on_both (λ (t : Point). All Still (pending t.known)) (same_mode s.reading.mode outer.mode) _ _ h tt
+binds-reshaped shape e n o h = grind (arith, fines-reshaped, still-shaped)
 
 abbrev pub if_by : (SyntaxKind → Bool) → Option Shape → Bool
 if_by allows None = true
@@ -239,8 +204,7 @@ abbrev pub tame_if : Option Shape → Bool
 tame_if shape = if_by tame_kind shape
 
 binds-grown : {A : Type 0} (n : ℕ) (shape : Option Shape) → if_by unbinary shape ≡ true → (o : Outcome A) → Binds o → Binds (grown n shape o)
-binds-grown n None e o h = h
-binds-grown n (Some shape) e o h = binds-reshaped shape e n o h
+binds-grown n shape e o h = grind (arith, binds-reshaped)
 
 binds-growths : {A : Type 0} (m : A → Meaning (Option Shape × A)) → ((x : A) → AllBind (m x)) → ((x : A) (z : Place) (s : Point) → if_by unbinary (m x z s).value.0 ≡ true) → (n k : ℕ) (o : Outcome A) (z : Place) → Binds o → Binds (growths m n k o z)
 binds-growths m f e n zero o z h = h
@@ -328,8 +292,7 @@ module _ (f g : SyntaxKind → Bool) (more : (k : SyntaxKind) → f k ≡ true �
   op-weaker _ h = refl
 
   if-weaker : (shape : Option Shape) → if_by f shape ≡ true → if_by g shape ≡ true
-  if-weaker None h = refl
-  if-weaker (Some shape) h = shape-weaker f g more shape h
+  if-weaker shape h = grind arith
 
   pub plain-weaker : {A : Type 0} (p : Parser A) → PlainBy f p → PlainBy g p
   plain-weaker (does o) h = op-weaker o h
@@ -400,10 +363,7 @@ module _ (l : Level) where
     binds-run (grows begin p f) w z s h =
         binds-growths (λ y. run l (f y)) (λ y. binds-run (f y) (w.1 y).1) (λ y. gives-run (λ v. if_by unbinary v.0 ≡ true) (f y) (w.1 y).0) (before begin s) (suc (bound z s)) (run l p z s) z (binds-run p w.0 z s h)
     binds-run (nests f begin p x) w z s h = binds-nestings f w.0 begin (λ y. run l (p y)) (λ y. binds-run (p y) (w.1 y)) (suc (bound z s)) x z s h
-    binds-run (scoped f p) w z s h =
-        let o = run l p z (entered (f s.reading) s) in
-        let k = binds-run p w z (entered (f s.reading) s) h in
-        record { nodes = k.nodes; known = still-left s.reading o.state k.known }
+    binds-run (scoped f p) w z s h = grind (arith, run l p z (entered (f s.reading) s), binds-run p w z (entered (f s.reading) s) h)
     binds-run (either p is_wrong q) w z s h =
         let o = run l p z s in
         let k = binds-run q w.1 z s h in

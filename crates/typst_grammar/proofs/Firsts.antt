@@ -1,5 +1,5 @@
 -- What takes the token at hand first, at each level: blocks do.
-use Rattle.std.proofs.Common.{◌≡◌, ℕ, zero, suc, ◌+◌, ◌<◌, ◌≤◌, Bool, true, false, List, [], ◌∷◌, length, take, length-append, Option, Some, None, refl, ap, sym, subst, arith}
+use Rattle.std.proofs.Common.{◌≡◌, ℕ, zero, suc, ◌+◌, ◌<◌, ◌≤◌, true, false, List, length, take, length-append, Option, None, refl, ap, sym, subst, arith}
 use Rattle.typst_kinds.specs.declared.mode.SyntaxMode.{SyntaxMode}
 use Rattle.typst_lines.specs.Place.{Place, moved}
 use Rattle.typst_tree.specs.Tree.{Tree}
@@ -7,7 +7,7 @@ use Rattle.typst_lines.specs.Classes.{CharClasses}
 use Rattle.typst_language.specs.declared.calls.Block.{Block}
 use Rattle.typst_language.specs.declared.reading.Reading.{Reading}
 use Rattle.typst_language.specs.Calls.{Call}
-use Rattle.typst_language.specs.Hand.{Hand, as_at_hand, hand_at, ahead, ahead_by, at_trivia, len_at}
+use Rattle.typst_language.specs.Hand.{Hand, as_at_hand, hand_at, ahead, ahead_by, len_at}
 use Rattle.typst_language.specs.Point.{Point, Trivia, forgot}
 use Rattle.typst_language.specs.Shape.{hinted}
 use Rattle.typst_language.specs.Sound.{Backs}
@@ -29,22 +29,15 @@ use Rattle.typst_grammar.proofs.Begun.{first-block}
 -- ---- what is left before a block
 
 flushed-by : (ts : List Tree) (h : Hand) (s : Point) → h.trivia ≡ ts → (flushed_state h s).held ≡ s.held
-flushed-by [] h s e = rw e refl
-flushed-by (t ∷ ts) h s e = rw e refl
+flushed-by ts h s e = grind arith
 
 -- nothing is known of the trivia: they or the token take something
 pub some-ahead : (k : CharClasses) (m : SyntaxMode) (n : ℕ) (z : Place) → 0 < len_at k m z → 0 < (ahead_by k m n z).gap + (ahead_by k m n z).len
-some-ahead k m zero z h = omega (arith, h)
-some-ahead k m (suc n) z h = by-trivia (at_trivia k m z) refl
-  where
-    by-trivia : (b : Bool) → at_trivia k m z ≡ b → 0 < (ahead_by k m (suc n) z).gap + (ahead_by k m (suc n) z).len
-    by-trivia true e = rw e (omega (arith, h))
-    by-trivia false e = rw e (omega (arith, h))
+some-ahead k m n z h = grind arith
 
 some-again : (k : CharClasses) (held : Reading) (known : Option Trivia) (z : Place) → (hand_at k held known z).gap ≡ 0 → 0 < (hand_at k held known z).len → 0 < (hand_at k held None z).gap + (hand_at k held None z).len
 unfolding hand_at ahead
-some-again k held None z e h = omega (arith, h)
-some-again k held (Some t) z e h = some-ahead k held.mode (length z.ahead) z (subst (λ n. 0 < len_at k held.mode (moved n z)) e h)
+some-again k held known z e h = grind (arith, some-ahead)
 
 -- what leads, after nodes that are no operators
 leads-flushed : {K L : Type 0} (n : ℕ) (ts : List Tree) (o : Outcome (Unit {0})) (q : Outcome (Unit {0})) → o.nodes ≡ ts → o.back ≡ 0 → n ≡ length ts → (K → All Bare ts) → q.back ≡ 0 → q.state.empties ≤ length q.nodes → (L → 0 < o.taken + q.taken) → Leads K L n (joined o q)

@@ -2,9 +2,7 @@
 use Rattle.std.proofs.Common.{◌≡◌, ℕ, zero, suc, ◌+◌, ◌≤◌, ◌<◌, Bool, true, false, ◌&&◌, ◌||◌, if◌then◌else◌, nat_lt, List, [], ◌∷◌, ◌++◌, length, take, drop, nat_le, length-append, length-take, append_assoc, Option, Some, None, refl, ap, sym, ◌∙◌, ◌⊎◌, inl, inr, subst, arith}
 use Rattle.std.proofs.lemmas.Bool.Decides.{nat_tests}
 use Rattle.typst_kinds.specs.Kinds.{is_error, is_trivia}
-use Rattle.typst_kinds.specs.Operators.{binary_precedence, assoc_of}
-use Rattle.typst_kinds.specs.declared.operator.Assoc.{Assoc}
-use Rattle.typst_kinds.specs.declared.operator.Assoc.TheVariants.{Left, Right}
+use Rattle.typst_kinds.specs.Operators.{binary_precedence}
 use Rattle.typst_kinds.specs.declared.operator.BinOp.{BinOp}
 use Rattle.typst_kinds.specs.declared.kind.SyntaxKind.{SyntaxKind}
 use Rattle.typst_kinds.specs.declared.kind.SyntaxKind.TheVariants as kind
@@ -44,28 +42,13 @@ split (suc m) (x ∷ xs) bs cs h = let r = split m xs bs cs (omega arith) in rec
 
 -- an operator is no trivia
 sign-trivia : (i : SyntaxKind) (op : BinOp) → sign_of i ≡ Some op → is_trivia i ≡ false
-sign-trivia kind.Space op h = absurd (cc)
-sign-trivia kind.Parbreak op h = absurd (cc)
-sign-trivia kind.LineComment op h = absurd (cc)
-sign-trivia kind.BlockComment op h = absurd (cc)
-sign-trivia _ op h = refl
+sign-trivia i op h = grind arith
 
 right-most : (op : BinOp) → right_least op ≤ suc (binary_precedence op)
-right-most op = by-side (assoc_of op)
-  where
-    by-side : (a : Assoc) → (elim a as (λ _. ℕ) [ Left ↦ suc (binary_precedence op) | Right ↦ binary_precedence op ]) ≤ suc (binary_precedence op)
-    by-side Left = omega arith
-    by-side Right = omega arith
+right-most op = grind arith
 
 below-more : (a b : ℕ) (i : SyntaxKind) → a ≤ b → below a i ≡ true → below b i ≡ true
-below-more a b i h e = by-sign (sign_of i) e
-  where
-    less : (x : ℕ) → nat_lt x a ≡ true → nat_lt x b ≡ true
-    less x l = grind (arith, nat_tests)
-
-    by-sign : (o : Option BinOp) → (elim o as (λ _. Bool) [ None ↦ true | Some op ↦ nat_lt (binary_precedence op) a ]) ≡ true → (elim o as (λ _. Bool) [ None ↦ true | Some op ↦ nat_lt (binary_precedence op) b ]) ≡ true
-    by-sign None l = refl
-    by-sign (Some op) l = less (binary_precedence op) l
+below-more a b i h e = grind arith
 
 last-left : (E P : Type 0) (Q : Tree → Type 0) (ts : List Tree) → LastIs E (λ t. Q t × P) ts → (E → P) → P
 last-left E P Q [] h f = f h
@@ -226,30 +209,16 @@ module _ (k : CharClasses) (least : ℕ) where
   -- nothing comes that is taken: the operand ends
   pub stopped-silent : {A : Type 0} (n : ℕ) (z : Place) (s : Point) (o : Outcome A) (p : Outcome (Option Shape × A)) → Grown n z s o → Silent p → p.value.0 ≡ None → Binds p
       → kind_at (moved p.taken (moved o.taken z)) p.state ≡ kind_at (moved o.taken z) o.state → below least (kind_at (moved o.taken z) o.state) ≡ true → Stopped z s p (turned n o p)
-  stopped-silent n z s o p g q none b same l =
-      let x = answered p.value.1 (joined o p) in
-      let is : turned n o p ≡ x = ap (λ (v : Option Shape). grown n v x) none in
-      let there : kind_at (moved (o.taken + p.taken) z) p.state ≡ kind_at (moved o.taken z) o.state = ap (λ (v : Place). kind_at v p.state) (moved-sum o.taken p.taken z) ∙ same in
-      let all = binds-joined o p g.binds b in
-      let last = last-map (s.is_after_error ≡ true) (s.is_after_error ≡ true) (λ t. Sane t → BindsBy least t) (Ended (kind_at (moved (o.taken + p.taken) z) p.state)) (λ e. e)
-      (λ t h y. (h y, ap (below least) there ∙ l)) o.nodes g.last in
-      let r : Operand z s x = record {
-        binds = record { nodes = all.nodes; known = all.known };
-        last = λ e. subst (λ (ts : List Tree). LastIs (s.is_after_error ≡ true) (Ended (kind_at (moved (o.taken + p.taken) z) p.state)) ts) (sym (standing-silent p q o.nodes)) last;
-      } in
-      record { says = ap is_more none; operand = subst (λ y. Operand z s y) (sym is) r }
+  stopped-silent n z s o p g q none b same l = grind (arith, moved-sum, binds-joined, last-map, standing-silent)
 
   is-less : (m : ℕ) → 0 < m → nat_lt 0 m ≡ true
   is-less m h = grind (arith, nat_tests)
 
   stops-if : {A : Type 0} (z : Place) (s : Point) (a b : Bool) (x y : Outcome A) → a ≡ false → Operand z s y → Operand z s (if a && b then x else y)
-  stops-if z s true b x y e h = absurd (cc)
-  stops-if z s false b x y e h = h
+  stops-if z s a b x y e h = grind arith
 
   goes-if : {A : Type 0} (z : Place) (s : Point) (a b : Bool) (x y : Outcome A) → a ≡ true → b ≡ true → Operand z s x → Operand z s (if a && b then x else y)
-  goes-if z s true true x y e f h = h
-  goes-if z s true false x y e f h = absurd (cc)
-  goes-if z s false b x y e f h = absurd (cc)
+  goes-if z s a b x y e f h = grind arith
 
   -- all turns; each that goes on leaves less
   module _ {A : Type 0} (m : A → Meaning (Option Shape × A)) (n : ℕ) (z : Place) (s : Point) where
@@ -268,7 +237,4 @@ module _ (k : CharClasses) (least : ℕ) where
         by-turn : Stopped z s p (turned n o p) ⊎ (WentOn n z s p (turned n o p) × (p.taken + bound (moved (turned n o p).taken z) (turned n o p).state ≤ bound (moved o.taken z) o.state))
             → ((o : Outcome A) → bound (moved o.taken z) o.state < fuel → Grown n z s o → Operand z s (growths m n fuel o z)) → Operand z s (growths m n (suc fuel) o z)
         by-turn (inl x) rest = stops-if z s (is_more p.value.0) (nat_lt 0 p.taken) (growths m n fuel (turned n o p) z) (turned n o p) x.says x.operand
-        by-turn (inr x) rest =
-            let some = x.0.taken in
-            let fewer = x.1 in
-            goes-if z s (is_more p.value.0) (nat_lt 0 p.taken) (growths m n fuel (turned n o p) z) (turned n o p) x.0.says (is-less p.taken some) (rest (turned n o p) (omega (arith, some, fewer, h)) x.0.grown)
+        by-turn (inr x) rest = grind arith

@@ -1,11 +1,10 @@
 -- What stands to the left of an operator: no operator stands there, and no binary node.
-use Rattle.std.proofs.Common.{◌≡◌, ℕ, zero, suc, ◌<◌, Bool, true, false, not, ◌&&◌, ◌||◌, if◌then◌else◌, nat_lt, List, [], ◌∷◌, ◌++◌, length, take, drop, Option, Some, None, refl, ap, sym, ◌∙◌, ◌⊎◌, inl, inr, subst, arith, encode_utf8_all}
+use Rattle.std.proofs.Common.{◌≡◌, ℕ, zero, suc, ◌<◌, Bool, true, false, not, ◌&&◌, ◌||◌, if◌then◌else◌, nat_lt, List, [], ◌∷◌, ◌++◌, length, take, drop, Option, Some, None, refl, ap, sym, ◌⊎◌, subst, arith, encode_utf8_all}
 use Rattle.std.proofs.lemmas.Bool.{and_parts}
 use Rattle.typst_lines.specs.Classes.{CharClasses}
 use Rattle.typst_kinds.specs.Kinds.{same, is_error}
 use Rattle.typst_kinds.specs.declared.kind.SyntaxKind.{SyntaxKind}
 use Rattle.typst_kinds.specs.declared.kind.SyntaxKind.TheVariants as kind
-use Rattle.typst_kinds.specs.declared.operator.BinOp.{BinOp}
 use Rattle.typst_lines.specs.Place.{Place, moved}
 use Rattle.typst_tree.specs.Diagnostic.{hint_with}
 use Rattle.typst_tree.specs.Tree.{Tree, leaf_of, error_of, advised}
@@ -30,7 +29,7 @@ use Rattle.typst_language.proofs.Places.{no-end}
 use Rattle.typst_language.proofs.Within.{on_both}
 use Rattle.typst_grammar.specs.Binding.{operator_of}
 use Rattle.typst_grammar.proofs.Signs.{sign_of}
-use Rattle.typst_grammar.proofs.Fine.{All, Steady, kind-advised, all-drop, no-operator, or-left, or-right, unbinary, is-unbinary}
+use Rattle.typst_grammar.proofs.Fine.{All, Steady, kind-advised, all-drop, no-operator, or-left, or-right, unbinary}
 pub use Rattle.typst_grammar.proofs.Parts.{standing-nil as standing-none}
 
 -- ---- nodes
@@ -79,11 +78,7 @@ abbrev pub is_quiet : SyntaxKind → Bool
 is_quiet k = elim (sign_of k) as (λ _. Bool) [ None ↦ unbinary k | Some op ↦ false ]
 
 pub quiet-sign : (k : SyntaxKind) → is_quiet k ≡ true → (sign_of k ≡ None) × (same kind.Binary k ≡ false)
-quiet-sign k e = by-sign (sign_of k) e
-  where
-    by-sign : (o : Option BinOp) → (elim o as (λ _. Bool) [ None ↦ unbinary k | Some op ↦ false ]) ≡ true → (o ≡ None) × (same kind.Binary k ≡ false)
-    by-sign None h = (refl, is-unbinary k h)
-    by-sign (Some op) h = absurd (cc)
+quiet-sign k e = grind arith
 
 -- ---- what adds no node
 
@@ -96,11 +91,7 @@ pub standing-silent : {A : Type 0} (o : Outcome A) → Silent o → (ts : List T
 standing-silent o h ts = rw (h.nodes, h.back, h.hints) (sym (no-end ts))
 
 pub silent-joined : {A B : Type 0} (o : Outcome A) (p : Outcome B) → Silent o → Silent p → Silent (joined o p)
-silent-joined o p h k = record {
-  nodes = standing-silent p k o.nodes ∙ h.nodes;
-  back = (let a = h.back in let b = k.back in omega arith);
-  hints = rw (h.nodes, h.hints, k.back, k.hints) refl;
-}
+silent-joined o p h k = grind (arith, standing-silent)
 
 pub silent-plain : {A : Type 0} (a : A) (s : Point) → Silent (plain a s)
 silent-plain a s = record { nodes = refl; back = refl; hints = refl }
@@ -122,31 +113,20 @@ abbrev pub is_calm : SyntaxKind → Bool
 is_calm k = is_raw k || (is_quiet k && not (is_end k || is_plain k))
 
 raw-is : (i : SyntaxKind) → is_raw i ≡ true → i ≡ kind.Raw
-raw-is kind.Raw h = refl
-raw-is _ h = absurd (cc)
+raw-is i h = grind arith
 
 not-true : (b : Bool) → not b ≡ true → b ≡ false
-not-true true h = absurd (cc)
-not-true false h = refl
+not-true b h = grind arith
 
 leafy-by : (i : SyntaxKind) (text : List ℕ) (x y w : Tree) → is_plain i ≡ false → (if is_error i then x else (if is_raw i then y else (if has_fields i then w else leaf_of i text))) ≡ leaf_of i text
-leafy-by i text x y w e = by-tests (is_error i) (is_raw i) (has_fields i) e
-  where
-    by-tests : (a b c : Bool) → (a || (b || c)) ≡ false → (if a then x else (if b then y else (if c then w else leaf_of i text))) ≡ leaf_of i text
-    by-tests true b c e = absurd (cc)
-    by-tests false true c e = absurd (cc)
-    by-tests false false true e = absurd (cc)
-    by-tests false false false e = refl
+leafy-by i text x y w e = grind arith
 
 -- an error, or a leaf of the kind
 abbrev pub Leafy : SyntaxKind → List ℕ → Tree → Type 0
 Leafy i text t = (t.head.kind ≡ kind.Error) ⊎ (t ≡ leaf_of i text)
 
 pub leafy-token : (k : CharClasses) (t : Token) (taken : List ℕ) (i : SyntaxKind) → t.kind ≡ i → is_plain i ≡ false → Leafy i (encode_utf8_all taken) (token_node k t taken)
-leafy-token k t taken i e p = elim t.fault as (λ o. Leafy i (encode_utf8_all taken) (elim o as (λ _. Tree) [ None ↦ plain_node k t taken | Some f ↦ fault_node f taken ])) [
-  | None ↦ inr (leafy-by t.kind (encode_utf8_all taken) (error_of [] (encode_utf8_all taken)) (raw_node taken) (access_node taken) (ap is_plain e ∙ p) ∙ ap (λ j. leaf_of j (encode_utf8_all taken)) e)
-  | Some f ↦ inl (fault-error f taken)
-]
+leafy-token k t taken i e p = grind (arith, leafy-by, fault-error)
 
 judged-kind : (b : Bool) (j i : SyntaxKind) → is_end i ≡ false → (if b then kind.End else j) ≡ i → j ≡ i
 judged-kind true j i e h = let x = ap is_end h in absurd (cc)
@@ -158,8 +138,7 @@ unfolding hand_at
 hand-kind k held known z i e h = judged-kind _ _ i e h
 
 leafy-bare : (i : SyntaxKind) (text : List ℕ) (t : Tree) → sign_of i ≡ None → same kind.Binary i ≡ false → Leafy i text t → Bare t
-leafy-bare i text t a b (inl e) = bare-error t e
-leafy-bare i text t a b (inr e) = subst Bare (sym e) (a, no-operator (leaf_of i text) b)
+leafy-bare i text t a b h = grind arith
 
 -- a raw text
 bare-warned : (n : ℕ) (now cs : List ℕ) (t : Tree) → Bare t → Bare (warned n now cs t)

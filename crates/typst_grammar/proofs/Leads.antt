@@ -1,20 +1,20 @@
 -- What takes the token at hand first: the trivia before it come first and stay there, and something is taken.
-use Rattle.std.proofs.Common.{◌≡◌, ℕ, zero, suc, ◌+◌, ◌-◌, ◌<◌, ◌≤◌, Bool, true, false, ◌&&◌, if◌then◌else◌, nat_lt, List, [], ◌∷◌, ◌++◌, length, take, length-append, length-take, length-drop, Option, Some, None, refl, ap, sym, ◌∙◌, ◌⊎◌, inl, inr, subst, arith}
+use Rattle.std.proofs.Common.{◌≡◌, ℕ, zero, suc, ◌+◌, ◌-◌, ◌<◌, ◌≤◌, Bool, true, false, ◌&&◌, if◌then◌else◌, nat_lt, List, [], ◌∷◌, ◌++◌, length, take, length-append, length-take, length-drop, Option, Some, None, refl, ap, sym, ◌⊎◌, inl, inr, subst, arith}
 use Rattle.typst_kinds.specs.Kinds.{is_error}
 use Rattle.typst_lines.specs.Place.{Place, moved}
-use Rattle.typst_tree.specs.Tree.{Tree, text_of}
+use Rattle.typst_tree.specs.Tree.{Tree}
 use Rattle.typst_language.specs.declared.calls.Block.{Block}
 use Rattle.typst_language.specs.Calls.{Call}
 use Rattle.typst_language.specs.Hand.{Hand, as_at_hand}
 use Rattle.typst_language.specs.Point.{Point, pending}
-use Rattle.typst_language.specs.Shape.{Making, hinted_last, hinted, Shape, shaped, count_empty, after_node}
+use Rattle.typst_language.specs.Shape.{Making, hinted_last, hinted, Shape, shaped, after_node}
 use Rattle.typst_language.specs.Sound.{Tidy, Backs}
 use Rattle.typst_language.specs.Syntax.{Begin, Parser}
 use Rattle.typst_language.specs.Syntax.Begin.{at_token, at_trivia}
 use Rattle.typst_language.specs.Syntax.Op.{hand, column, takes}
 use Rattle.typst_language.specs.Syntax.Parser.{gives, does, next, pick, repeat, wraps, grows, nests, scoped, either, calls, block}
-use Rattle.typst_language.specs.Meaning.{Outcome, Meaning, Level, less, joined, answered, turns, as_last, before, bound, repeated, entered, inside, reshaped, wrapped, grown, is_more, growths, growing, nestings, nesting, given_up, taken_node, hand_of, asked, run}
-use Rattle.typst_language.proofs.Backs.{backs-run, backs-turns, shape-counts, tidy-nestings, left-empties}
+use Rattle.typst_language.specs.Meaning.{Outcome, Meaning, Level, less, joined, answered, turns, as_last, before, bound, repeated, entered, inside, reshaped, wrapped, grown, is_more, growths, growing, nestings, nesting, given_up, hand_of, asked, run}
+use Rattle.typst_language.proofs.Backs.{backs-run, backs-turns, shape-counts, tidy-nestings}
 use Rattle.typst_language.proofs.Ends.{hand-again}
 use Rattle.typst_language.proofs.HintedNodes.{length-hinted}
 use Rattle.typst_language.proofs.Places.{length-less}
@@ -87,16 +87,7 @@ leads-joined n o q h t =
 
 -- after what gives nothing
 leads-after : {A B K L : Type 0} (n : ℕ) (o : Outcome B) (q : Outcome A) → o.nodes ≡ [] → o.back ≡ 0 → Leads K L n q → Leads K L n (joined o q)
-leads-after n o q e f h =
-    let same = ap (λ ts. hinted q.hints (less q.back ts) ++ q.nodes) e ∙ standing-none q in
-    let long = ap length same in
-    let a = h.none in let b = h.room in
-    record {
-      none = omega (arith, a, f);
-      room = omega (arith, b, long);
-      first = λ k. subst (λ (ts : List Tree). All Bare (take n ts)) (sym same) (h.first k);
-      taken = λ i. (let some = h.taken i in omega (arith, some));
-    }
+leads-after n o q e f h = grind (arith, standing-none)
 
 leads-reshaped : {A K L : Type 0} (n : ℕ) (shape : Shape) (o : Outcome A) → Leads K L n o → Leads K L n (reshaped shape n o)
 leads-reshaped n shape o h =
@@ -128,13 +119,8 @@ leads-growths {K = K} {L = L} m tidy n (suc fuel) o z h =
     let g = leads-grown n p.value.0 (answered p.value.1 (joined o p)) (leads-answered p.value.1 (leads-joined n o p h (tidy o.value (moved o.taken z) o.state))) in
     on_both (λ u. Leads K L n u) (is_more p.value.0 && nat_lt 0 p.taken) (growths m n fuel more z) more (leads-growths m tidy n fuel more z g) g
 
-count-one : (text : List ℕ) → count_empty text ≤ 1
-count-one [] = omega arith
-count-one (c ∷ cs) = omega arith
-
 after-one : (b : Bool) (text : List ℕ) (s : Point) → (after_node b text s).empties ≤ 1
-after-one true text s = count-one text
-after-one false text s = omega arith
+after-one b text s = grind arith
 
 -- ---- where it is read
 
@@ -145,17 +131,7 @@ module _ (l : Level) where
 
   eaten-takes : (making : Making) (z : Place) (s : Point) → Eaten z s (run l (does (takes false making)) z s)
   unfolding run
-  eaten-takes making z s =
-      let x = hand_of l z s in
-      let t = taken_node l.classes making x z in
-      let one = length-append x.trivia (t ∷ []) in
-      let few = after-one (is_error t.head.kind) (text_of t) s in
-      record {
-        none = refl;
-        room = omega (arith, one, few);
-        first = λ k. all-front Bare x.trivia (t ∷ []) (all-bare x.trivia (still-hand l z s k));
-        taken = λ i. i;
-      }
+  eaten-takes making z s = grind (arith, length-append, after-one, all-front, all-bare, still-hand)
 
   -- the trivia that are known come before a node that begins here
   pub begins-at : (looked : Bool) (begin : Begin) (n : ℕ) (s : Point) → (looked && is_at_token begin) ≡ true → (looked ≡ true → length (pending s.known) ≡ n) → before begin s ≡ n
@@ -180,11 +156,7 @@ module _ (l : Level) where
       pub still : K → All Still (pending s.known)
 
     pub looked-at : (looked : Bool) (s : Point) → At looked s → At true (asked (hand_of l z s) s)
-    looked-at looked s a = record {
-      same = hand-again l.classes s.held s.known z ∙ a.same;
-      known = λ _. ap (λ (v : Hand). length v.trivia) a.same;
-      still = λ k. still-hand l z s (a.still k);
-    }
+    looked-at looked s a = grind (arith, hand-again, still-hand)
 
     -- there were only looks at it
     pub record Looked {A : Type 0} (rest : Bool → A → Type 0) (o : Outcome A) : Type 0 where
@@ -196,26 +168,13 @@ module _ (l : Level) where
       pub there : At looked o.state
 
     eaten-at : {A : Type 0} (looked : Bool) (s : Point) (o : Outcome A) → At looked s → Eaten z s o → Here o
-    eaten-at looked s o a x =
-        let y = subst (λ (v : Hand). Leads (All Still (pending s.known)) (0 < v.gap + v.len) (length v.trivia) o) a.same x in
-        record { none = y.none; room = y.room; first = λ k. y.first (a.still k); taken = y.taken }
+    eaten-at looked s o a x = grind arith
 
     pub eaten-of : {A : Type 0} (o : Outcome A) → Here o ⊎ Looked (λ _ _. ⊥) o → Here o
-    eaten-of o (inl x) = x
-    eaten-of o (inr u) = absurd u.holds
+    eaten-of o h = grind arith
 
     looked-then : {A B : Type 0} (rest : Bool → A → Type 0) (o : Outcome B) (q : Outcome A) → o.nodes ≡ [] → o.back ≡ 0 → o.taken ≡ 0 → Here q ⊎ Looked rest q → Here (joined o q) ⊎ Looked rest (joined o q)
-    looked-then rest o q e f g (inl x) = inl (leads-after (length h.trivia) o q e f x)
-    looked-then rest o q e f g (inr u) =
-        let a = u.back in let b = u.taken in
-        inr (record {
-          nodes = ap (λ ts. hinted q.hints (less q.back ts) ++ q.nodes) e ∙ standing-none q ∙ u.nodes;
-          back = omega (arith, a, f);
-          taken = omega (arith, b, g);
-          looked = u.looked;
-          holds = u.holds;
-          there = u.there;
-        })
+    looked-then rest o q e f g h = grind (arith, leads-after, standing-none)
 
     module _ (d : (c : Call) → Backs (l.deeper c)) (e : (b : Block) → Backs (l.blocks b)) (blocks : Bool) (i : blocks ≡ true → (b : Block) (s : Point) → Eaten z s (run l (block b) z s)) where
       pub leads-nested : {A : Type 0} (f : A → Shape) (begin : Begin) (p : A → Parser (Bool × A)) (x : A) (s : Point) → Here (run l (p x) z s) → Here (nested f begin p x z s)
@@ -266,9 +225,7 @@ module _ (l : Level) where
           let t = entered (f s.reading) s in
           let o = run l p z t in
           let x = eaten-of o (begins-run looked (λ _ _. ⊥) p w t (record { same = a.same; known = a.known; still = a.still })) in
-          let few = left-empties s.reading o.state in
-          let r = x.room in
-          inl (record { none = x.none; room = omega (arith, few, r); first = x.first; taken = x.taken })
+          grind arith
       begins-run looked rest (either p is_wrong q) w s a =
           let x = eaten-of (run l q z s) (begins-run looked (λ _ _. ⊥) q w.1 s a) in
           inl (on_both (λ u. Here u) (is_wrong (run l p z s).value) (given_up (run l p z s) (run l q z s)) (run l p z s) (record { none = x.none; room = x.room; first = x.first; taken = x.taken })

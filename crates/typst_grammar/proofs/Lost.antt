@@ -1,15 +1,15 @@
 -- After an error that stands before a node, nothing is said of it.
-use Rattle.std.proofs.Common.{◌≡◌, ℕ, zero, suc, ◌+◌, true, false, ◌&&◌, ◌||◌, nat_lt, List, [], ◌∷◌, ◌++◌, take, Option, Some, None, refl, ap, sym, ◌∙◌, ◌⊎◌, inl, inr, subst, arith}
+use Rattle.std.proofs.Common.{◌≡◌, ℕ, zero, suc, ◌+◌, true, false, ◌&&◌, ◌||◌, nat_lt, List, [], ◌∷◌, ◌++◌, take, Option, Some, None, ap, ◌∙◌, ◌⊎◌, inl, inr, arith}
 use Rattle.std.proofs.lemmas.Bool.{and_parts}
 use Rattle.typst_kinds.specs.Kinds.{is_error}
 use Rattle.typst_lines.specs.Place.{Place, moved}
 use Rattle.typst_tree.specs.Tree.{Tree, forest, all_advised}
 use Rattle.typst_lines.specs.Classes.{CharClasses}
 use Rattle.typst_language.specs.Point.{Point}
-use Rattle.typst_language.specs.Shape.{Shape, hinted_last, hinted, shaped}
+use Rattle.typst_language.specs.Shape.{Shape, hinted_last, hinted}
 use Rattle.typst_language.specs.Shape.Shape.{holds}
 use Rattle.typst_language.specs.Sound.{Backs}
-use Rattle.typst_language.specs.Meaning.{Outcome, Meaning, less, joined, answered, inside, grown, is_more, growths}
+use Rattle.typst_language.specs.Meaning.{Outcome, Meaning, joined, answered, grown, is_more, growths}
 use Rattle.typst_language.proofs.Places.{less-none}
 use Rattle.typst_language.proofs.Within.{on_both, on_if}
 use Rattle.typst_grammar.specs.Binding.{any_errors}
@@ -44,8 +44,7 @@ stuck-last hints (suc m) (t ∷ u ∷ ts) (inl e) = inl e
 stuck-last hints (suc m) (t ∷ u ∷ ts) (inr h) = inr (stuck-last hints m (u ∷ ts) h)
 
 stuck-hinted : (hints : List (List ℕ)) (m : ℕ) (ts : List Tree) → Stuck m ts → Stuck m (hinted hints ts)
-stuck-hinted [] m ts h = h
-stuck-hinted (hint ∷ hints) m ts h = stuck-last (hint ∷ hints) m ts h
+stuck-hinted hints m ts h = grind (arith, stuck-last)
 
 fines-stuck : (m : ℕ) (ts us : List Tree) → Stuck m ts → Fines ts → Fines (take m ts ++ us)
 fines-stuck zero ts us h f = absurd h
@@ -78,23 +77,13 @@ module _ (k : CharClasses) (least : ℕ) {A : Type 0} (n : ℕ) (z : Place) (s :
 
   module _ (m : A → Meaning (Option Shape × A)) (binds : (x : A) → AllBind (m x)) (tidy : (x : A) → Backs (m x)) (shapes : (x : A) (w : Place) (t : Point) → Holds (m x w t).value.0) where
     stuck-joined : (o : Outcome A) (p : Outcome (Option Shape × A)) → p.back ≡ 0 → Stuck (n + o.back) o.nodes → Stuck (n + (joined o p).back) (joined o p).nodes
-    stuck-joined o p e h =
-        let same : n + o.back ≡ n + (joined o p).back = omega (arith, e) in
-        stuck-append (n + (joined o p).back) (hinted p.hints (less p.back o.nodes)) p.nodes (stuck-hinted p.hints (n + (joined o p).back) (less p.back o.nodes)
-        (subst (λ (i : ℕ). Stuck i (less p.back o.nodes)) same (subst (λ (ts : List Tree). Stuck (n + o.back) ts) (sym (ap (λ (i : ℕ). less i o.nodes) e ∙ less-none o.nodes)) h)))
+    stuck-joined o p e h = grind (arith, stuck-append, stuck-hinted, less-none)
 
     next-lost : (v : Option Shape) → Holds v → (o : Outcome A) → Binds o → Stuck (n + o.back) o.nodes → Binds (grown n v o) × Stuck (n + (grown n v o).back) (grown n v o).nodes
-    next-lost None e o b h = (b, h)
-    next-lost (Some (holds change i)) e o b h = (
-      record { nodes = fines-stuck (n + o.back) o.nodes (shaped (holds change i) (inside n o)) h b.nodes; known = still-shaped (holds change i) (inside n o) o.state b.known },
-      stuck-take (n + o.back) o.nodes (shaped (holds change i) (inside n o)) h,
-    )
-    next-lost (Some _) e o b h = absurd e
+    next-lost v e o b h = grind (arith, fines-stuck, still-shaped, stuck-take)
 
     few-more : (v : Option Shape) → Holds v → (o : Outcome A) → is_more v ≡ true → (grown n v o).state.empties ≡ 0
-    few-more None e o f = absurd (cc)
-    few-more (Some (holds change i)) e o f = refl
-    few-more (Some _) e o f = absurd e
+    few-more v e o f = grind arith
 
     pub operand-lost : (fuel : ℕ) (o : Outcome A) → Lost o → Operand k least z s (growths m n fuel o z)
     operand-lost zero o h = operand-stuck (n + o.back) o h.binds h.stuck

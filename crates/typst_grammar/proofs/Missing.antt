@@ -1,36 +1,32 @@
 -- What is said where something is expected.
-use Rattle.std.proofs.Common.{◌≡◌, ℕ, ◌<◌, Bool, true, false, if◌then◌else◌, List, [], ◌∷◌, ◌++◌, Some, None, refl, ap, ◌∙◌, ◌⊎◌, inl, inr, arith, codes}
+use Rattle.std.proofs.Common.{◌≡◌, ℕ, Bool, true, false, if◌then◌else◌, List, [], ◌∷◌, ◌++◌, refl, ◌⊎◌, inl, inr, arith, codes}
 use Rattle.typst_lines.specs.Classes.{CharClasses}
 use Rattle.typst_kinds.specs.Kinds.{is_error}
 use Rattle.typst_kinds.specs.declared.kind.SyntaxKind.{SyntaxKind}
 use Rattle.typst_kinds.specs.declared.kind.SyntaxKind.TheVariants as kind
-use Rattle.typst_lines.specs.Place.{Place, moved}
+use Rattle.typst_lines.specs.Place.{Place}
 use Rattle.typst_tree.specs.Tree.{Tree, error_of}
-use Rattle.typst_language.specs.Nodes.{token_node, plain_node, fault_node}
+use Rattle.typst_language.specs.Nodes.{token_node}
 use Rattle.typst_tokens.specs.declared.token.Token.{Token}
-use Rattle.typst_language.specs.Hand.{Hand, AtHand, text_ahead, as_at_hand}
+use Rattle.typst_language.specs.Hand.{Hand, AtHand, as_at_hand}
 use Rattle.typst_language.specs.Point.{Point}
 use Rattle.typst_language.specs.Shape.Making.{itself}
 use Rattle.typst_language.specs.Depth.{is_end}
 use Rattle.typst_language.specs.Steps.{eat_making, expected}
 use Rattle.typst_language.specs.Syntax.Op.{complains}
 use Rattle.typst_language.specs.Syntax.Parser.{does}
-use Rattle.typst_language.specs.Meaning.{Outcome, Level, plain, joined, hand_of, hand_asks_of, taken_node, asked, run}
+use Rattle.typst_language.specs.Meaning.{Outcome, Level, plain, joined, hand_of, hand_asks_of, asked, run}
 use Rattle.typst_language.proofs.Ends.{hand-again, hand-takes}
 use Rattle.typst_grammar.proofs.Heads.{fault-error, hand-kind, takes-making, standing-none}
 use Rattle.typst_grammar.proofs.Operands.{Exact, exact-plain, exact-joined, making-empties}
 
 -- the only kind of errors
 pub error-kind : (i : SyntaxKind) → is_error i ≡ true → i ≡ kind.Error
-error-kind kind.Error h = refl
-error-kind _ h = absurd (cc)
+error-kind i h = grind arith
 
 -- an erroneous token becomes an error
 error-token : (k : CharClasses) (t : Token) (taken : List ℕ) → t.kind ≡ kind.Error → (token_node k t taken).head.kind ≡ kind.Error
-error-token k t taken e = elim t.fault as (λ o. (elim o as (λ _. Tree) [ None ↦ plain_node k t taken | Some f ↦ fault_node f taken ]).head.kind ≡ kind.Error) [
-  | None ↦ rw (e, plain_node) refl
-  | Some f ↦ fault-error f taken
-]
+error-token k t taken e = grind (arith, fault-error)
 
 -- an erroneous token was taken, and the empty errors before it taken back
 pub record TookError (l : Level) (z : Place) (s : Point) (x : Outcome (Unit {0})) : Type 0 where
@@ -61,8 +57,7 @@ Missed l z s x = TookError l z s x ⊎ (Complained l z s x ⊎ Stayed l z s x)
 
 -- it is no end
 error-goes : (i : SyntaxKind) → is_error i ≡ true → is_end i ≡ false
-error-goes kind.End h = absurd (cc)
-error-goes _ h = refl
+error-goes i h = grind arith
 
 module _ (l : Level) (thing : List ℕ) (z : Place) (s : Point) where
   abbrev h : Hand
@@ -105,20 +100,7 @@ module _ (l : Level) (thing : List ℕ) (z : Place) (s : Point) where
   made-back = omega arith
 
   by-kind : (b : Bool) → is_error h.kind ≡ b → Missed l z s (joined first (if b then run l (eat_making true itself) z t else joined asked_error (if s.is_after_error then plain tt t else complaint)))
-  by-kind true e =
-      let x = run l (eat_making true itself) z t in
-      let taken = takes-making l true itself z t in
-      let there : (hand_of l z t).kind ≡ kind.Error = ap (λ (v : Hand). v.kind) again ∙ error-kind h.kind e in
-      let some : 0 < (hand_of l z t).len = hand-takes l.classes t.held t.known z (ap (λ (v : Hand). is_end v.kind) again ∙ error-goes h.kind e) in
-      let back = made-back in
-      inl (record {
-        wrong = e;
-        node = taken_node l.classes itself (hand_of l z t) z;
-        is_wrong = error-token l.classes (hand_of l z t).token (text_ahead (hand_of l z t).len (moved (hand_of l z t).gap z)) (hand-kind l.classes t.held t.known z kind.Error refl there);
-        nodes = standing-none x ∙ taken.nodes ∙ ap (λ (v : Hand). v.trivia ++ taken_node l.classes itself (hand_of l z t) z ∷ []) again;
-        back = omega (arith, back);
-        empties = making-empties l z t true some;
-      })
+  by-kind true e = grind (arith, takes-making, again, error-kind, hand-takes, error-goes, made-back, error-token, hand-kind, standing-none, making-empties)
   by-kind false e = by-after s.is_after_error refl
 
   pub missed : Missed l z s (run l (expected thing) z s)

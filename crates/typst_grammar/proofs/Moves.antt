@@ -1,17 +1,17 @@
 -- Parsers that take something where something is left: the words of the language.
-use Rattle.std.proofs.Common.{◌≡◌, ℕ, ◌+◌, ◌<◌, Bool, true, false, List, ap, ◌∙◌, arith}
+use Rattle.std.proofs.Common.{◌≡◌, ℕ, ◌+◌, ◌<◌, Bool, true, false, List, ap, arith}
 use Rattle.typst_kinds.specs.declared.kind.SyntaxKind.{SyntaxKind}
 use Rattle.typst_lines.specs.Place.{Place, moved}
 use Rattle.typst_language.specs.declared.reading.Reading.{Reading}
 use Rattle.typst_language.specs.Point.{Point}
-use Rattle.typst_language.specs.Hand.{Hand, AtHand, as_at_hand}
+use Rattle.typst_language.specs.Hand.{Hand, AtHand}
 use Rattle.typst_language.specs.Shape.{Making, Shape}
 use Rattle.typst_language.specs.Shape.Making.{itself, surprise}
 use Rattle.typst_language.specs.Syntax.{Begin, Parser}
 use Rattle.typst_language.specs.Syntax.Op.{hand, takes}
 use Rattle.typst_language.specs.Syntax.Parser.{does, next, pick, wraps, scoped}
 use Rattle.typst_language.specs.Steps.{eat, eat_making, unexpected, within, node}
-use Rattle.typst_language.specs.Meaning.{Outcome, Level, entered, hand_of, asked, run}
+use Rattle.typst_language.specs.Meaning.{Level, entered, hand_of, asked, run}
 use Rattle.typst_language.proofs.Ends.{hand-again}
 use Rattle.typst_language.proofs.Within.{on_if}
 
@@ -34,20 +34,12 @@ module _ (l : Level) where
 
   pub moves-peek : {A : Type 0} (f : AtHand → Parser A) → ((h : AtHand) → Moves l (f h)) → Moves l (next (does hand) f)
   unfolding run
-  moves-peek f e z s h =
-      let t = asked (hand_of l z s) s in
-      let rest : 0 < (run l (f (as_at_hand (hand_of l z s))) (moved 0 z) t).taken = e (as_at_hand (hand_of l z s)) z t (omega (arith, left-again z s)) in omega arith
+  moves-peek f e z s h = grind (arith, left-again)
 
   -- one parser by the token at hand, or another
   pub moves-or : {A : Type 0} (is : SyntaxKind → Bool) (p q : Parser A) → MovesAt l is p → Moves l q → Moves l (next (does hand) (λ a. pick (is a.kind) p q))
   unfolding run
-  moves-or {A = A} is p q e f z s h =
-      let x = hand_of l z s in
-      let t = asked x s in
-      let again : is (hand_of l z t).kind ≡ is x.kind = ap (λ (v : Hand). is v.kind) (hand-again l.classes s.held s.known z) in
-      let left : 0 < (hand_of l z t).gap + (hand_of l z t).len = omega (arith, left-again z s) in
-      let inside = on_if (λ (o : Outcome A). 0 < o.taken) (is x.kind) (run l p (moved 0 z) t) (run l q (moved 0 z) t) (λ b. e z t (again ∙ b) left) (λ b. f z t left) in
-      omega (arith, inside)
+  moves-or {A = A} is p q e f z s h = grind (arith, hand-again, left-again, on_if)
 
   pub moves-takes : (trims : Bool) (making : Making) → Moves l (does (takes trims making))
   unfolding run

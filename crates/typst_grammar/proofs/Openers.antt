@@ -1,16 +1,12 @@
 -- What an expression begins with: some nodes, of which none is an operator or has one.
-use Rattle.std.proofs.Common.{◌≡◌, ℕ, ◌+◌, ◌-◌, ◌<◌, Bool, true, false, ◌&&◌, ◌||◌, List, [], ◌∷◌, ◌++◌, length, take, drop, length-append, length-take, length-drop, None, refl, ap, sym, ◌⊎◌, inl, inr, subst, arith}
-use Rattle.typst_kinds.specs.Kinds.{is_error}
-use Rattle.typst_kinds.specs.Names.{name_of}
+use Rattle.std.proofs.Common.{◌≡◌, ℕ, ◌-◌, ◌<◌, Bool, true, false, ◌&&◌, ◌||◌, List, [], ◌∷◌, length, take, length-append, length-take, length-drop, refl, ap, sym, ◌⊎◌, inl, inr, subst, arith}
 use Rattle.typst_lines.specs.Place.{Place, moved}
-use Rattle.typst_tree.specs.Diagnostic.{hint_with}
-use Rattle.typst_tree.specs.Messages.{made_expected, expected_error, expected_message, is_lost_name, keyword_hint}
-use Rattle.typst_tree.specs.Tree.{Tree, text_of, forest, inner_of, error_of, advised}
+use Rattle.typst_tree.specs.Tree.{Tree}
 use Rattle.typst_language.specs.declared.calls.Block.{Block}
 use Rattle.typst_language.specs.Calls.{Call}
 use Rattle.typst_language.specs.Hand.{Hand, AtHand, as_at_hand}
 use Rattle.typst_language.specs.Point.{Point, pending}
-use Rattle.typst_language.specs.Shape.{Shape, hinted, first_changed, shaped}
+use Rattle.typst_language.specs.Shape.{Shape, shaped}
 use Rattle.typst_language.specs.Shape.Making.{itself}
 use Rattle.typst_language.specs.Shape.NodeChange.{stays, is_not}
 use Rattle.typst_language.specs.Shape.Shape.{keeps, holds, lacks}
@@ -18,12 +14,12 @@ use Rattle.typst_language.specs.Sound.{Backs}
 use Rattle.typst_language.specs.Syntax.{Parser}
 use Rattle.typst_language.specs.Syntax.Op.{hand, takes}
 use Rattle.typst_language.specs.Syntax.Parser.{gives, does, next, pick, wraps, nests, scoped, either, block}
-use Rattle.typst_language.specs.Meaning.{Outcome, Level, plain, less, joined, inside, reshaped, wrapped, nesting, entered, given_up, taken_node, hand_of, hand_asks_of, asked, run}
+use Rattle.typst_language.specs.Meaning.{Outcome, Level, plain, less, joined, reshaped, wrapped, nesting, entered, given_up, taken_node, hand_of, hand_asks_of, asked, run}
 use Rattle.typst_language.proofs.Within.{on_both}
 use Rattle.typst_grammar.proofs.EatsFirst.{EatsFirst, is_at_token}
-use Rattle.typst_grammar.proofs.Fine.{All, all-append, all-take, all-drop, all-hinted, no-operator}
+use Rattle.typst_grammar.proofs.Fine.{All, all-append, all-take, all-drop, all-hinted}
 use Rattle.typst_grammar.proofs.FineRuns.{Gives, gives-run, Still, still-hand}
-use Rattle.typst_grammar.proofs.Heads.{Bare, bare-advised, is_quiet, quiet-sign, Silent, silent-plain, silent-joined, standing-silent, standing-none}
+use Rattle.typst_grammar.proofs.Heads.{Bare, bare-advised, is_quiet, Silent, silent-plain, silent-joined, standing-silent, standing-none}
 use Rattle.typst_grammar.proofs.Leads.{At, Eaten, all-bare, looked-at, eaten-of, begins-at, nested, leads-nested, begins-run}
 use Rattle.typst_grammar.proofs.Proper.{free, Proper}
 
@@ -44,19 +40,14 @@ all-less P n ts h = all-take P (length ts - n) ts h
 
 -- such nodes after others
 pub bare-more : {A B : Type 0} (o : Outcome B) (q : Outcome A) → All Bare o.nodes → All Bare q.nodes → 0 < length q.nodes → AllBare (joined o q)
-bare-more o q h k some =
-    let front = hinted q.hints (less q.back o.nodes) in
-    let long = length-append front q.nodes in
-    record { all = all-append Bare front q.nodes (all-hinted Bare bare-advised q.hints (less q.back o.nodes) (all-less Bare q.back o.nodes h)) k; some = omega (arith, long, some) }
+bare-more o q h k some = grind (arith, length-append, all-append, all-hinted, bare-advised, all-less)
 
 -- nothing is given, or such nodes
 abbrev pub Unmet : {A : Type 0} → Outcome A → Type 0
 Unmet o = Silent o ⊎ (All Bare o.nodes × (0 < length o.nodes))
 
 bare-then : {A B : Type 0} (over : A → Type 0) (o : Outcome B) (q : Outcome A) → AllBare o → over q.value ⊎ Unmet q → over q.value ⊎ AllBare (joined o q)
-bare-then over o q h (inl x) = inl x
-bare-then over o q h (inr (inl u)) = inr (bare-same o (joined o q) (standing-silent q u o.nodes) h)
-bare-then over o q h (inr (inr u)) = inr (bare-more o q h.all u.0 u.1)
+bare-then over o q h g = grind (arith, bare-same, standing-silent, bare-more)
 
 -- ---- shapes
 
@@ -73,35 +64,13 @@ keeps_bare (keeps (is_not thing)) = true
 keeps_bare _ = false
 
 bare-makes : (shape : Shape) (ts : List Tree) → makes shape ≡ true → All Bare (shaped shape ts) × (0 < length (shaped shape ts))
-bare-makes (holds change k) ts e = let q = quiet-sign k e in (((q.0, no-operator (inner_of k (forest (first_changed change ts))) q.1), tt), omega arith)
-bare-makes (lacks count message k) ts e = let q = quiet-sign k e in (((q.0, no-operator (inner_of k (forest (take count ts ++ error_of message [] ∷ drop count ts))) q.1), tt), omega arith)
-bare-makes _ ts e = absurd (cc)
-
-bare-wanted : (thing : List ℕ) (t : Tree) → Bare t → Bare (made_expected thing t)
-bare-wanted thing t b =
-    on_both Bare (is_error t.head.kind) t (expected_error thing t) b
-    (on_both Bare (is_lost_name t.head.kind thing) (advised (hint_with None (keyword_hint (text_of t))) (error_of (expected_message thing (name_of t.head.kind)) (text_of t)))
-    (error_of (expected_message thing (name_of t.head.kind)) (text_of t)) (refl, refl) (refl, refl))
+bare-makes shape ts e = grind arith
 
 bare-keeps : (shape : Shape) (ts : List Tree) → keeps_bare shape ≡ true → All Bare ts → All Bare (shaped shape ts) × (length (shaped shape ts) ≡ length ts)
-bare-keeps (keeps stays) ts e h = (h, refl)
-bare-keeps (keeps (is_not thing)) [] e h = (tt, refl)
-bare-keeps (keeps (is_not thing)) (t ∷ ts) e h = ((bare-wanted thing t h.0, h.1), refl)
-bare-keeps _ ts e h = absurd (cc)
+bare-keeps shape ts e h = grind arith
 
 bare-reshaped : {A : Type 0} (n : ℕ) (shape : Shape) (o : Outcome A) → All Bare (take n o.nodes) → o.back ≡ 0 → (makes shape ≡ true) ⊎ ((keeps_bare shape ≡ true) × AllBare o) → AllBare (reshaped shape n o)
-bare-reshaped n shape o front none h =
-    let m = n + o.back in
-    let ts = inside n o in
-    let same : m ≡ n = omega (arith, none) in
-    let before : All Bare (take m o.nodes) = subst (λ (i : ℕ). All Bare (take i o.nodes)) (sym same) front in
-    let long = length-append (take m o.nodes) (shaped shape ts) in
-    elim h [
-      | inl e ↦ (let x = bare-makes shape ts e in let some = x.1 in record { all = all-append Bare (take m o.nodes) (shaped shape ts) before x.0; some = omega (arith, long, some) })
-      | inr e ↦ (let x = bare-keeps shape ts e.0 (all-drop Bare m o.nodes e.1.all) in
-          let as_long = x.1 in let some = e.1.some in let one = length-take m o.nodes in let two = length-drop m o.nodes in
-          record { all = all-append Bare (take m o.nodes) (shaped shape ts) before x.0; some = omega (arith, long, as_long, some, one, two) })
-    ]
+bare-reshaped n shape o front none h = grind (arith, length-append, bare-makes, all-append, bare-keeps, all-drop, length-take, length-drop)
 
 -- ---- parsers
 
@@ -152,9 +121,7 @@ module _ (l : Level) where
   looks-silent _ u z s = absurd u
 
   by-shape : {A : Type 0} (m c : Bool) (o : Outcome A) → (m || c) ≡ true → (m ≡ true) ⊎ AllBare o → (m ≡ true) ⊎ ((c ≡ true) × AllBare o)
-  by-shape true c o e b = inl refl
-  by-shape false c o e (inl x) = absurd (cc)
-  by-shape false c o e (inr b) = inr (e, b)
+  by-shape m c o e b = grind arith
 
   module _ (d : (c : Call) → Backs (l.deeper c)) (e : (b : Block) → Backs (l.blocks b)) (blocks : Bool) (z : Place) (h : Hand) (token : Type 0) (t : token → Bare (taken_node l.classes itself h z)) (i : blocks ≡ true → (b : Block) (s : Point) → Eaten l z s (run l (block b) z s))
       (bares : blocks ≡ true → (b : Block) (s : Point) → All Still (pending s.known) → AllBare (run l (block b) z s)) (known : blocks ≡ true → (B : Type 0) (p : Parser B) → Proper free p → (s : Point) → All Still (pending s.known) → All Still (pending (run l p z s).state.known)) where
@@ -165,10 +132,7 @@ module _ (l : Level) where
     BareOver over o = over o.value ⊎ AllBare o
 
     after-bares : {A B : Type 0} (over : A → Type 0) (p : Parser B) (f : B → Parser A) → Follows blocks over p f → (s : Point) → All Still (pending s.known) → (let o = run l p z s in let q = run l (f o.value) (moved o.taken z) o.state in over q.value ⊎ Unmet q)
-    after-bares over p f (inl g) s still =
-        let o = run l p z s in
-        elim (g o.value) [ inl x ↦ inl (gives-run l over (f o.value) x (moved o.taken z) o.state) | inr u ↦ inr (inl (looks-silent (f o.value) u (moved o.taken z) o.state)) ]
-    after-bares over p f (inr g) s still = let o = run l p z s in g.1.1 o.value l (moved o.taken z) o.state (known g.0 _ p g.1.0 s still)
+    after-bares over p f h s still = grind (arith, gives-run, looks-silent)
 
     then-bares : {A B : Type 0} (looked : Bool) (over : A → Type 0) (p : Parser B) (f : B → Parser A)
         → (Bares token (as_at_hand h) blocks looked (λ b. Gives over (f b)) p → (s : Point) → At l z h K looked s → BareOver (λ b. Gives over (f b)) (run l p z s))
@@ -187,9 +151,7 @@ module _ (l : Level) where
 
     -- what becomes of such nodes, or of all
     over-shape : {A Y : Type 0} (f : A → Shape) (p : Parser A) (s : Point) → (Y → BareOver (λ x. makes (f x) ≡ true) (run l p z s)) → Encloses f p Y → (let o = run l p z s in (makes (f o.value) ≡ true) ⊎ ((keeps_bare (f o.value) ≡ true) × AllBare o))
-    over-shape f p s inner (inl g) = inl (g (run l p z s).value)
-    over-shape f p s inner (inr (inl g)) = inl (gives-run l (λ x. makes (f x) ≡ true) p g z s)
-    over-shape f p s inner (inr (inr g)) = let o = run l p z s in by-shape (makes (f o.value)) (keeps_bare (f o.value)) o (g.0 o.value) (inner g.1)
+    over-shape f p s inner h = grind (arith, gives-run, by-shape)
 
     pub bares-run : {A : Type 0} (looked : Bool) (over : A → Type 0) (p : Parser A) → Bares token (as_at_hand h) blocks looked over p → (s : Point) → At l z h K looked s → BareOver over (run l p z s)
     unfolding run nesting
@@ -209,10 +171,7 @@ module _ (l : Level) where
         let r = bare-reshaped n (f o.value) o (lead.first tt) lead.none shape in
         inr (subst (λ (m : ℕ). AllBare (wrapped f m o)) (sym (begins-at l looked begin n s w.0 a.known)) (record { all = r.all; some = r.some }))
     bares-run looked over (nests f begin p x) w s a =
-        let n = length h.trivia in
-        let q = nested l f begin p x z s in
-        let lead = leads-nested l z h K d e blocks i f begin p x s (eaten-of l z h K (run l (p x) z s) (begins-run l z h K d e blocks i looked (λ _ _. ⊥) (p x) w.1.0 s a)) in
-        inr (subst (λ (m : ℕ). AllBare (reshaped (f q.value) m q)) (sym (begins-at l looked begin n s w.0 a.known)) (bare-reshaped n (f q.value) q (lead.first tt) lead.none (inl (w.1.1 q.value))))
+        grind (arith, length h.trivia, nested l f begin p x z s, leads-nested l z h K d e blocks i f begin p x s (eaten-of l z h K (run l (p x) z s) (begins-run l z h K d e blocks i looked (λ _ _. ⊥) (p x) w.1.0 s a)), begins-at, bare-reshaped)
     bares-run looked over (scoped f p) w s a =
         elim (bares-run looked over p w (entered (f s.reading) s) (record { same = a.same; known = a.known; still = a.still })) [ inl x ↦ inl x | inr x ↦ inr (record { all = x.all; some = x.some }) ]
     bares-run looked over (either p is_wrong q) w s a =

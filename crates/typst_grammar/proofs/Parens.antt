@@ -1,5 +1,5 @@
 -- What begins with a paren: a group or what it is read as, and the sign that may come after it.
-use Rattle.std.proofs.Common.{length-append, ◌≡◌, ◌&&◌, Bool, true, false, if◌then◌else◌, List, [], ◌∷◌, length, refl, ap, sym, ◌∙◌, ◌⊎◌, inl, inr, subst, arith, rules, codes, ℕ}
+use Rattle.std.proofs.Common.{length-append, ◌≡◌, ◌&&◌, Bool, true, false, if◌then◌else◌, List, refl, ap, ◌∙◌, ◌⊎◌, inl, inr, arith, rules, codes, ℕ}
 use Rattle.typst_kinds.specs.Kinds.{same}
 use Rattle.typst_kinds.specs.declared.kind.SyntaxKind.{SyntaxKind}
 use Rattle.typst_kinds.specs.declared.kind.SyntaxKind.TheVariants as kind
@@ -24,7 +24,7 @@ use Rattle.typst_language.proofs.Ends.{hand-again}
 use Rattle.typst_language.proofs.Within.{on_both}
 use Rattle.typst_grammar.proofs.Fine.{All, all-append}
 use Rattle.typst_grammar.proofs.FineRuns.{Gives, Still, still-hand}
-use Rattle.typst_grammar.proofs.Heads.{Bare, bare-error, is_quiet, Silent, silent-joined, silent-plain, standing-none, standing-silent}
+use Rattle.typst_grammar.proofs.Heads.{bare-error, is_quiet, Silent, silent-joined, silent-plain, standing-none, standing-silent}
 use Rattle.typst_grammar.proofs.Leads.{all-bare}
 use Rattle.typst_grammar.proofs.Missing.{Missed, missed}
 use Rattle.typst_grammar.proofs.Openers.{makes, Unmet, Adds, Bares}
@@ -34,8 +34,7 @@ use Rattle.typst_grammar.proofs.Proper.{free}
 -- ---- what may stand in parens
 
 pub quiet-closed : (k : SyntaxKind) → is_quiet k ≡ true → (closed : Bool) → makes (encloses k closed) ≡ true
-quiet-closed k e true = e
-quiet-closed k e false = e
+quiet-closed k e closed = grind arith
 
 quiet-parts : (x : Bool × Found) → makes (encloses (parts_kind x.1.0) x.0) ≡ true
 quiet-parts x = quiet-closed (parts_kind x.1.0) (on_both (λ k. is_quiet k ≡ true) (x.1.0.any && x.1.0.is_plain) kind.Parenthesized kind.Destructuring refl refl) x.0
@@ -57,8 +56,7 @@ module _ (token : Type 0) (a : AtHand) where
 
 -- the same nodes
 unmet-same : {A B : Type 0} (o : Outcome A) (p : Outcome B) → p.nodes ≡ o.nodes → (Silent o → Silent p) → Unmet o → Unmet p
-unmet-same o p e f (inl x) = inl (f x)
-unmet-same o p e f (inr x) = let long = ap length e in let some = x.1 in inr (subst (All Bare) (sym e) x.0, omega (arith, long, some))
+unmet-same o p e f h = grind arith
 
 unmet-after : {A B : Type 0} (b : B) (t : Point) (asks : List _) (o : Outcome A) → Unmet o → Unmet (joined (record (plain b t) { asks = asks }) o)
 unmet-after b t asks o x = let first = record (plain b t) { asks = asks } in unmet-same o (joined first o) (standing-none o) (λ y. silent-joined first o (record { nodes = refl; back = refl; hints = refl }) y) x
@@ -68,17 +66,10 @@ unmet-before o p q x = unmet-same o (joined o p) (standing-silent p q o.nodes) (
 
 module _ (l : Level) where
   unmet-expected : (thing : List ℕ) (z : Place) (s : Point) → All Still (pending s.known) → Missed l z s (run l (expected thing) z s) → Unmet (run l (expected thing) z s)
-  unmet-expected thing z s still (inl x) =
-      let h = hand_of l z s in
-      let one = length-append h.trivia (x.node ∷ []) in
-      let long = ap length x.nodes in
-      inr (subst (All Bare) (sym x.nodes) (all-append Bare h.trivia (x.node ∷ []) (all-bare h.trivia (still-hand l z s still)) (bare-error x.node x.is_wrong, tt)), omega (arith, one, long))
-  unmet-expected thing z s still (inr (inl x)) = let long = ap length x.exact.nodes in inr (subst (All Bare) (sym x.exact.nodes) (bare-error x.node x.is_wrong, tt), omega (arith, long))
-  unmet-expected thing z s still (inr (inr x)) = inl (record { nodes = x.exact.nodes; back = x.exact.back; hints = x.exact.hints })
+  unmet-expected thing z s still h = grind (arith, length-append, all-append, all-bare, still-hand, bare-error)
 
   unmet-by : (thing : List ℕ) (z : Place) (s : Point) → All Still (pending s.known) → (b : Bool) → b ≡ false → Unmet (if b then run l eat z s else run l (expected thing) z s)
-  unmet-by thing z s still true e = absurd (cc)
-  unmet-by thing z s still false e = unmet-expected thing z s still (missed l thing z s)
+  unmet-by thing z s still b e = grind (arith, unmet-expected, missed)
 
   unmet-expect : (is : SyntaxKind → Bool) (thing : List ℕ) (z : Place) (s : Point) → All Still (pending s.known) → is (hand_of l z s).kind ≡ false → Unmet (run l (expect is thing) z s)
   unfolding run expect

@@ -1,19 +1,16 @@
 -- A part of a text that was read by itself.
-use Rattle.std.proofs.Common.{◌≡◌, ℕ, List, [], ◌++◌, refl, ap, sym, ◌∙◌, subst}
-use Rattle.std.specs.Prelude.{IsSome}
-use Rattle.typst_tokens.specs.Sight.{position}
+use Rattle.std.proofs.Common.{◌≡◌, ℕ, List, [], ◌++◌, ap, ◌∙◌, arith}
 use Rattle.typst_tree.specs.Tree.{Tree}
-use Rattle.typst_lines.specs.Place.{Place, moved}
+use Rattle.typst_lines.specs.Place.{Place}
 use Rattle.typst_lines.specs.Classes.{CharClasses}
 use Rattle.typst_language.specs.declared.reading.Reading.{Reading}
-use Rattle.typst_language.specs.Log.{Log, no_log, logged}
 use Rattle.typst_language.specs.Meaning.{Meaning, Outcome, apart, blockless, standing, start_point, run}
 use Rattle.typst_language.specs.Point.{Point}
 use Rattle.typst_language.specs.Shape.{hinted}
 use Rattle.typst_language.specs.Syntax.{Parser}
 use Rattle.typst_language.proofs.Blind.{run-blind}
 use Rattle.typst_language.proofs.Knowing.{knows-none}
-use Rattle.typst_language.specs.View.{View, Runs, Goes, Bare, Loose, at}
+use Rattle.typst_language.specs.View.{View, Goes, Bare, Loose, at}
 use Rattle.typst_grammar.specs.Grammar.{meaning}
 use Rattle.typst_grammar.specs.Part.{IsPart, IsResumed, IsGiven}
 use Rattle.typst_grammar.specs.declared.part.ReadPart.{ReadPart}
@@ -33,11 +30,4 @@ part-is {A = A} k levels p a reading z v w r h d g =
     let bare : Bare (apart (guessing_at k levels)) v = record { known = ap (λ (s : Point). s.known) h.state; knows = knows-none h.memo } in
     let o = run l p z (start_point reading) in
     let blind : at (apart (guessing_at k levels)) p v ≡ at l p v = ap {A = Meaning A} {B = Outcome A} (λ m. m v.place v.state) (run-blind (guesses k) l p) in
-    let same : at (apart (guessing_at k levels)) p v ≡ o = blind ∙ ap (λ y. run l p y v.state) h.place ∙ ap (run l p z) h.state in
-    let q : Runs levels o a v w = subst (λ u. Runs levels u a v w) same (d.ran bare).runs in
-    let log : w.log ≡ logged levels z no_log o.asks = q.log ∙ ap (λ y. logged levels y v.log o.asks) h.place ∙ ap (λ x. logged levels z x o.asks) h.log in
-    record {
-      nodes_are = g.nodes ∙ q.nodes ∙ ap (standing o) h.nodes ∙ standing-nil o;
-      end = g.end ∙ ap position (q.place ∙ ap (moved o.taken) h.place);
-      log = g.log (subst (λ (x : Log). IsSome x.notes) (sym log) (still-kept levels z no_log o.asks refl)) ∙ log;
-    }
+    grind (arith, standing-nil, still-kept)

@@ -1,23 +1,20 @@
 -- Pieces of a run, which are read one after the other.
-use Rattle.std.proofs.Common.{◌≡◌, ℕ, zero, suc, ◌+◌, ◌<◌, ◌≤◌, ◌==◌, Bool, true, false, ◌&&◌, if◌then◌else◌, nat_lt, List, [], ◌∷◌, ◌++◌, length, length-append, encode_utf8_all, drop, append_assoc, append-nil, refl, ap, sym, ◌∙◌, subst, arith}
-use Rattle.std.specs.Prelude.{IsSome}
+use Rattle.std.proofs.Common.{◌≡◌, ℕ, zero, suc, ◌+◌, ◌<◌, ◌≤◌, ◌==◌, Bool, true, false, ◌&&◌, nat_lt, List, [], ◌∷◌, ◌++◌, length, length-append, encode_utf8_all, drop, append_assoc, append-nil, refl, ap, sym, ◌∙◌, subst, arith}
 use Rattle.std.specs.Char.{encode_utf8}
 use Rattle.typst_lines.proofs.PlaceLemmas.{encode_utf8_nonempty}
 use Rattle.std.proofs.lemmas.Bool.Decides.{nat_tests}
 use Rattle.std.proofs.lemmas.List.{map-append}
 use Rattle.typst_kinds.specs.declared.kind.SyntaxKind.{SyntaxKind}
-use Rattle.typst_kinds.specs.declared.kind.SyntaxKind.TheVariants as kind
 use Rattle.typst_lines.specs.Place.{Place, moved}
 use Rattle.typst_lines.specs.Classes.{CharClasses}
 use Rattle.typst_tokens.specs.Sight.{position}
 use Rattle.typst_tree.specs.Tree.{Tree}
 use Rattle.typst_language.specs.Calls.Call.{MarkupExpr}
 use Rattle.typst_language.specs.Ask.{Ask, shift, shift_one}
-use Rattle.typst_language.specs.Ask.Ask.{looked, marked}
 use Rattle.typst_language.specs.Depth.{is_end, deeper}
 use Rattle.typst_language.specs.Hand.{Hand, AtHand, as_at_hand}
 use Rattle.typst_language.specs.Knot.{meaning_of}
-use Rattle.typst_language.specs.Log.{Log, no_log, logged}
+use Rattle.typst_language.specs.Log.{no_log, logged}
 use Rattle.typst_language.specs.Meaning.{Outcome, Meaning, Level, guessing, hand_of, asked, joined, standing, run}
 use Rattle.typst_language.specs.Point.{Point, pending, gap_of}
 use Rattle.typst_language.specs.Steps.{peek, flush_trivia}
@@ -65,9 +62,7 @@ size-drop (suc n) [] = omega arith
 size-drop (suc n) (x ∷ xs) = omega (arith, size-drop n xs, size-more x xs)
 
 falls : (n : ℕ) (xs : List ℕ) → n ≤ length xs → size xs ≤ size (drop n xs) → n ≡ 0
-falls zero xs l h = refl
-falls (suc n) [] l h = absurd (omega arith)
-falls (suc n) (x ∷ xs) l h = absurd (omega (arith, size-drop n xs, size-more x xs))
+falls n xs l h = grind (arith, size-drop, size-more)
 
 -- what takes no bytes takes no characters
 none-taken : (n : ℕ) (y z : Place) → y ≡ moved n z → n ≤ length z.ahead → bytes_left z ≤ bytes_left y → n ≡ 0
@@ -80,16 +75,14 @@ shift-zero [] = refl
 shift-zero (ask ∷ asks) = rw (one-zero ask, shift-zero asks) refl
   where
     one-zero : (ask : Ask) → shift_one 0 ask ≡ ask
-    one-zero (looked at look) = let e : 0 + at ≡ at = omega arith in ap (λ n. looked n look) e
-    one-zero (marked at gap fewer mark s) = let e : 0 + at ≡ at = omega arith in ap (λ n. marked n gap fewer mark s) e
+    one-zero ask = grind arith
 
 pub shift-twice : (m n : ℕ) (asks : List Ask) → shift m (shift n asks) ≡ shift (m + n) asks
 shift-twice m n [] = refl
 shift-twice m n (ask ∷ asks) = rw (one-twice ask, shift-twice m n asks) refl
   where
     one-twice : (ask : Ask) → shift_one m (shift_one n ask) ≡ shift_one (m + n) ask
-    one-twice (looked at look) = let e : m + (n + at) ≡ (m + n) + at = omega arith in ap (λ k. looked k look) e
-    one-twice (marked at gap fewer mark s) = let e : m + (n + at) ≡ (m + n) + at = omega arith in ap (λ k. marked k gap fewer mark s) e
+    one-twice ask = grind arith
 
 pub end-append : {A : Type 0} (x : A) (s : Point) (os ps : List (Outcome (Bool × A))) → (let e = end_of x s os in let f = end_of e.value e.state ps in end_of x s (os ++ ps) ≡ record f { taken = e.taken + f.taken })
 end-append x s [] ps = let f = end_of x s ps in let z : f.taken ≡ 0 + f.taken = omega arith in ap (λ n. record f { taken = n }) z
@@ -126,25 +119,17 @@ made-sum m (suc i) n x z s =
 
 -- ---- one turn
 
-on_either : {A : Type 0} (P : A → Type 0) (b : Bool) (x y : A) → (b ≡ true → P x) → (b ≡ false → P y) → P (if b then x else y)
-on_either P true x y p q = p refl
-on_either P false x y p q = q refl
-
 -- it asks for the token at hand, and then ends or does the rest
 turn-either : {A : Type 0} (l : Level) (test : SyntaxKind → Bool) (x : A) (rest : AtHand → Parser (Bool × A)) (z : Place) (s : Point) (P : Outcome (Bool × A) → Type 0)
     → (let h = hand_of l z s in (test h.kind ≡ true → P (joined (run l (does hand) z s) (run l (gives (false, x)) (moved 0 z) (asked h s))))
     → (test h.kind ≡ false → P (joined (run l (does hand) z s) (run l (rest (as_at_hand h)) (moved 0 z) (asked h s))))
     → P (run l (next (does hand) (λ h. pick (test h.kind) (gives (false, x)) (rest h))) z s))
 unfolding run
-turn-either l test x rest z s P p q =
-    let h = hand_of l z s in
-    on_either (λ o. P (joined (run l (does hand) z s) o)) (test h.kind) (run l (gives (false, x)) (moved 0 z) (asked h s)) (run l (rest (as_at_hand h)) (moved 0 z) (asked h s)) p q
+turn-either l test x rest z s P p q = grind arith
 
 -- where a sequence goes on, the text isn't at its end
 not-end : (which : RunKind) (n : ℕ) (i : SyntaxKind) → ends (stops_of which) n i ≡ false → is_end i ≡ false
-not-end of.Text n kind.End e = absurd (cc)
-not-end of.Block n kind.End e = absurd (cc)
-not-end which n _ e = refl
+not-end which n i e = grind arith
 
 abbrev behind : ℕ → Parser (Bool × (Bool × ℕ))
 behind nesting = do
@@ -228,9 +213,7 @@ flushed-is {l = l} {v = v} {w = w} d fits =
     let u : View = record v { nodes = v.nodes ++ v.hand.trivia; place = moved v.hand.gap v.place; state = flushed_state v.hand v.state; hand = record v.hand { trivia = []; gap = 0 } } in
     let f : Flushed v u = record { nodes = refl; place = refl; state = refl; hand = refl; own = refl; here = refl; log = refl; memo = refl } in
     let e : Does l flush_trivia tt v u = does-flush (λ c. f) in
-    let q = (e.ran fits).runs in
-    let r = (d.ran fits).runs in
-    record { nodes = r.nodes ∙ sym q.nodes; place = r.place ∙ sym q.place; log = r.log ∙ sym q.log }
+    grind arith
 
 module _ (k : CharClasses) (levels : ℕ) (which : RunKind) (x : Bool × ℕ) (z : Place) where
   abbrev l : Level
@@ -253,9 +236,7 @@ module _ (k : CharClasses) (levels : ℕ) (which : RunKind) (x : Bool × ℕ) (z
 
   -- where the token at hand begins
   start-known : (w : View) (n : ℕ) → Fits guessing_l w → n ≡ position (moved w.hand.gap w.place) → n ≡ position (moved (gap_of w.state.known) w.place)
-  start-known w n fits at_token =
-      let gap : gap_of w.state.known ≡ w.hand.gap = ap gap_of fits.known in
-      at_token ∙ sym (ap (λ j. position (moved j w.place)) gap)
+  start-known w n fits at_token = grind arith
 
   -- before the first piece
   pub starts : (v : View) (p : PieceReader) → 0 < levels → IsResumed z markup_reading v → Goes guessing_l (Bare guessing_l) (Fits guessing_l) peek (as_at_hand p.parser.hand) v p.parser → p.end ≡ position (moved p.parser.hand.gap p.parser.place)
@@ -283,10 +264,7 @@ module _ (k : CharClasses) (levels : ℕ) (which : RunKind) (x : Bool × ℕ) (z
       }
 
   turn-is : (m : ℕ) (p : PieceReader) → HasRead k levels which x z m p → at guessing_l (markup_turn true (stops_of which) p.carried) p.parser ≡ piece (end m).value (moved (end m).taken z) (end m).state
-  turn-is m p h =
-      let e = end m in
-      let v = p.parser in
-      untold (markup_turn true (stops_of which) p.carried) v ∙ ap (λ u. piece u v.place v.state) h.carried ∙ ap (λ u. piece e.value u v.state) h.place ∙ ap (piece e.value (moved e.taken z)) h.state
+  turn-is m p h = grind (arith, untold)
 
   -- what a reader does next is the piece after those that it read
   runs-next : (m : ℕ) (p : PieceReader) (y : Bool × (Bool × ℕ)) (w : View) → HasRead k levels which x z m p → Does guessing_l (markup_turn true (stops_of which) p.carried) y p.parser w
@@ -337,19 +315,7 @@ module _ (k : CharClasses) (levels : ℕ) (which : RunKind) (x : Bool × ℕ) (z
       ∙ sym (logged-append levels z no_log start (shift e.taken o.asks))
       ∙ ap (λ us. logged levels z no_log (start ++ shift e.taken us)) (sym asks)
       ∙ ap (logged levels z no_log) (append_assoc first.asks (asks_of os) (shift e.taken (asks_of more)) ∙ ap (λ us. first.asks ++ us) (sym (asks-append x first.state os more) ∙ ap asks_of (sym sum))) in
-      record {
-        levels_are = levels_are;
-        some = h.some;
-        kind_is = kind_is;
-        go = subst AllGo (sym sum) (go-append os more h.go (goes_on, tt));
-        carried = carried ∙ sym (ap (λ (u : End (Bool × ℕ)). u.value) at_end ∙ ap (λ (u : Bool × (Bool × ℕ)). u.1) r.value);
-        place = r.place ∙ ap (moved o.taken) h.place ∙ sym (moved-sum e.taken o.taken z) ∙ ap (λ j. moved j z) (one ∙ sym (ap (λ (u : End (Bool × ℕ)). u.taken) at_end));
-        state = r.state ∙ sym (ap (λ (u : End (Bool × ℕ)). u.state) at_end);
-        nodes = r.nodes ∙ ap (standing o) h.nodes ∙ sym (given-append os more []) ∙ ap (λ us. given us []) (sym sum);
-        log = log;
-        fits = fits;
-        end = start-known w q.end fits at_token;
-      }
+      grind (arith, go-append, moved-sum, given-append, start-known)
 
   -- the trivia at hand are those that are known
   trivia-known : (m : ℕ) (p : PieceReader) → HasRead k levels which x z m p → p.parser.hand.trivia ≡ pending (end m).state.known
@@ -374,33 +340,9 @@ module _ (k : CharClasses) (levels : ℕ) (which : RunKind) (x : Bool × ℕ) (z
       let a = (d.ran h.fits).runs in
       let b = (still.ran h.fits).runs in
       let place : w.place ≡ v.place = a.place ∙ sym b.place in
-      let state : w.state ≡ v.state = a.state ∙ sym b.state in (
-        record {
-          levels_are = levels_are ∙ h.levels_are;
-          some = h.some;
-          kind_is = kind_is ∙ h.kind_is;
-          go = h.go;
-          carried = carried ∙ h.carried;
-          place = place ∙ h.place;
-          state = state ∙ h.state;
-          nodes = a.nodes ∙ sym b.nodes ∙ h.nodes;
-          log = a.log ∙ sym b.log ∙ h.log;
-          fits = d.ready h.fits;
-          end = ends_at ∙ h.end ∙ sym (ap (λ (s : Point). position (moved (gap_of s.known) w.place)) state ∙ ap (λ u. position (moved (gap_of v.state.known) u)) place);
-        },
-        over,
-      )
+      let state : w.state ≡ v.state = a.state ∙ sym b.state in
+      grind arith
 
   -- the pieces with the trivia after them
   pub given-pieces : (m : ℕ) (p : PieceReader) (w : View) (r : ReadPart) → HasRead k levels which x z m p → Does guessing_l flush_trivia tt p.parser w → IsGiven w r → ArePieces k levels which x z m r
-  given-pieces m p w r h d g =
-      let e = end m in
-      let v = p.parser in
-      let f = flushed-is d h.fits in
-      let asks = (first_look l z).asks ++ asks_of (pieces m) in
-      let log : w.log ≡ logged levels z no_log asks = f.log ∙ h.log in
-      record {
-        nodes_are = g.nodes ∙ f.nodes ∙ ap (λ ts. ts ++ v.hand.trivia) h.nodes ∙ ap (λ ts. given (pieces m) [] ++ ts) (trivia-known m p h);
-        end = g.end ∙ ap position (f.place ∙ ap (moved v.hand.gap) h.place ∙ sym (moved-sum e.taken v.hand.gap z) ∙ ap (λ j. moved (e.taken + j) z) (gap-known m p h));
-        log = g.log (subst (λ (u : Log). IsSome u.notes) (sym log) (still-kept levels z no_log asks refl)) ∙ log;
-      }
+  given-pieces m p w r h d g = grind (arith, flushed-is, trivia-known, moved-sum, gap-known, still-kept)

@@ -1,32 +1,28 @@
 -- The facts of code: each part is proper, though an operator makes a binary node, and what a token begins takes it first.
-use Rattle.std.proofs.Common.{◌≡◌, ℕ, Bool, true, false, ◌&&◌, if◌then◌else◌, List, ◌++◌, Option, Some, None, refl}
-use Rattle.std.specs.Prelude.{codes, not}
+use Rattle.std.proofs.Common.{◌≡◌, ℕ, Bool, true, false, List, Option, Some, None, refl, arith}
+use Rattle.std.specs.Prelude.{not}
 use Rattle.typst_kinds.specs.Kinds.{same}
 use Rattle.typst_kinds.specs.declared.kind.SyntaxKind.{SyntaxKind}
 use Rattle.typst_kinds.specs.declared.kind.SyntaxKind.TheVariants as kind
-use Rattle.typst_kinds.specs.SeenNames.{has_name}
 use Rattle.typst_language.specs.declared.calls.AfterName.{AfterName}
-use Rattle.typst_language.specs.declared.calls.AfterName.TheVariants as after
 use Rattle.typst_code.specs.declared.heads.CodeHead.{CodeHead}
 use Rattle.typst_code.specs.declared.heads.CodeHead.TheVariants as head
 use Rattle.typst_code.specs.declared.heads.CodeTail.{CodeTail}
 use Rattle.typst_code.specs.declared.heads.CodeTail.TheVariants as tail
 use Rattle.typst_code.specs.declared.listing.ParenItems.{ParenItems}
 use Rattle.typst_code.specs.keys.Key.{Key}
-use Rattle.typst_code.specs.keys.Key.TheVariants as key
-use Rattle.typst_code.specs.Arguments.{argument_shape, argument, argument_turn, argument_list, listed_arguments, content_turn, missing_arguments, begin_arguments, arguments, calls_directly}
-use Rattle.typst_code.specs.Expressions.{code_head, code_by, unary_expr, code_primary, dots_directly, code_tail, direct_field, call_tail, tail_by, code_tail_turn, code_expr, binary_expr, not_in}
+use Rattle.typst_code.specs.Arguments.{argument_shape, argument, argument_turn, argument_list, listed_arguments, content_turn, missing_arguments, begin_arguments, arguments}
+use Rattle.typst_code.specs.Expressions.{code_head, code_by, unary_expr, code_primary, code_tail, direct_field, call_tail, tail_by, code_tail_turn, code_expr, binary_expr, not_in}
 use Rattle.typst_language.specs.Expected.{expect_identifier}
 use Rattle.typst_language.specs.Hand.{AtHand}
-use Rattle.typst_code.specs.Groups.{spread, pair, when_seen, item_shape, misfit, item, group_turn, list_kind, group_kind, group_shape, group_rest, group}
+use Rattle.typst_code.specs.Groups.{spread, pair, item_shape, misfit, item, group_turn, group_kind, group_shape, group_rest, group}
 use Rattle.typst_code.specs.Imports.{path_turn, import_name, import_path, renaming, import_shape, import_turn, import_items, parens_shape, import_parens, imported, module_import}
 use Rattle.typst_code.specs.Parens.{as_group, readings, sign, parens}
 use Rattle.typst_code.specs.Sequences.{missing_break, statement_end, statement, code_turn, code_exprs, code, code_reading, ends_code}
 use Rattle.typst_code.specs.Statements.{any_block, field, target_turn, target, set_rule, show_shape, show_rule, contextual, other_branch, conditional_turn, conditional, while_loop, second_pattern, loop_names, for_loop, module_include, jump, func_return}
 use Rattle.typst_language.specs.Shape.{Shape, becomes}
-use Rattle.typst_language.specs.Shape.NodeChange.{stays, turns_wrong}
-use Rattle.typst_language.specs.Shape.Shape.{keeps, holds}
-use Rattle.typst_language.specs.Steps.{within, eat, eat_if, close_if, expected, node}
+use Rattle.typst_language.specs.Shape.Shape.{keeps}
+use Rattle.typst_language.specs.Steps.{within, eat, eat_if, close_if, expected}
 use Rattle.typst_language.specs.Syntax.{Parser, ◌>>=◌}
 use Rattle.typst_language.specs.Syntax.Parser.{scoped}
 use Rattle.typst_language.proofs.Within.{on_both}
@@ -34,28 +30,18 @@ use Rattle.std.proofs.lemmas.Bool.{and_parts}
 use Rattle.typst_language.specs.Depth.{deeper, is_end}
 use Rattle.typst_code.specs.Bindings.{bound_name as bound_function, bound_part, binding, let_binding}
 use Rattle.typst_code.specs.Closures.{closure_shape, name_shape, underscore_shape, named, placeholder}
-use Rattle.typst_grammar.proofs.Fine.{tame, tame_kind}
+use Rattle.typst_grammar.proofs.Fine.{tame}
 use Rattle.typst_grammar.proofs.FineRuns.{tame_if, Gives, gives-all}
 use Rattle.typst_grammar.proofs.Proper.{proper_steps, Scope, Proper, bracket-there, brace-there, proper-eat, proper-if, proper-close, proper-expected, proper-within, proper-shaped, proper-node, proper-grow, proper-read, proper-identifier, tame-closed, tame-both}
 use Rattle.typst_grammar.proofs.PlainParts.{proper-equation, proper-separator, proper-destructuring, proper-params, tame-after, proper-right, tame-bound-shape, proper-equals}
 
 -- ---- groups
 
-tame-seen : (names : List (List ℕ)) (name : List ℕ) (k : SyntaxKind) → tame_kind k ≡ true → tame (holds (when_seen names name) k) ≡ true
-tame-seen names name k e = on_both (λ change. tame (holds change k) ≡ true) (has_name names name) (turns_wrong (codes "duplicate key: " ++ name)) stays e e
-
 tame-item : (keys : List (List ℕ)) (k : Option Key) → tame (item_shape keys k) ≡ true
-tame-item keys None = refl
-tame-item keys (Some (key.Name name)) = tame-seen keys name kind.Named refl
-tame-item keys (Some (key.Str text)) = tame-seen keys text kind.Keyed refl
-tame-item keys (Some key.Other) = refl
+tame-item keys k = grind arith
 
 tame-misfit : (pairs : Option Bool) (is_pair : Bool) → tame (keeps (misfit pairs is_pair)) ≡ true
-tame-misfit None is_pair = refl
-tame-misfit (Some true) true = refl
-tame-misfit (Some true) false = refl
-tame-misfit (Some false) true = refl
-tame-misfit (Some false) false = refl
+tame-misfit pairs is_pair = grind arith
 
 proper-item : (c : Scope) (items : ParenItems) → Proper c (item items)
 unfolding item pair spread
@@ -67,12 +53,7 @@ proper-rest c = search (proper_steps, proper-separator, proper-item) depth 40 fi
 
 -- what holds of each kind that a group may have
 of-group : (Q : SyntaxKind → Type 0) → Q kind.Parenthesized → Q kind.Array → Q kind.Dict → (items : ParenItems) → Q (group_kind items)
-of-group Q one array dict items = on_both Q (items.any && items.is_plain) kind.Parenthesized (list_kind items.are_pairs) one (of-list items.are_pairs)
-  where
-    of-list : (pairs : Option Bool) → Q (list_kind pairs)
-    of-list None = array
-    of-list (Some true) = dict
-    of-list (Some false) = array
+of-group Q one array dict items = grind arith
 
 pub gives-rest : (Q : Bool × SyntaxKind → Type 0) → ((closed : Bool) → Q (closed, kind.Parenthesized)) → ((closed : Bool) → Q (closed, kind.Array)) → ((closed : Bool) → Q (closed, kind.Dict)) → Gives (λ x. (h : AtHand) → Q x) group_rest
 unfolding group_rest
@@ -89,16 +70,12 @@ unfolding readings as_group
 proper-readings c = search (proper_steps, proper-group, proper-params, proper-destructuring) depth 40 fits 4000
 
 proper-sign : (c : Scope) (b : AfterName) → Proper c (sign b)
-proper-sign c after.Nothing = tt
-proper-sign c _ = search proper_steps
+proper-sign c b = grind (arith, proper_steps)
 
 -- ---- arguments
 
 tame-argument : (names : List (List ℕ)) (k : Option Key) → tame (argument_shape names k) ≡ true
-tame-argument names None = refl
-tame-argument names (Some (key.Name name)) = on_both (λ change. tame (holds change kind.Named) ≡ true) (has_name names name) (turns_wrong (codes "duplicate argument: " ++ name)) stays refl refl
-tame-argument names (Some (key.Str text)) = refl
-tame-argument names (Some key.Other) = refl
+tame-argument names k = grind arith
 
 proper-argument : (c : Scope) (names : List (List ℕ)) → Proper c (argument names)
 unfolding argument pair spread
@@ -179,9 +156,7 @@ begins_block _ = false
 
 -- what begins a block is a token
 head-there : (atomic : Bool) (k : SyntaxKind) → begins_block (code_head atomic k) ≡ true → not (is_end k) ≡ true
-head-there true kind.End e = absurd (cc)
-head-there false kind.End e = absurd (cc)
-head-there atomic _ e = refl
+head-there atomic k e = grind arith
 
 ruleset code_parts = (proper-equation, proper-group, proper-params, proper-equals, proper-target, proper-arguments, proper-block, proper-imported, proper-field, tame-bound-shape)
 
@@ -227,9 +202,7 @@ Shapes t = Gives (λ v. tame_if v.0 ≡ true) (tail_by t)
 
 shapes-atomic : (least : ℕ) (k : SyntaxKind) (has_trivia : Bool) → Shapes (code_tail true least k has_trivia)
 unfolding call_tail direct_field
-shapes-atomic least k has_trivia =
-    on_both Shapes (calls_directly k has_trivia) tail.Call (if dots_directly k has_trivia then tail.DirectField else tail.Nothing) (gives-all _ (λ _. refl) arguments)
-    (on_both Shapes (dots_directly k has_trivia) tail.DirectField tail.Nothing (λ _. (gives-field, refl)) refl)
+shapes-atomic least k has_trivia = grind (arith, on_both, gives-all, gives-field)
 
 gives-atomic : (least : ℕ) (x : Unit {0}) → Gives (λ v. tame_if v.0 ≡ true) (code_tail_turn true least x)
 unfolding code_tail_turn

@@ -1,27 +1,23 @@
 -- The facts of formulas: each part is proper, and what a token begins takes it first.
-use Rattle.std.proofs.Common.{◌≡◌, ℕ, Bool, true, ◌||◌, ◌==◌, List, [], ◌∷◌, ◌++◌, refl}
+use Rattle.std.proofs.Common.{◌≡◌, ℕ, Bool, true, ◌==◌, List, refl, arith}
 use Rattle.std.specs.Prelude.{codes}
-use Rattle.std.specs.Str.{bytes_eq}
 use Rattle.typst_lines.specs.Classes.{CharClasses}
-use Rattle.typst_kinds.specs.Kinds.{same, among}
+use Rattle.typst_kinds.specs.Kinds.{same}
 use Rattle.typst_kinds.specs.declared.kind.SyntaxKind.{SyntaxKind}
 use Rattle.typst_kinds.specs.declared.kind.SyntaxKind.TheVariants as kind
-use Rattle.typst_kinds.specs.SeenNames.{has_name}
 use Rattle.typst_language.specs.declared.calls.ChainSet.{ChainSet}
 use Rattle.typst_code.specs.keys.Key.{Key}
-use Rattle.typst_code.specs.keys.Key.TheVariants as key
 use Rattle.typst_language.specs.Expected.{seeing}
 use Rattle.typst_language.specs.Shape.{Seen, becomes}
-use Rattle.typst_language.specs.Shape.NodeChange.{stays, turns_wrong}
+use Rattle.typst_language.specs.Shape.NodeChange.{stays}
 use Rattle.typst_language.specs.Shape.Making.{itself, wanted}
-use Rattle.typst_language.specs.Shape.Seen.{leaf_seen, inner_seen}
 use Rattle.typst_language.specs.Shape.Shape.{keeps, holds}
-use Rattle.typst_language.specs.Steps.{eat, convert_and_eat}
+use Rattle.typst_language.specs.Steps.{eat}
 use Rattle.typst_language.proofs.Within.{on_both}
 use Rattle.typst_code.specs.Attachments.{operand, attachment_turn, attachments, primes}
-use Rattle.typst_code.specs.Delimited.{sign_kind, delimiter_kind, delimiter_sign, delimiter, body_shape, delimited_body, delimiter_if, delimited_shape, delimited}
+use Rattle.typst_code.specs.Delimited.{delimiter_kind, delimiter_sign, delimiter, body_shape, delimited_body, delimiter_if, delimited_shape, delimited}
 use Rattle.typst_code.specs.MathArguments.{value_shape, argument_exprs, argument_value, name_making, eat_name, argument_name, name_change as math_change, named_argument, spread_argument, math_argument, argument_end, math_argument_turn, math_arguments}
-use Rattle.typst_code.specs.MathExpressions.{math_head, math_text, root, math_by, math_primary, math_tail, fraction, tail_by as math_tail_by, math_tail_turn, math_grown, math_expr}
+use Rattle.typst_code.specs.MathExpressions.{math_text, root, math_by, math_primary, fraction, tail_by as math_tail_by, math_tail_turn, math_grown, math_expr}
 use Rattle.typst_code.specs.math_heads.MathHead.{MathHead}
 use Rattle.typst_code.specs.math_heads.MathHead.TheVariants as math_heads
 use Rattle.typst_code.specs.math_heads.MathTail.{MathTail}
@@ -31,13 +27,8 @@ use Rattle.typst_grammar.proofs.FineRuns.{tame_if, Gives, gives-all}
 use Rattle.typst_grammar.proofs.Proper.{proper_steps, Scope, Proper, proper-eat, proper-expected, proper-shaped, proper-node, proper-grow, proper-seeing, tame-both}
 use Rattle.typst_grammar.proofs.PlainParts.{proper-embedded, proper-exprs}
 
-tame-sign : (text : List ℕ) → tame_kind (sign_kind text) ≡ true
-tame-sign text = on_both (λ k. tame_kind k ≡ true) (bytes_eq text (codes "[|") || bytes_eq text (codes "|]")) kind.MathShorthand kind.MathText refl refl
-
 tame-delimiter : (seen : List Seen) → tame_kind (delimiter_kind seen) ≡ true
-tame-delimiter [] = refl
-tame-delimiter (leaf_seen k text ∷ more) = tame-sign text
-tame-delimiter (inner_seen k ∷ more) = refl
+tame-delimiter seen = grind arith
 
 proper-delimiter : (c : Scope) → Proper c delimiter
 unfolding delimiter delimiter_sign
@@ -62,9 +53,7 @@ tame-making : (k : SyntaxKind) → tame_making (name_making k) ≡ true
 tame-making k = on_both (λ m. tame_making m ≡ true) (same kind.Underscore k) (wanted (codes "identifier")) itself refl refl
 
 tame-math : (names : List (List ℕ)) (k : Key) → tame (holds (math_change names k) kind.Named) ≡ true
-tame-math names (key.Name name) = on_both (λ change. tame (holds change kind.Named) ≡ true) (has_name names name) (turns_wrong (codes "duplicate argument: " ++ name)) stays refl refl
-tame-math names (key.Str text) = refl
-tame-math names key.Other = refl
+tame-math names k = grind arith
 
 proper-math-argument : (c : Scope) (names : List (List ℕ)) → Proper c (math_argument names)
 unfolding math_argument spread_argument named_argument argument_name eat_name
@@ -89,18 +78,8 @@ proper-math-tail c stops math_tails.Nothing = tt
 proper-math-tail c stops _ = search (proper_steps, math_parts) depth 40 fits 4000
 
 gives-math-tail : (stops : ChainSet) (t : MathTail) → Gives (λ v. tame_if v.0 ≡ true) (math_tail_by stops t)
-gives-math-tail stops math_tails.Call = gives-all _ (λ _. refl) math_arguments
-gives-math-tail stops math_tails.Delimited = gives-all _ (λ _. refl) delimited
-gives-math-tail stops math_tails.Fraction = gives-all _ (λ _. refl) fraction
-gives-math-tail stops math_tails.Attachments = gives-all _ (λ _. refl) attachments
-gives-math-tail stops math_tails.Primes = gives-all _ (λ _. refl) (primes stops)
-gives-math-tail stops math_tails.Factorial = gives-all _ (λ _. refl) (convert_and_eat kind.MathText)
-gives-math-tail stops math_tails.Nothing = refl
+gives-math-tail stops t = grind (arith, gives-all)
 
 pub proper-math-expr : (c : Scope) (k : CharClasses) (least : ℕ) (stops : ChainSet) → Proper c (math_expr k least stops)
 unfolding math_expr math_grown math_primary math_tail_turn
-proper-math-expr c k least stops = (
-  proper-grow _ _ _ (refl, λ a. proper-math-by _ k (math_head a.kind))
-      (λ callee. (λ a. gives-math-tail stops (math_tail callee least stops a.kind a.has_trivia), (refl, λ a. proper-math-tail _ stops (math_tail callee least stops a.kind a.has_trivia)))),
-  λ _. tt,
-)
+proper-math-expr c k least stops = grind (arith, proper-grow, proper-math-by, gives-math-tail, proper-math-tail)

@@ -1,11 +1,9 @@
 -- The facts of markup and of patterns: each is proper, and what a token begins takes it first.
-use Rattle.std.proofs.Common.{◌≡◌, ℕ, Bool, true, false, if◌then◌else◌, List, ◌++◌, Option, Some, None, refl}
+use Rattle.std.proofs.Common.{◌≡◌, ℕ, Bool, true, false, if◌then◌else◌, List, Option, refl, arith}
 use Rattle.typst_kinds.specs.Kinds.{same}
 use Rattle.typst_kinds.specs.declared.kind.SyntaxKind.{SyntaxKind}
 use Rattle.typst_kinds.specs.declared.kind.SyntaxKind.TheVariants as kind
-use Rattle.typst_kinds.specs.SeenNames.{has_name}
 use Rattle.typst_code.specs.bindings.Bound.{Bound}
-use Rattle.typst_code.specs.bindings.Bound.TheVariants as bound
 use Rattle.typst_language.specs.declared.calls.Role.{Role}
 use Rattle.typst_language.specs.declared.calls.AfterName.{AfterName}
 use Rattle.typst_language.specs.declared.calls.AfterName.TheVariants as after
@@ -18,19 +16,17 @@ use Rattle.typst_code.specs.Equations.{math_expression, math_item, math_turn, ma
 use Rattle.typst_code.specs.Markup.{note_piece, markup_turn, markup_exprs, markup_run, markup, markup_is_empty, emphasized, delimited, heading, item, term_item, direct_content, markup_reading, ends_block, reference, markup_head, markup_by, markup_expr}
 use Rattle.typst_code.specs.Params.{defaulted, param, param_turn, params}
 use Rattle.typst_code.specs.Parts.{separator}
-use Rattle.typst_code.specs.Patterns.{duplicate, bound_change, bound_name, pattern_leaf, sink, sink_shape, name_and_colon, key, key_or_pattern, named_shape, part, Found, destructuring_item, destructuring_turn, destructuring, pattern}
+use Rattle.typst_code.specs.Patterns.{bound_change, bound_name, pattern_leaf, sink, sink_shape, name_and_colon, key, key_or_pattern, named_shape, part, Found, destructuring_item, destructuring_turn, destructuring, pattern}
 use Rattle.typst_language.specs.Shape.{Shape, encloses}
-use Rattle.typst_language.specs.Shape.NodeChange.{stays, turns_wrong}
 use Rattle.typst_language.specs.Shape.Making.{itself}
-use Rattle.typst_language.specs.Steps.{close_if, node, note}
+use Rattle.typst_language.specs.Steps.{close_if, note}
 use Rattle.typst_language.specs.Syntax.{Parser, ◌>>=◌}
 use Rattle.typst_language.specs.Syntax.Op.{takes}
 use Rattle.typst_language.specs.Syntax.Parser.{does, scoped}
-use Rattle.typst_language.proofs.Within.{on_both}
 use Rattle.std.proofs.lemmas.Bool.{and_parts}
 use Rattle.typst_language.specs.declared.calls.Mark.TheVariants as mark
 use Rattle.typst_grammar.proofs.Fine.{tame, tame_change, tame_kind}
-use Rattle.typst_grammar.proofs.Proper.{proper_steps, Scope, unseen, Proper, bracket-there, proper-eat, proper-if, proper-close, proper-within, proper-node, proper-trivia, proper-read, proper-expects, tame-closed, proper-deep, proper-deeper}
+use Rattle.typst_grammar.proofs.Proper.{proper_steps, Scope, unseen, Proper, bracket-there, proper-eat, proper-if, proper-close, proper-within, proper-node, proper-trivia, proper-read, proper-expects, proper-deep, proper-deeper}
 
 -- ---- embedded code and formulas
 
@@ -50,8 +46,7 @@ proper-equation c = search (proper_steps, proper-exprs) depth 40 fits 4000
 
 proper-markup-turn : (c : Scope) (is_run : Bool) (stops : SyntaxKind → Bool) (x : Bool × ℕ) → ((at_start : Bool) (nesting : ℕ) → is_run ≡ true → c.notes (mark.Piece at_start nesting) ≡ true) → Proper c (markup_turn is_run stops x)
 unfolding markup_turn note_piece note
-proper-markup-turn c is_run stops x h =
-    (refl, λ _. (tt, (proper-deeper _ _ _, λ _. (refl, λ _. (((refl, λ _. ((refl, λ g. h _ _ g.1), λ _. (refl, λ _. tt))), tt), λ _. tt)))))
+proper-markup-turn c is_run stops x h = grind (arith, proper-deeper)
 
 proper-markup-exprs : (c : Scope) (at_start : Bool) (stops : SyntaxKind → Bool) → Proper c (markup_exprs at_start stops)
 unfolding markup_exprs
@@ -71,14 +66,11 @@ unfolding markup_is_empty
 proper-empty c p h = (proper-trivia _ kind.Markup p refl h, λ _. tt)
 
 tame-emphasized : (k : SyntaxKind) (warning hint : List ℕ) → tame_kind k ≡ true → (x : Bool × Bool) → tame (emphasized k warning hint x) ≡ true
-tame-emphasized k warning hint e (true, true) = e
-tame-emphasized k warning hint e (true, false) = e
-tame-emphasized k warning hint e (false, empty) = e
+tame-emphasized k warning hint e x = grind arith
 
 proper-delimited : (c : Scope) (k : SyntaxKind) (stops : SyntaxKind → Bool) (delimiter : SyntaxKind) (warning hint : List ℕ) → tame_kind k ≡ true → Proper c (delimited k stops delimiter warning hint)
 unfolding delimited
-proper-delimited c k stops delimiter warning hint e =
-    proper-within _ _ _ (proper-node _ _ _ (tame-emphasized k warning hint e) (proper-eat _, λ _. (proper-empty _ _ (proper-markup-exprs _ false stops), λ _. (proper-if _ _, λ _. tt))), λ _. tt)
+proper-delimited c k stops delimiter warning hint e = grind (arith, proper-within, proper-node, tame-emphasized, proper-eat, proper-empty, proper-markup-exprs, proper-if)
 
 -- what stands in the node of a block
 abbrev pub inside_content : Parser Bool
@@ -95,8 +87,7 @@ ruleset markup_parts = (proper-embedded, proper-equation, proper-markup, proper-
 -- a production is opened here, or has a lemma among the parts
 proper-by : (c : Scope) (nesting : ℕ) (h : MarkupHead) → Proper c (markup_by nesting h)
 unfolding heading item term_item reference direct_content
-proper-by c nesting head.Reference =
-    (proper-node _ _ _ (λ _. refl) (proper-eat _, λ _. (refl, λ a. (proper-read _ _ (λ g. bracket-there a.kind (and_parts _ _ g.1).0), tt))), λ _. tt)
+proper-by c nesting head.Reference = grind (arith, proper-node, proper-eat, proper-read, bracket-there, and_parts)
 proper-by c nesting _ = search (proper_steps, markup_parts) depth 40 fits 4000
 
 pub proper-markup-expr : (c : Scope) (at_start : Bool) (nesting : ℕ) → Proper c (markup_expr at_start nesting)
@@ -110,21 +101,17 @@ unfolding separator
 proper-separator c = (refl, λ _. (tt, proper-expects _ _ _))
 
 tame-bound : (role : Role) (names : List (List ℕ)) (name : Option (List ℕ)) → tame_change (bound_change role names name) ≡ true
-tame-bound role names None = refl
-tame-bound role names (Some name) = on_both (λ change. tame_change change ≡ true) (has_name names name) (turns_wrong (duplicate role ++ name)) stays refl refl
+tame-bound role names name = grind arith
 
 proper-leaf : (c : Scope) (role : Role) (names : List (List ℕ)) → Proper c (pattern_leaf role names)
 unfolding pattern_leaf bound_name
 proper-leaf c role names = search (proper_steps, tame-bound) depth 40 fits 4000
 
 tame-sink : (message : List ℕ) (again : Bool) → tame (sink_shape message again) ≡ true
-tame-sink message true = refl
-tame-sink message false = refl
+tame-sink message again = grind arith
 
 tame-named : (named : Option Bool) → tame (named_shape named) ≡ true
-tame-named None = refl
-tame-named (Some true) = refl
-tame-named (Some false) = refl
+tame-named named = grind arith
 
 proper-part : (c : Scope) (role : Role) (names : List (List ℕ)) → Proper c (part role names)
 unfolding part key_or_pattern key name_and_colon
@@ -135,8 +122,7 @@ unfolding destructuring_turn destructuring_item sink
 proper-destructuring-turn c role found = search (proper_steps, proper-separator, proper-leaf, proper-part, tame-sink, tame-named) depth 40 fits 4000
 
 tame-parts : (alone closed : Bool) → tame (encloses (if alone then kind.Parenthesized else kind.Destructuring) closed) ≡ true
-tame-parts true closed = tame-closed kind.Parenthesized refl closed
-tame-parts false closed = tame-closed kind.Destructuring refl closed
+tame-parts alone closed = grind arith
 
 pub proper-destructuring : (c : Scope) (role : Role) (names : List (List ℕ)) → Proper c (destructuring role names)
 unfolding destructuring
@@ -163,14 +149,10 @@ tame-after f x y z after.Eq = y
 tame-after f x y z after.Nothing = z
 
 pub proper-right : (c : Scope) (b : AfterName) → Proper c (right_side b)
-proper-right c after.Nothing = tt
-proper-right c _ = search proper_steps
+proper-right c b = grind (arith, proper_steps)
 
 pub tame-bound-shape : (b : Bound) → tame (bound_shape b) ≡ true
-tame-bound-shape bound.Name = refl
-tame-bound-shape bound.Function = refl
-tame-bound-shape bound.Names = refl
+tame-bound-shape b = grind arith
 
 pub proper-equals : (c : Scope) (b : Bound) → Proper c (equals b)
-proper-equals c bound.Name = proper-if _ _
-proper-equals c _ = proper-expects _ _ _
+proper-equals c b = grind (arith, proper-if, proper-expects)

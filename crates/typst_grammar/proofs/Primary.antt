@@ -1,8 +1,7 @@
 -- What an expression begins with.
-use Rattle.std.proofs.Common.{◌≡◌, ℕ, zero, suc, ◌+◌, ◌<◌, ◌≤◌, Bool, true, false, not, ◌||◌, List, [], ◌∷◌, ◌++◌, length, drop, codes, refl, ap, sym, ◌∙◌, ◌⊎◌, inl, inr, subst, arith, length-append}
+use Rattle.std.proofs.Common.{◌≡◌, ℕ, zero, suc, ◌+◌, ◌<◌, ◌≤◌, Bool, true, false, not, ◌||◌, List, [], ◌∷◌, ◌++◌, length, codes, refl, ap, sym, ◌∙◌, ◌⊎◌, inl, inr, subst, arith, length-append}
 use Rattle.typst_kinds.specs.Kinds.{is_error}
 use Rattle.typst_kinds.specs.declared.kind.SyntaxKind.{SyntaxKind}
-use Rattle.typst_kinds.specs.declared.kind.SyntaxKind.TheVariants as kind
 use Rattle.typst_lines.specs.Place.{Place, moved}
 use Rattle.typst_tree.specs.Tree.{Tree}
 use Rattle.typst_lines.specs.Classes.{CharClasses}
@@ -23,10 +22,10 @@ use Rattle.typst_grammar.proofs.FineRuns.{Binds, Still, still-hand}
 use Rattle.typst_grammar.proofs.Proper.{free}
 use Rattle.typst_grammar.proofs.PlainCode.{proper-primary}
 use Rattle.typst_grammar.proofs.Heads.{Bare, Unary, LastIs, last-map, last-one, last-all, is_calm, bare-error, bare-taken, standing-none}
-use Rattle.typst_grammar.proofs.BindingTurns.{Sane, BindsBy, bare-binds}
+use Rattle.typst_grammar.proofs.BindingTurns.{bare-binds}
 use Rattle.typst_grammar.proofs.Leads.{all-bare}
 use Rattle.typst_grammar.proofs.Firsts.{calls-back, blocks-back, none-back, within_blocks, eaten-block, eaten-first}
-use Rattle.typst_grammar.proofs.Grown.{kind_at, Grown, Leftward, tight-none}
+use Rattle.typst_grammar.proofs.Grown.{Grown, tight-none}
 use Rattle.typst_grammar.proofs.BindingLevels.{CallsBind, level-binds}
 use Rattle.typst_grammar.proofs.Lost.{Lost, Stuck}
 use Rattle.typst_grammar.proofs.Missing.{Missed, missed}
@@ -38,8 +37,7 @@ stuck-after (suc m) [] t e h = inl e
 stuck-after (suc m) (u ∷ ts) t e h = inr (stuck-after m ts t e (omega arith))
 
 or-after : (a b : Bool) → a ≡ true → (not a || b) ≡ true → b ≡ true
-or-after true b e h = h
-or-after false b e h = absurd (cc)
+or-after a b e h = grind arith
 
 -- what a token begins where an expression needn't be atomic, or what stands for it where it is missing
 abbrev is_primary : CodeHead → Bool
@@ -47,13 +45,11 @@ is_primary head.Missing = true
 is_primary c = opens c
 
 head-primary : (i : SyntaxKind) → is_primary (code_head false i) ≡ true
-head-primary kind.Plus = refl
-head-primary _ = refl
+head-primary i = grind arith
 
 -- a token that is given itself is no operator
 head-calm : (i : SyntaxKind) → (not (keeps_token (code_head false i)) || is_calm i) ≡ true
-head-calm kind.Ident = refl
-head-calm _ = refl
+head-calm i = grind arith
 
 module _ (k : CharClasses) (levels : ℕ) (d : CallsBind k levels) (least : ℕ) where
   abbrev l : Level
@@ -98,14 +94,7 @@ module _ (k : CharClasses) (levels : ℕ) (d : CallsBind k levels) (least : ℕ)
     by_head c = run l (next peek (λ _. code_by false c)) z s
 
     grown-bare : (o : Outcome (Unit {0})) → Binds o → All Bare o.nodes → LastIs (s.is_after_error ≡ true) Unary o.nodes → n + o.back ≤ length o.nodes + length (hand_of l (moved o.taken z) o.state).trivia → Grown k least n z s o
-    grown-bare o b all x m =
-        let j = kind_at k least (moved o.taken z) o.state in
-        record {
-          binds = b;
-          inside = all-map Bare (Leftward k least j) (λ u c. (c.0, λ y. tight-none k least j u c.1)) (drop (n + o.back) o.nodes) (all-drop Bare (n + o.back) o.nodes all);
-          last = last-map (s.is_after_error ≡ true) (s.is_after_error ≡ true) Unary (λ u. Sane u → BindsBy least u) (λ y. y) (λ u c y. bare-binds least u c) o.nodes x;
-          enough = m;
-        }
+    grown-bare o b all x m = grind (arith, all-map, tight-none, all-drop, last-map, bare-binds)
 
     -- a token that begins an expression
     opened : (c : CodeHead) → opens c ≡ true → (keeps_token c ≡ true → is_calm h.kind ≡ true) → Binds (by_head c) → Grown k least n z s (by_head c)
@@ -113,16 +102,11 @@ module _ (k : CharClasses) (levels : ℕ) (d : CallsBind k levels) (least : ℕ)
         let lead = eaten-first k levels (next peek (λ _. code_by false c)) z s (first-code (as_at_hand h) c e) in
         let x = all-bare-run l (calls-back k levels) (blocks-back k levels) true z s (is_calm h.kind ≡ true) (bare-taken l z s) (λ _ d u. eaten-block k levels d z u) (λ _ d u. bare-read d z u)
         (λ _ B p w u y. (level-binds k levels d p w z u y).known) (next peek (λ _. code_by false c)) (λ _. bare-code (is_calm h.kind ≡ true) (as_at_hand h) c e calm) still in
-        let none = lead.none in
-        let room = lead.room in
-        grown-bare (by_head c) b x.all (last-all (s.is_after_error ≡ true) (by_head c).nodes x.all x.some) (omega (arith, none, room))
+        grind (arith, grown-bare, last-all)
 
     same-trivia : (run l (expected (codes "expression")) z t).taken ≡ 0 → hand_of l z (run l (expected (codes "expression")) z t).state ≡ hand_of l z t → length (hand_of l (moved (by_head head.Missing).taken z) (by_head head.Missing).state).trivia ≡ n
     unfolding run
-    same-trivia e f =
-        let x = run l (expected (codes "expression")) z t in
-        let none : 0 + x.taken ≡ 0 = omega (arith, e) in
-        ap (λ (m : ℕ). length (hand_of l (moved m z) x.state).trivia) none ∙ ap (λ (v : Hand). length v.trivia) f ∙ ap (λ (v : Hand). length v.trivia) again
+    same-trivia e f = grind (arith, again)
 
     missing : Missed l z t (run l (expected (codes "expression")) z t) → Binds (by_head head.Missing) → Grown k least n z s (by_head head.Missing) ⊎ Lost k least n z s (by_head head.Missing)
     unfolding run
@@ -152,20 +136,8 @@ module _ (k : CharClasses) (levels : ℕ) (d : CallsBind k levels) (least : ℕ)
               stuck = subst (Stuck (n + p.back)) (sym nodes) (stuck-after (n + p.back) (hand_of l z t).trivia x.node (ap is_error x.is_wrong) (omega (arith, long, back, f)));
               few = x.empties;
             })
-    missing (inr (inl x)) b =
-        let p = by_head head.Missing in
-        let nodes = standing-none (run l (expected (codes "expression")) z t) ∙ x.exact.nodes in
-        let bare = bare-error x.node x.is_wrong in
-        let back = x.exact.back in
-        let one = ap length nodes in
-        let after = same-trivia x.taken x.same in
-        inl (grown-bare p b (subst (All Bare) (sym nodes) (bare, tt)) (subst (LastIs (s.is_after_error ≡ true) Unary) (sym nodes) bare.1) (omega (arith, back, one, after)))
-    missing (inr (inr x)) b =
-        let p = by_head head.Missing in
-        let nodes = standing-none (run l (expected (codes "expression")) z t) ∙ x.exact.nodes in
-        let back = x.exact.back in
-        let after = same-trivia x.taken x.same in
-        inl (grown-bare p b (subst (All Bare) (sym nodes) tt) (subst (LastIs (s.is_after_error ≡ true) Unary) (sym nodes) x.after) (omega (arith, back, after)))
+    missing (inr (inl x)) b = grind (arith, standing-none, bare-error, same-trivia, grown-bare)
+    missing (inr (inr x)) b = grind (arith, standing-none, same-trivia, grown-bare)
 
     begins : (c : CodeHead) → is_primary c ≡ true → (not (keeps_token c) || is_calm h.kind) ≡ true → Binds (by_head c) → Grown k least n z s (by_head c) ⊎ Lost k least n z s (by_head c)
     begins head.StrayOperator e calm b = absurd (cc)

@@ -1,5 +1,5 @@
 -- Proper parsers: what each makes, notes and reads, as one fact; and the steps that all are made of.
-use Rattle.std.proofs.Common.{◌≡◌, ℕ, Bool, true, false, List, Option, refl}
+use Rattle.std.proofs.Common.{◌≡◌, ℕ, Bool, true, false, List, Option, refl, arith}
 use Rattle.std.specs.Prelude.{codes, not}
 use Rattle.typst_kinds.specs.Kinds.{same}
 use Rattle.typst_kinds.specs.declared.kind.SyntaxKind.{SyntaxKind}
@@ -49,12 +49,10 @@ Guarded notes seen (block b) = seen ≡ true
 Guarded notes seen _ = Unit {0}
 
 pub bracket-there : (k : SyntaxKind) → same kind.LeftBracket k ≡ true → not (is_end k) ≡ true
-bracket-there kind.End e = absurd (cc)
-bracket-there _ e = refl
+bracket-there k e = grind arith
 
 pub brace-there : (k : SyntaxKind) → same kind.LeftBrace k ≡ true → not (is_end k) ≡ true
-brace-there kind.End e = absurd (cc)
-brace-there _ e = refl
+brace-there k e = grind arith
 
 -- ---- both, and no node but tame ones
 
@@ -222,8 +220,7 @@ proper-identifier c = (refl, λ _. ((proper-making _ true (wanted (codes "identi
 
 -- where the second delimiter is missing the first is an error
 pub tame-closed : (k : SyntaxKind) → tame_kind k ≡ true → (closed : Bool) → tame (encloses k closed) ≡ true
-tame-closed k e true = e
-tame-closed k e false = e
+tame-closed k e closed = grind arith
 
 -- of each answer
 pub tame-both : (f : Bool → Shape) → tame (f true) ≡ true → tame (f false) ≡ true → (b : Bool) → tame (f b) ≡ true

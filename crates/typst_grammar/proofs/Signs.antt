@@ -1,5 +1,5 @@
 -- Which operator stands first among several nodes.
-use Rattle.std.proofs.Common.{◌≡◌, Bool, true, false, if◌then◌else◌, List, [], ◌∷◌, ◌++◌, Option, Some, None, refl, ap, ◌∙◌}
+use Rattle.std.proofs.Common.{◌≡◌, Bool, true, false, if◌then◌else◌, List, [], ◌∷◌, ◌++◌, Option, Some, None, refl, ap, ◌∙◌, arith}
 use Rattle.typst_kinds.proofs.Sameness.{same-is}
 use Rattle.typst_kinds.specs.Kinds.{same}
 use Rattle.typst_kinds.specs.Operators.{binary_of}
@@ -20,15 +20,13 @@ abbrev pub NoSign : Tree → Type 0
 NoSign t = sign_of t.head.kind ≡ None
 
 begins-none : (b : Bool) (o : Option BinOp) → (if b then Some binary.NotIn else o) ≡ None → (o ≡ None) × (b ≡ false)
-begins-none true o h = absurd (cc)
-begins-none false o h = (h, refl)
+begins-none b o h = grind arith
 
 is-none : (k : SyntaxKind) → sign_of k ≡ None → (binary_of k ≡ None) × (same kind.Not k ≡ false)
 is-none k h = begins-none (same kind.Not k) (binary_of k) h
 
 not-in : (k : SyntaxKind) → binary_of k ≡ None → same kind.In k ≡ false
-not-in kind.In h = absurd (cc)
-not-in _ h = refl
+not-in k h = grind arith
 
 module _ (us : List Tree) where
   -- what stands before the first operator says nothing
@@ -49,16 +47,9 @@ module _ (us : List Tree) where
 
 -- the token of an operator
 pub reads-sign : (op : BinOp) (i : SyntaxKind) → binary_of i ≡ Some op → (text : List _) (ls : List Tree) → All NoSign ls → (ds : List Tree) → first_sign false (ls ++ leaf_of i text ∷ ds) ≡ Some op
-reads-sign op i e text ls h ds =
-    first-front (leaf_of i text ∷ ds) ls h ∙ ap (λ (o : Option BinOp). elim o as (λ _. Option BinOp) [ None ↦ first_sign (same kind.Not i) ds | Some x ↦ Some x ]) e
+reads-sign op i e text ls h ds = grind (arith, first-front)
 
 -- `not`, and `in` after it
 pub reads-not : (i : SyntaxKind) → same kind.Not i ≡ true → (text : List _) (ls : List Tree) → All NoSign ls → (before : List Tree) → All NoSign before → (u : Tree) → same kind.In u.head.kind ≡ true → (us : List Tree)
     → first_sign false (ls ++ leaf_of i text ∷ (before ++ u ∷ us)) ≡ Some binary.NotIn
-reads-not i e text ls h before g u f us =
-    let rest = before ++ u ∷ us in
-    let none : binary_of i ≡ None = ap binary_of (same-is kind.Not i e) in
-    first-front (leaf_of i text ∷ rest) ls h
-    ∙ ap (λ (o : Option BinOp). elim o as (λ _. Option BinOp) [ None ↦ first_sign (same kind.Not i) rest | Some x ↦ Some x ]) none
-    ∙ ap (λ (b : Bool). first_sign b rest) e ∙ first-after (u ∷ us) before g
-    ∙ ap (λ (b : Bool). elim (if b then Some binary.NotIn else binary_of u.head.kind) as (λ _. Option BinOp) [ None ↦ first_sign true us | Some x ↦ Some x ]) f
+reads-not i e text ls h before g u f us = grind (arith, same-is, first-front, first-after)

@@ -1,5 +1,5 @@
 -- What takes an expression into its node, turn by turn.
-use Rattle.std.proofs.Common.{codes, append_assoc, ◌≡◌, ℕ, ◌+◌, ◌≤◌, ◌<◌, max, Bool, true, false, ◌||◌, not, if◌then◌else◌, List, [], ◌∷◌, ◌++◌, length, Option, Some, None, refl, ap, sym, ◌∙◌, ◌⊎◌, inl, inr, subst, arith, encode_utf8_all}
+use Rattle.std.proofs.Common.{codes, append_assoc, ◌≡◌, ℕ, ◌+◌, ◌≤◌, ◌<◌, Bool, true, false, ◌||◌, not, if◌then◌else◌, List, [], ◌∷◌, ◌++◌, Option, Some, None, refl, ap, sym, ◌∙◌, ◌⊎◌, inl, inr, subst, arith, encode_utf8_all}
 use Rattle.typst_kinds.specs.Kinds.{same, is_error}
 use Rattle.typst_kinds.specs.declared.kind.SyntaxKind.{SyntaxKind}
 use Rattle.typst_kinds.specs.declared.kind.SyntaxKind.TheVariants as kind
@@ -17,8 +17,8 @@ use Rattle.typst_code.specs.declared.heads.CodeTail.TheVariants as tail
 use Rattle.typst_language.specs.Depth.{deeper, is_end}
 use Rattle.typst_code.specs.Expressions.{code_tail_turn, call_tail, not_in, binary_expr, code_tail, operand_least, tail_by}
 use Rattle.typst_language.specs.Hand.{Hand, AtHand, as_at_hand, text_ahead}
-use Rattle.typst_language.specs.Point.{is_nil, Point, Trivia, pending, gap_of}
-use Rattle.typst_language.specs.Shape.{Shape, becomes, hinted}
+use Rattle.typst_language.specs.Point.{is_nil, Point, pending}
+use Rattle.typst_language.specs.Shape.{Shape, becomes}
 use Rattle.typst_language.specs.Steps.{peek, eat, expected}
 use Rattle.typst_language.specs.Syntax.{Parser}
 use Rattle.typst_language.specs.Syntax.Parser.{next}
@@ -34,7 +34,7 @@ use Rattle.typst_grammar.proofs.Fine.{All, all-map, or-left, or-right}
 use Rattle.typst_grammar.proofs.FineRuns.{Binds, binds-joined, Still, still-hand, after-shape-known}
 use Rattle.typst_grammar.proofs.Proper.{free, Proper, proper-eat}
 use Rattle.typst_grammar.proofs.Heads.{standing-none, silent-joined, silent-plain, Leafy, LastIs, last-map, is_plain, leafy-token, hand-kind}
-use Rattle.typst_grammar.proofs.BindingTurns.{Sane, all-sane, below, tail-comes}
+use Rattle.typst_grammar.proofs.BindingTurns.{Sane, all-sane, tail-comes}
 use Rattle.typst_grammar.proofs.Operands.{Exact, exact-plain, exact-gives, exact-joined, taken_sign, exact-eat, eat-empties, eat-error, last_hinted, leafy-last, last-kind, operation-exact}
 use Rattle.typst_grammar.proofs.Grown.{grown-other, errors-second, errors-after, kind_at, Grown, Ended, Stopped, WentOn, turned, grown-binary, stopped-silent}
 use Rattle.typst_grammar.proofs.PlainCode.{proper-tail}
@@ -47,11 +47,7 @@ use Rattle.typst_grammar.proofs.BindingLevels.{CallsBind, DeeperOperands, level-
 
 -- the token of an operator is no end, and becomes a leaf
 sign-leaf : (i : SyntaxKind) (op : BinOp) → sign_of i ≡ Some op → (is_end i || is_plain i) ≡ false
-sign-leaf kind.End op h = absurd (cc)
-sign-leaf kind.Error op h = absurd (cc)
-sign-leaf kind.Raw op h = absurd (cc)
-sign-leaf kind.MathFieldAccess op h = absurd (cc)
-sign-leaf _ op h = refl
+sign-leaf i op h = grind arith
 
 no-error : (t : Tree) → t.head.kind ≡ kind.Error → any_errors (forest (t ∷ [])) ≡ false → ⊥
 no-error t e n = let x = or-left (is_error t.head.kind) (any_errors t.kids || false) n in let y = ap is_error e in cc
@@ -64,8 +60,7 @@ last-front E P (t ∷ []) u us n h = last-front E P [] u us n h
 last-front E P (t ∷ v ∷ ts) u us n h = last-front E P (v ∷ ts) u us n h
 
 or-true : (a b : Bool) → a ≡ true → (a || b) ≡ true
-or-true true b h = refl
-or-true false b h = absurd (cc)
+or-true a b h = grind arith
 
 module _ (k : CharClasses) (levels : ℕ) (d : CallsBind k levels) (ops : DeeperOperands k levels) where
   abbrev l : Level
@@ -131,10 +126,7 @@ module _ (k : CharClasses) (levels : ℕ) (d : CallsBind k levels) (ops : Deeper
     whole-kind = ap (λ (t : Point). kind_at k 0 (moved whole.taken v) t) whole-state ∙ ap (λ (p : Place). kind_at k 0 p operand.state) (ap (λ (n : ℕ). moved n v) whole-taken ∙ moved-sum eaten.taken operand.taken v)
 
     pub whole-right : any_errors (forest operands) ≡ false → LastIs (has_errors sgn ≡ true) (Ended k (right_least op) (kind_at k 0 (moved whole.taken v) whole.state)) operands
-    whole-right n =
-        let o = ops (operand_least op) after eaten.state (level-binds k levels d eat (proper-eat _) v y still).known in
-        last-map (eaten.state.is_after_error ≡ true) (has_errors sgn ≡ true) (Ended k (right_least op) (kind_at k 0 (moved operand.taken after) operand.state)) (Ended k (right_least op) (kind_at k 0 (moved whole.taken v) whole.state))
-        wrong-sign (λ t h x. ((h x).0, ap (below (right_least op)) whole-kind ∙ (h x).1)) operands (o.last n)
+    whole-right n = grind (arith, ops (operand_least op) after eaten.state (level-binds k levels d eat (proper-eat _) v y still).known, last-map, wrong-sign, whole-kind)
 
   -- ---- each turn
 
@@ -169,9 +161,7 @@ module _ (k : CharClasses) (levels : ℕ) (d : CallsBind k levels) (ops : Deeper
           ⊎ (WentOn k least n z s p (turned k least n o p) × (p.taken + bound (moved (turned k least n o p).taken z) (turned k least n o p).state ≤ bound w o.state))
 
       bound-by : (p : Outcome (Option Shape × Unit {0})) (v : Option Shape) → bound (moved (grown n v (answered p.value.1 (joined o p))).taken z) (grown n v (answered p.value.1 (joined o p))).state ≡ bound (moved p.taken w) p.state
-      bound-by p None = ap (λ (x : Place). bound x p.state) (moved-sum o.taken p.taken z)
-      bound-by p (Some shape) =
-          ap (λ (x : Option Trivia). max (gap_of x) (length (moved (o.taken + p.taken) z).ahead)) (after-shape-known shape _ p.state) ∙ ap (λ (x : Place). bound x p.state) (moved-sum o.taken p.taken z)
+      bound-by p v = grind (arith, moved-sum, after-shape-known)
 
       went : (p : Outcome (Option Shape × Unit {0})) → Fits p → is_more p.value.0 ≡ true → 0 < p.taken → Grown k least n z s (turned k least n o p) → Turned p
       went p less says taken grew = let same = bound-by p p.value.0 in inr (record { says = says; taken = taken; grown = grew }, omega (arith, less, same))
@@ -286,16 +276,10 @@ module _ (k : CharClasses) (levels : ℕ) (d : CallsBind k levels) (ops : Deeper
         without_in = joined missing (plain nothing missing.state)
 
         leafy_not : Leafy h.kind (encode_utf8_all (text_ahead (hand_of l w t).len (moved (hand_of l w t).gap w))) not_sign
-        leafy_not =
-            subst (λ (v : SyntaxKind). Leafy v (encode_utf8_all (text_ahead (hand_of l w t).len (moved (hand_of l w t).gap w))) not_sign) (ap (λ (v : Hand). v.kind) again)
-            (leafy-token k (hand_of l w t).token (text_ahead (hand_of l w t).len (moved (hand_of l w t).gap w)) (hand_of l w t).kind (hand-kind k t.held t.known w (hand_of l w t).kind no_end_not refl) (or-right (is_end (hand_of l w t).kind) (is_plain (hand_of l w t).kind) leaf_not))
+        leafy_not = grind (arith, again, leafy-token, hand-kind, no_end_not, or-right, leaf_not)
 
         in-leaf : (i : SyntaxKind) → same kind.In i ≡ true → (is_end i || is_plain i) ≡ false
-        in-leaf kind.End x = absurd (cc)
-        in-leaf kind.Error x = absurd (cc)
-        in-leaf kind.Raw x = absurd (cc)
-        in-leaf kind.MathFieldAccess x = absurd (cc)
-        in-leaf _ x = refl
+        in-leaf i x = grind arith
 
         says-more : is_more (after_not with_in).value.0 ≡ true
         unfolding run binary_expr
@@ -336,10 +320,7 @@ module _ (k : CharClasses) (levels : ℕ) (d : CallsBind k levels) (ops : Deeper
             (last-front (has_errors not_sign ≡ true) (Ended k (right_least binary.NotIn) (kind_at k 0 (moved with_in.taken w2) with_in.state)) before in_sign right (all-sane (in_sign ∷ right) rest).0 (whole-right binary.NotIn w2 t2 still2 there (errors-second in_sign right rest)))))))
 
         left-over : (r : Outcome (Option Shape × Unit {0})) → any_errors (forest (after_not r).nodes) ≡ false → any_errors (forest r.nodes) ≡ false
-        left-over r n =
-            let q = joined pk2 r in
-            let a = subst (λ (ts : List Tree). any_errors (forest ts) ≡ false) (standing-none (joined e1 q)) n in
-            subst (λ (ts : List Tree). any_errors (forest ts) ≡ false) (standing-none r) (errors-after (hinted q.hints (less q.back e1.nodes)) q.nodes a)
+        left-over r n = grind (arith, standing-none, errors-after)
 
         missing-left : any_errors (forest (after_not without_in).nodes) ≡ false → any_errors (forest missing.nodes) ≡ false
         missing-left n = subst (λ (ts : List Tree). any_errors (forest ts) ≡ false) (sym (no-end missing.nodes)) (left-over without_in n)
@@ -347,26 +328,16 @@ module _ (k : CharClasses) (levels : ℕ) (d : CallsBind k levels) (ops : Deeper
         never : Missed l w2 t2 missing → any_errors (forest (after_not without_in).nodes) ≡ false → ⊥
         never (inl x) n = no-error x.node x.is_wrong (errors-after (hand_of l w2 t2).trivia (x.node ∷ []) (subst (λ (ts : List Tree). any_errors (forest ts) ≡ false) x.nodes (missing-left n)))
         never (inr (inl x)) n = no-error x.node x.is_wrong (subst (λ (ts : List Tree). any_errors (forest ts) ≡ false) x.exact.nodes (missing-left n))
-        never (inr (inr x)) n =
-            let y = exact-after without_in [] (exact-gives missing nothing [] x.exact) in
-            let wrong : is_error not_sign.head.kind ≡ true = sym (eat-error l w t) ∙ x.after in
-            no-error not_sign (error-kind not_sign.head.kind wrong) (errors-after h.trivia (not_sign ∷ []) (subst (λ (ts : List Tree). any_errors (forest ts) ≡ false) y.nodes n))
+        never (inr (inr x)) n = let y = exact-after without_in [] (exact-gives missing nothing [] x.exact) in grind (arith, eat-error, no-error, error-kind, errors-after)
 
         stopped-in : Binds (after_not without_in) → Turned (after_not without_in)
         stopped-in b =
             let p = after_not without_in in
             let all = binds-joined o p g.binds b in
-            inl (record {
-              says = refl;
-              operand = record {
-                binds = record { nodes = all.nodes; known = all.known };
-                last = λ sane. absurd (never (missed l (codes "keyword `in`") w2 t2) (errors-after (hinted p.hints (less p.back o.nodes)) p.nodes sane));
-              };
-            })
+            grind (arith, never, missed, errors-after)
 
         by-in : (b : Bool) → same kind.In h2.kind ≡ b → Fits (after_not (if b then with_in else without_in)) → Binds (after_not (if b then with_in else without_in)) → Turned (after_not (if b then with_in else without_in))
-        by-in true is less b = went-in is less b
-        by-in false is less b = stopped-in b
+        by-in b is less h = grind (arith, went-in, stopped-in)
 
         turn-not : Turned (p_of tail.NotIn)
         unfolding run not_in
@@ -375,12 +346,10 @@ module _ (k : CharClasses) (levels : ℕ) (d : CallsBind k levels) (ops : Deeper
       -- ---- calls and fields
 
       same-dot : (i : SyntaxKind) → same kind.Dot i ≡ true → is_end i ≡ false
-      same-dot kind.End x = absurd (cc)
-      same-dot _ x = refl
+      same-dot i x = grind arith
 
       opens-goes : (i : SyntaxKind) → opens_arguments i ≡ true → is_end i ≡ false
-      opens-goes kind.End x = absurd (cc)
-      opens-goes _ x = refl
+      opens-goes i x = grind arith
 
       turn-field : (has_trivia : Bool) → code_tail false least h.kind has_trivia ≡ tail.Field → Turned (p_of tail.Field)
       unfolding run field

@@ -1,5 +1,5 @@
 -- Turns that go on up to the end of a text read all of it.
-use Rattle.std.proofs.Common.{◌≡◌, ℕ, zero, suc, ◌+◌, ◌<◌, ◌≤◌, Bool, true, false, ◌&&◌, if◌then◌else◌, nat_lt, List, length, inl, inr, refl, ap, sym, ◌∙◌, arith}
+use Rattle.std.proofs.Common.{◌≡◌, ℕ, zero, suc, ◌<◌, ◌≤◌, Bool, true, false, ◌&&◌, if◌then◌else◌, nat_lt, List, length, refl, ap, sym, ◌∙◌, arith}
 use Rattle.std.proofs.lemmas.Bool.Decides.{nat_tests}
 use Rattle.typst_kinds.specs.declared.kind.SyntaxKind.{SyntaxKind}
 use Rattle.typst_kinds.specs.declared.mode.SyntaxMode.{SyntaxMode}
@@ -22,16 +22,13 @@ use Rattle.typst_language.proofs.Rests.{Rests}
 use Rattle.typst_grammar.specs.Grammar.{rules, level_at, max_depth, start_of}
 
 on_false : {A : Type 0} (P : A → Type 0) (b : Bool) (x y : A) → b ≡ false → P y → P (if b then x else y)
-on_false P true x y e p = absurd (cc)
-on_false P false x y e p = p
+on_false P b x y e p = grind arith
 
 on_true : {A : Type 0} (P : A → Type 0) (b : Bool) (x y : A) → b ≡ true → P x → P (if b then x else y)
-on_true P true x y e p = p
-on_true P false x y e p = absurd (cc)
+on_true P b x y e p = grind arith
 
 by_cases : {P : Type 0} (b : Bool) → (b ≡ true → P) → (b ≡ false → P) → P
-by_cases true f g = f refl
-by_cases false f g = g refl
+by_cases b f g = grind arith
 
 is-less : (n : ℕ) → 0 < n → nat_lt 0 n ≡ true
 is-less n h = grind (arith, nat_tests)
@@ -121,10 +118,7 @@ module _ (k : CharClasses) where
 
   pub next-ends : {A B : Type 0} (p : Parser B) (f : B → Parser A) → ((b : B) → Ends (f b)) → Ends (next p f)
   unfolding run
-  next-ends p f e z s =
-      let o = run top p z s in
-      let q = run top (f o.value) (moved o.taken z) o.state in
-      ap (λ w. is_end (kind_at w q.state)) (moved-sum o.taken q.taken z) ∙ e o.value (moved o.taken z) o.state
+  next-ends p f e z s = grind (arith, moved-sum)
 
   -- a level is left at the top
   pub deep-ends : {A : Type 0} (p q : Parser A) → Ends q → Ends (next (does is_deepest) (λ is_deep. pick is_deep p q))
@@ -135,10 +129,7 @@ module _ (k : CharClasses) where
 
   pub gives-ends : {A B : Type 0} (p : Parser B) (f : B → A) → Ends p → Ends (next p (λ b. gives (f b)))
   unfolding run
-  gives-ends p f e z s =
-      let o = run top p z s in
-      let same : o.taken + 0 ≡ o.taken = omega arith in
-      ap (λ n. is_end (kind_at (moved n z) o.state)) same ∙ e z s
+  gives-ends p f e z s = grind arith
 
   -- ---- the whole text
 
@@ -152,13 +143,7 @@ module _ (k : CharClasses) where
     held : s.held ≡ reading_of m
 
   settled-then : (m : SyntaxMode) (s t : Point) → Settled m s → Rests s.reading s.held t → Settled m t
-  settled-then m s t a b = record {
-    reading = b.reading ∙ a.reading;
-    held =
-        let e : t.held.mode ≡ m = (elim b.mode [ inl e ↦ e ∙ ap (λ (r : Reading). r.mode) a.held | inr e ↦ e ∙ ap (λ (r : Reading). r.mode) a.reading ]) in
-        let n : t.held.at_newline ≡ newline.Continue = (elim b.rule [ inl e ↦ e ∙ ap (λ (r : Reading). r.at_newline) a.held | inr e ↦ e ∙ ap (λ (r : Reading). r.at_newline) a.reading ]) in
-        λ i. record { mode = e i; at_newline = n i };
-  }
+  settled-then m s t a b = grind arith
 
   pub all-taken : {A : Type 0} (m : SyntaxMode) (p : Parser A) → Ends p → (text : List ℕ) → length text ≤ (run top (p >> flush_trivia) (start_of text) (start_point (reading_of m))).taken
   unfolding run flush_trivia

@@ -1,13 +1,12 @@
 -- The whole text is read.
 use Rattle.std.proofs.Common.{◌≡◌, ℕ, ◌<◌, ◌≤◌, Bool, true, List, length, encode_utf8_all, refl, ap, ◌∙◌, arith}
 use Rattle.typst_kinds.specs.declared.kind.SyntaxKind.{SyntaxKind}
-use Rattle.typst_kinds.specs.declared.kind.SyntaxKind.TheVariants as kind
 use Rattle.typst_lines.specs.Place.{moved}
 use Rattle.typst_tree.specs.Tree.{text_of}
 use Rattle.typst_lines.specs.Classes.{CharClasses}
 use Rattle.typst_language.specs.Calls.Call.{MarkupExpr}
 use Rattle.typst_language.specs.Knot.{meaning_of}
-use Rattle.typst_language.specs.Syntax.{Parser, ◌>>=◌, ◌>>◌}
+use Rattle.typst_language.specs.Syntax.{Parser, ◌>>◌, ◌>>=◌}
 use Rattle.typst_language.specs.Syntax.Parser.{gives, next, repeat}
 use Rattle.typst_language.specs.Steps.{peek, unexpected}
 use Rattle.typst_language.specs.Depth.{is_end, too_deep, deeper}
@@ -44,8 +43,7 @@ module _ (k : CharClasses) (levels : ℕ) where
 -- ---- the sequence of a text goes on to the end
 
 ends-is : (n : ℕ) (k : SyntaxKind) → ends is_end n k ≡ is_end k
-ends-is n kind.RightBracket = refl
-ends-is n _ = refl
+ends-is n k = grind arith
 
 module _ (k : CharClasses) where
   abbrev behind : ℕ → Parser (Bool × (Bool × ℕ))
@@ -59,9 +57,7 @@ module _ (k : CharClasses) where
 
   goes : (x : Bool × ℕ) → Goes k (rest x)
   unfolding run deeper meaning_of
-  goes x z s h =
-      let inside : 0 < (run (level_at k 255) (markup_expr x.0 x.1) (moved 0 z) s).taken = eats-expr k 255 x.0 x.1 z s h in
-      record { says = refl; taken = omega (arith, inside) }
+  goes x z s h = let inside : 0 < (run (level_at k 255) (markup_expr x.0 x.1) (moved 0 z) s).taken = eats-expr k 255 x.0 x.1 z s h in grind arith
 
   stops : (x : Bool × ℕ) → StopsAtEnd k (markup_turn true is_end x)
   unfolding markup_turn

@@ -43,9 +43,7 @@ module _ (k : CharClasses) where
 
   goes : Goes k rest
   unfolding run
-  goes z s h =
-      let some = moves-within (top k) (at_newline newline.ContextualContinue) (statement is_end) statement-moves z s (omega (arith, h)) in
-      record { says = refl; taken = omega (arith, some) }
+  goes z s h = grind (arith, moves-within, statement-moves)
 
   stops : (x : Unit {0}) → StopsAtEnd k (code_turn is_end x)
   unfolding code_turn

@@ -38,9 +38,7 @@ module _ (k : CharClasses) where
 
   goes : (count : ℕ) → Goes k (rest count)
   unfolding run
-  goes count z s h =
-      let inside = item-moves z s (omega (arith, h)) in
-      record { says = refl; taken = omega (arith, inside) }
+  goes count z s h = grind (arith, item-moves)
 
   stops : (count : ℕ) → StopsAtEnd k (math_turn is_end count)
   unfolding math_turn

@@ -1,19 +1,17 @@
 -- Tags don't depend on spans.
-use Rattle.std.proofs.Common.{◌≡◌, ℕ, ◌+◌, ◌++◌, length, Option, None, Some, refl, ap, ◌∙◌, cond}
+use Rattle.std.proofs.Common.{◌≡◌, ℕ, ◌+◌, ◌++◌, length, Option, Some, refl, ap, ◌∙◌, cond, arith}
 use Rattle.typst_kinds.specs.Head.{Head}
 use Rattle.typst_kinds.specs.declared.kind.SyntaxKind.{SyntaxKind}
-use Rattle.typst_kinds.specs.Kinds.{is_trivia, is_hash_expr}
+use Rattle.typst_kinds.specs.Kinds.{is_trivia}
 use Rattle.typst_tree.specs.Tree.{Forest, none, more, Tree, bare, bare_forest, joined, saturated, text_of}
 use Rattle.typst_tree.specs.Walks.{is_leaf}
 use Rattle.typst_highlight.specs.declared.tags.Tag.{Tag}
 use Rattle.typst_highlight.specs.declared.rules.Rule.{Rule}
-use Rattle.typst_highlight.specs.declared.rules.Rule.TheVariants as rule
 use Rattle.typst_highlight.specs.declared.context.Ahead.{Ahead}
 use Rattle.typst_highlight.specs.declared.context.Context.{Context}
 use Rattle.typst_highlight.specs.declared.context.Trail.{Trail}
-use Rattle.typst_highlight.specs.Names.{first_tag, name_alone}
-use Rattle.typst_highlight.specs.Rules.{rule_of, is_name, term_tag}
-use Rattle.typst_highlight.specs.Walk.{around, behind_dot, end, first_ahead, first_leaf, flat, found, if_found, lead, name, next_kind, next_leaf, passed, passed_row, past, step, tag, tag_here, tree_of, within}
+use Rattle.typst_highlight.specs.Rules.{rule_of}
+use Rattle.typst_highlight.specs.Walk.{end, first_ahead, first_leaf, found, name, next_kind, next_leaf, passed, passed_row, past, step, tag, tag_here, tree_of, within}
 
 pub bare_joined : (f : Forest) → joined (bare_forest f) ≡ joined f
 bare_joined none = refl
@@ -23,8 +21,7 @@ pub bare_text : (t : Tree) → text_of (bare t) ≡ text_of t
 bare_text t = ap (λ bs. t.head.text ++ bs) (bare_joined t.kids)
 
 leaf_of : (h : Head) (ks : Forest) → is_leaf (bare (tree_of h ks)) ≡ is_leaf (tree_of h ks)
-leaf_of h none = refl
-leaf_of h (more g is r) = refl
+leaf_of h ks = grind arith
 
 pub bare_leaf : (t : Tree) → is_leaf (bare t) ≡ is_leaf t
 bare_leaf t = leaf_of t.head t.kids
@@ -47,26 +44,19 @@ bare_end : (c : Context) (t : Tree) → end c (bare t) ≡ end c t
 bare_end c t = ap (λ bs. saturated (c.offset + length bs)) (bare_text t)
 
 bare_next : (c : Context) (t : Tree) (r : Forest) → next_leaf c (bare t) (bare_forest r) ≡ next_leaf c t r
-bare_next c t r =
-    ap (λ e. first_ahead (first_leaf c.parent e (bare_forest r)) c.ahead) (bare_end c t) ∙ ap (λ l. first_ahead l c.ahead) (bare_first c.parent (end c t) r)
+bare_next c t r = grind (arith, bare_end, bare_first)
 
 pub bare_within : (c : Context) (t : Tree) (r : Forest) → within c (bare t) (bare_forest r) ≡ within c t r
 bare_within c t r = ap (λ l. record (within c t r) { ahead = l }) (bare_next c t r)
 
 bare_name : (c : Context) (t : Tree) (r : Forest) → name c (bare t) (bare_forest r) ≡ name c t r
-bare_name c t r =
-    let ends = bare_end c t in
-    let next = bare_next c t r in
-    λ i. first_tag (name_alone (record { kind = t.head.kind; end = ends i; next = next i; around = around c; lead = lead c; before = c.trail.before })) (behind_dot c.trail)
+bare_name c t r = grind (arith, bare_end, bare_next)
 
 bare_step : (c : Context) (t : Tree) (r : Forest) → step c (bare t) (bare_forest r) ≡ step c t r
-bare_step c t r =
-    ap (λ n. let z : Trail = record { before = Some t.head.kind; name = cond (is_name t.head.kind) n None; earlier = c.trail.name } in z) (bare_name c t r)
+bare_step c t r = grind (arith, cond, bare_name)
 
 bare_past : (c : Context) (t : Tree) (x y : Trail) → x ≡ y → past c (bare t) x ≡ past c t y
-bare_past c t x y e =
-    let ends = bare_end c t in
-    λ i. record c { offset = ends i; trail = e i }
+bare_past c t x y e = grind (arith, bare_end)
 
 -- the last leaves behind trees
 bare_row : (c : Context) (f : Forest) → passed_row c (bare_forest f) ≡ passed_row c f
@@ -80,25 +70,13 @@ bare_row c (more h ks r) =
     ap (λ w. passed_row w (bare_forest r)) (bare_past c t (passed c (bare t) (bare_forest r)) (passed c t r) one) ∙ bare_row (past c t (passed c t r)) r
 
 pub bare_passed : (c : Context) (t : Tree) (r : Forest) → passed c (bare t) (bare_forest r) ≡ passed c t r
-bare_passed c t r =
-    let inner : passed_row (within c (bare t) (bare_forest r)) (bare_forest t.kids) ≡ passed_row (within c t r) t.kids = ap (λ w. passed_row w (bare_forest t.kids)) (bare_within c t r) ∙ bare_row (within c t r) t.kids in
-    let leaf = bare_leaf t in
-    let stepped = bare_step c t r in
-    λ i. cond (leaf i) (stepped i) (inner i)
+bare_passed c t r = grind (arith, bare_within, bare_row, bare_leaf, bare_step, cond)
 
 pub bare_later : (c : Context) (t : Tree) (r : Forest) → past c (bare t) (passed c (bare t) (bare_forest r)) ≡ past c t (passed c t r)
 bare_later c t r = bare_past c t (passed c (bare t) (bare_forest r)) (passed c t r) (bare_passed c t r)
 
 bare_here : (u : Rule) (c : Context) (t : Tree) (r : Forest) (x y : Option Tag) → x ≡ y → tag_here u c (bare t) (bare_forest r) x ≡ tag_here u c t r y
-bare_here (rule.Fixed z) c t r x y e = refl
-bare_here rule.Paren c t r x y e = refl
-bare_here rule.Star c t r x y e = refl
-bare_here rule.Underscore c t r x y e = refl
-bare_here rule.Slash c t r x y e = refl
-bare_here rule.Equals c t r x y e = refl
-bare_here rule.Term c t r x y e = ap (term_tag c.parent) (bare_kind r)
-bare_here rule.Name c t r x y e = bare_name c t r
-bare_here rule.Expression c t r x y e = e
+bare_here u c t r x y e = grind (arith, bare_kind, bare_name)
 
 bare_found : (c : Context) (f : Forest) → found c (bare_forest f) ≡ found c f
 bare_found c none = refl
@@ -113,15 +91,7 @@ bare_found c (more h ks r) =
     let leaf = bare_leaf t in
     let own : cond (is_leaf u) (Some (tag_here (rule_of h.kind) c u q (found (past c u (passed c u q)) q).expression)) (found (within c u q) (bare_forest ks)).leaf ≡ cond (is_leaf t) (Some (tag_here (rule_of h.kind) c t r (found (past c t (passed c t r)) r).expression)) (found (within c t r) ks).leaf =
     λ i. cond (leaf i) (Some (mine i)) (inner i).leaf in
-    λ i. record {
-      own = own i;
-      leaf = if_found (own i) (later i).leaf;
-      expression = cond (is_trivia h.kind) (later i).expression (cond (is_hash_expr h.kind) (flat (own i)) None);
-    }
+    grind arith
 
 pub bare_tag : (c : Context) (t : Tree) (r : Forest) → tag c (bare t) (bare_forest r) ≡ tag c t r
-bare_tag c t r =
-    let u : Tree = bare t in
-    let q : Forest = bare_forest r in
-    let later : found (past c u (passed c u q)) q ≡ found (past c t (passed c t r)) r = ap (λ w. found w q) (bare_later c t r) ∙ bare_found (past c t (passed c t r)) r in
-    bare_here (rule_of t.head.kind) c t r (found (past c u (passed c u q)) q).expression (found (past c t (passed c t r)) r).expression (ap (λ x. x.expression) later)
+bare_tag c t r = grind (arith, bare_later, bare_found, bare_here)

@@ -6,9 +6,9 @@ use Rattle.std.proofs.lemmas.Bool.{cases_eq}
 use Rattle.std.proofs.lemmas.Bool.Decides.{nat_tests}
 use Rattle.std.proofs.lemmas.Option.{same_Some, none-some}
 use Rattle.typst_tree.specs.Tree.{Forest, none, more, Tree, count, places, saturated}
-use Rattle.typst_tree.specs.Walks.{numbers, first_at, last_leaf, if_none, has_child, is_leaf, is_leaf_from}
-use Rattle.typst_tree.specs.Steps.{At, at, kind_of, node_of, start_of, parent, children, is_sibling_after, next_sibling, prev_leaf, leftmost_leaf}
-use Rattle.typst_highlight.specs.Rules.{is_name, is_field_access, is_dot}
+use Rattle.typst_tree.specs.Walks.{numbers, first_at, last_leaf, if_none, has_child, is_leaf}
+use Rattle.typst_tree.specs.Steps.{At, at, kind_of, parent, next_sibling, prev_leaf, leftmost_leaf}
+use Rattle.typst_highlight.specs.Rules.{is_name, is_dot}
 use Rattle.typst_highlight.specs.Nodes.{access, named, name_before, earlier_name, leaf_of, expression_leaf}
 use Rattle.typst_highlight.proofs.Cases.{and_first, bool_cases, cond_case, cond_some, then_some, map_some}
 
@@ -36,8 +36,7 @@ member_until k n (more g ks r) h =
     ]
 
 pub not_before : (k n : ℕ) (f : Forest) → k < n → member k (numbers n f) ≡ false
-not_before k n f h =
-    bool_cases (member k (numbers n f)) (λ e. absurd (omega (arith, h, member_from k n f e))) (λ e. e)
+not_before k n f h = grind (arith, bool_cases, member_from)
 
 pub first_within : (p : ℕ → ℕ → Tree → Bool) (n a m : ℕ) (xs : List Tree) → first_at p n a xs ≡ Some m → (n ≤ m) × (m < n + length xs)
 first_within p n a m [] e = absurd (none-some m e)
@@ -54,12 +53,7 @@ parent_within k n a m (x ∷ xs) e =
     (λ h f. parent_within k (n + 1) (a + length x.head.text) m xs f)
 
 below_case : (o : Option ℕ) (y x : Bool) (n b k : ℕ) → y ≡ (nat_lt n b && x) → if_none o (cond y (Some n) None) ≡ Some k → (o ≡ Some k → k < b) → k < b
-below_case None true x n b k y e f =
-    let same : n ≡ k = same_Some n k e in
-    let less : nat_lt n b ≡ true = and_first (nat_lt n b) x (sym y) in
-    grind (arith, nat_tests, same, less)
-below_case None false x n b k y e f = absurd (none-some k e)
-below_case (Some i) y x n b k z e f = f e
+below_case o y x n b k h e f = grind arith
 
 last_below : (b n k : ℕ) (xs : List Tree) → last_leaf b n xs ≡ Some k → k < b
 last_below b n k [] e = absurd (none-some k e)
@@ -67,10 +61,7 @@ last_below b n k (x ∷ xs) e =
     below_case (last_leaf b (n + 1) xs) (nat_lt n b && is_leaf x) (is_leaf x) n b k refl e (λ f. last_below b (n + 1) k xs f)
 
 pub prev_below : (a b : At) → prev_leaf a ≡ Some b → b.number < a.number
-prev_below a b e =
-    let w = map_some (last_leaf a.number 0 (places a.root)) (at a.root) b e in
-    let less : w.0 < a.number = last_below a.number 0 w.0 (places a.root) w.1.0 in
-    omega (arith, less, ap (λ x. x.number) w.1.1)
+prev_below a b e = grind (arith, map_some, last_below)
 
 pub parent_below : (a p : At) → parent a ≡ Some p → p.number < a.number
 parent_below a p e =
@@ -79,8 +70,7 @@ parent_below a p e =
     omega (arith, less, ap (λ x. x.number) w.1.1)
 
 access_case : (o : Option At) (p : At) → access o ≡ Some p → o ≡ Some p
-access_case None p e = absurd (none-some p e)
-access_case (Some q) p e = (cond_some (is_field_access (kind_of q)) (Some q) p e).1
+access_case o p e = grind arith
 
 pub access_below : (a p : At) → access (parent a) ≡ Some p → p.number < a.number
 access_below a p e = parent_below a p (access_case (parent a) p e)
@@ -104,18 +94,10 @@ find_sound q root (n ∷ ns) s e =
     (λ h f. find_sound q root ns s f)
 
 pub sibling_after : (a s : At) → next_sibling a ≡ Some s → (a.number < s.number) × (s.root ≡ a.root)
-sibling_after a s e =
-    let u = then_some (parent a) (λ p. find (is_sibling_after a) (children p)) s e in
-    let v = map_some (first_at (has_child a.number) 0 0 (places a.root)) (at a.root) u.0 u.1.0 in
-    let w = find_sound (is_sibling_after a) u.0.root (numbers (u.0.number + 1) (node_of u.0).kids) s u.1.1 in
-    let less : nat_lt a.number s.number ≡ true = and_first (nat_lt a.number s.number) _ w.0 in
-    (grind (arith, nat_tests, less), w.1 ∙ sym (ap (λ x. x.root) v.1.1))
+sibling_after a s e = grind (arith, then_some, map_some, find_sound, and_first, nat_tests)
 
 pub leaf_after : (s b : At) → leftmost_leaf s ≡ Some b → (s.number ≤ b.number) × (b.root ≡ s.root)
-leaf_after s b e =
-    let w = map_some (first_at (is_leaf_from 0) s.number (start_of s) (places (node_of s))) (at s.root) b e in
-    let least : s.number ≤ w.0 = (first_within (is_leaf_from 0) s.number (start_of s) w.0 (places (node_of s)) w.1.0).0 in
-    (omega (arith, least, ap (λ x. x.number) w.1.1), sym (ap (λ x. x.root) w.1.1))
+leaf_after s b e = grind (arith, map_some, first_within)
 
 -- the leaf whose tag a hash has is behind the hash
 pub expression_after : (a b : At) → expression_leaf a ≡ Some b → (a.number < b.number) × (b.root ≡ a.root)

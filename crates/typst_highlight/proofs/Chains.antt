@@ -14,12 +14,10 @@ use Rattle.typst_highlight.proofs.Bounds.{access_below, name_below, parent_below
 use Rattle.typst_highlight.proofs.Cases.{same_then}
 
 same_from : (a : At) (o : Option At) (f g : At → At) → ((p : At) → o ≡ Some p → f p ≡ g p) → from_or a f o ≡ from_or a g o
-same_from a None f g h = refl
-same_from a (Some p) f g h = h p refl
+same_from a o f g h = grind arith
 
 pub nothing_above : (a : At) (o : Option At) (f : At → At) → ((p : At) → o ≡ Some p → ⊥) → from_or a f o ≡ a
-nothing_above a None f h = refl
-nothing_above a (Some p) f h = absurd (h p refl)
+nothing_above a o f h = grind arith
 
 pub same_outer : (n m : ℕ) (a : At) → a.number ≤ n → a.number ≤ m → outermost n a ≡ outermost m a
 same_outer zero zero a h k = refl
@@ -43,32 +41,19 @@ name_once a = same_name (a.number + 1) (suc a.number) a (omega arith) (omega ari
 
 -- only a hash asks for the tag of an expression
 pub needs_none : (r : Rule) (a : At) (e : Option Tag) → (r ≡ rule.Expression → ⊥) → tag_by r a None ≡ tag_by r a e
-needs_none (rule.Fixed t) a e h = refl
-needs_none rule.Paren a e h = refl
-needs_none rule.Star a e h = refl
-needs_none rule.Underscore a e h = refl
-needs_none rule.Slash a e h = refl
-needs_none rule.Equals a e h = refl
-needs_none rule.Term a e h = refl
-needs_none rule.Name a e h = refl
-needs_none rule.Expression a e h = absurd (h refl)
+needs_none r a e h = grind arith
 
 pub outer_top : (a : At) → access (parent a) ≡ None → outermost a.number a ≡ a
-outer_top a e =
-    same_outer a.number (suc a.number) a (omega arith) (omega arith) ∙ ap (from_or a (outermost a.number)) e
+outer_top a e = grind arith
 
 pub outer_up : (a p : At) → parent a ≡ Some p → access (Some p) ≡ Some p → outermost a.number a ≡ outermost p.number p
-outer_up a p e f =
-    same_outer a.number (suc a.number) a (omega arith) (omega arith)
-    ∙ (ap (from_or a (outermost a.number)) (ap access e ∙ f) ∙ same_outer a.number p.number p (let less = parent_below a p e in omega (arith, less)) (omega arith))
+outer_up a p e f = grind (arith, same_outer, parent_below)
 
 pub name_some : (a : At) (s : Surroundings) (t : Tag) → Some t ≡ name_alone s → s ≡ surroundings a → Some t ≡ name_tag (a.number + 1) a
-name_some a s t e f =
-    sym (name_once a ∙ ap (λ x. first_tag x (option_and_then (name_tag a.number) (earlier_name a))) (ap name_alone (sym f) ∙ sym e))
+name_some a s t e f = grind (arith, name_once)
 
 pub name_none : (a : At) (s : Surroundings) → None ≡ name_alone s → s ≡ surroundings a → name_tag (a.number + 1) a ≡ option_and_then (name_tag a.number) (earlier_name a)
-name_none a s e f =
-    name_once a ∙ ap (λ x. first_tag x (option_and_then (name_tag a.number) (earlier_name a))) (ap name_alone (sym f) ∙ sym e)
+name_none a s e f = grind (arith, name_once)
 
 pub name_ends : (a : At) → None ≡ earlier_name a → None ≡ option_and_then (name_tag a.number) (earlier_name a)
 name_ends a e = ap (option_and_then (name_tag a.number)) e

@@ -1,21 +1,21 @@
 -- What a walk carries along is what the tree's list of nodes says.
-use Rattle.std.proofs.Common.{◌≡◌, ℕ, suc, zero, ◌+◌, ◌<◌, Bool, true, false, List, [], ◌∷◌, ◌++◌, length, Option, None, Some, refl, ap, sym, ◌∙◌, arith, cond, append-nil}
+use Rattle.std.proofs.Common.{◌≡◌, ℕ, suc, zero, ◌+◌, ◌<◌, Bool, true, false, List, [], ◌∷◌, ◌++◌, Option, None, Some, refl, ap, sym, ◌∙◌, arith, cond, append-nil}
 use Rattle.std.specs.Prelude.{option_and_then}
 use Rattle.std.specs.Option.{option_map}
 use Rattle.typst_kinds.specs.Head.{Head}
-use Rattle.typst_tree.specs.Tree.{Forest, none, more, Tree, count, places, preorder, text_of}
+use Rattle.typst_tree.specs.Tree.{Forest, none, more, Tree, count, places, preorder}
 use Rattle.typst_tree.specs.Walks.{is_leaf}
-use Rattle.typst_tree.specs.Steps.{At, at, node_of, kind_of, offset_of, end_of, parent, prev_leaf, next_leaf}
+use Rattle.typst_tree.specs.Steps.{At, at, node_of, kind_of, offset_of, parent, prev_leaf}
 use Rattle.typst_tree.proofs.LastLeaf.{last_none}
 use Rattle.typst_tree.proofs.WalksInPreorder.{length_places}
 use Rattle.typst_highlight.specs.declared.tags.Tag.{Tag}
 use Rattle.typst_highlight.specs.declared.context.Outer.{Outer}
 use Rattle.typst_highlight.specs.declared.context.Trail.{Trail}
 use Rattle.typst_highlight.specs.declared.context.Context.{Context}
-use Rattle.typst_highlight.specs.Rules.{is_name, is_dot, is_field_access}
-use Rattle.typst_highlight.specs.Names.{first_tag, name_alone}
-use Rattle.typst_highlight.specs.Nodes.{kind_if, kind_before, described, access, from_or, outermost, surroundings, named, name_before, earlier_name, name_tag}
-use Rattle.typst_highlight.specs.Walk.{tree_of, first_ahead, first_leaf, next_leaf as leaf_behind, around, lead, end, within, past, seen, name, step, dotted, behind_dot, passed_row, passed}
+use Rattle.typst_highlight.specs.Rules.{is_name, is_field_access}
+use Rattle.typst_highlight.specs.Names.{name_alone}
+use Rattle.typst_highlight.specs.Nodes.{kind_if, kind_before, access, outermost, surroundings, named, name_before, name_tag}
+use Rattle.typst_highlight.specs.Walk.{tree_of, first_ahead, first_leaf, next_leaf as leaf_behind, around, lead, end, within, past, seen, name, step, dotted, passed_row, passed}
 use Rattle.typst_highlight.proofs.Cases.{bool_cases}
 use Rattle.typst_highlight.proofs.Bounds.{parent_below, prev_below}
 use Rattle.typst_highlight.proofs.Chains.{same_outer, same_name, name_once}
@@ -51,22 +51,14 @@ pub record Outside (root : Tree) (k : ℕ) (c : Context) : Type 0 where
   pub lead : lead c ≡ kind_before (outermost k (at root k))
 
 no_access : (root : Tree) (k : ℕ) (o : Option At) → parent (at root k) ≡ o → access o ≡ None → outermost k (at root k) ≡ at root k
-no_access root zero o e f = refl
-no_access root (suc n) o e f = ap (from_or (at root (suc n)) (outermost n)) (ap access e ∙ f)
+no_access root k o e f = grind arith
 
 one_access : (root : Tree) (k m : ℕ) → parent (at root k) ≡ Some (at root m) → access (Some (at root m)) ≡ Some (at root m) → outermost k (at root k) ≡ outermost m (at root m)
 one_access root zero m e f = let less : m < zero = parent_below (at root zero) (at root m) e in absurd (omega (arith, less))
-one_access root (suc n) m e f =
-    let less : m < suc n = parent_below (at root (suc n)) (at root m) e in
-    ap (from_or (at root (suc n)) (outermost n)) (ap access e ∙ f) ∙ same_outer n m (at root m) (omega (arith, less)) (omega arith)
+one_access root (suc n) m e f = let less : m < suc n = parent_below (at root (suc n)) (at root m) e in grind (arith, same_outer)
 
 outside_of : (root : Tree) (k : ℕ) (c : Context) (up : Option ℕ) → parent (at root k) ≡ option_map (at root) up → c.parent ≡ kind_up root up → c.trail ≡ trail_at root k → c.outer ≡ outer_at root up → Outside root k c
-outside_of root k c None p kind trail outer =
-    let same = no_access root k None p refl in
-    record {
-      around = rw outer (kind ∙ sym (ap (λ a. kind_if (parent a)) same ∙ ap kind_if p));
-      lead = rw outer (ap (λ t. t.before) trail ∙ sym (ap kind_before same));
-    }
+outside_of root k c None p kind trail outer = grind (arith, no_access)
 outside_of root k c (Some m) p kind trail outer =
     bool_cases (is_field_access (kind_of (at root m)))
     (λ is_so.
@@ -90,13 +82,10 @@ outside root k h ks r front back up c s w =
 
 -- the trail doesn't change over a node that is no leaf
 trail_later : (root : Tree) (k : ℕ) → prev_leaf (at root (k + 1)) ≡ prev_leaf (at root k) → trail_at root (k + 1) ≡ trail_at root k
-trail_later root k e =
-    ap (λ (o : Option At). let t : Trail = record { before = kind_if o; name = option_and_then own_name o; earlier = option_and_then own_name (option_and_then prev_leaf o) } in t) e
+trail_later root k e = grind arith
 
 outer_within : (root : Tree) (k : ℕ) (h : Head) (c : Context) → kind_of (at root k) ≡ h.kind → Outside root k c → cond (is_field_access h.kind) (Some (record { around = around c; lead = lead c })) None ≡ outer_at root (Some k)
-outer_within root k h c kind o =
-    let same : record { around = around c; lead = lead c } ≡ outer_of root k = (λ i. record { around = o.around i; lead = o.lead i }) in
-    ap (λ x. cond (is_field_access h.kind) (Some x) None) same ∙ ap (λ q. cond (is_field_access q) (Some (outer_of root k)) None) (sym kind)
+outer_within root k h c kind o = grind arith
 
 -- the children of the first of the trees
 pub fits_below : (root : Tree) (k : ℕ) (h : Head) (ks r : Forest) (front back : List Tree) (up : Option ℕ) (c : Context) → Stand root k (more h ks r) front back up → Fits root k (more h ks r) up c → is_leaf (tree_of h ks) ≡ false → Fits root (k + 1) ks (Some k) (within c (tree_of h ks) r)
@@ -125,18 +114,14 @@ fits_behind root k h ks r front back up c trail s w e =
     }
 
 own_same : (k : ℕ) (b : At) → b.number < k → own_name b ≡ option_and_then (name_tag k) (named b)
-own_same k b h =
-    let same : name_tag (b.number + 1) b ≡ name_tag k b = same_name (b.number + 1) k b (omega arith) h in
-    elim (is_name (kind_of b)) as (λ x. cond x (name_tag (b.number + 1) b) None ≡ option_and_then (name_tag k) (cond x (Some b) None)) [ true ↦ same | false ↦ refl ]
+own_same k b h = grind (arith, same_name, cond)
 
 then_same : (k : ℕ) (d : At) (o : Option At) → prev_leaf d ≡ o → d.number < k → option_and_then own_name o ≡ option_and_then (name_tag k) (option_and_then named o)
 then_same k d None e h = refl
 then_same k d (Some b) e h = own_same k b (let less = prev_below d b e in omega (arith, less, h))
 
 dot_same : (k : ℕ) (d : At) → d.number < k → dotted (Some (kind_of d)) (option_and_then own_name (prev_leaf d)) ≡ option_and_then (name_tag k) (name_before d)
-dot_same k d h =
-    let same = then_same k d (prev_leaf d) refl h in
-    elim (is_dot (kind_of d)) as (λ x. cond x (option_and_then own_name (prev_leaf d)) None ≡ option_and_then (name_tag k) (cond x (option_and_then named (prev_leaf d)) None)) [ true ↦ same | false ↦ refl ]
+dot_same k d h = grind (arith, then_same, cond)
 
 earlier_same : (root : Tree) (k : ℕ) (o : Option At) → prev_leaf (at root k) ≡ o → dotted (kind_if o) (option_and_then own_name (option_and_then prev_leaf o)) ≡ option_and_then (name_tag k) (option_and_then name_before o)
 earlier_same root k None e = refl
@@ -148,28 +133,14 @@ seen_law root k h ks r front back up c s w =
     let t : Tree = tree_of h ks in
     let node : node_of (at root k) ≡ t = here root k t front _ s.whole s.number in
     let o = outside root k h ks r front back up c s w in
-    let ends : end c t ≡ end_of (at root k) = omega (arith, w.offset, ap (λ u. length (text_of u)) node) in
-    let next : leaf_behind c t r ≡ option_map described (next_leaf (at root k)) = next_fits root k h ks r front back up c s w ∙ sym (next_law root k h ks r front back up s) in
-    let before : c.trail.before ≡ kind_before (at root k) = ap (λ x. x.before) w.trail in
-    λ i. record {
-      kind = sym (ap (λ u. u.head.kind) node) i;
-      end = ends i;
-      next = next i;
-      around = o.around i;
-      lead = o.lead i;
-      before = before i;
-    }
+    grind (arith, next_fits, next_law)
 
 -- the tag of the first of the trees, if it is a name
 pub name_law : (root : Tree) (k : ℕ) (h : Head) (ks r : Forest) (front back : List Tree) (up : Option ℕ) (c : Context) → Stand root k (more h ks r) front back up → Fits root k (more h ks r) up c → name c (tree_of h ks) r ≡ name_tag (k + 1) (at root k)
-name_law root k h ks r front back up c s w =
-    let mine = ap name_alone (seen_law root k h ks r front back up c s w) in
-    let earlier : behind_dot c.trail ≡ option_and_then (name_tag k) (earlier_name (at root k)) = ap behind_dot w.trail ∙ earlier_same root k (prev_leaf (at root k)) refl in
-    ap (λ x. first_tag x (behind_dot c.trail)) mine ∙ (ap (first_tag (name_alone (surroundings (at root k)))) earlier ∙ sym (name_once (at root k)))
+name_law root k h ks r front back up c s w = let mine = ap name_alone (seen_law root k h ks r front back up c s w) in grind (arith, earlier_same, name_once)
 
 step_name : (root : Tree) (k : ℕ) (h : Head) (n : Option Tag) → kind_of (at root k) ≡ h.kind → n ≡ name_tag (k + 1) (at root k) → cond (is_name h.kind) n None ≡ own_name (at root k)
-step_name root k h n kind e =
-    ap (λ q. cond (is_name q) n None) (sym kind) ∙ ap (λ x. cond (is_name (kind_of (at root k))) x None) e
+step_name root k h n kind e = grind arith
 
 -- the last leaves behind a leaf
 step_law : (root : Tree) (k : ℕ) (h : Head) (ks r : Forest) (front back : List Tree) (up : Option ℕ) (c : Context) → Stand root k (more h ks r) front back up → Fits root k (more h ks r) up c → is_leaf (tree_of h ks) ≡ true → step c (tree_of h ks) r ≡ trail_at root (k + 1)
@@ -177,14 +148,10 @@ step_law root k h ks r front back up c s w is_so =
     let t : Tree = tree_of h ks in
     let prev : prev_leaf (at root (k + 1)) ≡ Some (at root k) = prev_here root k t front _ s.whole s.number is_so in
     let kind : kind_of (at root k) ≡ h.kind = ap (λ u. u.head.kind) (here root k t front _ s.whole s.number) in
-    let own : cond (is_name h.kind) (name c t r) None ≡ own_name (at root k) = step_name root k h (name c t r) kind (name_law root k h ks r front back up c s w) in
-    let last : c.trail.name ≡ option_and_then own_name (prev_leaf (at root k)) = ap (λ x. x.name) w.trail in
-    let now : step c t r ≡ (let q : Trail = record { before = kind_if (Some (at root k)); name = option_and_then own_name (Some (at root k)); earlier = option_and_then own_name (option_and_then prev_leaf (Some (at root k))) } in q) = (λ i. record { before = Some (sym kind i); name = own i; earlier = last i }) in
-    now ∙ sym (ap (λ (o : Option At). let q : Trail = record { before = kind_if o; name = option_and_then own_name o; earlier = option_and_then own_name (option_and_then prev_leaf o) } in q) prev)
+    grind (arith, cond, step_name, name_law)
 
 childless : (h : Head) (ks : Forest) → is_leaf (tree_of h ks) ≡ true → count ks ≡ 0
-childless h none e = refl
-childless h (more g is r) e = absurd (cc)
+childless h ks e = grind arith
 
 passed_one : (root : Tree) (k : ℕ) (h : Head) (ks r : Forest) (front back : List Tree) (up : Option ℕ) (c : Context) → Stand root k (more h ks r) front back up → Fits root k (more h ks r) up c → (is_leaf (tree_of h ks) ≡ false → passed_row (within c (tree_of h ks) r) ks ≡ trail_at root (k + 1 + count ks)) → passed c (tree_of h ks) r ≡ trail_at root (k + (1 + count ks))
 passed_one root k h ks r front back up c s w inner =

@@ -1,5 +1,5 @@
 -- Texts in which characters that have no entity stand between those that have one.
-use Rattle.std.proofs.Common.{◌≡◌, ℕ, ◌+◌, ◌-◌, ◌<◌, ◌≤◌, List, [], ◌∷◌, ◌++◌, length, take, drop, get_or, refl, ap, sym, ◌∙◌, arith, append_assoc, append-nil, length-drop}
+use Rattle.std.proofs.Common.{◌≡◌, ℕ, ◌+◌, ◌-◌, ◌<◌, ◌≤◌, List, [], ◌∷◌, ◌++◌, length, drop, get_or, refl, ap, sym, ◌∙◌, arith, append_assoc, append-nil, length-drop}
 use Rattle.std.specs.List.{slice_range}
 use Rattle.std.proofs.lemmas.List.{take_more, drop_more, get_or-drop}
 use Rattle.std.proofs.Math.ListN.{drop_of_length-le}
@@ -14,29 +14,17 @@ slice_more : (xs : List ℕ) (a b : ℕ) → a ≤ b → b < length xs → slice
 slice_more xs a b h l =
     let count : b + 1 - a ≡ (b - a) + 1 = omega arith in
     let there : a + (b - a) ≡ b = omega arith in
-    ap (λ n. take n (drop a xs)) count
-    ∙ take_more (drop a xs) (b - a) 0 (omega (arith, length-drop a xs))
-    ∙ ap (λ y. slice_range xs a b ++ y ∷ []) (get_or-drop a xs (b - a) 0 ∙ ap (λ n. get_or xs n 0) there)
+    grind (arith, take_more, length-drop, get_or-drop)
 
 -- one byte more that has no entity
 pub plain_more : (xs : List ℕ) (a b m x : ℕ) → a ≤ b → b < length xs → x ≡ get_or xs b 0 → m ≡ b + 1 → escaped_byte x ≡ x ∷ [] → escaped (slice_range xs a b) ≡ slice_range xs a b → escaped (slice_range xs a m) ≡ slice_range xs a m
-plain_more xs a b m x h l e k p i =
-    let more : slice_range xs a m ≡ slice_range xs a b ++ x ∷ [] = ap (slice_range xs a) k ∙ slice_more xs a b h l ∙ ap (λ y. slice_range xs a b ++ y ∷ []) (sym e) in
-    ap escaped more ∙ escaped_append (slice_range xs a b) (x ∷ [])
-    ∙ (ap (λ ys. ys ++ escaped (x ∷ [])) i ∙ ap (λ ys. slice_range xs a b ++ ys) (append-nil (escaped_byte x) ∙ p))
-    ∙ sym more
+plain_more xs a b m x h l e k p i = grind (arith, slice_more, escaped_append, append-nil)
 
 -- what has no entity goes out as it is, and then the entity of the byte behind it
 pub entity_more : (xs html all mid next : List ℕ) (a b m x : ℕ) → a ≤ b → b < length xs → x ≡ get_or xs b 0 → m ≡ b + 1 → mid ≡ html ++ slice_range xs a b → next ≡ mid ++ escaped_byte x → escaped (slice_range xs a b) ≡ slice_range xs a b → html ++ escaped (drop a xs) ≡ all → next ++ escaped (drop m xs) ≡ all
 entity_more xs html all mid next a b m x h l e k p q i w =
     let parts : drop a xs ≡ slice_range xs a b ++ drop b xs = drop_split xs a b h in
-    let first : drop b xs ≡ x ∷ drop m xs = drop_more xs b 0 l ∙ ap (λ y. y ∷ drop (b + 1) xs) (sym e) ∙ ap (λ n. x ∷ drop n xs) (sym k) in
-    let behind : escaped (drop a xs) ≡ slice_range xs a b ++ (escaped_byte x ++ escaped (drop m xs)) =
-    ap escaped parts ∙ escaped_append (slice_range xs a b) (drop b xs) ∙ ap (λ ys. ys ++ escaped (drop b xs)) i ∙ ap (λ ys. slice_range xs a b ++ escaped ys) first in
-    ap (λ ys. ys ++ escaped (drop m xs)) q ∙ append_assoc mid (escaped_byte x) (escaped (drop m xs))
-    ∙ ap (λ ys. ys ++ (escaped_byte x ++ escaped (drop m xs))) p ∙ append_assoc html (slice_range xs a b) (escaped_byte x ++ escaped (drop m xs))
-    ∙ ap (λ ys. html ++ ys) (sym behind)
-    ∙ w
+    grind (arith, drop_more, escaped_append, append_assoc)
 
 -- the rest has no entity
 pub plain_rest : (xs html all next : List ℕ) (a b : ℕ) → a ≤ b → length xs ≤ b → next ≡ html ++ drop a xs → escaped (slice_range xs a b) ≡ slice_range xs a b → html ++ escaped (drop a xs) ≡ all → next ≡ all
@@ -46,6 +34,4 @@ plain_rest xs html all next a b h l p i w =
 
 -- nothing is left of a stretch that ends where it begins
 pub plain_none : (xs : List ℕ) (a b : ℕ) → a ≡ b → escaped (slice_range xs a b) ≡ slice_range xs a b
-plain_none xs a b e =
-    let none : b - a ≡ 0 = omega (arith, e) in
-    rw none refl
+plain_none xs a b e = grind arith

@@ -1,8 +1,8 @@
 -- The first leaf of trees that stand side by side, where the first of them tells it.
-use Rattle.std.proofs.Common.{◌≡◌, ℕ, ◌+◌, List, ◌∷◌, Option, Some, true, false, length, refl, ap, ◌∙◌}
+use Rattle.std.proofs.Common.{◌≡◌, ℕ, ◌+◌, List, ◌∷◌, Option, Some, true, false, length, refl, arith}
 use Rattle.typst_kinds.specs.Head.{Head}
 use Rattle.typst_kinds.specs.declared.kind.SyntaxKind.{SyntaxKind}
-use Rattle.typst_tree.specs.Tree.{Forest, none, more, Tree, forest, saturated, text_of}
+use Rattle.typst_tree.specs.Tree.{Forest, more, Tree, forest, saturated, text_of}
 use Rattle.typst_tree.specs.Walks.{is_childless, is_leaf}
 use Rattle.typst_highlight.specs.Walk.{first_leaf, tree_of}
 
@@ -12,11 +12,8 @@ leaf_here p a t r e = rw e refl
 
 -- it is behind the first tree
 pub leaf_past : (p : Option SyntaxKind) (a : ℕ) (h : Head) (ks r : Forest) → is_leaf (tree_of h ks) ≡ false → is_childless ks ≡ true → first_leaf p a (more h ks r) ≡ first_leaf p (saturated (a + length (text_of (tree_of h ks)))) r
-leaf_past p a h none r e f = rw e refl
-leaf_past p a h (more g is s) r e f = absurd (cc)
+leaf_past p a h ks r e f = grind arith
 
 -- it is the first child of the first tree
 pub leaf_inside : (p : Option SyntaxKind) (a : ℕ) (t kid : Tree) (ks : List Tree) (r : Forest) → t.kids ≡ forest (kid ∷ ks) → is_leaf kid ≡ true → first_leaf p a (more t.head t.kids r) ≡ Some (record { kind = kid.head.kind; parent = Some t.head.kind; offset = saturated (a + length t.head.text) })
-leaf_inside p a t kid ks r e f =
-    let inner : first_leaf p a (more t.head (forest (kid ∷ ks)) r) ≡ Some (record { kind = kid.head.kind; parent = Some t.head.kind; offset = saturated (a + length t.head.text) }) = rw f refl in
-    ap (λ k. first_leaf p a (more t.head k r)) e ∙ inner
+leaf_inside p a t kid ks r e f = grind arith

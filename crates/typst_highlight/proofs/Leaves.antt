@@ -72,8 +72,7 @@ abbrev pub kind_up : Tree → Option ℕ → Option SyntaxKind
 kind_up root up = kind_if (option_map (at root) up)
 
 pub ahead_assoc : (x y z : Option Ahead) → first_ahead (first_ahead x y) z ≡ first_ahead x (first_ahead y z)
-ahead_assoc None y z = refl
-ahead_assoc (Some x) y z = refl
+ahead_assoc x y z = grind arith
 
 -- the offset of the number k
 pub offset_here : (root : Tree) (k : ℕ) (front rest : List Tree) → places root ≡ front ++ rest → k ≡ length front → offset_of (at root k) ≡ saturated (length (texts front))
@@ -131,9 +130,7 @@ last_front root k front rest e n =
     ap (last_leaf k 0) e ∙ (last_append k 0 front rest ∙ rw (last_none k (0 + length front) rest (omega (arith, n))) refl)
 
 last_next : (k n : ℕ) (t : Tree) (rest : List Tree) → n ≡ k → last_leaf (k + 1) n (t ∷ rest) ≡ cond (is_leaf t) (Some n) None
-last_next k n t rest e =
-    let less : nat_lt n (k + 1) ≡ true = grind (arith, nat_tests, e) in
-    rw (last_none (k + 1) (n + 1) rest (omega (arith, e)), less) refl
+last_next k n t rest e = grind (arith, nat_tests, last_none)
 
 last_behind : (root : Tree) (k : ℕ) (t : Tree) (front rest : List Tree) → places root ≡ front ++ (t ∷ rest) → k ≡ length front → last_leaf (k + 1) 0 (places root) ≡ if_none (cond (is_leaf t) (Some k) None) (last_leaf k 0 (places root))
 last_behind root k t front rest e n =

@@ -1,11 +1,9 @@
 -- What a level of the walk has is what is round its nodes, also where what is ahead was looked for or wasn't.
-use Rattle.std.proofs.Common.{◌≡◌, ℕ, ◌+◌, ap, sym, ◌∙◌, refl, Bool, true, false, ◌||◌, Option, None, Some, Result, length, cond}
+use Rattle.std.proofs.Common.{◌≡◌, ℕ, ◌+◌, ap, sym, ◌∙◌, refl, Bool, true, false, ◌||◌, Option, None, Some, Result, length, cond, arith}
 use Rattle.std.specs.Option.{is_some}
 use Rattle.std.specs.Result.{IfOk}
-use Rattle.std.proofs.lemmas.Option.{same_Some}
 use Rattle.std.proofs.lemmas.Result.{IfOk-weaker}
 use Rattle.typst_kinds.specs.declared.kind.SyntaxKind.{SyntaxKind}
-use Rattle.typst_kinds.specs.declared.kind.SyntaxKind.TheVariants as kind
 use Rattle.typst_kinds.specs.Kinds.{is_trivia, is_hash_expr}
 use Rattle.typst_tree.specs.Tree.{Forest, none, more, Tree, saturated, text_of}
 use Rattle.typst_tree.specs.Walks.{is_leaf}
@@ -14,24 +12,20 @@ use Rattle.typst_highlight.specs.declared.rules.Rule.{Rule}
 use Rattle.typst_highlight.specs.declared.rules.Rule.TheVariants as rule
 use Rattle.typst_highlight.specs.declared.context.Ahead.{Ahead}
 use Rattle.typst_highlight.specs.declared.context.Context.{Context}
-use Rattle.typst_highlight.specs.declared.context.Trail.{Trail}
-use Rattle.typst_highlight.specs.Rules.{rule_of, is_name}
-use Rattle.typst_highlight.specs.Names.{first_tag, name_alone}
-use Rattle.typst_highlight.specs.Walk.{Found, around, behind_dot, end, first_ahead, first_leaf, flat, found, holds_leaf, is_followed, lead, name, next_kind, next_leaf, passed, passed_row, past, step, tag, tag_here, tag_under, tree_of, within}
+use Rattle.typst_highlight.specs.Rules.{rule_of}
+use Rattle.typst_highlight.specs.Walk.{Found, end, first_ahead, first_leaf, flat, found, holds_leaf, is_followed, name, next_kind, next_leaf, passed, past, step, tag, tag_here, tag_under, tree_of, within}
 use Rattle.typst_highlight.proofs.Cases.{bool_cases}
 
 -- a name whose next leaf is known needs nothing of what follows it
 pub name_facing : (c : Context) (t : Tree) (r : Forest) (x : Option Ahead) → x ≡ next_leaf c t r → name (record c { ahead = x }) t none ≡ name c t r
-name_facing c t r x e =
-    ap (λ n. first_tag (name_alone (record { kind = t.head.kind; end = end c t; next = n; around = around c; lead = lead c; before = c.trail.before })) (behind_dot c.trail)) e
+name_facing c t r x e = grind arith
 
 -- with another leaf ahead
 abbrev pub facing : Option Ahead → Context → Context
 facing x c = record c { ahead = x }
 
 either_some : (x y : Option Ahead) → is_some (first_ahead x y) ≡ (is_some x || is_some y)
-either_some None y = refl
-either_some (Some a) y = refl
+either_some x y = grind arith
 
 -- whether there is a first leaf
 pub leaf_held : (p : Option SyntaxKind) (a : ℕ) (f : Forest) → is_some (first_leaf p a f) ≡ holds_leaf f
@@ -46,8 +40,7 @@ leaf_held p a (more h ks r) =
 
 -- then it doesn't matter what is behind them all
 some_first : (l x y : Option Ahead) → is_some l ≡ true → first_ahead l x ≡ first_ahead l y
-some_first None x y e = absurd (cc)
-some_first (Some a) x y e = refl
+some_first l x y e = grind arith
 
 next_held : (c : Context) (t : Tree) (r : Forest) (x y : Option Ahead) → holds_leaf r ≡ true → next_leaf (facing x c) t r ≡ next_leaf (facing y c) t r
 next_held c t r x y e = some_first (first_leaf c.parent (end c t) r) x y (leaf_held c.parent (end c t) r ∙ e)
@@ -56,22 +49,16 @@ within_held : (c : Context) (t : Tree) (r : Forest) (x y : Option Ahead) → hol
 within_held c t r x y e = ap (λ n. record (within c t r) { ahead = n }) (next_held c t r x y e)
 
 name_held : (c : Context) (t : Tree) (r : Forest) (x y : Option Ahead) → holds_leaf r ≡ true → name (facing x c) t r ≡ name (facing y c) t r
-name_held c t r x y e =
-    ap (λ n. first_tag (name_alone (record { kind = t.head.kind; end = end c t; next = n; around = around c; lead = lead c; before = c.trail.before })) (behind_dot c.trail)) (next_held c t r x y e)
+name_held c t r x y e = grind (arith, next_held)
 
 step_held : (c : Context) (t : Tree) (r : Forest) (x y : Option Ahead) → holds_leaf r ≡ true → step (facing x c) t r ≡ step (facing y c) t r
-step_held c t r x y e =
-    ap (λ n. let q : Trail = record { before = Some t.head.kind; name = cond (is_name t.head.kind) n None; earlier = c.trail.name } in q) (name_held c t r x y e)
+step_held c t r x y e = grind (arith, cond, name_held)
 
 passed_held : (c : Context) (t : Tree) (r : Forest) (x y : Option Ahead) → holds_leaf r ≡ true → passed (facing x c) t r ≡ passed (facing y c) t r
-passed_held c t r x y e =
-    let pick : Trail → Trail → Trail = λ a b. cond (is_leaf t) a b in
-    let inner : passed_row (within (facing x c) t r) t.kids ≡ passed_row (within (facing y c) t r) t.kids = ap (λ w. passed_row w t.kids) (within_held c t r x y e) in
-    λ i. pick (step_held c t r x y e i) (inner i)
+passed_held c t r x y e = grind (arith, cond, within_held, step_held)
 
 or_true : (a b : Bool) → b ≡ true → (a || b) ≡ true
-or_true true b e = refl
-or_true false b e = e
+or_true a b e = grind arith
 
 followed_holds : (f : Forest) → is_followed f ≡ true → holds_leaf f ≡ true
 followed_holds none e = absurd (cc)
@@ -86,30 +73,13 @@ by_hash rule.Expression = true
 by_hash _ = false
 
 no_hash : (k : SyntaxKind) → is_hash_expr k ≡ true → by_hash (rule_of k) ≡ false
-no_hash kind.Hash e = absurd (cc)
-no_hash _ e = refl
+no_hash k e = grind arith
 
 tag_held : (u : Rule) (c : Context) (t : Tree) (r : Forest) (x y : Option Ahead) (d e : Option Tag) → name (facing x c) t r ≡ name (facing y c) t r → d ≡ e → tag_here u (facing x c) t r d ≡ tag_here u (facing y c) t r e
-tag_held (rule.Fixed z) c t r x y d e n f = refl
-tag_held rule.Paren c t r x y d e n f = refl
-tag_held rule.Star c t r x y d e n f = refl
-tag_held rule.Underscore c t r x y d e n f = refl
-tag_held rule.Slash c t r x y d e n f = refl
-tag_held rule.Equals c t r x y d e n f = refl
-tag_held rule.Term c t r x y d e n f = refl
-tag_held rule.Name c t r x y d e n f = n
-tag_held rule.Expression c t r x y d e n f = f
+tag_held u c t r x y d e n f = grind arith
 
 tag_hashless : (u : Rule) (c : Context) (t : Tree) (r : Forest) (x y : Option Ahead) (d e : Option Tag) → by_hash u ≡ false → name (facing x c) t r ≡ name (facing y c) t r → tag_here u (facing x c) t r d ≡ tag_here u (facing y c) t r e
-tag_hashless (rule.Fixed z) c t r x y d e b n = refl
-tag_hashless rule.Paren c t r x y d e b n = refl
-tag_hashless rule.Star c t r x y d e b n = refl
-tag_hashless rule.Underscore c t r x y d e b n = refl
-tag_hashless rule.Slash c t r x y d e b n = refl
-tag_hashless rule.Equals c t r x y d e b n = refl
-tag_hashless rule.Term c t r x y d e b n = refl
-tag_hashless rule.Name c t r x y d e b n = n
-tag_hashless rule.Expression c t r x y d e b n = absurd (cc)
+tag_hashless u c t r x y d e b n = grind arith
 
 -- the tag of the expression that the trees begin with
 expression_held : (c : Context) (f : Forest) (x y : Option Ahead) → is_followed f ≡ true → (found (facing x c) f).expression ≡ (found (facing y c) f).expression
@@ -153,12 +123,4 @@ tag_from u c d t r e h = IfOk-weaker u (λ x. x ≡ tag d t r) (λ x. x ≡ tag 
 
 -- a tag that the kinds of the node, its parent and the next one tell
 pub under_tag : (u : Rule) (c : Context) (t : Tree) (r : Forest) (e x : Option Tag) → Some x ≡ tag_under u c.parent (next_kind r) → x ≡ tag_here u c t r e
-under_tag (rule.Fixed z) c t r e x h = same_Some x z h
-under_tag rule.Paren c t r e x h = same_Some x _ h
-under_tag rule.Star c t r e x h = same_Some x _ h
-under_tag rule.Underscore c t r e x h = same_Some x _ h
-under_tag rule.Slash c t r e x h = same_Some x _ h
-under_tag rule.Equals c t r e x h = same_Some x _ h
-under_tag rule.Term c t r e x h = same_Some x _ h
-under_tag rule.Name c t r e x h = absurd (cc)
-under_tag rule.Expression c t r e x h = absurd (cc)
+under_tag u c t r e x h = grind arith

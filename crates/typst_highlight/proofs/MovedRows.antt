@@ -1,24 +1,20 @@
 -- Trees at another place, where what is round them is the same: they have the same tags.
-use Rattle.std.proofs.Common.{◌≡◌, ℕ, ◌+◌, ◌-◌, ◌^◌, ◌≤◌, ◌==◌, Bool, true, false, ◌&&◌, ◌||◌, ◌++◌, length, Option, None, Some, refl, ap, sym, ◌∙◌, inl, inr, arith, cond, length-append}
-use Rattle.std.proofs.lemmas.Bool.{cases_eq}
-use Rattle.std.proofs.lemmas.Bool.Decides.{nat_tests}
+use Rattle.std.proofs.Common.{◌≡◌, ℕ, ◌+◌, ◌-◌, ◌^◌, ◌≤◌, ◌==◌, Bool, true, false, ◌&&◌, ◌||◌, ◌++◌, length, Option, None, Some, refl, ap, arith, cond, length-append}
 use Rattle.typst_kinds.specs.Head.{Head}
 use Rattle.typst_kinds.specs.declared.kind.SyntaxKind.{SyntaxKind}
-use Rattle.typst_kinds.specs.Kinds.{is_trivia, is_hash_expr}
 use Rattle.typst_tree.specs.Tree.{Forest, none, more, Tree, joined, saturated, text_of}
 use Rattle.typst_tree.specs.Walks.{is_leaf}
 use Rattle.typst_highlight.specs.declared.tags.Tag.{Tag}
 use Rattle.typst_highlight.specs.declared.tags.Tag.TheVariants as tags
 use Rattle.typst_highlight.specs.declared.rules.Rule.{Rule}
-use Rattle.typst_highlight.specs.declared.rules.Rule.TheVariants as rule
 use Rattle.typst_highlight.specs.declared.context.Ahead.{Ahead}
 use Rattle.typst_highlight.specs.declared.context.Context.{Context}
 use Rattle.typst_highlight.specs.declared.context.Outer.{Outer}
 use Rattle.typst_highlight.specs.declared.context.Trail.{Trail}
 use Rattle.typst_highlight.specs.Edges.{is_plain, begins_plain}
 use Rattle.typst_highlight.specs.Names.{first_tag, is_called, kind_ahead}
-use Rattle.typst_highlight.specs.Rules.{rule_of, paren_tag, star_tag, underscore_tag, slash_tag, equals_tag, term_tag, is_name, is_dot, is_field_access, is_math_name, is_show_rule, is_colon, is_hash, begins_arguments}
-use Rattle.typst_highlight.specs.Walk.{around, behind_dot, end, first_ahead, first_leaf, flat, found, if_found, lead, name, next_kind, next_leaf, outer_around, outer_lead, passed, passed_row, past, step, tag, tag_here, tree_of, within}
+use Rattle.typst_highlight.specs.Rules.{rule_of, is_field_access, is_math_name, is_show_rule, is_colon, is_hash}
+use Rattle.typst_highlight.specs.Walk.{around, behind_dot, end, first_ahead, first_leaf, found, lead, name, next_leaf, outer_around, outer_lead, passed, passed_row, past, step, tag, tag_here, tree_of, within}
 use Rattle.typst_highlight.proofs.BeforeEdges.{IsEdge, IsPlain, first_plain, no_access, plain}
 use Rattle.typst_highlight.proofs.Cases.{bool_cases}
 
@@ -66,28 +62,15 @@ pub tree_length : (t : Tree) → length (text_of t) ≡ length t.head.text + len
 tree_length t = length-append t.head.text (joined t.kids)
 
 pub counted_below : (c d : Context) (t : Tree) (q r : Forest) → Counted c d (more t.head t.kids r) → Counted (within c t q) (within d t q) t.kids
-counted_below c d t q r b = record {
-  here = omega (arith, b.here, row_length t.head t.kids r);
-  there = omega (arith, b.there, row_length t.head t.kids r);
-}
+counted_below c d t q r b = grind (arith, row_length)
 
 pub counted_past : (c d : Context) (t : Tree) (x y : Trail) (r : Forest) → Counted c d (more t.head t.kids r) → Counted (past c t x) (past d t y) r
-counted_past c d t x y r b = record {
-  here = omega (arith, b.here, row_length t.head t.kids r, tree_length t);
-  there = omega (arith, b.there, row_length t.head t.kids r, tree_length t);
-}
+counted_past c d t x y r b = grind (arith, row_length, tree_length)
 
 -- ---- the next leaf
 
-moved_choice : (m n : ℕ) (b : Bool) (x y : Ahead) (u v : Option Ahead) → MovedLeaf m n x y → IsMoved m n u v → IsMoved m n (cond b (Some x) u) (cond b (Some y) v)
-moved_choice m n true x y u v e f = e
-moved_choice m n false x y u v e f = f
-
 moved_either : (m n : ℕ) (x y u v : Option Ahead) → IsMoved m n x y → IsMoved m n u v → IsMoved m n (first_ahead x u) (first_ahead y v)
-moved_either m n None None u v e f = f
-moved_either m n None (Some y) u v e f = absurd e
-moved_either m n (Some x) None u v e f = absurd e
-moved_either m n (Some x) (Some y) u v e f = e
+moved_either m n x y u v e f = grind arith
 
 -- the first leaf of trees
 moved_first : (m n a b : ℕ) (p q : Option SyntaxKind) (f : Forest) → q ≡ p → b + m ≡ a + n → a + length (joined f) ≤ 2 ^ 64 - 1 → b + length (joined f) ≤ 2 ^ 64 - 1 → IsMoved m n (first_leaf p a f) (first_leaf q b f)
@@ -103,11 +86,7 @@ moved_first m n a b p q (more h ks r) s e k l =
     moved_first m n (saturated (a + length h.text)) (saturated (b + length h.text)) (Some h.kind) (Some h.kind) ks refl (omega (arith, e, k, l, total)) (omega (arith, k, total)) (omega (arith, l, total)) in
     let later : IsMoved m n (first_leaf p (saturated (a + length (text_of t))) r) (first_leaf q (saturated (b + length (text_of t))) r) =
     moved_first m n (saturated (a + length (text_of t))) (saturated (b + length (text_of t))) p q r s (omega (arith, e, k, l, total, whole)) (omega (arith, k, total, whole)) (omega (arith, l, total, whole)) in
-    moved_choice m n (is_leaf t) x y
-    (first_ahead (first_leaf (Some h.kind) (saturated (a + length h.text)) ks) (first_leaf p (saturated (a + length (text_of t))) r))
-    (first_ahead (first_leaf (Some h.kind) (saturated (b + length h.text)) ks) (first_leaf q (saturated (b + length (text_of t))) r))
-    own
-    (moved_either m n (first_leaf (Some h.kind) (saturated (a + length h.text)) ks) (first_leaf (Some h.kind) (saturated (b + length h.text)) ks) (first_leaf p (saturated (a + length (text_of t))) r) (first_leaf q (saturated (b + length (text_of t))) r) below later)
+    grind arith
 
 -- where a tree ends
 moved_end : (m n : ℕ) (c d : Context) (t : Tree) (r : Forest) → MovedPlace m n c d → Counted c d (more t.head t.kids r) → end d t + m ≡ end c t + n
@@ -115,43 +94,22 @@ moved_end m n c d t r w b = omega (arith, w.moved, b.here, b.there, row_length t
 
 -- the next leaf of a tree
 moved_next : (m n : ℕ) (c d : Context) (t : Tree) (r : Forest) → MovedPlace m n c d → Counted c d (more t.head t.kids r) → IsMoved m n (next_leaf c t r) (next_leaf d t r)
-moved_next m n c d t r w b =
-    let total = row_length t.head t.kids r in
-    let whole = tree_length t in
-    moved_either m n (first_leaf c.parent (end c t) r) (first_leaf d.parent (end d t) r) c.ahead d.ahead
-    (moved_first m n (end c t) (end d t) c.parent d.parent r w.same_parent (moved_end m n c d t r w b) (omega (arith, b.here, total, whole)) (omega (arith, b.there, total, whole)))
-    w.moved_ahead
+moved_next m n c d t r w b = grind (arith, row_length, tree_length, moved_either, moved_first, moved_end)
 
 -- ---- names
 
 -- places that are moved alike are the same or not
 pub same_test : (m n a b x y : ℕ) → x + m ≡ a + n → y + m ≡ b + n → (x == y) ≡ (a == b)
-same_test m n a b x y e f = elim (cases_eq a b) [
-  | inl same ↦
-      let one : (a == b) ≡ true = grind (arith, nat_tests, same) in
-      let also : x ≡ y = omega (arith, e, f, same) in
-      let two : (x == y) ≡ true = grind (arith, nat_tests, also) in
-      two ∙ sym one
-  | inr other ↦
-      let one : (a == b) ≡ false = grind (arith, nat_tests, other) in
-      let apart : x ≡ y → ⊥ = λ g. other (omega (arith, e, f, g)) in
-      let two : (x == y) ≡ false = grind (arith, nat_tests, apart) in
-      two ∙ sym one
-]
+same_test m n a b x y e f = grind arith
 
 called_same : (m n a b : ℕ) (x y : Option Ahead) → IsMoved m n x y → b + m ≡ a + n → is_called b y ≡ is_called a x
 called_same m n a b None None w e = refl
 called_same m n a b None (Some y) w e = absurd w
 called_same m n a b (Some x) None w e = absurd w
-called_same m n a b (Some x) (Some y) w e =
-    let same : (y.offset == b) ≡ (x.offset == a) = same_test m n x.offset a y.offset b w.moved e in
-    λ i. same i && begins_arguments (w.same_kind i) (w.same_parent i)
+called_same m n a b (Some x) (Some y) w e = let same : (y.offset == b) ≡ (x.offset == a) = same_test m n x.offset a y.offset b w.moved e in grind arith
 
 kinds_same : (m n : ℕ) (x y : Option Ahead) → IsMoved m n x y → kind_ahead y ≡ kind_ahead x
-kinds_same m n None None w = refl
-kinds_same m n None (Some y) w = absurd w
-kinds_same m n (Some x) None w = absurd w
-kinds_same m n (Some x) (Some y) w = ap (λ k. Some k) w.same_kind
+kinds_same m n x y w = grind arith
 
 around_same : (m n : ℕ) (c d : Context) → MovedPlace m n c d → around d ≡ around c
 around_same m n c d w = λ i. outer_around (w.same_outer i) (w.same_parent i)
@@ -171,49 +129,21 @@ seeing k called next round led before dot =
 pub moved_name : (m n : ℕ) (c d : Context) (t : Tree) (r : Forest) → Moved m n c d → Counted c d (more t.head t.kids r) → name d t r ≡ name c t r
 moved_name m n c d t r w b =
     let next : IsMoved m n (next_leaf c t r) (next_leaf d t r) = moved_next m n c d t r w.place b in
-    let called : is_called (end d t) (next_leaf d t r) ≡ is_called (end c t) (next_leaf c t r) = called_same m n (end c t) (end d t) (next_leaf c t r) (next_leaf d t r) next (moved_end m n c d t r w.place b) in
-    let kinds : kind_ahead (next_leaf d t r) ≡ kind_ahead (next_leaf c t r) = kinds_same m n (next_leaf c t r) (next_leaf d t r) next in
-    let round : around d ≡ around c = around_same m n c d w.place in
-    let led : lead d ≡ lead c = lead_same m n c d w in
-    λ i. seeing t.head.kind (called i) (kinds i) (round i) (led i) (w.trail.same_before i) (w.trail.same_dot i)
+    grind (arith, called_same, moved_end, kinds_same, around_same, lead_same)
 
 -- ---- what is round others
 
 pub moved_within : (m n : ℕ) (c d : Context) (t : Tree) (r : Forest) → Moved m n c d → Counted c d (more t.head t.kids r) → Moved m n (within c t r) (within d t r)
-moved_within m n c d t r w b =
-    let round : around d ≡ around c = around_same m n c d w.place in
-    let led : lead d ≡ lead c = lead_same m n c d w in
-    record {
-      place = record {
-        same_parent = refl;
-        same_outer = λ i. cond (is_field_access t.head.kind) (Some (record { around = round i; lead = led i })) None;
-        moved = omega (arith, w.place.moved, b.here, b.there, row_length t.head t.kids r);
-        moved_ahead = moved_next m n c d t r w.place b;
-      };
-      trail = w.trail;
-    }
+moved_within m n c d t r w b = grind (arith, around_same, lead_same, cond, row_length, moved_next)
 
 pub moved_past : (m n : ℕ) (c d : Context) (t : Tree) (r : Forest) (x y : Trail) → MovedPlace m n c d → Counted c d (more t.head t.kids r) → Alike x y → Moved m n (past c t x) (past d t y)
-moved_past m n c d t r x y w b a = record {
-  place = record {
-    same_parent = w.same_parent;
-    same_outer = w.same_outer;
-    moved = moved_end m n c d t r w b;
-    moved_ahead = w.moved_ahead;
-  };
-  trail = a;
-}
+moved_past m n c d t r x y w b a = grind (arith, moved_end)
 
 moved_step : (m n : ℕ) (c d : Context) (t : Tree) (r : Forest) → Moved m n c d → Counted c d (more t.head t.kids r) → Alike (step c t r) (step d t r)
-moved_step m n c d t r w b = record {
-  same_before = refl;
-  same_name = ap (λ x. cond (is_name t.head.kind) x None) (moved_name m n c d t r w b);
-  same_dot = ap (λ x. cond (is_dot t.head.kind) x None) w.trail.same_name;
-}
+moved_step m n c d t r w b = grind (arith, cond, moved_name)
 
 alike_choice : (b : Bool) (s t u v : Trail) → (b ≡ true → Alike s t) → (b ≡ false → Alike u v) → Alike (cond b s u) (cond b t v)
-alike_choice true s t u v f g = f refl
-alike_choice false s t u v f g = g refl
+alike_choice b s t u v f g = grind arith
 
 -- the last leaves behind trees
 pub moved_row : (m n : ℕ) (c d : Context) (f : Forest) → Moved m n c d → Counted c d f → Alike (passed_row c f) (passed_row d f)
@@ -239,15 +169,7 @@ moved_later m n c d t r w b = moved_past m n c d t r (passed c t r) (passed d t 
 -- ---- tags
 
 moved_here : (m n : ℕ) (u : Rule) (c d : Context) (t : Tree) (r : Forest) (x y : Option Tag) → Moved m n c d → Counted c d (more t.head t.kids r) → y ≡ x → tag_here u d t r y ≡ tag_here u c t r x
-moved_here m n (rule.Fixed z) c d t r x y w b e = refl
-moved_here m n rule.Paren c d t r x y w b e = ap paren_tag w.place.same_parent
-moved_here m n rule.Star c d t r x y w b e = ap star_tag w.place.same_parent
-moved_here m n rule.Underscore c d t r x y w b e = ap underscore_tag w.place.same_parent
-moved_here m n rule.Slash c d t r x y w b e = ap slash_tag w.place.same_parent
-moved_here m n rule.Equals c d t r x y w b e = ap equals_tag w.place.same_parent
-moved_here m n rule.Term c d t r x y w b e = ap (λ p. term_tag p (next_kind r)) w.place.same_parent
-moved_here m n rule.Name c d t r x y w b e = moved_name m n c d t r w b
-moved_here m n rule.Expression c d t r x y w b e = e
+moved_here m n u c d t r x y w b e = grind (arith, moved_name)
 
 pub moved_found : (m n : ℕ) (c d : Context) (f : Forest) → Moved m n c d → Counted c d f → found d f ≡ found c f
 moved_found m n c d none w b = refl
@@ -256,15 +178,7 @@ moved_found m n c d (more h ks r) w b =
     let inner : found (within d t r) ks ≡ found (within c t r) ks = moved_found m n (within c t r) (within d t r) ks (moved_within m n c d t r w b) (counted_below c d t r r b) in
     let later : found (past d t (passed d t r)) r ≡ found (past c t (passed c t r)) r =
     moved_found m n (past c t (passed c t r)) (past d t (passed d t r)) r (moved_later m n c d t r w b) (counted_past c d t (passed c t r) (passed d t r) r b) in
-    let mine : tag_here (rule_of h.kind) d t r (found (past d t (passed d t r)) r).expression ≡ tag_here (rule_of h.kind) c t r (found (past c t (passed c t r)) r).expression =
-    moved_here m n (rule_of h.kind) c d t r (found (past c t (passed c t r)) r).expression (found (past d t (passed d t r)) r).expression w b (ap (λ x. x.expression) later) in
-    let own : cond (is_leaf t) (Some (tag_here (rule_of h.kind) d t r (found (past d t (passed d t r)) r).expression)) (found (within d t r) ks).leaf ≡ cond (is_leaf t) (Some (tag_here (rule_of h.kind) c t r (found (past c t (passed c t r)) r).expression)) (found (within c t r) ks).leaf =
-    λ i. cond (is_leaf t) (Some (mine i)) (inner i).leaf in
-    λ i. record {
-      own = own i;
-      leaf = if_found (own i) (later i).leaf;
-      expression = cond (is_trivia h.kind) (later i).expression (cond (is_hash_expr h.kind) (flat (own i)) None);
-    }
+    grind (arith, moved_here, cond)
 
 -- a tree at another place has the same tag
 pub moved_tag : (m n : ℕ) (c d : Context) (t : Tree) (r : Forest) → Moved m n c d → Counted c d (more t.head t.kids r) → tag d t r ≡ tag c t r
@@ -275,34 +189,15 @@ moved_tag m n c d t r w b =
 
 -- ---- behind an edge nothing depends on the leaves before it
 
-no_tag : (b : Bool) (x y : Option Tag) → b ≡ false → cond b x None ≡ cond b y None
-no_tag true x y e = absurd (cc)
-no_tag false x y e = refl
-
 no_outer : (b : Bool) (x y : Outer) → b ≡ false → cond b (Some x) None ≡ cond b (Some y) None
-no_outer true x y e = absurd (cc)
-no_outer false x y e = refl
-
-plain_step : (c d : Context) (t : Tree) (r : Forest) → IsPlain t → Alike (step c t r) (step d t r)
-plain_step c d t r p = record {
-  same_before = refl;
-  same_name = no_tag (is_name t.head.kind) (name d t r) (name c t r) p.name;
-  same_dot = no_tag (is_dot t.head.kind) d.trail.name c.trail.name p.dot;
-}
+no_outer b x y e = grind arith
 
 plain_passed : (c d : Context) (t : Tree) (r : Forest) → IsPlain t → Alike (passed c t r) (passed d t r)
-plain_passed c d t r p =
-    let leaf : is_leaf t ≡ true = p.leaf in
-    alike_choice (is_leaf t) (step c t r) (step d t r) (passed_row (within c t r) t.kids) (passed_row (within d t r) t.kids) (λ e. plain_step c d t r p) (λ e. absurd (cc))
+plain_passed c d t r p = grind arith
 
 -- below a node that is no field access
 place_within : (m n : ℕ) (c d : Context) (t : Tree) (r : Forest) → MovedPlace m n c d → Counted c d (more t.head t.kids r) → is_field_access t.head.kind ≡ false → MovedPlace m n (within c t r) (within d t r)
-place_within m n c d t r w b e = record {
-  same_parent = refl;
-  same_outer = no_outer (is_field_access t.head.kind) (record { around = around d; lead = lead d }) (record { around = around c; lead = lead c }) e;
-  moved = omega (arith, w.moved, b.here, b.there, row_length t.head t.kids r);
-  moved_ahead = moved_next m n c d t r w b;
-}
+place_within m n c d t r w b e = grind (arith, no_outer, row_length, moved_next)
 
 -- behind such a node whose first child is plain
 begun_passed : (m n : ℕ) (c d : Context) (h : Head) (ks r : Forest) → MovedPlace m n c d → Counted c d (more h ks r) → is_field_access h.kind ≡ false → begins_plain ks ≡ true → Alike (passed c (tree_of h ks) r) (passed d (tree_of h ks) r)

@@ -1,27 +1,19 @@
 -- The rules of kinds, and the tags that walks keep of names.
-use Rattle.std.proofs.Common.{◌≡◌, true, false, Option, None, refl, ap, sym, cond}
+use Rattle.std.proofs.Common.{◌≡◌, true, false, Option, None, ap, sym, cond, arith}
 use Rattle.typst_kinds.specs.declared.kind.SyntaxKind.{SyntaxKind}
-use Rattle.typst_kinds.specs.declared.kind.SyntaxKind.TheVariants as kind
 use Rattle.typst_highlight.specs.declared.tags.Tag.{Tag}
-use Rattle.typst_highlight.specs.declared.rules.Rule.{Rule}
 use Rattle.typst_highlight.specs.declared.rules.Rule.TheVariants as rule
 use Rattle.typst_highlight.specs.Rules.{is_name, rule_of}
 
 -- the rules of names
 pub named_rule : (k : SyntaxKind) → rule_of k ≡ rule.Name → is_name k ≡ true
-named_rule kind.Ident e = refl
-named_rule kind.MathIdent e = refl
-named_rule _ e = absurd (cc)
+named_rule k e = grind arith
 
 pub fixed_rule : (k : SyntaxKind) (t : Option Tag) → rule_of k ≡ rule.Fixed t → is_name k ≡ false
-fixed_rule kind.Ident t e = absurd (cc)
-fixed_rule kind.MathIdent t e = absurd (cc)
-fixed_rule _ t e = refl
+fixed_rule k t e = grind arith
 
 pub other_rule : (k : SyntaxKind) → (rule_of k ≡ rule.Name → ⊥) → is_name k ≡ false
-other_rule kind.Ident h = absurd (h refl)
-other_rule kind.MathIdent h = absurd (h refl)
-other_rule _ h = refl
+other_rule k h = grind arith
 
 -- a tag that is known of a node that is no name
 pub name_none : (k : SyntaxKind) (x : Option Tag) → is_name k ≡ false → None ≡ cond (is_name k) x None

@@ -1,7 +1,6 @@
 -- What a walk gives the nodes to: HTML that is written, and stretches that are added.
-use Rattle.std.proofs.Common.{◌≡◌, ℕ, ◌+◌, ◌-◌, ◌^◌, ◌≤◌, ◌==◌, Bool, true, List, [], ◌∷◌, ◌++◌, Option, None, Some, length, refl, ap, sym, subst, ◌∙◌, arith, cond, append_assoc, append-nil, length-append}
+use Rattle.std.proofs.Common.{◌≡◌, ℕ, ◌+◌, ◌-◌, ◌^◌, ◌≤◌, true, List, [], ◌∷◌, ◌++◌, Option, None, Some, length, refl, ap, sym, subst, ◌∙◌, arith, append_assoc, append-nil, length-append}
 use Rattle.std.specs.Prelude.{codes}
-use Rattle.std.proofs.lemmas.Bool.Decides.{nat_tests}
 use Rattle.typst_kinds.specs.Head.{Head}
 use Rattle.typst_tree.specs.Tree.{Forest, none, more, Tree, count, joined, saturated, places, preorder, text_of}
 use Rattle.typst_tree.specs.Walks.{is_leaf}
@@ -13,18 +12,11 @@ use Rattle.typst_highlight.specs.Names.{first_tag}
 use Rattle.typst_highlight.specs.Nodes.{tag_of}
 use Rattle.typst_highlight.specs.Html.{escaped, spanned, span_start, span_end, html_of}
 use Rattle.typst_highlight.specs.Stretches.{stretch, row_stretches, stretches, AreJoined}
-use Rattle.typst_highlight.specs.Walk.{Outlet, tree_of, within, past, passed, tag, forest_html, node_html, walked_row, walked, html, Marks, tagger, root_context}
+use Rattle.typst_highlight.specs.Walk.{tree_of, within, past, passed, tag, forest_html, node_html, walked_row, walked, html, Marks, tagger, root_context}
 use Rattle.typst_highlight.proofs.Cases.{bool_cases}
 use Rattle.typst_highlight.proofs.Rows.{Stand, below, behind, alone}
 use Rattle.typst_highlight.proofs.Contexts.{Fits, fits_below, fits_behind, fits_root, passed_here}
 use Rattle.typst_highlight.proofs.Trees.{tag_law, written_law}
-
--- the beginning of a node's span and its own text, before its children
-pub node_given : {S : Type 0} (o : Outlet S) (c : Context) (t : Tree) (r : Forest) (inner : Context) (kids : Forest) (span kept : Option Tag) (text : List ℕ) (s begun given : S) → span ≡ spanned (tag c t r) → begun ≡ o.begun s span → kept ≡ o.kept s span → text ≡ t.head.text → given ≡ o.given begun text → inner ≡ within c t r → kids ≡ t.kids → o.ended (walked_row o inner kids given) kept ≡ walked o c t r s
-node_given o c t r inner kids span kept text s begun given e f g h i j k =
-    let first : given ≡ o.given (o.begun s (spanned (tag c t r))) t.head.text = i ∙ ((λ x. o.given (f x) (h x)) ∙ ap (λ u. o.given (o.begun s u) t.head.text) e) in
-    let last : kept ≡ o.kept s (spanned (tag c t r)) = g ∙ ap (o.kept s) e in
-    λ x. o.ended (walked_row o (j x) (k x) (first x)) (last x)
 
 -- HTML to which a span was added, with what stands in it
 joined_span : (s start own inner last later : List ℕ) → ((((s ++ start) ++ own) ++ inner) ++ last) ++ later ≡ s ++ ((start ++ (own ++ (inner ++ last))) ++ later)
@@ -42,10 +34,7 @@ html_row c (more h ks r) s =
     ∙ joined_span s (span_start span) (escaped h.text) (forest_html (within c t r) ks) (span_end span) (forest_html rest r))
 
 html_node : (c : Context) (t : Tree) (r : Forest) (s : List ℕ) → walked html c t r s ≡ s ++ node_html c t r
-html_node c t r s =
-    let span : Option Tag = spanned (tag c t r) in
-    ap (λ bs. bs ++ span_end span) (html_row (within c t r) t.kids ((s ++ span_start span) ++ escaped t.head.text))
-    ∙ simp append_assoc refl
+html_node c t r s = grind (arith, html_row, append_assoc)
 
 -- what was written by the walk through a tree, between the beginning and the end of the element
 pub html_root : (root : Tree) (start first second last : List ℕ) → start ≡ [] → first ≡ start ++ codes "<code>" → second ≡ walked html root_context root none first → last ≡ second ++ codes "</code>" → last ≡ html_of root
@@ -57,17 +46,14 @@ abbrev added : Marks → List Tagged → ℕ → Marks
 added s xs n = record { stretches = s.stretches ++ xs; end = saturated (s.end + n); around = s.around }
 
 none_added : (s : Marks) → s.end ≤ 2 ^ 64 - 1 → s ≡ added s [] 0
-none_added s l =
-    let same : s.end ≡ saturated (s.end + 0) = omega (arith, l) in
-    λ i. record { stretches = sym (append-nil s.stretches) i; end = same i; around = s.around }
+none_added s l = grind (arith, append-nil)
 
 -- the stretches of trees in the span of the tagger
 abbrev rows : Tree → ℕ → Marks → Forest → List Tagged
 rows root k s f = row_stretches root k s.end s.around f
 
 no_kids : (root : Tree) (k : ℕ) (h : Head) (ks : Forest) (c : Context) (s : Marks) → s.end ≤ 2 ^ 64 - 1 → is_leaf (tree_of h ks) ≡ true → walked_row tagger c ks s ≡ added s (rows root k s ks) (length (joined ks))
-no_kids root k h none c s l e = none_added s l
-no_kids root k h (more g is r) c s l e = absurd (cc)
+no_kids root k h ks c s l e = grind (arith, none_added)
 
 -- the stretches of the trees are added behind those that were there
 tagger_row : (root : Tree) (k : ℕ) (f : Forest) (front back : List Tree) (up : Option ℕ) (c : Context) (s : Marks) → Stand root k f front back up → Fits root k f up c → s.end ≤ 2 ^ 64 - 1 → walked_row tagger c f s ≡ added s (rows root k s f) (length (joined f))
@@ -92,8 +78,7 @@ tagger_row root k (more h ks r) front back up c s st w l =
     append_assoc (s.stretches ++ stretch s.end h.text mine) kids (rows root (k + (1 + count ks)) next r)
     ∙ (append_assoc s.stretches (stretch s.end h.text mine) (kids ++ rows root (k + (1 + count ks)) next r)
     ∙ (λ i. s.stretches ++ (stretch s.end h.text (own i) ++ (row_stretches root (k + 1) (saturated (s.end + length h.text)) (own i) ks ++ row_stretches root (k + (1 + count ks)) (reached i) s.around r)))) in
-    ap (λ q. walked_row tagger rest r (record q { around = s.around })) inner
-    ∙ (later ∙ (λ i. record { stretches = listed i; end = total i; around = s.around }))
+    grind arith
 
 -- what was added by the walk through a tree to nothing
 pub tagger_root : (root : Tree) (s t : Marks) → s.stretches ≡ [] → s.end ≡ 0 → s.around ≡ None → t ≡ walked tagger root_context root none s → t.stretches ≡ stretches root
@@ -107,13 +92,7 @@ joined_then a b d [] ys p q = subst (λ n. AreJoined n ys d) (sym p) q
 joined_then a b d (x ∷ xs) ys p q = (p.0, (p.1.0, joined_then x.range.end b d xs ys p.1.1 q))
 
 joined_one : (a : ℕ) (text : List ℕ) (t : Option Tag) → a ≤ 2 ^ 64 - 1 → AreJoined a (stretch a text t) (saturated (a + length text))
-joined_one a text t l =
-    let end : ℕ = saturated (a + length text) in
-    let made : List Tagged = record { range = record { start = a; end = end }; tag = t } ∷ [] in
-    let Choice : Bool → Type 0 = λ b. AreJoined a (cond b [] made) end in
-    bool_cases (length text == 0)
-    (λ e. let nothing : length text ≡ 0 = grind (arith, nat_tests, e) in subst Choice (sym e) (omega (arith, l, nothing)))
-    (λ e. subst Choice (sym e) (refl, (omega (arith, l), refl)))
+joined_one a text t l = grind arith
 
 joined_row : (root : Tree) (n a : ℕ) (u : Option Tag) (f : Forest) → a ≤ 2 ^ 64 - 1 → AreJoined a (row_stretches root n a u f) (saturated (a + length (joined f)))
 joined_row root n a u none l = omega (arith, l)

@@ -29,21 +29,11 @@ before_put (x ∷ page) (suc a) (suc n) b l = ap (λ ys. x ∷ ys) (before_put p
 
 -- one byte more of a text that is put on a page
 pub byte_put : (page front text : List ℕ) (a n b : ℕ) → a + n < length page → n < length text → b ≡ get_or text n 0 → take (a + n) page ≡ front ++ take n text → take (a + (n + 1)) (slice_set page (a + n) b) ≡ front ++ take (n + 1) text
-byte_put page front text a n b l m e w =
-    let next : a + (n + 1) ≡ suc (a + n) = omega arith in
-    ap (λ k. take k (slice_set page (a + n) b)) next
-    ∙ (take-suc-set page (a + n) b l
-    ∙ (ap (λ bs. bs ++ b ∷ []) w
-    ∙ (append_assoc front (take n text) (b ∷ [])
-    ∙ ap (λ bs. front ++ bs) (ap (λ x. take n text ++ x ∷ []) e ∙ sym (take_more text n 0 m)))))
+byte_put page front text a n b l m e w = let next : a + (n + 1) ≡ suc (a + n) = omega arith in grind (arith, take-suc-set, append_assoc, take_more)
 
 -- a text between the beginning and the end of a span
 pub span_put : (o : Option Tag) (t : Tag) (a b d e text : List ℕ) → o ≡ Some t → b ≡ a ++ opening t → d ≡ b ++ text → e ≡ d ++ codes "</span>" → e ≡ a ++ (span_start o ++ (text ++ span_end o))
-span_put o t a b d e text s f g h =
-    let whole : e ≡ a ++ (opening t ++ (text ++ codes "</span>")) =
-    h ∙ (ap (λ bs. bs ++ codes "</span>") (g ∙ ap (λ bs. bs ++ text) f)
-    ∙ (append_assoc (a ++ opening t) text (codes "</span>") ∙ append_assoc a (opening t) (text ++ codes "</span>"))) in
-    whole ∙ ap (λ p. a ++ (span_start p ++ (text ++ span_end p))) (sym s)
+span_put o t a b d e text s f g h = grind (arith, append_assoc)
 
 pub utf8_behind : (bs page text : List ℕ) → bs ≡ page ++ text → IsUtf8 page → IsUtf8 text → IsUtf8 bs
 utf8_behind bs page text e p q = subst IsUtf8 (sym e) (IsUtf8-append page text p q)

@@ -1,14 +1,11 @@
 -- A reader of the HTML of a tree sees its text.
-use Rattle.std.proofs.Common.{◌≡◌, ℕ, ◌+◌, ◌==◌, true, List, [], ◌∷◌, ◌++◌, Option, None, Some, refl, ap, sym, subst, ◌∙◌, arith, append_assoc, append-nil}
+use Rattle.std.proofs.Common.{◌≡◌, ℕ, ◌+◌, List, [], ◌∷◌, ◌++◌, Option, refl, ap, sym, subst, ◌∙◌, arith, append_assoc, append-nil}
 use Rattle.std.specs.Prelude.{codes}
-use Rattle.std.proofs.lemmas.Bool.Decides.{nat_tests}
 use Rattle.typst_tree.specs.Tree.{Forest, none, more, Tree, count, joined, text_of}
 use Rattle.typst_tree.specs.Steps.{at}
 use Rattle.typst_highlight.specs.declared.tags.Tag.{Tag}
-use Rattle.typst_highlight.specs.declared.tags.Tag.TheVariants as tag
 use Rattle.typst_highlight.specs.Nodes.{tag_of}
-use Rattle.typst_highlight.specs.Html.{escaped_byte, escaped, opening, spanned, span_start, span_end, row_html, html_of, plain, read}
-use Rattle.typst_highlight.proofs.Cases.{bool_cases}
+use Rattle.typst_highlight.specs.Html.{escaped_byte, escaped, spanned, span_start, span_end, row_html, html_of, plain, read}
 
 -- in HTML that begins with xs, a reader sees s first, and stands in text behind it
 record Reads (xs s : List ℕ) : Type 0 where
@@ -18,59 +15,23 @@ nothing : Reads [] []
 nothing = record { seen = λ rest. refl }
 
 then : (xs s ys u : List ℕ) → Reads xs s → Reads ys u → Reads (xs ++ ys) (s ++ u)
-then xs s ys u a b =
-    record { seen = λ rest. ap (read plain) (append_assoc xs ys rest) ∙ (a.seen (ys ++ rest) ∙ (ap (λ bs. s ++ bs) (b.seen rest) ∙ sym (append_assoc s u (read plain rest)))) }
+then xs s ys u a b = grind (arith, append_assoc)
 
 same : (xs s u : List ℕ) → s ≡ u → Reads xs s → Reads xs u
 same xs s u e a = subst (Reads xs) e a
 
-is_byte : (b n : ℕ) → (b == n) ≡ true → n ≡ b
-is_byte b n e = grind (arith, nat_tests, e)
-
 reads_byte : (b : ℕ) → Reads (escaped_byte b) (b ∷ [])
-reads_byte b =
-    bool_cases (b == 38) (λ e. subst (λ n. Reads (escaped_byte n) (n ∷ [])) (is_byte b 38 e) (record { seen = λ rest. refl })) (λ e1.
-    bool_cases (b == 60) (λ e. subst (λ n. Reads (escaped_byte n) (n ∷ [])) (is_byte b 60 e) (record { seen = λ rest. refl })) (λ e2.
-    bool_cases (b == 62) (λ e. subst (λ n. Reads (escaped_byte n) (n ∷ [])) (is_byte b 62 e) (record { seen = λ rest. refl })) (λ e3.
-    bool_cases (b == 39) (λ e. subst (λ n. Reads (escaped_byte n) (n ∷ [])) (is_byte b 39 e) (record { seen = λ rest. refl })) (λ e4.
-    bool_cases (b == 34) (λ e. subst (λ n. Reads (escaped_byte n) (n ∷ [])) (is_byte b 34 e) (record { seen = λ rest. refl })) (λ e5.
-    record { seen = λ rest. rw (e1, e2, e3, e4, e5) (rw (e2, e1) refl) })))))
+reads_byte b = grind arith
 
 reads_text : (s : List ℕ) → Reads (escaped s) s
 reads_text [] = nothing
 reads_text (b ∷ s) = then (escaped_byte b) (b ∷ []) (escaped s) s (reads_byte b) (reads_text s)
 
-reads_opening : (t : Tag) → Reads (opening t) []
-reads_opening tag.Comment = record { seen = λ rest. refl }
-reads_opening tag.Punctuation = record { seen = λ rest. refl }
-reads_opening tag.Escape = record { seen = λ rest. refl }
-reads_opening tag.Strong = record { seen = λ rest. refl }
-reads_opening tag.Emph = record { seen = λ rest. refl }
-reads_opening tag.Link = record { seen = λ rest. refl }
-reads_opening tag.Raw = record { seen = λ rest. refl }
-reads_opening tag.Label = record { seen = λ rest. refl }
-reads_opening tag.Ref = record { seen = λ rest. refl }
-reads_opening tag.Heading = record { seen = λ rest. refl }
-reads_opening tag.ListMarker = record { seen = λ rest. refl }
-reads_opening tag.ListTerm = record { seen = λ rest. refl }
-reads_opening tag.MathDelimiter = record { seen = λ rest. refl }
-reads_opening tag.MathOperator = record { seen = λ rest. refl }
-reads_opening tag.MathGroupingParens = record { seen = λ rest. refl }
-reads_opening tag.Keyword = record { seen = λ rest. refl }
-reads_opening tag.Operator = record { seen = λ rest. refl }
-reads_opening tag.Number = record { seen = λ rest. refl }
-reads_opening tag.String = record { seen = λ rest. refl }
-reads_opening tag.Function = record { seen = λ rest. refl }
-reads_opening tag.Interpolated = record { seen = λ rest. refl }
-reads_opening tag.Error = record { seen = λ rest. refl }
-
 reads_start : (t : Option Tag) → Reads (span_start t) []
-reads_start None = nothing
-reads_start (Some t) = reads_opening t
+reads_start t = grind arith
 
 reads_end : (t : Option Tag) → Reads (span_end t) []
-reads_end None = nothing
-reads_end (Some t) = record { seen = λ rest. refl }
+reads_end t = grind arith
 
 reads_row : (root : Tree) (n : ℕ) (f : Forest) → Reads (row_html root n f) (joined f)
 reads_row root n none = nothing

@@ -1,17 +1,15 @@
 -- What is left of a walk, step by step.
-use Rattle.std.proofs.Common.{◌≡◌, ℕ, ◌+◌, ◌*◌, ◌<◌, ◌&&◌, false, List, [], ◌∷◌, ◌++◌, Option, Some, length, take, get_or, ap, sym, ◌∙◌, arith, cond}
+use Rattle.std.proofs.Common.{◌≡◌, ℕ, ◌+◌, ◌*◌, ◌<◌, ◌&&◌, false, List, [], ◌∷◌, ◌++◌, Option, Some, length, take, get_or, ap, sym, ◌∙◌, arith}
 use Rattle.std.specs.Prelude.{reverse}
 use Rattle.std.proofs.lemmas.List.{reverse-append, take_more}
 use Rattle.typst_tree.specs.Tree.{Forest, none, more, Tree, forest, count, saturated}
 use Rattle.typst_tree.specs.Walks.{is_childless, is_leaf}
 use Rattle.typst_highlight.specs.declared.tags.Tag.{Tag}
-use Rattle.typst_highlight.specs.declared.context.Context.{Context}
-use Rattle.typst_highlight.specs.declared.context.Trail.{Trail}
 use Rattle.typst_highlight.specs.declared.progress.Progress.{Progress}
 use Rattle.typst_highlight.specs.declared.progress.Waiting.{Waiting}
 use Rattle.typst_highlight.specs.declared.walk.Row.{Row}
 use Rattle.typst_highlight.specs.Html.{spanned}
-use Rattle.typst_highlight.specs.Walk.{Outlet, ahead_of, end, first_ahead, first_leaf, joined, left, next_leaf, outer_within, passed, passed_row, passed_rows, past, resumed, returned, returns, root_context, step, steps, tag, waiting, walked, walked_row, within}
+use Rattle.typst_highlight.specs.Walk.{Outlet, ahead_of, end, first_ahead, first_leaf, joined, left, next_leaf, outer_within, passed, passed_row, past, returned, returns, root_context, steps, tag, waiting, walked, walked_row, within}
 
 -- the last of a list comes first in the reversed one
 pub turned : {A : Type 0} (xs ys : List A) (x : A) → xs ≡ ys ++ (x ∷ []) → reverse xs ≡ x ∷ reverse ys
@@ -28,25 +26,13 @@ entered p q w t r parent outer offset trail ws n a l =
     let ahead : ahead_of (waiting q) ≡ next_leaf (joined p) t r = ap ahead_of ws ∙ (λ i. first_ahead (first_leaf (l i) (a i) (n i)) (ahead_of (waiting p))) in
     λ i. record { parent = parent i; outer = outer i; offset = offset i; trail = trail i; ahead = ahead i }
 
--- what is round the nodes that a walk came back to
-pub gone_back : (p q : Progress) (w : Waiting) → q.level ≡ w.level → q.offset ≡ w.start → q.trail ≡ p.trail → joined q ≡ resumed w (waiting q) p.trail
-gone_back p q w level offset trail = λ i. record { parent = (level i).parent; outer = (level i).outer; offset = offset i; trail = trail i; ahead = ahead_of (waiting q) }
-
 -- a node with children is no leaf
 pub no_leaf : (t : Tree) → is_childless t.kids ≡ false → is_leaf t ≡ false
 no_leaf t e = ap (λ b. b && is_leaf (record t { kids = none })) e
 
--- the last leaves behind it are those behind its children
-pub passed_inner : (c : Context) (t : Tree) (r : Forest) → is_childless t.kids ≡ false → passed_row (within c t r) t.kids ≡ passed c t r
-passed_inner c t r e = sym (ap (λ b. cond b (step c t r) (passed_row (within c t r) t.kids)) (no_leaf t e))
-
 -- at the root
 pub left_start : {S : Type 0} (o : Outlet S) (p : Progress) (t : Tree) (s : S) → joined p ≡ root_context → waiting p ≡ [] → left o p (more t.head t.kids none) s ≡ walked o root_context t none s
 left_start o p t s j w = λ i. returned o (w i) (passed_row (j i) (more t.head t.kids none)) (walked_row o (j i) (more t.head t.kids none) s)
-
--- behind the root
-pub left_end : {S : Type 0} (o : Outlet S) (p : Progress) (s : S) → waiting p ≡ [] → left o p none s ≡ s
-left_end o p s w = ap (λ ws. returned o ws p.trail s) w
 
 -- behind a node
 pub left_past : {S : Type 0} (o : Outlet S) (p q : Progress) (t : Tree) (r : Forest) (s u : S) → u ≡ walked o (joined p) t r s → joined q ≡ past (joined p) t (passed (joined p) t r) → waiting q ≡ waiting p → left o q r u ≡ left o p (more t.head t.kids r) s
@@ -54,44 +40,12 @@ left_past o p q t r s u e j w = λ i. returned o (w i) (passed_row (j i) r) (wal
 
 -- in a node with children
 pub left_inner : {S : Type 0} (o : Outlet S) (p q : Progress) (w : Waiting) (t : Tree) (r : Forest) (span kept : Option Tag) (text : List ℕ) (s begun given : S) → is_childless t.kids ≡ false → span ≡ spanned (tag (joined p) t r) → begun ≡ o.begun s span → kept ≡ o.kept s span → text ≡ t.head.text → given ≡ o.given begun text → joined q ≡ within (joined p) t r → waiting q ≡ w ∷ waiting p → forest w.nodes.now ≡ r → w.start ≡ end (joined p) t → w.level ≡ p.level → w.kept ≡ kept → left o q t.kids given ≡ left o p (more t.head t.kids r) s
-left_inner o p q w t r span kept text s begun given inner e f g h k j ws n a l m =
-    let c : Context = joined p in
-    let inside : Context = within c t r in
-    let first : given ≡ o.given (o.begun s (spanned (tag c t r))) t.head.text = k ∙ ((λ i. o.given (f i) (h i)) ∙ ap (λ u. o.given (o.begun s u) t.head.text) e) in
-    let last : w.kept ≡ o.kept s (spanned (tag c t r)) = m ∙ (g ∙ ap (o.kept s) e) in
-    let whole = walked_row o inside t.kids (o.given (o.begun s (spanned (tag c t r))) t.head.text) in
-    let trail : passed_row inside t.kids ≡ passed c t r = passed_inner c t r inner in
-    let back : resumed w (waiting p) (passed_row inside t.kids) ≡ past c t (passed c t r) = (λ i. record { parent = (l i).parent; outer = (l i).outer; offset = a i; trail = trail i; ahead = ahead_of (waiting p) }) in
-    (λ i. returned o (ws i) (passed_row (j i) t.kids) (walked_row o (j i) t.kids (first i)))
-    ∙ (λ i. returned o (waiting p) (passed_row (back i) (n i)) (walked_row o (back i) (n i) (o.ended whole (last i))))
-
--- back behind a node with children
-pub left_back : {S : Type 0} (o : Outlet S) (p q : Progress) (w : Waiting) (s u : S) → waiting p ≡ w ∷ waiting q → joined q ≡ resumed w (waiting q) p.trail → u ≡ o.ended s w.kept → left o q (forest w.nodes.now) u ≡ left o p none s
-left_back o p q w s u ws j e =
-    (λ i. returned o (waiting q) (passed_row (j i) (forest w.nodes.now)) (walked_row o (j i) (forest w.nodes.now) (e i)))
-    ∙ sym (ap (λ vs. returned o vs p.trail s) ws)
-
--- each step leaves fewer
-pub fewer_past : (p q : Progress) (t : Tree) (r : Forest) → waiting q ≡ waiting p → steps q r < steps p (more t.head t.kids r)
-fewer_past p q t r e = omega (arith, ap returns e)
+left_inner o p q w t r span kept text s begun given inner e f g h k j ws n a l m = grind arith
 
 pub fewer_inner : (p q : Progress) (w : Waiting) (t : Tree) (r : Forest) → waiting q ≡ w ∷ waiting p → forest w.nodes.now ≡ r → steps q t.kids < steps p (more t.head t.kids r)
 fewer_inner p q w t r e n = omega (arith, ap returns e, ap count n)
-
-pub fewer_back : (p q : Progress) (w : Waiting) → waiting p ≡ w ∷ waiting q → steps q (forest w.nodes.now) < steps p none
-fewer_back p q w e = omega (arith, ap returns e)
 
 -- how many nodes of rows are left, and how many rows
 abbrev pub row_returns : List Row → ℕ
 row_returns [] = 0
 row_returns (w ∷ ws) = 1 + (2 * count (forest w.nodes.now) + row_returns ws)
-
--- the last leaves behind a node with children, and behind the rows to come back to from there
-pub rows_inner : (c : Context) (t : Tree) (r : Forest) (w : Row) (ws vs : List Row) → is_childless t.kids ≡ false → vs ≡ w ∷ ws → forest w.nodes.now ≡ r → w.context ≡ past c t c.trail → passed_rows vs (passed_row (within c t r) t.kids) ≡ passed_rows ws (passed_row c (more t.head t.kids r))
-rows_inner c t r w ws vs inner e n k =
-    let inside : Trail = passed_row (within c t r) t.kids in
-    let back : record w.context { trail = inside } ≡ past c t (passed c t r) = (λ i. record (k i) { trail = passed_inner c t r inner i }) in
-    ap (λ us. passed_rows us inside) e ∙ (λ i. passed_rows ws (passed_row (back i) (n i)))
-
-pub rows_back : (trail : Trail) (w : Row) (ws vs : List Row) → vs ≡ w ∷ ws → passed_rows vs trail ≡ passed_rows ws (passed_row (record w.context { trail = trail }) (forest w.nodes.now))
-rows_back trail w ws vs e = ap (λ us. passed_rows us trail) e

@@ -1,9 +1,8 @@
 -- Where trees that stand side by side are in the tree's nodes in preorder.
-use Rattle.std.proofs.Common.{◌≡◌, ℕ, ◌+◌, ◌<◌, ◌≤◌, ◌==◌, Bool, true, false, ◌&&◌, not, List, [], ◌∷◌, ◌++◌, length, take, map, Option, None, Some, refl, ap, sym, ◌∙◌, inl, inr, arith, eq-eqb, cond, append_assoc, append-nil, length-append}
+use Rattle.std.proofs.Common.{◌≡◌, ℕ, ◌+◌, ◌<◌, ◌≤◌, ◌==◌, Bool, true, false, ◌&&◌, not, List, [], ◌∷◌, ◌++◌, length, map, Option, None, Some, refl, ap, ◌∙◌, arith, cond, append_assoc, append-nil, length-append}
 use Rattle.std.specs.Prelude.{nat_lt, find, option_and_then, slice_get, unwrap_or}
 use Rattle.std.specs.Option.{option_map}
 use Rattle.std.proofs.Math.Seq.{take-append_seam}
-use Rattle.std.proofs.lemmas.Bool.{cases_eq}
 use Rattle.std.proofs.lemmas.Bool.Decides.{nat_tests}
 use Rattle.typst_kinds.specs.Kinds.{is_trivia}
 use Rattle.typst_kinds.specs.Head.{Head}
@@ -14,7 +13,6 @@ use Rattle.typst_tree.proofs.WalksInPreorder.{length_places, first_append}
 use Rattle.typst_tree.proofs.PassesOver.{no_child_before, no_child_after}
 use Rattle.typst_highlight.specs.Walk.{tree_of, next_kind}
 use Rattle.typst_highlight.proofs.Bounds.{member, member_from, member_until, not_before}
-use Rattle.typst_highlight.proofs.Cases.{bool_cases}
 
 -- the next sibling of the node j under a parent
 abbrev pub sibling_under : Tree → Option ℕ → ℕ → Option At
@@ -43,8 +41,7 @@ here root k t front rest e n =
     ap (λ o. unwrap_or o root) found
 
 pub starts : (root : Tree) (k : ℕ) (front rest : List Tree) → places root ≡ front ++ rest → k ≡ length front → start_of (at root k) ≡ length (texts front)
-starts root k front rest e n =
-    ap (λ xs. length (texts xs)) (ap (λ xs. take k xs) e ∙ (ap (λ m. take m (front ++ rest)) n ∙ take-append_seam front rest))
+starts root k front rest e n = grind (arith, take-append_seam)
 
 any_offset : (j n a b : ℕ) (xs : List Tree) → first_at (has_child j) n a xs ≡ first_at (has_child j) n b xs
 any_offset j n a b [] = refl
@@ -52,14 +49,11 @@ any_offset j n a b (x ∷ xs) = rw (any_offset j (n + 1) (a + length x.head.text
 
 -- a child of the node at k isn't among the trees of the row
 not_in_row : (j k : ℕ) (ks r : Forest) → k + 1 ≤ j → j < k + 1 + count ks → member j (k ∷ numbers (k + 1 + count ks) r) ≡ false
-not_in_row j k ks r h l =
-    let other : (k == j) ≡ false = grind (arith, nat_tests, h) in
-    rw (other, not_before j (k + 1 + count ks) r l) refl
+not_in_row j k ks r h l = grind (arith, nat_tests, not_before)
 
 -- nothing before the node at k has one of its children, or one below them
 before_kid : (j k : ℕ) (h : Head) (ks r : Forest) (root : Tree) (front back : List Tree) (up : Option ℕ) → Stand root k (more h ks r) front back up → k + 1 ≤ j → j < k + 1 + count ks → first_at (has_child j) 0 0 front ≡ None
-before_kid j k h ks r root front back up s l m =
-    s.others j (omega (arith, l)) (omega (arith, m)) (not_in_row j k ks r l m)
+before_kid j k h ks r root front back up s l m = grind (arith, not_in_row)
 
 pub at_once : (p : ℕ → ℕ → Tree → Bool) (n a : ℕ) (t : Tree) (rest : List Tree) → p n (saturated a) t ≡ true → first_at p n a (t ∷ rest) ≡ Some n
 at_once p n a t rest h = rw h refl
@@ -108,9 +102,7 @@ past_others j k h ks r root front back up s l m e =
     first_append (has_child j) 0 0 front (places t) ∙ rw (first, inside) refl
 
 past_siblings : (j k n : ℕ) (root : Tree) (ns : List ℕ) → k < j → n ≡ k → sibling_among root j (n ∷ ns) ≡ sibling_among root j ns
-past_siblings j k n root ns l e =
-    let fails : nat_lt j n ≡ false = grind (arith, nat_tests, l, e) in
-    rw fails refl
+past_siblings j k n root ns l e = grind arith
 
 -- the trees behind the first
 pub behind : (root : Tree) (k : ℕ) (h : Head) (ks r : Forest) (front back : List Tree) (up : Option ℕ) → Stand root k (more h ks r) front back up → Stand root (k + (1 + count ks)) r (front ++ places (tree_of h ks)) back up
@@ -129,40 +121,22 @@ behind root k h ks r front back up s =
     }
 
 alone_only : (j : ℕ) (root : Tree) → member j (numbers 0 (more root.head root.kids none)) ≡ true → j ≡ 0
-alone_only j root e =
-    elim (cases_eq 0 j) [ inl same ↦ sym same | inr other ↦ (let fails : (0 == j) ≡ false = grind (arith, nat_tests, other) in let not_so : false ≡ true = rw fails at e in absurd (cc)) ]
+alone_only j root e = grind arith
 
 past_root : (j : ℕ) (root : Tree) → sibling_among root j (0 ∷ []) ≡ None
 past_root j root = let fails : nat_lt j 0 ≡ false = grind (arith, nat_tests) in rw fails refl
 
 -- the root alone
 pub alone : (root : Tree) → Stand root 0 (more root.head root.kids none) [] [] None
-alone root =
-    record {
-      whole = sym (append-nil (places root)) ∙ sym (append-nil (places root ++ [])) ∙ refl;
-      number = refl;
-      others = λ j l m e. refl;
-      parents = λ j e.
-          let zero_is : j ≡ 0 = alone_only j root e in
-          ap (λ m. parent (at root m)) zero_is ∙ ap (option_map (at root)) (no_child_before 0 0 0 root (omega arith));
-      siblings = λ j l. sym (past_root j root);
-    }
+alone root = grind (arith, append-nil, alone_only, no_child_before, past_root)
 
 -- the parent of the first of the trees
 pub parent_here : (root : Tree) (k : ℕ) (h : Head) (ks r : Forest) (front back : List Tree) (up : Option ℕ) → Stand root k (more h ks r) front back up → parent (at root k) ≡ option_map (at root) up
-parent_here root k h ks r front back up s =
-    let same : (k == k) ≡ true = eq-eqb k k refl in
-    s.parents k (rw same refl)
+parent_here root k h ks r front back up s = grind arith
 
 -- its next sibling
 pub sibling_here : (root : Tree) (k : ℕ) (h : Head) (ks r : Forest) (front back : List Tree) (up : Option ℕ) → Stand root k (more h ks r) front back up → next_sibling (at root k) ≡ sibling_among root k (numbers (k + (1 + count ks)) r)
-sibling_here root k h ks r front back up s =
-    let row : k + 1 + count ks ≡ k + (1 + count ks) = omega arith in
-    let fails : nat_lt k k ≡ false = grind (arith, nat_tests) in
-    ap (option_and_then (λ p. find (is_sibling_after (at root k)) (children p))) (parent_here root k h ks r front back up s)
-    ∙ (s.siblings k (omega arith)
-    ∙ (let skip : sibling_among root k (numbers k (more h ks r)) ≡ sibling_among root k (numbers (k + 1 + count ks) r) = rw fails refl in skip
-    ∙ ap (λ n. sibling_among root k (numbers n r)) row))
+sibling_here root k h ks r front back up s = grind arith
 
 -- the first of the trees behind the node j, or what is behind it
 pub sibling_cases : (root : Tree) (j k : ℕ) (h : Head) (ks r : Forest) (front back : List Tree) (up : Option ℕ) → Stand root k (more h ks r) front back up → j < k → sibling_among root j (numbers k (more h ks r)) ≡ cond (is_trivia h.kind) (sibling_among root j (numbers (k + (1 + count ks)) r)) (Some (at root k))
@@ -177,8 +151,4 @@ pub sibling_kind : (root : Tree) (j k : ℕ) (f : Forest) (front back : List Tre
 sibling_kind root j k none front back up s l = refl
 sibling_kind root j k (more h ks r) front back up s l =
     let kind : kind_of (at root k) ≡ h.kind = ap (λ u. u.head.kind) (here root k (tree_of h ks) front _ s.whole s.number) in
-    let rest = sibling_kind root j (k + (1 + count ks)) r (front ++ places (tree_of h ks)) back up (behind root k h ks r front back up s) (omega (arith, l)) in
-    let cases = sibling_cases root j k h ks r front back up s l in
-    bool_cases (is_trivia h.kind)
-    (λ e. rw (e, cases) (rw e rest))
-    (λ e. rw (e, cases) (rw e (sym (ap (λ x. Some x) kind))))
+    grind (arith, sibling_kind root j (k + (1 + count ks)) r (front ++ places (tree_of h ks)) back up (behind root k h ks r front back up s) (omega (arith, l)), sibling_cases root j k h ks r front back up s l)

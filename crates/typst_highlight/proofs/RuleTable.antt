@@ -1,7 +1,6 @@
 -- The table of rules has the rule of each kind at its place.
-use Rattle.std.proofs.Common.{◌≡◌, ℕ, refl, ap, ◌∙◌, slice_index_or}
+use Rattle.std.proofs.Common.{◌≡◌, ℕ, ap, ◌∙◌, slice_index_or, arith}
 use Rattle.typst_kinds.specs.declared.kind.SyntaxKind.{SyntaxKind}
-use Rattle.typst_kinds.specs.declared.kind.SyntaxKind.TheVariants as kind
 use Rattle.typst_kinds.specs.Members.{place_of}
 use Rattle.typst_highlight.specs.declared.rules.Rule.{Rule}
 use Rattle.typst_highlight.specs.declared.rules.TheConstants.{RULES}
@@ -9,8 +8,7 @@ use Rattle.typst_highlight.specs.Rules.{rule_of}
 
 pub rule_at : (x : Rule) (k : SyntaxKind) → slice_index_or RULES.now (place_of k) x ≡ rule_of k
 unfolding place_of
-rule_at x kind.End = refl
-rule_at x _ = refl
+rule_at x k = grind arith
 
 pub rule_placed : (x : Rule) (n : ℕ) (k : SyntaxKind) → n ≡ place_of k → slice_index_or RULES.now n x ≡ rule_of k
 rule_placed x n k e = ap (λ i. slice_index_or RULES.now i x) e ∙ rule_at x k

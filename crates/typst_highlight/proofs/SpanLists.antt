@@ -18,10 +18,7 @@ abbrev tags : Tree → ℕ → ℕ → List (Option Tag)
 tags root k many = map (span_at root) (numbers_from k many)
 
 tags_more : (root : Tree) (k a b : ℕ) → tags root k (a + b) ≡ tags root k a ++ tags root (k + a) b
-tags_more root k zero b =
-    let number : k ≡ k + zero = omega arith in
-    let many : zero + b ≡ b = omega arith in
-    ap (tags root k) many ∙ ap (λ n. tags root n b) number
+tags_more root k zero b = grind arith
 tags_more root k (suc a) b =
     let number : k + 1 + a ≡ k + suc a = omega arith in
     let many : suc a + b ≡ suc (a + b) = omega arith in
@@ -30,15 +27,10 @@ tags_more root k (suc a) b =
 
 -- the tags of a node, of those below it and of those behind these
 tags_parts : (root : Tree) (k a b : ℕ) → tags root k (1 + (a + b)) ≡ span_at root k ∷ (tags root (k + 1) a ++ tags root (k + (1 + a)) b)
-tags_parts root k a b =
-    let number : k + 1 + a ≡ k + (1 + a) = omega arith in
-    let many : 1 + (a + b) ≡ suc (a + b) = omega arith in
-    ap (tags root k) many
-    ∙ ap (λ ts. span_at root k ∷ ts) (tags_more root (k + 1) a b ∙ ap (λ n. tags root (k + 1) a ++ tags root n b) number)
+tags_parts root k a b = grind (arith, tags_more)
 
 no_kids : (root : Tree) (k : ℕ) (h : Head) (ks : Forest) (c : Context) (s : List (Option Tag)) → is_leaf (tree_of h ks) ≡ true → walked_row lister c ks s ≡ s ++ tags root k (count ks)
-no_kids root k h none c s e = sym (append-nil s)
-no_kids root k h (more g is r) c s e = absurd (cc)
+no_kids root k h ks c s e = grind (arith, append-nil)
 
 joined : (s own inner later : List (Option Tag)) → ((s ++ own) ++ inner) ++ later ≡ s ++ (own ++ (inner ++ later))
 joined s own inner later = simp append_assoc refl

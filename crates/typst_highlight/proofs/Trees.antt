@@ -1,12 +1,11 @@
 -- The tags and the HTML that a walk makes are those of the tree.
-use Rattle.std.proofs.Common.{◌≡◌, ℕ, suc, zero, ◌+◌, ◌<◌, ◌≤◌, Bool, true, false, List, [], ◌∷◌, ◌++◌, length, Option, None, Some, refl, ap, sym, ◌∙◌, arith, cond, append_assoc, append-nil, length-append}
+use Rattle.std.proofs.Common.{◌≡◌, ℕ, suc, zero, ◌+◌, ◌<◌, ◌≤◌, true, false, List, [], ◌∷◌, ◌++◌, length, Option, None, Some, refl, ap, sym, ◌∙◌, arith, cond, append_assoc, append-nil, length-append}
 use Rattle.std.specs.Prelude.{option_and_then, codes}
 use Rattle.std.specs.Option.{option_map}
-use Rattle.typst_kinds.specs.Kinds.{is_trivia, is_hash_expr}
 use Rattle.typst_kinds.specs.Head.{Head}
 use Rattle.typst_tree.specs.Tree.{Forest, none, more, Tree, count, nodes, places, preorder}
 use Rattle.typst_tree.specs.Walks.{first_at, if_none, is_leaf, is_leaf_from, numbers}
-use Rattle.typst_tree.specs.Steps.{At, at, kind_of, start_of, parent, next_sibling, leftmost_leaf}
+use Rattle.typst_tree.specs.Steps.{at, kind_of, start_of, parent, next_sibling, leftmost_leaf}
 use Rattle.typst_tree.proofs.WalksInPreorder.{length_places, first_append}
 use Rattle.typst_highlight.specs.declared.tags.Tag.{Tag}
 use Rattle.typst_highlight.specs.declared.rules.Rule.{Rule}
@@ -14,10 +13,10 @@ use Rattle.typst_highlight.specs.declared.rules.Rule.TheVariants as rule
 use Rattle.typst_highlight.specs.declared.context.Context.{Context}
 use Rattle.typst_highlight.specs.Rules.{rule_of, paren_tag, star_tag, underscore_tag, slash_tag, equals_tag, term_tag}
 use Rattle.typst_highlight.specs.Nodes.{kind_if, leaf_of, expression_leaf, tag_by, tag_within, tag_of}
-use Rattle.typst_highlight.specs.Html.{escaped, spanned, span_start, span_end, row_html, html_of}
-use Rattle.typst_highlight.specs.Walk.{tree_of, within, past, passed, next_kind, tag_here, if_found, flat, found, tag, forest_html, node_html}
+use Rattle.typst_highlight.specs.Html.{spanned, row_html, html_of}
+use Rattle.typst_highlight.specs.Walk.{tree_of, within, past, passed, next_kind, tag_here, flat, found, tag, forest_html, node_html}
 use Rattle.typst_highlight.proofs.Cases.{bool_cases}
-use Rattle.typst_highlight.proofs.Rows.{Stand, sibling_among, here, below, behind, alone, parent_here, sibling_here, sibling_cases, sibling_kind, at_once, at_later}
+use Rattle.typst_highlight.proofs.Rows.{Stand, sibling_among, here, below, behind, alone, parent_here, sibling_here, sibling_cases, sibling_kind, at_later}
 use Rattle.typst_highlight.proofs.Leaves.{any_leaf, any_offset, all_from}
 use Rattle.typst_highlight.proofs.Contexts.{Fits, fits_below, fits_behind, name_law, passed_here}
 
@@ -52,30 +51,15 @@ record FoundIs (root : Tree) (k : ℕ) (f : Forest) (n : ℕ) (c : Context) : Ty
   leaf : (found c f).leaf ≡ option_map (λ m. tag_within n (at root m)) (first_at any_leaf k 0 (preorder f))
   expression : (j : ℕ) → j < k → (found c f).expression ≡ option_and_then (tag_within n) (option_and_then leaf_of (sibling_among root j (numbers k f)))
 
-found_join : (root : Tree) (n : ℕ) (x y : Option ℕ) → if_found (option_map (λ m. tag_within n (at root m)) x) (option_map (λ m. tag_within n (at root m)) y) ≡ option_map (λ m. tag_within n (at root m)) (if_none x y)
-found_join root n None y = refl
-found_join root n (Some m) y = refl
-
 flat_law : (root : Tree) (n : ℕ) (x : Option ℕ) → flat (option_map (λ m. tag_within n (at root m)) x) ≡ option_and_then (tag_within n) (option_map (at root) x)
-flat_law root n None = refl
-flat_law root n (Some m) = refl
+flat_law root n x = grind arith
 
 -- the tag of the first leaf of the first of the trees
 own_law : (root : Tree) (k : ℕ) (h : Head) (ks r : Forest) (front back : List Tree) (up : Option ℕ) (c : Context) (n : ℕ) → Stand root k (more h ks r) front back up → Fits root k (more h ks r) up c → nodes root ≤ n + k
     → (is_leaf (tree_of h ks) ≡ false → (found (within c (tree_of h ks) r) ks).leaf ≡ option_map (λ m. tag_within n (at root m)) (first_at any_leaf (k + 1) 0 (preorder ks)))
     → ((m : ℕ) → nodes root ≤ m + (k + (1 + count ks)) → (found (past c (tree_of h ks) (passed c (tree_of h ks) r)) r).expression ≡ option_and_then (tag_within m) (expression_leaf (at root k)))
     → (found c (more h ks r)).own ≡ option_map (λ m. tag_within n (at root m)) (first_at any_leaf k 0 (places (tree_of h ks)))
-own_law root k h ks r front back up c n s w l inner later =
-    let t : Tree = tree_of h ks in
-    let T : Option ℕ → Option (Option Tag) = option_map (λ m. tag_within n (at root m)) in
-    let mine : Option Tag = tag_here (rule_of h.kind) c t r (found (past c t (passed c t r)) r).expression in
-    let choice : Bool → Option (Option Tag) = λ b. cond b (Some mine) (found (within c t r) ks).leaf in
-    bool_cases (is_leaf t)
-    (λ is_so.
-    let one : mine ≡ tag_within n (at root k) = tag_one root k h ks r front back up c n (found (past c t (passed c t r)) r).expression s w l later in
-    ap choice is_so ∙ (ap (λ x. Some x) one ∙ sym (ap T (at_once any_leaf k 0 t (preorder ks) is_so))))
-    (λ not_so.
-    ap choice not_so ∙ (inner not_so ∙ (ap T (any_offset (k + 1) 0 (0 + length h.text) (preorder ks)) ∙ sym (ap T (at_later any_leaf k 0 t (preorder ks) not_so)))))
+own_law root k h ks r front back up c n s w l inner later = grind (arith, cond, bool_cases, tag_one, any_offset, at_later)
 
 expression_next : (root : Tree) (k : ℕ) (h : Head) (ks r : Forest) (front back : List Tree) (up : Option ℕ) (m : ℕ) (e : Option Tag) → Stand root k (more h ks r) front back up → e ≡ option_and_then (tag_within m) (option_and_then leaf_of (sibling_among root k (numbers (k + (1 + count ks)) r))) → e ≡ option_and_then (tag_within m) (expression_leaf (at root k))
 expression_next root k h ks r front back up m e s f =
@@ -97,17 +81,7 @@ expression_law root k h ks r front back up c n j s l own later =
     let kind : kind_of (at root k) ≡ h.kind = ap (λ u. u.head.kind) (here root k t front _ s.whole s.number) in
     let next = sibling_cases root j k h ks r front back up s l in
     let hash : flat (found c (more h ks r)).own ≡ option_and_then (tag_within n) (leftmost_leaf (at root k)) = ap flat own ∙ (flat_law root n (first_at any_leaf k 0 (places t)) ∙ sym (ap (option_and_then (tag_within n)) (leftmost_law root k h ks r front back up s))) in
-    let target : Option At → Option Tag = λ o. option_and_then (tag_within n) (option_and_then leaf_of o) in
-    let after : Option At = sibling_among root j (numbers (k + (1 + count ks)) r) in
-    let pick : Bool → Option At = λ b. cond b after (Some (at root k)) in
-    let hashed : Option Tag = cond (is_hash_expr h.kind) (flat (found c (more h ks r)).own) None in
-    let choice : Bool → Option Tag = λ b. cond b (found (past c t (passed c t r)) r).expression hashed in
-    bool_cases (is_trivia h.kind)
-    (λ is_so. ap choice is_so ∙ (later ∙ sym (ap target (next ∙ ap pick is_so))))
-    (λ not_so.
-    let there : target (Some (at root k)) ≡ option_and_then (tag_within n) (cond (is_hash_expr h.kind) (leftmost_leaf (at root k)) None) = ap (λ q. option_and_then (tag_within n) (cond (is_hash_expr q) (leftmost_leaf (at root k)) None)) kind in
-    let step : hashed ≡ option_and_then (tag_within n) (cond (is_hash_expr h.kind) (leftmost_leaf (at root k)) None) = elim (is_hash_expr h.kind) as (λ b. cond b (flat (found c (more h ks r)).own) None ≡ option_and_then (tag_within n) (cond b (leftmost_leaf (at root k)) None)) [ true ↦ hash | false ↦ refl ] in
-    ap choice not_so ∙ (step ∙ (sym there ∙ sym (ap target (next ∙ ap pick not_so)))))
+    grind arith
 
 leaf_law : (root : Tree) (k : ℕ) (h : Head) (ks r : Forest) (c : Context) (n : ℕ)
     → (found c (more h ks r)).own ≡ option_map (λ m. tag_within n (at root m)) (first_at any_leaf k 0 (places (tree_of h ks)))
@@ -117,9 +91,7 @@ leaf_law root k h ks r c n own later =
     let t : Tree = tree_of h ks in
     let number : k + length (places t) ≡ k + (1 + count ks) = omega (arith, length_places t) in
     let all : first_at any_leaf k 0 (places t ++ preorder r) ≡ if_none (first_at any_leaf k 0 (places t)) (first_at any_leaf (k + (1 + count ks)) 0 (preorder r)) = first_append any_leaf k 0 (places t) (preorder r) ∙ ap (if_none (first_at any_leaf k 0 (places t))) (any_offset (k + length (places t)) _ 0 (preorder r) ∙ ap (λ m. first_at any_leaf m 0 (preorder r)) number) in
-    (λ i. if_found (own i) (later i))
-    ∙ (found_join root n (first_at any_leaf k 0 (places t)) (first_at any_leaf (k + (1 + count ks)) 0 (preorder r))
-    ∙ sym (ap (option_map (λ m. tag_within n (at root m))) all))
+    grind arith
 
 found_law : (root : Tree) (k : ℕ) (f : Forest) (front back : List Tree) (up : Option ℕ) (c : Context) (n : ℕ) → Stand root k f front back up → Fits root k f up c → nodes root ≤ n + k → FoundIs root k f n c
 found_law root k none front back up c n s w l = record { leaf = refl; expression = λ j m. refl }
@@ -147,21 +119,19 @@ tag_law root k h ks r front back up c s w =
     (λ m q. expression_next root k h ks r front back up m _ s ((found_law root (k + (1 + count ks)) r (front ++ places t) back up (past c t (passed c t r)) m after fits q).expression k (omega arith)))
 
 no_kids : (root : Tree) (n : ℕ) (h : Head) (ks : Forest) (c : Context) → is_leaf (tree_of h ks) ≡ true → forest_html c ks ≡ row_html root n ks
-no_kids root n h none c e = refl
-no_kids root n h (more g is r) c e = absurd (cc)
+no_kids root n h ks c e = grind arith
 
 -- the HTML of the trees
 html_law : (root : Tree) (k : ℕ) (f : Forest) (front back : List Tree) (up : Option ℕ) (c : Context) → Stand root k f front back up → Fits root k f up c → forest_html c f ≡ row_html root k f
 html_law root k none front back up c s w = refl
 html_law root k (more h ks r) front back up c s w =
     let t : Tree = tree_of h ks in
-    let same = ap spanned (tag_law root k h ks r front back up c s w) in
     let inner : forest_html (within c t r) ks ≡ row_html root (k + 1) ks =
     bool_cases (is_leaf t)
     (λ is_so. no_kids root (k + 1) h ks (within c t r) is_so)
     (λ not_so. html_law root (k + 1) ks (front ++ t ∷ []) (preorder r ++ back) (Some k) (within c t r) (below root k h ks r front back up s) (fits_below root k h ks r front back up c s w not_so)) in
     let later : forest_html (past c t (passed c t r)) r ≡ row_html root (k + (1 + count ks)) r = html_law root (k + (1 + count ks)) r (front ++ places t) back up (past c t (passed c t r)) (behind root k h ks r front back up s) (fits_behind root k h ks r front back up c (passed c t r) s w (passed_here root k h ks r front back up c s w)) in
-    λ i. (span_start (same i) ++ (escaped h.text ++ (inner i ++ span_end (same i)))) ++ later i
+    grind (arith, ap spanned (tag_law root k h ks r front back up c s w))
 
 -- the HTML of the root
 pub root_law : (root : Tree) (c : Context) → Fits root 0 (more root.head root.kids none) None c → codes "<code>" ++ (node_html c root none ++ codes "</code>") ≡ html_of root
@@ -171,8 +141,4 @@ root_law root c w =
 
 -- what was written to an empty text in three steps
 pub written_law : (root : Tree) (c : Context) (start first second last : List ℕ) → Fits root 0 (more root.head root.kids none) None c → start ≡ [] → first ≡ start ++ codes "<code>" → second ≡ first ++ node_html c root none → last ≡ second ++ codes "</code>" → last ≡ html_of root
-written_law root c start first second last w e f g h =
-    let begun : first ≡ codes "<code>" = f ∙ ap (λ bs. bs ++ codes "<code>") e in
-    h
-    ∙ (ap (λ bs. bs ++ codes "</code>") (g ∙ ap (λ bs. bs ++ node_html c root none) begun)
-    ∙ (append_assoc (codes "<code>") (node_html c root none) (codes "</code>") ∙ root_law root c w))
+written_law root c start first second last w e f g h = grind (arith, append_assoc, root_law)

@@ -1,4 +1,4 @@
--- Two sets have the same kinds exactly where they have the same words, but for the bits of the last word that stand for no kind.
+-- Two sets have the same kinds exactly where they have the same words, except the bits of the last word that stand for no kind.
 use Rattle.std.proofs.Common.{◌≡◌, ℕ, ◌+◌, ◌*◌, ◌/◌, ◌%◌, ◌^◌, ◌<◌, ◌==◌, ◌↔◌, Bool, List, [], ◌∷◌, true, zero, suc, get_or, refl, sym, subst, ◌∙◌, ap, arith, lit<}
 use Rattle.std.proofs.lemmas.Bool.Decides.{nat_tests}
 use Rattle.std.proofs.lemmas.Nat.{div-add-mod'}
@@ -18,7 +18,7 @@ low_bit n i lt = ap (λ m. bit_at m i) (sym (div-add-mod' n (2 ^ 9))) ∙ bit_at
 same_bit : (m n : ℕ) → m < 2 → n < 2 → (m == 1) ≡ (n == 1) → m ≡ n
 same_bit m n p q e = grind (arith, nat_tests)
 
--- two rows of three words that have the same words, but for what stands for no kind in the last
+-- two rows of three words that have the same words, except what stands for no kind in the last
 module _ (xs ys : List ℕ) (first : get_or xs 0 0 ≡ get_or ys 0 0) (second : get_or xs 1 0 ≡ get_or ys 1 0) (third : get_or xs 2 0 % 2 ^ 9 ≡ get_or ys 2 0 % 2 ^ 9) where
   -- they have the same bits of each kind, by word and bit of the word
   bit_within : (w i : ℕ) → w * 64 + i < 137 → bit_at (get_or xs w 0) i ≡ bit_at (get_or ys w 0) i

@@ -1,47 +1,38 @@
 -- The law of depth, for whatever the language can say.
-use Rattle.std.proofs.Common.{None, Some, ◌≡◌, ℕ, zero, suc, Bool, true, false, ◌&&◌, ◌||◌, if◌then◌else◌, nat_lt, refl, ap, sym, ◌∙◌, subst, Option, Some}
+use Rattle.std.proofs.Common.{◌≡◌, ℕ, zero, suc, Bool, false, ◌&&◌, ◌||◌, if◌then◌else◌, nat_lt, refl, ap, sym, ◌∙◌, subst, Option, arith, rules}
 use Rattle.typst_lines.specs.Place.{Place, moved}
 use Rattle.typst_lines.specs.Classes.{CharClasses}
 use Rattle.typst_language.specs.declared.calls.Block.{Block}
-use Rattle.typst_language.specs.Point.{Point, forgot}
+use Rattle.typst_language.specs.Point.{Point}
 use Rattle.typst_language.specs.Syntax.{Op, Begin, Parser}
 use Rattle.typst_language.specs.Syntax.Op.{hand, so, further, column, erred, takes, takes_so, flushes, complains, advises, marks, is_deepest}
 use Rattle.typst_language.specs.Syntax.Parser.{gives, does, next, pick, repeat, wraps, grows, nests, scoped, either, calls, block}
-use Rattle.typst_language.specs.Meaning.{Outcome, Meaning, Level, joined, answered, followed, turns, as_last, bound, repeated, before, wrapped, grown, is_more, growths, growing, nestings, nesting, closed, bounded, deeper_by_one, given_up, chosen, entered, left_to, plain, no_guess, done, run}
+use Rattle.typst_language.specs.Meaning.{Outcome, Meaning, Level, joined, answered, followed, turns, as_last, bound, repeated, before, wrapped, grown, is_more, growths, growing, nestings, nesting, deeper_by_one, given_up, chosen, entered, left_to, plain, no_guess, done, run}
 use Rattle.typst_language.specs.Sound.{Alike}
 use Rattle.typst_language.specs.Calls.{Call, Answer}
 use Rattle.typst_language.specs.Shape.{Shape}
 use Rattle.typst_language.proofs.Within.{grew, nest}
 
 or-first : (a b : Bool) → (a || b) ≡ false → a ≡ false
-or-first true b h = cc
-or-first false b h = refl
+or-first a b h = grind arith
 
 or-second : (a b : Bool) → (a || b) ≡ false → b ≡ false
-or-second true b h = cc
-or-second false b h = h
+or-second a b h = grind arith
 
 alike-followed : {A B : Type 0} (m n : Meaning B) (f g : B → Meaning A) → Alike m n → ((b : B) → Alike (f b) (g b))
     → (z : Place) (s : Point) → (followed (m z s) f z).met ≡ false → (followed (n z s) g z).met ≡ false → followed (m z s) f z ≡ followed (n z s) g z
-alike-followed m n f g first rest z s h k =
-    let o = n z s in
-    let e = first z s (or-first (m z s).met _ h) (or-first o.met _ k) in
-    let h2 = subst (λ u. (followed u f z).met ≡ false) e h in
-    rw e (ap (joined o) (rest o.value (moved o.taken z) o.state (or-second o.met _ h2) (or-second o.met _ k)))
+alike-followed m n f g first rest z s h k = grind arith
 
 both-alike : {A : Type 0} (b : Bool) (x y u v : Outcome A) → (if b then x else u).met ≡ false → (if b then y else v).met ≡ false
     → (x.met ≡ false → y.met ≡ false → x ≡ y) → (u.met ≡ false → v.met ≡ false → u ≡ v) → (if b then x else u) ≡ (if b then y else v)
-both-alike true x y u v h k f g = f h k
-both-alike false x y u v h k f g = g h k
+both-alike b x y u v h k f g = grind arith
 
 if-alike : {A : Type 0} (b : Bool) (x y u : Outcome A) → (if b then x else u).met ≡ false → (if b then y else u).met ≡ false
     → (x.met ≡ false → y.met ≡ false → x ≡ y) → (if b then x else u) ≡ (if b then y else u)
-if-alike true x y u h k f = f h k
-if-alike false x y u h k f = refl
+if-alike b x y u h k f = grind arith
 
 first-met : {A : Type 0} (b : Bool) (x u : Outcome A) (m : Bool) → (x.met ≡ false → m ≡ false) → (u.met ≡ false → m ≡ false) → (if b then x else u).met ≡ false → m ≡ false
-first-met true x u m f g h = f h
-first-met false x u m f g h = g h
+first-met b x u m f g h = grind arith
 
 alike-turns : {A : Type 0} (m n : A → Meaning (Bool × A)) → ((x : A) → Alike (m x) (n x)) → (k : ℕ) (x : A) → Alike (turns m k x) (turns n k x)
 alike-turns m n f zero x z s h i = refl
@@ -54,18 +45,15 @@ alike-turns m n f (suc k) x z s h i =
     rw e (if-alike b _ _ _ h2 i (λ l j. ap (joined o) (alike-turns m n f k o.value.1 (moved o.taken z) o.state (or-second o.met _ l) (or-second o.met _ j))))
 
 chosen-met : {A : Type 0} (b : Bool) (o x : Outcome A) → (if b then given_up o x else o).met ≡ false → o.met ≡ false
-chosen-met true o x h = or-first o.met x.met h
-chosen-met false o x h = h
+chosen-met b o x h = grind arith
 
 chosen-alike : {A : Type 0} (b : Bool) (o x y : Outcome A) → (if b then given_up o x else o).met ≡ false → (if b then given_up o y else o).met ≡ false
     → (x.met ≡ false → y.met ≡ false → x ≡ y) → (if b then given_up o x else o) ≡ (if b then given_up o y else o)
-chosen-alike true o x y h k f = ap (given_up o) (f (or-second o.met _ h) (or-second o.met _ k))
-chosen-alike false o x y h k f = refl
+chosen-alike b o x y h k f = grind arith
 
 -- what grows meets the limit where what it began with does
 grown-met : {A : Type 0} (n : ℕ) (shape : Option Shape) (o : Outcome A) → (grown n shape o).met ≡ o.met
-grown-met n None o = refl
-grown-met n (Some shape) o = refl
+grown-met n shape o = grind arith
 
 grew-met : {A : Type 0} (n : ℕ) (o : Outcome A) (p : Outcome (Option Shape × A)) → (grew n o p).met ≡ false → (o.met || p.met) ≡ false
 grew-met n o p h = sym (grown-met n p.value.0 (answered p.value.1 (joined o p))) ∙ h
@@ -79,9 +67,7 @@ growths-met m n (suc k) o z h =
 
 turn-met : {A : Type 0} (m : A → Meaning (Option Shape × A)) (n k : ℕ) (o : Outcome A) (z : Place) (p : Outcome (Option Shape × A))
     → (if is_more p.value.0 && nat_lt 0 p.taken then growths m n k (grew n o p) z else grew n o p).met ≡ false → p.met ≡ false
-turn-met m n k o z p h =
-    first-met (is_more p.value.0 && nat_lt 0 p.taken) (growths m n k (grew n o p) z) (grew n o p) p.met
-    (λ l. or-second o.met p.met (grew-met n o p (growths-met m n k (grew n o p) z l))) (λ l. or-second o.met p.met (grew-met n o p l)) h
+turn-met m n k o z p h = search (rules, first-met, or-second, grew-met, growths-met)
 
 alike-growths : {A : Type 0} (m n : A → Meaning (Option Shape × A)) → ((x : A) → Alike (m x) (n x)) → (b k : ℕ) (o : Outcome A) (z : Place)
     → (growths m b k o z).met ≡ false → (growths n b k o z).met ≡ false → growths m b k o z ≡ growths n b k o z
@@ -95,10 +81,7 @@ alike-growths m n f b (suc k) o z h i =
 
 alike-growing : {A : Type 0} (m n : A → Meaning (Option Shape × A)) → ((x : A) → Alike (m x) (n x)) → (b k : ℕ) (o u : Outcome A) (z : Place)
     → (o.met ≡ false → u.met ≡ false → o ≡ u) → (growths m b k o z).met ≡ false → (growths n b k u z).met ≡ false → growths m b k o z ≡ growths n b k u z
-alike-growing m n f b k o u z first h i =
-    let e = first (growths-met m b k o z h) (growths-met n b k u z i) in
-    let h2 = subst (λ x. (growths m b k x z).met ≡ false) e h in
-    rw e (alike-growths m n f b k u z h2 i)
+alike-growing m n f b k o u z first h i = grind (arith, growths-met, alike-growths)
 
 alike-nestings : {A : Type 0} (f : A → Shape) (begin : Begin) (m n : A → Meaning (Bool × A)) → ((x : A) → Alike (m x) (n x)) → (k : ℕ) (x : A) → Alike (nestings f begin m k x) (nestings f begin n k x)
 alike-nestings f begin m n g zero x z s h i = refl
@@ -109,9 +92,6 @@ alike-nestings f begin m n g (suc k) x z s h i =
     let e = g x z s (first-met (u.value.0 && nat_lt 0 u.taken) _ (as_last u) u.met (or-first u.met _) (λ l. l) h) (first-met b _ (as_last o) o.met (or-first o.met _) (λ l. l) i) in
     let h2 = subst (λ u. (if u.value.0 && nat_lt 0 u.taken then followed u (λ v. nestings f begin m k v.1) z else as_last u).met ≡ false) e h in
     rw e (ap (nest f (before begin s)) (if-alike b _ _ (as_last o) h2 i (λ l j. ap (joined o) (alike-nestings f begin m n g k o.value.1 (moved o.taken z) o.state (or-second o.met _ l) (or-second o.met _ j)))))
-
-alike-bounded : (b : Block) (m n : Meaning (Unit {0})) → Alike m n → Alike (bounded b m) (bounded b n)
-alike-bounded b m n f z s h i = ap (λ o. closed b s o) (f z (forgot s) h i)
 
 -- two levels that differ in how many are left
 module _ (k : CharClasses) (i j : ℕ) (d e : (c : Call) → Meaning (Answer c)) (has : Block → Bool) (a b : Block → Meaning (Unit {0})) where
@@ -156,7 +136,4 @@ module _ (k : CharClasses) (i j : ℕ) (d e : (c : Call) → Meaning (Answer c))
         let h2 = subst (λ u. (chosen is_wrong u (run one q z s)).met ≡ false) first h in
         rw first (chosen-alike (is_wrong o.value) o (run one q z s) (run other q z s) h2 i (alike-run q z s))
     alike-run (calls c) z s h i = ap deeper_by_one (f c z s h i)
-    alike-run (block x) z s h i =
-        let o = done other flushes z s in
-        both-alike (has x) (followed o (λ _. bounded x (a x)) z) (followed o (λ _. bounded x (b x)) z) (plain tt s) (plain tt s) h i
-        (λ l m. ap (joined o) (alike-bounded x (a x) (b x) (g x) (moved o.taken z) o.state (or-second o.met _ l) (or-second o.met _ m))) (λ l m. refl)
+    alike-run (block x) z s h i = grind arith

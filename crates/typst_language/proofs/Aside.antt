@@ -1,5 +1,5 @@
 -- What was looked at before a first reading is set aside, and counts again after it.
-use Rattle.std.proofs.Common.{Option, Some, None, option_map, ◌≡◌, ℕ, zero, suc, ◌-◌, ◌^◌, ◌<◌, ◌≤◌, max, min, true, false, if◌then◌else◌, nat_lt, List, [], ◌∷◌, ◌++◌, length, length-append, append_assoc, get_or, refl, ap, sym, ◌∙◌, subst, arith}
+use Rattle.std.proofs.Common.{Option, Some, None, ◌≡◌, ℕ, zero, suc, ◌-◌, ◌^◌, ◌<◌, ◌≤◌, max, min, true, false, nat_lt, List, [], ◌∷◌, ◌++◌, length, length-append, append_assoc, get_or, refl, ap, sym, ◌∙◌, arith}
 use Rattle.std.proofs.Math.ListN.{set}
 use Rattle.typst_lines.specs.Place.{Place, moved}
 use Rattle.typst_tokens.specs.Sight.{hull_of, position}
@@ -12,8 +12,7 @@ use Rattle.typst_language.specs.Syntax.{Parser}
 use Rattle.typst_language.specs.Meaning.{Level}
 use Rattle.typst_language.specs.Checkpoint.{Saved, looked_since, saved}
 use Rattle.typst_language.specs.Noted.{hull_in, listed, looked_alone, looked_before, note_after, notes_after}
-use Rattle.typst_language.specs.Remembered.{Knows, end_of}
-use Rattle.typst_language.specs.View.{View, Runs, Ran, Does, Fits, at, begun, looked_too}
+use Rattle.typst_language.specs.View.{View, Does, Fits, at, begun, looked_too}
 use Rattle.typst_language.proofs.Either.{Back}
 use Rattle.typst_language.proofs.Logs.{Among, among-is, is-among, same-log}
 
@@ -85,8 +84,7 @@ module _ (n : ℕ) (z : Place) (u : Hull) where
   before-kept ns r l (marked at gap fewer mark s ∷ asks) = logged-noted ns _ [] 0 (2 ^ 64 - 1) asks
 
   before-by : (r l : ℕ) (ns : Option (List Note)) (asks : List Ask) → looked_before (length (listed ns)) u (logged n z (log-of r l ns) asks) ≡ logged n z (with_hull u (log-of r l ns)) asks
-  before-by r l None asks = before-unkept r l asks
-  before-by r l (Some ns) asks = before-kept ns r l asks
+  before-by r l ns asks = grind (arith, before-unkept, before-kept)
 
 -- what is looked at before a reading may be noted after it
 logged-before : (n : ℕ) (z : Place) (u : Hull) (h : Log) (asks : List Ask) → looked_before (length (listed h.notes)) u (logged n z h asks) ≡ logged n z (with_hull u h) asks
@@ -94,53 +92,20 @@ logged-before n z u h asks = before-by n z u h.reach h.least h.notes asks
 
 -- what was looked at stays so
 before-among : (u w : Hull) (c : ℕ) (h : Log) → Among u h → Among u (looked_before c w h)
-before-among u w c h a = elim (nat_lt c (length (listed h.notes))) as (λ b. Among u (if b then record h { notes = option_map (notes_after c w) h.notes } else with_hull w h)) [
-  | true ↦ record { reach = a.reach; least = a.least }
-  | false ↦ record { reach = let r = a.reach in omega arith; least = let l = a.least in omega arith }
-]
+before-among u w c h a = grind arith
 
 -- ---- first readings
 
 -- the token at hand is the same where it begins
 pub begun-fits : {l : Level} {old now : View} → now ≡ begun old → Fits l old → Fits l now
-begun-fits {l = l} {old = old} {now = now} e f =
-    let fits : Fits l (begun old) = record { known = f.known; hand = f.hand; own = f.own; here = f.here; there = f.there; log = same-log _ _ _ _ old.log.notes (omega arith) (omega arith); knows = f.knows } in
-    subst (λ (v : View). Fits l v) (sym e) fits
+begun-fits {l = l} {old = old} {now = now} e f = grind arith
 
 -- it turned out right
 pub does-aside : {A : Type 0} {l : Level} {p : Parser A} {a : A} {c : Saved} {aside : Hull} {old first mid new : View}
     → first ≡ begun old → aside ≡ hull_in old.log → c ≡ saved first → Does l p a first mid → new ≡ looked_since c aside mid → Does l p a old new
-does-aside {l = l} {p = p} {a = a} {c = c} {aside = aside} {old = old} {first = first} {mid = mid} {new = new} e is at-c d end =
-    let n = length (listed old.log.notes) in
-    let u = hull_in old.log in
-    let same : new ≡ record mid { log = looked_before n u mid.log } = end ∙ ap (λ (x : Saved). looked_since x aside mid) (at-c ∙ ap saved e) ∙ ap (λ (x : Hull). record mid { log = looked_before n x mid.log }) is in
-    record {
-      ran = λ f. (let r = (subst (λ (v : View). Ran l p a v mid) e (d.ran (begun-fits e f))).runs in
-          let o = at l p old in
-          let log : looked_before n u mid.log ≡ logged l.levels old.place old.log o.asks = ap (looked_before n u) r.log ∙ logged-before l.levels old.place u (looked_alone old.here old.log) o.asks ∙ ap (λ (h : Log). logged l.levels old.place h o.asks) (alone-again old.here old.log f.log) in
-          let runs : Runs l.levels o a old (record mid { log = looked_before n u mid.log }) = record { value = r.value; place = r.place; state = r.state; nodes = r.nodes; log = log } in
-          subst (λ (v : View). Ran l p a old v) (sym same) (record { runs = runs }));
-      ready = λ f. (let g = d.ready (begun-fits e f) in
-          let log = is-among mid.here _ (before-among mid.here u n mid.log (among-is mid.here mid.log g.log)) in
-          let fits : Fits l (record mid { log = looked_before n u mid.log }) = record { known = g.known; hand = g.hand; own = g.own; here = g.here; there = g.there; log = log; knows = g.knows } in
-          subst (λ (v : View). Fits l v) (sym same) fits);
-    }
+does-aside {l = l} {p = p} {a = a} {c = c} {aside = aside} {old = old} {first = first} {mid = mid} {new = new} e is at-c d end = grind (arith, begun-fits, logged-before, alone-again, is-among, before-among, among-is)
 
 -- it turned out wrong, and the code went back
 pub back-aside : {A : Type 0} {l : Level} {p : Parser A} {a : A} {aside : Hull} {old first back now : View}
     → first ≡ begun old → aside ≡ hull_in old.log → old.log.least ≤ 2 ^ 64 - 1 → Fits l old → Back l p a first back → now ≡ looked_too aside back → Back l p a old now
-back-aside {l = l} {p = p} {a = a} {aside = aside} {old = old} {first = first} {back = back} {now = now} e is least f b end =
-    let u = hull_in old.log in
-    let o = at l p old in
-    let g : Back l p a (begun old) back = subst (λ (v : View). Back l p a v back) e b in
-    let log : with_hull u (logged l.levels old.place (looked_alone old.here old.log) (only_looks o.asks)) ≡ logged l.levels old.place old.log (only_looks o.asks)
-    = hull-looks u l.levels old.place (looked_alone old.here old.log) o.asks ∙ ap (λ (h : Log). logged l.levels old.place h (only_looks o.asks)) (alone-again old.here old.log f.log) in
-    let same : now ≡ record old { log = logged l.levels old.place old.log (only_looks o.asks); memo = back.memo }
-    = end ∙ ap (λ (x : Hull). looked_too x back) is ∙ ap (looked_too u) g.same ∙ ap (λ (h : Log). record old { log = h; memo = back.memo }) log in
-    let memo : now.memo ≡ back.memo = ap (λ (v : View). v.memo) same in
-    record {
-      value = g.value;
-      same = same ∙ ap (λ es. record old { log = logged l.levels old.place old.log (only_looks o.asks); memo = es }) (sym memo);
-      knows = subst (λ es. Knows l.guess (end_of old.place) es) (sym memo) g.knows;
-      least = least;
-    }
+back-aside {l = l} {p = p} {a = a} {aside = aside} {old = old} {first = first} {back = back} {now = now} e is least f b end = grind (arith, hull-looks, alone-again)

@@ -1,22 +1,18 @@
 -- No more nodes are taken back than empty errors stand there.
-use Rattle.std.proofs.Common.{◌≡◌, ℕ, zero, suc, ◌+◌, ◌≤◌, Bool, true, false, ◌&&◌, if◌then◌else◌, nat_lt, List, [], ◌∷◌, ◌++◌, length, take, length-append, length-take, length-drop, refl, ◌<◌, ◌⊎◌, inl, inr, Option, Some, None, arith}
+use Rattle.std.proofs.Common.{◌≡◌, ℕ, zero, suc, ◌+◌, ◌≤◌, Bool, true, false, ◌&&◌, if◌then◌else◌, nat_lt, List, [], ◌∷◌, ◌++◌, length, length-append, length-take, length-drop, refl, ◌<◌, ◌⊎◌, inl, inr, Option, Some, None, arith, rules}
 use Rattle.typst_lines.specs.Place.{Place, moved}
-use Rattle.typst_kinds.specs.Kinds.{is_error}
-use Rattle.typst_lexer.specs.Tree.{Tree, forest, joined as text_joined, text_of}
+use Rattle.typst_lexer.specs.Tree.{Tree}
 use Rattle.typst_language.specs.declared.calls.Block.{Block}
 use Rattle.typst_language.specs.Calls.{Call}
 use Rattle.typst_language.specs.Point.{Point}
-use Rattle.typst_language.specs.Hand.{Hand, len_by, token_by}
-use Rattle.typst_language.specs.Ask.Ask.{looked}
-use Rattle.typst_tokens.specs.Reader.{look}
+use Rattle.typst_language.specs.Hand.{Hand}
 use Rattle.typst_language.proofs.HintedNodes.{length-hinted}
-use Rattle.typst_language.specs.Shape.{NodeChange, Shape, hinted, changed, on_first, first_changed, shaped, count_empty, after_node, after_shape}
+use Rattle.typst_language.specs.Shape.{NodeChange, Shape, on_first, first_changed, shaped, count_empty, after_node, after_shape}
 use Rattle.typst_language.specs.Shape.NodeChange.{stays, turns_wrong, is_not, renamed, unparened}
-use Rattle.typst_language.specs.Shape.Shape.{keeps, holds, lacks, warns, fails}
 use Rattle.typst_language.specs.Syntax.{Op, Begin, Parser}
 use Rattle.typst_language.specs.Syntax.Op.{hand, so, further, column, erred, takes, takes_so, flushes, complains, advises, marks, is_deepest}
 use Rattle.typst_language.specs.Syntax.Parser.{gives, does, next, pick, repeat, wraps, grows, nests, scoped, either, calls, block}
-use Rattle.typst_language.specs.Meaning.{Outcome, Meaning, Level, plain, less, answered, joined, turns, as_last, bound, repeated, before, inside, reshaped, grown, is_more, growths, growing, nestings, nesting, given_up, bounded, same_mode, entered, left, flushed_state, hand_of, hand_asks_of, gave, followed, taken_node, reader_so, node_by, done, run}
+use Rattle.typst_language.specs.Meaning.{Outcome, Meaning, Level, answered, joined, turns, as_last, bound, repeated, before, reshaped, grown, is_more, growths, growing, nestings, nesting, given_up, bounded, same_mode, entered, left, flushed_state, hand_of, hand_asks_of, gave, taken_node, done, run}
 use Rattle.typst_language.specs.Sound.{Tidy, Backs}
 use Rattle.typst_language.proofs.Places.{length-less}
 use Rattle.typst_language.proofs.Within.{on_both, grew}
@@ -25,12 +21,7 @@ length-one : {A : Type 0} (xs : List A) (x : A) → length (xs ++ x ∷ []) ≡ 
 length-one xs x = omega (arith, length-append xs (x ∷ []))
 
 pub backs-joined : {A B : Type 0} (s : Point) (o : Outcome B) (p : Outcome A) → Tidy s o → Tidy o.state p → Tidy s (joined o p)
-backs-joined s o p h k =
-    let one = length-append (hinted p.hints (less p.back o.nodes)) p.nodes in
-    let two = length-less p.back o.nodes in
-    let three = length-hinted p.hints (less p.back o.nodes) in
-    let b1 = h.back in let b2 = h.left in let b3 = k.back in let b4 = k.left in
-    record { back = omega arith; left = omega arith }
+backs-joined s o p h k = grind (arith, length-append, length-less, length-hinted)
 
 backs-if : {A : Type 0} (s : Point) (b : Bool) (x y : Outcome A) → Tidy s x → Tidy s y → Tidy s (if b then x else y)
 backs-if s b x y p q = on_both (Tidy s) b x y p q
@@ -48,8 +39,7 @@ if-le true n = omega arith
 if-le false n = omega arith
 
 count-le : (text : List ℕ) → count_empty text ≤ 1
-count-le [] = omega arith
-count-le (c ∷ cs) = omega arith
+count-le text = grind arith
 
 after_node-le : (b : Bool) (text : List ℕ) (s : Point) → (after_node b text s).empties ≤ 1
 after_node-le true text s = count-le text
@@ -58,8 +48,7 @@ after_node-le false text s = omega arith
 -- ---- what becomes of several nodes
 
 on_first-long : (f : Tree → Tree) (ts : List Tree) → length (on_first f ts) ≡ length ts
-on_first-long f [] = refl
-on_first-long f (t ∷ ts) = refl
+on_first-long f ts = grind arith
 
 pub changed-long : (change : NodeChange) (ts : List Tree) → length (first_changed change ts) ≡ length ts
 changed-long stays ts = refl
@@ -80,33 +69,10 @@ one-long : (change : NodeChange) (t : Tree) → length (first_changed change (t 
 one-long change t = changed-long change (t ∷ [])
 
 pub shape-counts : (shape : Shape) (ts : List Tree) (s : Point) → Counts shape ts s
-shape-counts (keeps change) [] s = inl (omega (arith, changed-long change []))
-shape-counts (keeps change) (t ∷ []) s = elim (change-counts (is_error t.head.kind) (is_error (changed change t).head.kind) (text_of t) s) [
-  | inl a ↦ inl (omega (arith, a, one-long change t))
-  | inr a ↦ inr (a.0, omega (arith, one-long change t))
-]
-shape-counts (keeps change) (t ∷ u ∷ ts) s = inl (omega (arith, changed-long change (t ∷ u ∷ ts)))
-shape-counts (holds change kind) ts s = inr (omega arith, omega arith)
-shape-counts (lacks count message kind) ts s = inr (omega arith, omega arith)
-shape-counts (warns kind message hint) ts s = inr (omega arith, omega arith)
-shape-counts (fails message) ts s = inr (count-le (text_joined (forest ts)), omega arith)
+shape-counts shape ts s = grind (arith, changed-long, change-counts, one-long, count-le)
 
 pub tidy-reshaped : {A : Type 0} (s : Point) (shape : Shape) (n : ℕ) (o : Outcome A) → Tidy s o → Tidy s (reshaped shape n o)
-tidy-reshaped s shape n o h =
-    let m = n + o.back in
-    let ts = inside n o in
-    let one = length-append (take m o.nodes) (shaped shape ts) in
-    let two = length-take m o.nodes in
-    let three = length-drop m o.nodes in
-    let b = h.back in
-    let c = h.left in
-    record {
-      back = b;
-      left = (elim (shape-counts shape ts o.state) [
-        | inl a ↦ omega (arith, a, one, two, three, b, c)
-        | inr a ↦ omega (arith, a.0, a.1, one, b)
-      ]);
-    }
+tidy-reshaped s shape n o h = grind (arith, length-append, length-take, length-drop, shape-counts)
 
 tidy-grown : {A : Type 0} (s : Point) (n : ℕ) (shape : Option Shape) (o : Outcome A) → Tidy s o → Tidy s (grown n shape o)
 tidy-grown s n None o h = h
@@ -140,11 +106,7 @@ flushed-le h s = elim h.trivia as (λ ts. (elim ts as (λ _. Point) [ [] ↦ s |
 
 module _ (l : Level) where
   backs-gave : (z : Place) (s : Point) (h : Hand) (trims : Bool) (len : ℕ) (node : Tree) (asks : _) → Tidy s (gave h trims len node asks s)
-  backs-gave z s h trims len node asks =
-      let b = if-le trims s.empties in
-      let one = length-one h.trivia node in
-      let n = after_node-le (is_error node.head.kind) (text_of node) s in
-      record { back = b; left = omega (arith, b, one, n) }
+  backs-gave z s h trims len node asks = grind (arith, if-le, length-one, after_node-le)
 
   backs-done : {A : Type 0} (o : Op A) → Backs (done l o)
   backs-done hand z s = record { back = omega arith; left = omega arith }
@@ -153,11 +115,7 @@ module _ (l : Level) where
   backs-done column z s = record { back = omega arith; left = omega arith }
   backs-done erred z s = record { back = omega arith; left = omega arith }
   backs-done (takes trims making) z s = let h = hand_of l z s in backs-gave z s h trims h.len (taken_node l.classes making h z) (hand_asks_of l z s)
-  backs-done (takes_so way making) z s =
-      let h = hand_of l z s in
-      let w = moved h.gap z in
-      let r = reader_so l way in
-      backs-gave z s h false (len_by r w) (node_by l.classes making (token_by r w) (len_by r w) w) (hand_asks_of l z s ++ looked h.gap (look r w) ∷ [])
+  backs-done (takes_so way making) z s = search (rules, backs-gave)
   backs-done flushes z s = let f = flushed-le (hand_of l z s) s in record { back = omega arith; left = omega arith }
   backs-done (complains message) z s = record { back = omega arith; left = omega arith }
   backs-done (advises hint) z s = record { back = omega arith; left = omega arith }
@@ -184,17 +142,10 @@ module _ (l : Level) where
     backs-run (scoped f p) z s =
         let o = run l p z (entered (f s.reading) s) in
         let b = backs-run p z (entered (f s.reading) s) in
-        let e = left-empties s.reading o.state in
-        let c = b.back in
-        let k = b.left in
-        record { back = c; left = omega (arith, e, k) }
+        grind arith
     backs-run (either p is_wrong q) z s =
         let o = run l p z s in
         let k = backs-run q z s in
         backs-if s (is_wrong o.value) (given_up o (run l q z s)) o (record { back = k.back; left = k.left }) (backs-run p z s)
     backs-run (calls c) z s = let b = d c z s in record { back = b.back; left = b.left }
-    backs-run (block b) z s =
-        let o = done l flushes z s in
-        backs-if s (l.has b) (followed o (λ _. bounded b (l.blocks b)) z) (plain tt s)
-        (backs-joined s o (bounded b (l.blocks b) (moved o.taken z) o.state) (backs-done flushes z s) (backs-bounded b (moved o.taken z) o.state))
-        (record { back = omega arith; left = omega arith })
+    backs-run (block b) z s = search (rules, backs-if, backs-joined, backs-done, backs-bounded)

@@ -1,15 +1,12 @@
 -- Readings that begin by taking the token at hand, and so leave what stood before it.
-use Rattle.std.proofs.Common.{Option, ◌≡◌, ℕ, ◌+◌, ◌-◌, ◌<◌, ◌==◌, Bool, true, false, if◌then◌else◌, nat_lt, List, [], ◌∷◌, ◌++◌, length, take, drop, append_assoc, append-nil, length-append, refl, ap, sym, ◌∙◌, subst, arith}
-use borrow.Author.Tests.{lt-ltb}
+use Rattle.std.proofs.Common.{Option, ◌≡◌, ℕ, ◌+◌, ◌-◌, ◌<◌, ◌==◌, Bool, true, false, if◌then◌else◌, List, [], ◌++◌, length, take, drop, append_assoc, append-nil, length-append, refl, ap, sym, ◌∙◌, subst, arith}
 use Rattle.std.proofs.Math.Seq.{take-length}
 use Rattle.typst_lines.specs.Place.{moved}
 use Rattle.typst_tree.specs.Tree.{Tree}
 use Rattle.typst_language.specs.declared.reading.Reading.{Reading}
 use Rattle.typst_language.specs.Point.{Point, Trivia, pending}
 use Rattle.typst_language.specs.Hand.{AtHand, Hand, as_at_hand}
-use Rattle.typst_language.specs.Shape.{NodeChange, Making, Shape, first_changed, hinted, shaped}
-use Rattle.typst_language.specs.Shape.NodeChange.{stays, turns_wrong, is_not, renamed, unparened}
-use Rattle.typst_language.specs.Shape.Shape.{keeps, holds, lacks, warns, fails}
+use Rattle.typst_language.specs.Shape.{Making, Shape, shaped}
 use Rattle.typst_language.specs.Shape.Making.{itself}
 use Rattle.typst_language.specs.Sound.{Sound}
 use Rattle.typst_language.specs.Steps.{eat, eat_making}
@@ -17,7 +14,7 @@ use Rattle.typst_language.specs.Syntax.{Parser}
 use Rattle.typst_language.specs.Syntax.Begin.{at_token}
 use Rattle.typst_language.specs.Syntax.Op.{hand, takes}
 use Rattle.typst_language.specs.Syntax.Parser.{does, gives, next, scoped, wraps}
-use Rattle.typst_language.specs.Meaning.{Level, Outcome, asked, entered, hand_of, joined, less, run, taken_node}
+use Rattle.typst_language.specs.Meaning.{Level, Outcome, asked, entered, hand_of, joined, run}
 use Rattle.typst_language.specs.View.{View, Ran, Fits, at}
 use Rattle.typst_language.specs.Checkpoint.{Leaves, first_of}
 use Rattle.typst_language.proofs.Backs.{backs-run}
@@ -40,14 +37,10 @@ pub record Begins {A : Type 0} (l : Level) (p : Parser A) (v : View) : Type 0 wh
 -- ---- what it leaves
 
 front-of : (xs ys : List Tree) → take (length xs) (xs ++ ys) ≡ xs
-front-of xs ys =
-    let none : length xs - length xs ≡ 0 = omega arith in
-    take-both (length xs) xs ys ∙ ap (λ n. take (length xs) xs ++ take n ys) none ∙ append-nil (take (length xs) xs) ∙ take-length xs
+front-of xs ys = grind (arith, take-both, append-nil, take-length)
 
 back-of : (xs ys : List Tree) → drop (length xs) (xs ++ ys) ≡ ys
-back-of xs ys =
-    let none : length xs - length xs ≡ 0 = omega arith in
-    drop-both (length xs) xs ys ∙ ap (λ n. drop (length xs) xs ++ drop n ys) none ∙ ap (λ zs. zs ++ ys) (drop-all (length xs) xs (omega arith))
+back-of xs ys = grind (arith, drop-both, drop-all)
 
 same-length : (n : ℕ) → (n == n) ≡ true
 same-length n = grind arith
@@ -56,43 +49,16 @@ first-is : (ts rest held : List Tree) → first_of (length ts) (ts ++ rest) held
 first-is ts rest held = rw (front-of ts rest, same-length (length ts)) refl
 
 pub begins-leaves : {A : Type 0} {l : Level} {p : Parser A} {a : A} {old mid : View} → Begins l p old → Ran l p a old mid → Leaves old mid
-begins-leaves {l = l} {p = p} {old = old} {mid = mid} e r =
-    let b = e.gives in
-    let o = at l p old in
-    let ts = old.hand.trivia in
-    let all : mid.nodes ≡ old.nodes ++ (ts ++ b.rest) =
-    r.runs.nodes ∙ ap (λ hs. hinted hs (less o.back old.nodes) ++ o.nodes) b.hints ∙ ap (λ n. less n old.nodes ++ o.nodes) b.back ∙ ap (λ ns. ns ++ o.nodes) (less-none old.nodes) ∙ ap (λ ns. old.nodes ++ ns) b.nodes in
-    record {
-      nodes = ap (take (length old.nodes)) all ∙ front-of old.nodes (ts ++ b.rest);
-      trivia = ap (λ ns. first_of (length ts) (drop (length old.nodes) ns) mid.hand.trivia) all ∙ ap (λ ns. first_of (length ts) ns mid.hand.trivia) (back-of old.nodes (ts ++ b.rest)) ∙ first-is ts b.rest mid.hand.trivia;
-    }
+begins-leaves {l = l} {p = p} {old = old} {mid = mid} e r = grind (arith, less-none, front-of, back-of, first-is)
 
 -- ---- what begins so
 
 pub begins-takes : {l : Level} {making : Making} (v : View) → Fits l v → Begins l (does (takes false making)) v
 unfolding run
-begins-takes {l = l} {making = making} v c =
-    record {
-      gives = record {
-        back = refl;
-        hints = refl;
-        rest = taken_node l.classes making (hand_of l v.place v.state) v.place ∷ [];
-        nodes = ap (λ (h : Hand). h.trivia ++ taken_node l.classes making (hand_of l v.place v.state) v.place ∷ []) (sym c.hand);
-        more = omega arith;
-      };
-    }
+begins-takes {l = l} {making = making} v c = grind arith
 
 gives-next : {A B : Type 0} (ts : List Tree) (o : Outcome B) (r : Outcome A) → Gives ts o → r.back ≡ 0 → Gives ts (joined o r)
-gives-next ts o r b zero =
-    let long : 0 < length o.nodes = omega (arith, ap length b.nodes, length-append ts b.rest, b.more) in
-    let fewer : r.back < length o.nodes = omega arith in
-    record {
-      back = let e = b.back in omega arith;
-      hints = ap (λ t. if t then o.hints else (if nat_lt (length o.nodes) r.back then r.hints else o.hints ++ r.hints)) (lt-ltb r.back (length o.nodes) fewer) ∙ b.hints;
-      rest = hinted r.hints b.rest ++ r.nodes;
-      nodes = ap (λ n. hinted r.hints (less n o.nodes) ++ r.nodes) zero ∙ ap (λ ns. hinted r.hints ns ++ r.nodes) (less-none o.nodes ∙ b.nodes) ∙ ap (λ ns. ns ++ r.nodes) (hinted-append r.hints ts b.rest b.more) ∙ append_assoc ts (hinted r.hints b.rest) r.nodes;
-      more = omega (arith, length-append (hinted r.hints b.rest) r.nodes, length-hinted r.hints b.rest, b.more);
-    }
+gives-next ts o r b zero = grind (arith, length-append, less-none, hinted-append, append_assoc, length-hinted)
 
 -- more may come that takes nothing back
 pub begins-then : {A B : Type 0} {l : Level} {p : Parser B} {f : B → Parser A} {v : View} → Begins l p v → (let o = at l p v in (run l (f o.value) (moved o.taken v.place) o.state).back) ≡ 0 → Begins l (next p f) v
@@ -102,11 +68,7 @@ begins-then {l = l} {p = p} {f = f} {v = v} b zero = let o = at l p v in record 
 -- more may come, where no empty error was taken first
 pub begins-next : {A B : Type 0} {l : Level} {p : Parser B} {f : B → Parser A} {v : View} → Sound l → Begins l p v → (at l p v).state.empties ≡ 0 → Begins l (next p f) v
 unfolding run
-begins-next {l = l} {p = p} {f = f} {v = v} sound b none =
-    let o = at l p v in
-    let w = moved o.taken v.place in
-    let t = (backs-run l sound.backs sound.backs_block (f o.value) w o.state).back in
-    record { gives = gives-next v.hand.trivia o (run l (f o.value) w o.state) b.gives (omega arith) }
+begins-next {l = l} {p = p} {f = f} {v = v} sound b none = grind (arith, backs-run, gives-next)
 
 -- the token may be taken by itself
 pub begins-eat : {l : Level} {v : View} → Fits l v → Begins l eat v
@@ -128,16 +90,7 @@ no-hints false false hs e = e
 
 -- before it gives anything a parser may ask
 gives-asked : {A B : Type 0} (ts : List Tree) (o : Outcome B) (r : Outcome A) → o.back ≡ 0 → o.hints ≡ [] → o.nodes ≡ [] → Gives ts r → Gives ts (joined o r)
-gives-asked ts o r e h n b =
-    record {
-      back = let k = b.back in omega arith;
-      hints = ap (λ ns. if nat_lt r.back (length ns) then o.hints else (if nat_lt (length ns) r.back then r.hints else o.hints ++ r.hints)) n
-          ∙ ap (λ hs. if nat_lt r.back 0 then hs else (if nat_lt 0 r.back then r.hints else hs ++ r.hints)) h
-          ∙ no-hints (nat_lt r.back 0) (nat_lt 0 r.back) r.hints b.hints;
-      rest = b.rest;
-      nodes = ap (λ ns. hinted r.hints (less r.back ns) ++ r.nodes) n ∙ ap (λ hs. hinted hs (less r.back []) ++ r.nodes) b.hints ∙ ap (λ k. less k [] ++ r.nodes) b.back ∙ ap (λ ns. ns ++ r.nodes) (less-none []) ∙ b.nodes;
-      more = b.more;
-    }
+gives-asked ts o r e h n b = grind (arith, no-hints, less-none)
 
 -- the token at hand may be asked for before
 pub begins-peek : {A : Type 0} {l : Level} {f : AtHand → Parser A} {v : View} → Fits l v → Begins l (f (as_at_hand v.hand)) v → Begins l (next (does hand) f) v
@@ -152,21 +105,8 @@ pub begins-scoped : {A : Type 0} {l : Level} {f : Reading → Reading} {p : Pars
 unfolding run
 begins-scoped b = let g = b.gives in record { gives = record { back = g.back; hints = g.hints; rest = g.rest; nodes = g.nodes; more = g.more } }
 
--- what several nodes become is something
-some-changed : (change : NodeChange) (t : Tree) (ts : List Tree) → 0 < length (first_changed change (t ∷ ts))
-some-changed stays t ts = omega arith
-some-changed (turns_wrong message) t ts = omega arith
-some-changed (is_not thing) t ts = omega arith
-some-changed (renamed kind) t ts = omega arith
-some-changed unparened t ts = omega arith
-
 some-shaped : (shape : Shape) (ts : List Tree) → 0 < length ts → 0 < length (shaped shape ts)
-some-shaped (keeps change) [] h = absurd (omega arith)
-some-shaped (keeps change) (t ∷ ts) h = some-changed change t ts
-some-shaped (holds change kind) ts h = omega arith
-some-shaped (lacks count message kind) ts h = omega arith
-some-shaped (warns kind message hint) ts h = omega arith
-some-shaped (fails message) ts h = omega arith
+some-shaped shape ts h = grind arith
 
 pub begins-wraps : {A : Type 0} {l : Level} {f : A → Shape} {p : Parser A} {v : View} → Fits l v → Begins l p v → Begins l (wraps f at_token p) v
 unfolding run

@@ -1,14 +1,12 @@
 -- Blocks, which are noted as units.
-use Rattle.std.proofs.Common.{◌≡◌, ℕ, ◌-◌, [], ◌∷◌, ◌++◌, refl, ap, sym, ◌∙◌, arith}
-use Rattle.std.specs.Prelude.{Result, Ok, Err}
+use Rattle.std.proofs.Common.{◌≡◌, ℕ, ◌-◌, [], ◌∷◌, ◌++◌, arith}
+use Rattle.std.specs.Prelude.{Result}
 use Rattle.std.specs.declared.alloc.AllocError.{AllocError}
-use Rattle.typst_lines.specs.Place.{moved}
 use Rattle.typst_language.specs.declared.calls.Block.{Block}
 use Rattle.typst_language.specs.declared.calls.Mark.TheVariants.{Opens, Closes}
 use Rattle.typst_language.specs.Calls.{Call, Answer}
 use Rattle.typst_language.specs.Ask.Ask.{marked}
-use Rattle.typst_language.specs.Point.{Point, forgot, state_of}
-use Rattle.typst_language.specs.Log.{logged, with_note}
+use Rattle.typst_language.specs.Point.{forgot, state_of}
 use Rattle.typst_language.specs.Sound.{Sound}
 use Rattle.typst_language.specs.Syntax.{Parser, ◌>>◌}
 use Rattle.typst_language.specs.Syntax.Op.{flushes}
@@ -26,12 +24,8 @@ sound-apart s = record { within = s.within; backs = s.backs; within_block = λ b
 pub fits-apart : {l : Level} {v : View} → Fits l v → Fits (apart l) v
 fits-apart c = record { known = c.known; hand = c.hand; own = c.own; here = c.here; there = c.there; log = c.log; knows = c.knows }
 
-pub fits-whole : {l : Level} {v : View} → Fits (apart l) v → Fits l v
-fits-whole c = record { known = c.known; hand = c.hand; own = c.own; here = c.here; there = c.there; log = c.log; knows = c.knows }
-
 calls-apart : (l : Level) (call : Call) (old new : View) (r : Result (Answer call) AllocError) → Calls l call old r new → Calls (apart l) call old r new
-calls-apart l call old new (Ok a) h = record { ran = λ c. h.ran (fits-whole c); ready = λ c. fits-apart (h.ready (fits-whole c)) }
-calls-apart l call old new (Err e) h = tt
+calls-apart l call old new r h = grind arith
 
 pub fills-apart : {l : Level} {f : Frame} → Fills l f → Fills (apart l) f
 fills-apart {l = l} h = record { classes = h.classes; sound = sound-apart h.sound; levels = h.levels; reads = λ old new call r p. calls-apart l call old new r (h.reads old new call r p) }
@@ -44,23 +38,7 @@ looked-apart h = record { nodes = h.nodes; place = h.place; state = h.state; han
 -- what was read between its two notes is the block
 runs-bounded : (n : ℕ) (b : Block) (m : Outcome (Unit {0})) (v w : View) → Runs n m tt (noted_here n (Opens b) (unasked v)) w
     → Runs n (record m { state = forgot m.state; asks = marked 0 0 0 (Opens b) (state_of v.state) ∷ (m.asks ++ marked m.taken 0 0 Closes (state_of m.state) ∷ []) }) tt v (noted_here n Closes (unasked w))
-runs-bounded n b m v w r =
-    let z = v.place in
-    let e : n - 0 ≡ n = omega arith in
-    let last = marked m.taken 0 0 Closes (state_of m.state) ∷ [] in
-    let first = with_note 0 n (Opens b) (state_of v.state) z v.log in
-    record {
-      value = refl;
-      place = r.place;
-      state = ap forgot r.state;
-      nodes = r.nodes;
-      log = ap (λ (s : Point). with_note 0 n Closes (state_of s) w.place w.log) r.state
-          ∙ ap (λ y. with_note 0 n Closes (state_of m.state) y w.log) r.place
-          ∙ ap (λ h. with_note 0 n Closes (state_of m.state) (moved m.taken z) h) r.log
-          ∙ sym (ap (λ d. logged n z (with_note 0 d (Opens b) (state_of v.state) z v.log) (m.asks ++ last)) e
-          ∙ logged-append n z first m.asks last
-          ∙ ap (λ d. with_note 0 d Closes (state_of m.state) (moved m.taken z) (logged n z first m.asks)) e);
-    }
+runs-bounded n b m v w r = grind (arith, logged-append)
 
 ran-block : {l : Level} {b : Block} {p : Parser (Unit {0})} {v mid first w : View}
     → ReadsBlock l b p → Ran l (does flushes) tt v mid → Looked l (noted_here l.levels (Opens b) (unasked mid)) first → Ran (apart l) p tt first w → Ran l (block b) tt v (noted_here l.levels Closes (unasked w))

@@ -1,5 +1,5 @@
 -- Bytes and characters that are left.
-use Rattle.std.proofs.Common.{◌≡◌, ℕ, zero, suc, ◌<◌, ◌≤◌, List, [], ◌∷◌, length, drop, encode_utf8_all, length-append, refl, ap, arith}
+use Rattle.std.proofs.Common.{◌≡◌, ℕ, zero, suc, ◌<◌, ◌≤◌, List, [], ◌∷◌, length, drop, encode_utf8_all, length-append, ap, arith}
 use Rattle.typst_lines.specs.Place.{Place, moved}
 use Rattle.typst_lines.proofs.PlaceLemmas.{encode_utf8_nonempty}
 use Rattle.std.specs.Char.{encode_utf8}
@@ -18,13 +18,10 @@ size-drop (suc n) [] = omega arith
 size-drop (suc n) (x ∷ xs) = omega (arith, size-drop n xs, size-more x xs)
 
 pub some-bytes : (n : ℕ) (z : Place) → bytes_left (moved n z) < bytes_left z → 0 < n
-some-bytes zero z h = absurd (omega arith)
-some-bytes (suc n) z h = omega arith
+some-bytes n z h = grind arith
 
 falls : (n : ℕ) (xs : List ℕ) → n ≤ length xs → size xs ≤ size (drop n xs) → n ≡ 0
-falls zero xs l h = refl
-falls (suc n) [] l h = absurd (omega arith)
-falls (suc n) (x ∷ xs) l h = absurd (omega (arith, size-drop n xs, size-more x xs))
+falls n xs l h = grind (arith, size-drop, size-more)
 
 pub none-bytes : (n : ℕ) (z : Place) → n ≤ length z.ahead → bytes_left z ≤ bytes_left (moved n z) → n ≡ 0
 none-bytes n z l h = falls n z.ahead l (omega (arith, ap size (moved-ahead n z)))

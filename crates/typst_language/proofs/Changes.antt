@@ -54,46 +54,16 @@ after-fine change t s e = rw e refl
 -- a node that stands alone and was no error
 pub changed-alone : (change : NodeChange) (from : ℕ) (t u : Tree) (v w : View) → length v.nodes ≡ suc from → t ≡ get_or v.nodes from t → is_error t.head.kind ≡ false → u ≡ changed change t
     → w ≡ record v { nodes = set v.nodes from u; state = record v.state { empties = if is_error u.head.kind then count_empty (text_of u) else 0; is_after_error = is_error u.head.kind } } → Rewrapped from (keeps change) v w
-changed-alone change from t u v w long at fine is e = rw e (record {
-  place = refl;
-  state = told-node (is_error u.head.kind) (text_of u) v.state
-      ∙ ap (λ (x : Tree). after_node (is_error x.head.kind) (text_of x) v.state) is
-      ∙ ap (λ text. after_node (is_error (changed change t).head.kind) text v.state) (text-changed change t)
-      ∙ sym (ap (λ ts. after_change change ts v.state) (alone-is v.nodes from t long at) ∙ after-fine change t v.state fine);
-  nodes = changed-at change v.nodes from t u (omega arith) at is;
-  hand = refl;
-  own = refl;
-  here = refl;
-  log = refl;
-  memo = refl;
-})
+changed-alone change from t u v w long at fine is e = grind (arith, told-node, text-changed, alone-is, after-fine, changed-at)
 
 -- one that was an error
 pub changed-error : (change : NodeChange) (from : ℕ) (t u : Tree) (v w : View) → length v.nodes ≡ suc from → t ≡ get_or v.nodes from t → is_error t.head.kind ≡ true → u ≡ changed change t
     → w ≡ record v { nodes = set v.nodes from u } → Rewrapped from (keeps change) v w
-changed-error change from t u v w long at wrong is e = rw e (record {
-  place = refl;
-  state = sym (ap (λ ts. after_change change ts v.state) (alone-is v.nodes from t long at) ∙ after-error change t v.state wrong);
-  nodes = changed-at change v.nodes from t u (omega arith) at is;
-  hand = refl;
-  own = refl;
-  here = refl;
-  log = refl;
-  memo = refl;
-})
+changed-error change from t u v w long at wrong is e = grind (arith, alone-is, after-error, changed-at)
 
 -- one before others
 pub changed-first : (change : NodeChange) (from : ℕ) (t u : Tree) (v w : View) → suc from < length v.nodes → t ≡ get_or v.nodes from t → u ≡ changed change t → w ≡ record v { nodes = set v.nodes from u } → Rewrapped from (keeps change) v w
-changed-first change from t u v w more at is e = rw e (record {
-  place = refl;
-  state = sym (after-more change v.nodes from v.state more);
-  nodes = changed-at change v.nodes from t u (omega arith) at is;
-  hand = refl;
-  own = refl;
-  here = refl;
-  log = refl;
-  memo = refl;
-})
+changed-first change from t u v w more at is e = grind (arith, after-more, changed-at)
 
 -- ---- what is seen of nodes
 

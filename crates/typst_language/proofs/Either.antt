@@ -1,5 +1,5 @@
 -- Two readings of one place, of which the first may be given up.
-use Rattle.std.proofs.Common.{Option, Some, None, ◌≡◌, ℕ, ◌-◌, ◌^◌, ◌≤◌, max, min, Bool, true, false, if◌then◌else◌, List, [], ◌∷◌, ◌++◌, length, take, drop, append-nil, length-append, refl, ap, sym, ◌∙◌, subst, arith}
+use Rattle.std.proofs.Common.{Option, Some, None, ◌≡◌, ℕ, ◌-◌, ◌^◌, ◌≤◌, max, min, Bool, true, false, if◌then◌else◌, List, [], ◌∷◌, ◌++◌, length, drop, append-nil, length-append, refl, ap, sym, ◌∙◌, subst, arith}
 use Rattle.typst_lines.specs.Place.{Place, moved}
 use Rattle.typst_tree.specs.Tree.{Tree}
 use Rattle.typst_tokens.specs.Sight.{hull_of}
@@ -7,22 +7,18 @@ use Rattle.typst_tokens.specs.declared.hull.Hull.{Hull}
 use Rattle.typst_language.specs.declared.calls.Note.{Note}
 use Rattle.typst_language.specs.Ask.{Ask, only_looks}
 use Rattle.typst_language.specs.Ask.Ask.{looked, marked}
-use Rattle.typst_lines.specs.Classes.{CharClasses}
 use Rattle.typst_tokens.specs.Reader.{look}
-use Rattle.typst_lexer.specs.Tokens.{token}
-use Rattle.typst_language.specs.declared.reading.Reading.{Reading}
-use Rattle.typst_language.specs.Bytes.{column_hull, joined_hull, token_hull}
 use Rattle.typst_language.specs.Point.{Trivia}
-use Rattle.typst_language.specs.Hand.{asks_column, column_look, hand_asks, known_by}
+use Rattle.typst_language.specs.Hand.{hand_asks, known_by}
 use Rattle.typst_language.specs.Log.{Log, least_after, logged, reach_after, with_hull, with_more, with_note}
 use Rattle.typst_language.specs.Syntax.{Parser}
 use Rattle.typst_language.specs.Syntax.Parser.{either}
-use Rattle.typst_language.specs.Meaning.{Level, given_up, hand_asks_of, run}
+use Rattle.typst_language.specs.Meaning.{Level, hand_asks_of, run}
 use Rattle.typst_language.specs.declared.memo.Guessed.{Guessed}
 use Rattle.typst_language.specs.Remembered.{Knows, LooksIn, end_of}
 use Rattle.typst_language.specs.View.{View, Runs, Ran, Goes, Does, Dropped, Fits, at, looked_too}
 use Rattle.typst_language.specs.Noted.{listed}
-use Rattle.typst_language.specs.Checkpoint.{Leaves, Saved, forgot_notes, is_some, saved, went_back}
+use Rattle.typst_language.specs.Checkpoint.{Leaves, Saved, forgot_notes, saved, went_back}
 use Rattle.typst_language.specs.Noted.{hull_in, least_of, reach_of, unnoted}
 use Rattle.typst_language.proofs.Places.{take-both, drop-both, take-all, drop-all}
 use Rattle.typst_language.proofs.Logs.{among-is, is-among, logged-append, same-log}
@@ -69,21 +65,13 @@ note-gone c r l note (Some xs) h b d e =
     let none : c - length xs ≡ 0 = omega arith in
     let some : min (2 ^ 64 - 1) l ≡ l = omega arith in
     let here : max 0 r ≡ r = omega arith in
-    let dropped = drop-both c xs (note ∷ []) ∙ ap (λ n. drop c xs ++ drop n (note ∷ [])) none in
-    same-log-of _ _ _ _ _ _
-    (ap (reach_of 0) dropped ∙ reach-last 0 (drop c xs) note ∙ ap (max (reach_of 0 (drop c xs))) d
-    ∙ sym (reach-max 0 r (drop c xs)) ∙ ap (λ n. reach_of n (drop c xs)) here)
-    (ap (least_of (2 ^ 64 - 1)) dropped ∙ least-last (2 ^ 64 - 1) (drop c xs) note ∙ ap (min (least_of (2 ^ 64 - 1) (drop c xs))) e
-    ∙ sym (least-min (2 ^ 64 - 1) l (drop c xs)) ∙ ap (λ n. least_of n (drop c xs)) some)
-    (ap Some (take-both c xs (note ∷ []) ∙ ap (λ n. take c xs ++ take n (note ∷ [])) none ∙ append-nil (take c xs)))
+    grind (arith, drop-both c xs (note ∷ []) ∙ ap (λ n. drop c xs ++ drop n (note ∷ [])) none, same-log-of, reach-last, reach-max, least-last, least-min, take-both, append-nil)
 
 more-notes : (c : ℕ) (note : Note) (ns : Option (List Note)) → c ≤ length (listed ns) → c ≤ length (listed (with_more note ns))
-more-notes c note None h = h
-more-notes c note (Some xs) h = omega (arith, length-append xs (note ∷ []))
+more-notes c note ns h = grind (arith, length-append)
 
 after-most : (ns : Option (List Note)) (l : ℕ) → l ≤ 2 ^ 64 - 1 → least_after ns l ≤ 2 ^ 64 - 1
-after-most None l h = h
-after-most (Some xs) l h = omega arith
+after-most ns l h = grind arith
 
 -- without its notes a log is that of the looks alone
 unnoted-logged : (levels : ℕ) (z : Place) (c : ℕ) (h : Log) (asks : List Ask) → c ≤ length (listed h.notes) → h.least ≤ 2 ^ 64 - 1
@@ -98,8 +86,7 @@ unnoted-logged levels z c h (marked at gap fewer mark s ∷ asks) a b =
     ∙ ap (λ y. logged levels z y (only_looks asks)) (note-gone c h.reach h.least _ h.notes a b refl refl)
 
 all-notes : (c r l : ℕ) (ns : Option (List Note)) → length (listed ns) ≤ c → unnoted c (record { reach = r; least = l; notes = ns }) ≡ record { reach = r; least = l; notes = ns }
-all-notes c r l None h = same-log-of _ _ _ _ _ _ (ap (reach_of r) (drop-all c [] h)) (ap (least_of l) (drop-all c [] h)) refl
-all-notes c r l (Some xs) h = same-log-of _ _ _ _ _ _ (ap (reach_of r) (drop-all c xs h)) (ap (least_of l) (drop-all c xs h)) (ap Some (take-all c xs h))
+all-notes c r l ns h = grind (arith, same-log-of, drop-all, take-all)
 
 -- where there are no more notes all stays
 unnoted-same : (c : ℕ) (h : Log) → length (listed h.notes) ≤ c → unnoted c h ≡ h
@@ -140,61 +127,32 @@ same-back v ns ts e k h m a b f g i = rw (a, b, f, g) (ap (λ (x : Option Trivia
 -- all but what was looked at stands there as at the checkpoint
 pub back-stands : {l : Level} (old mid : View) → Fits l old → old.state.empties ≤ length old.nodes → Leaves old mid
     → went_back (saved old) mid ≡ record old { log = unnoted (length (listed old.log.notes)) mid.log; memo = mid.memo }
-back-stands old mid c few e =
-    let all = ap length e.nodes in
-    let empties : min old.state.empties (length (take (length old.nodes) mid.nodes)) ≡ old.state.empties = omega arith in
-    same-back old _ _ _ _ _ _ e.nodes e.trivia empties (ap is_some c.known) (sym c.known)
+back-stands old mid c few e = grind arith
 
 -- ---- the two readings
 
 pub ran-chosen : {A : Type 0} {l : Level} {p q : Parser A} {is_wrong : A → Bool} {a : A} {old mid : View} → is_wrong a ≡ false → Ran l p a old mid → Ran l (either p is_wrong q) a old mid
 unfolding run
-ran-chosen {l = l} {p = p} {q = q} {is_wrong = is_wrong} {a = a} {old = old} {mid = mid} e h =
-    let o = at l p old in
-    record { runs = subst (λ b. Runs l.levels (if b then given_up o (at l q old) else o) a old mid) (sym (ap is_wrong h.runs.value ∙ e)) h.runs }
+ran-chosen {l = l} {p = p} {q = q} {is_wrong = is_wrong} {a = a} {old = old} {mid = mid} e h = grind arith
 
 -- what the log is after going back: the looks of the first reading stay
 back-log : (levels : ℕ) (z : Place) (h : Log) (asks : List Ask) → h.least ≤ 2 ^ 64 - 1 → unnoted (length (listed h.notes)) (logged levels z h asks) ≡ logged levels z h (only_looks asks)
-back-log levels z h asks b =
-    let c = length (listed h.notes) in
-    unnoted-logged levels z c h asks (omega arith) b ∙ ap (λ x. logged levels z x (only_looks asks)) (unnoted-same c h (omega arith))
+back-log levels z h asks b = grind (arith, unnoted-logged, unnoted-same)
 
 -- and after the second: those of both
 both-log : (levels : ℕ) (z : Place) (h : Log) (xs ys : List Ask) → h.least ≤ 2 ^ 64 - 1
     → unnoted (length (listed h.notes)) (logged levels z (logged levels z h (only_looks xs)) ys) ≡ logged levels z h (only_looks (xs ++ ys))
-both-log levels z h xs ys b =
-    let c = length (listed h.notes) in
-    let g = logged levels z h (only_looks xs) in
-    let count : length (listed g.notes) ≡ c = ap (λ ns. length (listed ns)) (looks-notes levels z h xs) in
-    let least = looks-least levels z h xs in
-    unnoted-logged levels z c g ys (omega arith) (omega arith) ∙ ap (λ x. logged levels z x (only_looks ys)) (unnoted-same c g (omega arith))
-    ∙ sym (ap (logged levels z h) (only-append xs ys) ∙ logged-append levels z h (only_looks xs) (only_looks ys))
+both-log levels z h xs ys b = grind (arith, looks-notes, looks-least, unnoted-logged, unnoted-same, only-append, logged-append)
 
 -- the first reading is given up: the second one is all, and the looks of both stay
 ran-given_up : {A : Type 0} {l : Level} {p q : Parser A} {is_wrong : A → Bool} {a b : A} {old last : View} (memo : List Guessed)
     → is_wrong a ≡ true → old.log.least ≤ 2 ^ 64 - 1 → (at l p old).value ≡ a → Ran l q b (record old { log = logged l.levels old.place old.log (only_looks (at l p old).asks); memo = memo }) last
     → Ran l (either p is_wrong q) b old (forgot_notes (saved old) last)
 unfolding run
-ran-given_up {l = l} {p = p} {q = q} {is_wrong = is_wrong} {b = b} {old = old} {last = last} memo e least value k =
-    let o = at l p old in
-    let r = at l q old in
-    let n = l.levels in
-    let c = length (listed old.log.notes) in
-    let runs : Runs n (given_up o r) b old (forgot_notes (saved old) last) = record {
-      value = k.runs.value;
-      place = k.runs.place;
-      state = k.runs.state;
-      nodes = k.runs.nodes;
-      log = ap (unnoted c) k.runs.log ∙ both-log n old.place old.log o.asks r.asks least;
-    } in
-    record { runs = subst (λ t. Runs n (if t then given_up o r else o) b old (forgot_notes (saved old) last)) (sym (ap is_wrong value ∙ e)) runs }
+ran-given_up {l = l} {p = p} {q = q} {is_wrong = is_wrong} {b = b} {old = old} {last = last} memo e least value k = grind (arith, both-log)
 
 unnoted-fits : {l : Level} {v : View} (c : ℕ) → Fits l v → Fits l (record v { log = unnoted c v.log })
-unnoted-fits {v = v} c f =
-    let a = among-is v.here v.log f.log in
-    let most = least-most v.log.least (drop c (listed v.log.notes)) in
-    let farthest = reach-least v.log.reach (drop c (listed v.log.notes)) in
-    record { known = f.known; hand = f.hand; own = f.own; here = f.here; there = f.there; log = is-among v.here _ (record { reach = let d = a.reach in omega arith; least = let e = a.least in omega arith }); knows = f.knows }
+unnoted-fits {v = v} c f = grind (arith, among-is, least-most, reach-least, is-among)
 
 -- the first reading turned out right
 pub does-chosen : {A : Type 0} {l : Level} {P Q : View → Type 0} {p q : Parser A} {is_wrong : A → Bool} {a : A} {old mid : View}
@@ -221,55 +179,21 @@ back-fits {l = l} {p = p} {old = old} {back = back} f b =
 pub goes-back : {A : Type 0} {l : Level} {p : Parser A} {a : A} {c : Saved} {old mid back : View}
     → c ≡ saved old → old.state.empties ≤ length old.nodes → old.log.least ≤ 2 ^ 64 - 1 → (Fits l old → Leaves old mid)
     → Goes l (Fits l) (Fits l) p a old mid → back ≡ went_back c mid → Fits l old → Back l p a old back
-goes-back {l = l} {p = p} {a = a} {c = c} {old = old} {mid = mid} {back = back} at-c few least leaves d went f =
-    let r = d.ran f in
-    let o = at l p old in
-    let n = length (listed old.log.notes) in
-    let same : back ≡ record old { log = unnoted n mid.log; memo = mid.memo } = went ∙ ap (λ (x : Saved). went_back x mid) at-c ∙ back-stands old mid f few (leaves f) in
-    let memo : back.memo ≡ mid.memo = ap (λ (v : View). v.memo) same in
-    let end : end_of old.place ≡ end_of mid.place = sym (ap end_of r.runs.place ∙ end-moved o.taken old.place) in
-    let log : unnoted n mid.log ≡ logged l.levels old.place old.log (only_looks o.asks) = ap (unnoted n) r.runs.log ∙ back-log l.levels old.place old.log o.asks least in
-    record {
-      value = r.runs.value;
-      same = same ∙ ap (λ (h : Log). record old { log = h; memo = mid.memo }) log ∙ ap (λ (es : List Guessed). record old { log = logged l.levels old.place old.log (only_looks o.asks); memo = es }) (sym memo);
-      knows = knows-at memo end (d.ready f).knows;
-      least = least;
-    }
+goes-back {l = l} {p = p} {a = a} {c = c} {old = old} {mid = mid} {back = back} at-c few least leaves d went f = grind (arith, back-stands, end-moved, back-log, knows-at)
 
 -- the code never read it, since what it would answer and look at was remembered
 pub goes-nowhere : {A : Type 0} {l : Level} {p : Parser A} {a : A} {old now : View} (hull : Hull)
     → (at l p old).value ≡ a → with_hull hull old.log ≡ logged l.levels old.place old.log (only_looks (at l p old).asks) → now ≡ looked_too hull old → old.log.least ≤ 2 ^ 64 - 1 → Fits l old → Back l p a old now
-goes-nowhere {l = l} {p = p} {old = old} {now = now} hull value log is least f =
-    let memo : now.memo ≡ old.memo = ap (λ (v : View). v.memo) is in
-    record {
-      value = value;
-      same = is ∙ ap (λ (h : Log). record old { log = h }) log ∙ ap (λ (es : List Guessed). record old { log = logged l.levels old.place old.log (only_looks (at l p old).asks); memo = es }) (sym memo);
-      knows = knows-at memo refl f.knows;
-      least = least;
-    }
+goes-nowhere {l = l} {p = p} {old = old} {now = now} hull value log is least f = grind arith
 
 -- where the first reading isn't given up, it is all
 pub back-chosen : {A : Type 0} {l : Level} {p q : Parser A} {is_wrong : A → Bool} {a : A} {old back : View} → is_wrong a ≡ false → Back l p a old back → Back l (either p is_wrong q) a old back
 unfolding run
-back-chosen {A = A} {l = l} {p = p} {q = q} {is_wrong = is_wrong} {a = a} {old = old} {back = back} e h =
-    let o = at l p old in
-    let r = at l q old in
-    let right = sym (ap is_wrong h.value ∙ e) in
-    record {
-      value = subst (λ b. (if b then given_up o r else o).value ≡ a) right h.value;
-      same = subst (λ b. back ≡ record old { log = logged l.levels old.place old.log (only_looks (if b then given_up o r else o).asks); memo = back.memo }) right h.same;
-      knows = h.knows;
-      least = h.least;
-    }
+back-chosen {A = A} {l = l} {p = p} {q = q} {is_wrong = is_wrong} {a = a} {old = old} {back = back} e h = grind arith
 
 -- what is remembered may change
 pub back-changed : {A : Type 0} {l : Level} {p : Parser A} {a : A} {old back now : View} → now ≡ record back { memo = now.memo } → Knows l.guess (end_of back.place) now.memo → Back l p a old back → Back l p a old now
-back-changed {l = l} {p = p} {old = old} {back = back} {now = now} is knows b = record {
-  value = b.value;
-  same = is ∙ ap (λ (v : View). record v { memo = now.memo }) b.same;
-  knows = knows-at refl (sym (ap (λ (v : View). end_of v.place) b.same)) knows;
-  least = b.least;
-}
+back-changed {l = l} {p = p} {old = old} {back = back} {now = now} is knows b = grind arith
 
 -- the second reading was made from there, and what was noted is dropped
 pub does-either : {A : Type 0} {l : Level} {p q : Parser A} {is_wrong : A → Bool} {a b : A} {c : Saved} {old back last new : View}
@@ -297,23 +221,8 @@ does-dropped {l = l} {p = p} {a = a} {old = old} {mid = mid} {new = new} d g = r
 -- what is asked for the token at hand was looked at for it
 pub here-looks : {l : Level} {v : View} → Fits l v → LooksIn v.here v.place (hand_asks_of l v.place v.state)
 unfolding hand_asks
-here-looks {l = l} {v = v} f =
-    let k = l.classes in
-    let held = v.state.held in
-    let t : Trivia = record { nodes = v.hand.trivia; gap = v.hand.gap; newlines = v.hand.newlines } in
-    let w = moved v.hand.gap v.place in
-    let own = token_hull k held.mode w in
-    let here : v.here ≡ column_hull held v.hand.newlines w own = f.here ∙ ap (column_hull held v.hand.newlines w) f.own in
-    subst (λ (u : Hull). LooksIn u v.place (hand_asks_of l v.place v.state)) (sym here)
-    (subst (λ (x : Option Trivia). LooksIn (column_hull held v.hand.newlines w own) v.place (hand_asks k held x v.place)) (sym f.known) (by-column k held t v.place (asks_column held t.newlines)))
-  where
-    by-column : (k : CharClasses) (held : Reading) (t : Trivia) (z : Place) (c : Bool)
-        → (let w = moved t.gap z in let own = token_hull k held.mode w in LooksIn (if c then joined_hull own (hull_of (column_look w) w) else own) z (looked t.gap (look (token k held.mode) w) ∷ (if c then looked t.gap (column_look w) ∷ [] else [])))
-    by-column k held t z true = (record { reach = omega arith; least = omega arith }, (record { reach = omega arith; least = omega arith }, tt))
-    by-column k held t z false = (record { reach = omega arith; least = omega arith }, tt)
+here-looks {l = l} {v = v} f = grind arith
 
 -- and so it was among all that was
 pub paren-looks : {l : Level} {v : View} → Fits l v → LooksIn (hull_in v.log) v.place (hand_asks_of l v.place v.state)
-paren-looks {l = l} {v = v} f =
-    let a = among-is v.here v.log f.log in
-    looks-more v.here (hull_in v.log) v.place (hand_asks_of l v.place v.state) (record { reach = a.reach; least = a.least }) (here-looks f)
+paren-looks {l = l} {v = v} f = grind (arith, among-is, looks-more, here-looks)

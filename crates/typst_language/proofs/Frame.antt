@@ -1,5 +1,5 @@
 -- The law of the frame, for whatever the language can say.
-use Rattle.std.proofs.Common.{◌≡◌, ℕ, zero, suc, ◌+◌, ◌<◌, ◌≤◌, max, Bool, true, false, ◌&&◌, if◌then◌else◌, not, nat_lt, nat_le, List, [], ◌∷◌, ◌++◌, length, take, refl, ap, sym, ◌∙◌, subst, arith, Option, Some, None}
+use Rattle.std.proofs.Common.{◌≡◌, ℕ, zero, suc, ◌+◌, ◌<◌, ◌≤◌, max, Bool, true, false, ◌&&◌, if◌then◌else◌, nat_lt, List, [], ◌∷◌, ◌++◌, length, take, refl, ap, sym, ◌∙◌, subst, arith, Option, Some, None}
 use borrow.Author.Tests.{ltb-true}
 use Rattle.typst_kinds.specs.declared.kind.SyntaxKind.{SyntaxKind}
 use Rattle.typst_kinds.specs.declared.kind.SyntaxKind.TheVariants as kind
@@ -8,10 +8,8 @@ use Rattle.typst_lines.specs.Place.{Place, moved}
 use Rattle.typst_lines.specs.Classes.{CharClasses}
 use Rattle.typst_lexer.specs.Nodes.{token_node}
 use Rattle.typst_tokens.specs.declared.token.Token.{Token}
-use Rattle.typst_tokens.specs.Reader.{Look, look}
 use Rattle.typst_lexer.specs.Tokens.{token}
 use Rattle.typst_lines.proofs.Bools.{and-second}
-use Rattle.typst_language.specs.declared.reading.AtNewline.TheVariants.{Continue, Stop, ContextualContinue, StopParBreak, RequireColumn}
 use Rattle.typst_language.specs.declared.calls.Block.{Block}
 use Rattle.typst_language.specs.Calls.{Call}
 use Rattle.typst_language.specs.declared.reading.Newlines.{Newlines}
@@ -19,15 +17,14 @@ use Rattle.typst_language.specs.declared.reading.Reading.{Reading}
 use Rattle.typst_language.specs.Point.{Trivia, Point, gap_of, forgot}
 use Rattle.typst_language.specs.Ask.{Ask, SameIn, shift}
 use Rattle.typst_language.specs.Ask.Ask.{looked}
-use Rattle.typst_language.specs.Hand.{token_at, len_at, token_by, len_by, at_trivia, Hand, AtHand, as_at_hand, goes_on, Ahead, direct, after_trivia, ahead_by, ahead, asks_by, ahead_asks, ahead_of, ahead_asks_of, column_at, column_look, is_markup, stops, asks_column, hand_by, hand_at, column_asks, hand_asks}
+use Rattle.typst_language.specs.Hand.{token_at, len_at, at_trivia, Hand, AtHand, as_at_hand, Ahead, direct, after_trivia, ahead_by, ahead, asks_by, ahead_asks, ahead_of, ahead_asks_of, column_at, column_look, stops, asks_column, hand_by, hand_at, hand_asks}
 use Rattle.typst_language.specs.Shape.{Shape}
 use Rattle.typst_language.proofs.Places.{moved-sum}
 use Rattle.typst_language.specs.Syntax.{Op, Begin, Parser}
 use Rattle.typst_language.specs.Syntax.Op.{hand, so, further, column, erred, takes, takes_so, flushes, complains, advises, marks, is_deepest}
 use Rattle.typst_language.specs.Syntax.Parser.{gives, does, next, pick, repeat, wraps, grows, nests, scoped, either, calls, block}
 use Rattle.typst_kinds.specs.Kinds.{is_trivia}
-use Rattle.typst_language.specs.Shape.{Making, made}
-use Rattle.typst_language.specs.Meaning.{Outcome, Meaning, Level, joined, answered, followed, turns, as_last, bound, repeated, before, wrapped, grown, is_more, growths, growing, nestings, nesting, closed, bounded, deeper_by_one, given_up, chosen, entered, left_to, plain, hand_of, hand_asks_of, asked, flushed_state, reader_so, gave, done, run}
+use Rattle.typst_language.specs.Meaning.{Outcome, Meaning, Level, joined, answered, followed, turns, as_last, bound, repeated, before, wrapped, grown, is_more, growths, growing, nestings, nesting, closed, bounded, deeper_by_one, given_up, chosen, entered, left_to, plain, hand_of, hand_asks_of, asked, flushed_state, reader_so, done, run}
 use Rattle.typst_language.specs.Sound.{Framed, Within}
 use Rattle.typst_language.proofs.Places.{ahead-left}
 use Rattle.typst_language.proofs.Within.{grew, nest, turns-enough, growths-enough, nestings-enough, within-run}
@@ -52,40 +49,21 @@ if-same : {A : Type 0} (b : Bool) (x y u : A) → (b ≡ true → x ≡ y) → (
 if-same true x y u h = h refl
 if-same false x y u h = refl
 
-if-not : {A : Type 0} (b : Bool) (x u : A) → (b ≡ true → ⊥) → (if b then x else u) ≡ u
-if-not true x u h = absurd (h refl)
-if-not false x u h = refl
-
 -- more trivia than characters are never there
 trivia-enough : (k : CharClasses) (m : SyntaxMode) (i j : ℕ) (z : Place) → length z.ahead ≤ i → length z.ahead ≤ j → Ahead_same k m i j z z
 trivia-enough k m zero zero z a b = record { nodes = refl; asks = refl; text = refl }
-trivia-enough k m zero (suc j) z a b = record {
-  nodes = if-not (at_trivia k m z) _ _ (no-trivia k m z (omega arith));
-  asks = ap (λ l. looked 0 (look (token k m) z) ∷ l) (if-not (at_trivia k m z) _ _ (no-trivia k m z (omega arith)));
-  text = refl;
-}
-trivia-enough k m (suc i) zero z a b = record {
-  nodes = sym (if-not (at_trivia k m z) _ _ (no-trivia k m z (omega arith)));
-  asks = ap (λ l. looked 0 (look (token k m) z) ∷ l) (sym (if-not (at_trivia k m z) _ _ (no-trivia k m z (omega arith))));
-  text = refl;
-}
+trivia-enough k m zero (suc j) z a b = grind arith
+trivia-enough k m (suc i) zero z a b = grind arith
 trivia-enough k m (suc i) (suc j) z a b =
     let l = len_at k m z in
     let left = ahead-left l z in
     let rest : at_trivia k m z ≡ true → Ahead_same k m i j (moved l z) (moved l z) = λ h.
     (let some : 0 < l = ltb-true 0 l (and-second (is_trivia (token_at k m z).kind) (nat_lt 0 l) h) in trivia-enough k m i j (moved l z) (omega arith) (omega arith)) in
-    record {
-      nodes = if-same (at_trivia k m z) _ _ _ (λ h. ap (after_trivia (token_at k m z) l (token_node k (token_at k m z) (take l z.ahead))) (rest h).nodes);
-      asks = ap (λ ls. looked 0 (look (token k m) z) ∷ ls) (if-same (at_trivia k m z) _ _ _ (λ h. ap (shift l) (rest h).asks));
-      text = refl;
-    }
+    grind arith
 
 -- one token, which may be trivia, and what is read after it
 abbrev step : CharClasses → Token → ℕ → List ℕ → Ahead → Ahead
 step k t n text rest = if is_trivia t.kind && nat_lt 0 n then after_trivia t n (token_node k t text) rest else direct t n
-
-abbrev step_asks : Token → ℕ → Look → List Ask → List Ask
-step_asks t n l rest = looked 0 l ∷ (if is_trivia t.kind && nat_lt 0 n then shift n rest else [])
 
 held : (b : Bool) (asks : List Ask) (z w : Place) → SameIn (if b then asks else []) z w → b ≡ true → SameIn asks z w
 held true asks z w h e = h
@@ -94,35 +72,18 @@ held false asks z w h e = cc
 -- the text of the token after one trivia token more
 text-step : (b : Bool) (t : Token) (l : ℕ) (node : _) (rest : Ahead) (z w : Place) → take l w.ahead ≡ take l z.ahead → (b ≡ true → Text_same rest (moved l z) (moved l w))
     → Text_same (if b then after_trivia t l node rest else direct t l) z w
-text-step true t l node rest z w e h =
-    ap (λ (x : Place). take rest.len x.ahead) (moved-sum l rest.gap w) ∙ h refl ∙ ap (λ (x : Place). take rest.len x.ahead) (sym (moved-sum l rest.gap z))
+text-step true t l node rest z w e h = grind (arith, moved-sum)
 text-step false t l node rest z w e h = e
 
 trivia-frame : (k : CharClasses) (m : SyntaxMode) (n : ℕ) (z w : Place) → SameIn (asks_by k m n z) z w → Ahead_same k m n n z w
-trivia-frame k m zero z w h =
-    let t = token-same (token k m) z w h.0 in
-    record {
-      nodes = ap (λ x. direct x (len_at k m w)) t.read ∙ ap (direct (token_at k m z)) t.len;
-      asks = ap (λ l. looked 0 l ∷ []) t.seen;
-      text = t.text;
-    }
+trivia-frame k m zero z w h = grind (arith, token-same (token k m) z w h.0)
 trivia-frame k m (suc n) z w h =
     let t = token-same (token k m) z w h.0 in
     let tok = token_at k m z in
     let len = len_at k m z in
     let rest : at_trivia k m z ≡ true → Ahead_same k m n n (moved len z) (moved len w) = λ b.
     trivia-frame k m n (moved len z) (moved len w) (same_in-shift len _ z w (held (at_trivia k m z) _ z w h.1 b)) in
-    record {
-      nodes = ap (λ x. step k x (len_at k m w) (take (len_at k m w) w.ahead) (ahead_by k m n (moved (len_at k m w) w))) t.read
-          ∙ ap (λ l. step k tok l (take l w.ahead) (ahead_by k m n (moved l w))) t.len
-          ∙ ap (λ x. step k tok len x (ahead_by k m n (moved len w))) t.text
-          ∙ if-same (at_trivia k m z) _ _ _ (λ b. ap (after_trivia tok len (token_node k tok (take len z.ahead))) (rest b).nodes);
-      asks = ap (λ x. step_asks x (len_at k m w) (look (token k m) w) (asks_by k m n (moved (len_at k m w) w))) t.read
-          ∙ ap (λ l. step_asks tok l (look (token k m) w) (asks_by k m n (moved l w))) t.len
-          ∙ ap (λ x. step_asks tok len x (asks_by k m n (moved len w))) t.seen
-          ∙ ap (λ ls. looked 0 (look (token k m) z) ∷ ls) (if-same (at_trivia k m z) _ _ _ (λ b. ap (shift len) (rest b).asks));
-      text = text-step (at_trivia k m z) tok len (token_node k tok (take len z.ahead)) (ahead_by k m n (moved len z)) z w t.text (λ b. (rest b).text);
-    }
+    grind (arith, if-same, text-step)
 
 -- trivia and token at two places
 record Same_ahead (a b : Ahead) (here there : List Ask) (z w : Place) : Type 0 where
@@ -135,13 +96,7 @@ unfolding ahead ahead_asks
 ahead-frame k m z w h =
     let n = max (length z.ahead) (length w.ahead) in
     let here = trivia-enough k m (length z.ahead) n z (omega arith) (omega arith) in
-    let far = trivia-enough k m (length w.ahead) n w (omega arith) (omega arith) in
-    let same = trivia-frame k m n z w (subst (λ ls. SameIn ls z w) (sym here.asks) h) in
-    record {
-      nodes = sym far.nodes ∙ same.nodes ∙ here.nodes;
-      asks = sym far.asks ∙ same.asks ∙ here.asks;
-      text = subst (λ (a : Ahead). Text_same a z w) here.nodes same.text;
-    }
+    grind (arith, trivia-enough, trivia-frame)
 
 abbrev after_known : Trivia → Token → ℕ → Ahead
 after_known t tok n = record { trivia = t.nodes; gap = t.gap; newlines = t.newlines; token = tok; len = n }
@@ -150,33 +105,13 @@ after_known t tok n = record { trivia = t.nodes; gap = t.gap; newlines = t.newli
 ahead_of-frame : (k : CharClasses) (m : SyntaxMode) (known : Option Trivia) (z w : Place) → SameIn (ahead_asks_of k m known z) z w
     → Same_ahead (ahead_of k m known z) (ahead_of k m known w) (ahead_asks_of k m known z) (ahead_asks_of k m known w) z w
 ahead_of-frame k m None z w h = ahead-frame k m z w h
-ahead_of-frame k m (Some t) z w h =
-    let e = token-same (token k m) (moved t.gap z) (moved t.gap w) h.0 in
-    record {
-      nodes = ap (λ x. after_known t x (len_at k m (moved t.gap w))) e.read ∙ ap (after_known t (token_at k m (moved t.gap z))) e.len;
-      asks = ap (λ l. looked t.gap l ∷ []) e.seen;
-      text = e.text;
-    }
+ahead_of-frame k m (Some t) z w h = grind (arith, token-same (token k m) (moved t.gap z) (moved t.gap w) h.0)
 
 -- ---- the column
 
-and-third : (a b c d : Bool) → ((a && b) ≡ true → c ≡ d) → (a && (b && c)) ≡ (a && (b && d))
-and-third true true c d h = h refl
-and-third true false c d h = refl
-and-third false b c d h = refl
-
 -- only where a rule asks for the column does it matter
 stops-same : (reading : Reading) (newlines : Newlines) (kind : SyntaxKind) (c d : ℕ) → (asks_column reading newlines ≡ true → c ≡ d) → stops reading newlines kind c ≡ stops reading newlines kind d
-stops-same reading newlines kind c d = elim reading.at_newline as (λ rule.
-    ((newlines.any && (elim rule [ RequireColumn least ↦ is_markup reading.mode | _ ↦ false ])) ≡ true → c ≡ d)
-    → (newlines.any && (elim rule [ Continue ↦ false | Stop ↦ true | ContextualContinue ↦ not (goes_on kind) | StopParBreak ↦ newlines.parbreak | RequireColumn least ↦ is_markup reading.mode && nat_le c least ]))
-    ≡ (newlines.any && (elim rule [ Continue ↦ false | Stop ↦ true | ContextualContinue ↦ not (goes_on kind) | StopParBreak ↦ newlines.parbreak | RequireColumn least ↦ is_markup reading.mode && nat_le d least ]))) [
-      | Continue ↦ λ h. refl
-      | Stop ↦ λ h. refl
-      | ContextualContinue ↦ λ h. refl
-      | StopParBreak ↦ λ h. refl
-      | RequireColumn least ↦ λ h. and-third newlines.any (is_markup reading.mode) (nat_le c least) (nat_le d least) (λ e. ap (λ x. nat_le x least) (h e))
-    ]
+stops-same reading newlines kind c d = grind arith
 
 abbrev with_stop : Ahead → Bool → Hand
 with_stop a stop = record { kind = if stop then kind.End else a.token.kind; trivia = a.trivia; gap = a.gap; len = a.len; newlines = a.newlines; token = a.token }
@@ -202,13 +137,7 @@ hand-frame k held known z w h =
     let front = ahead_asks_of k held.mode known z in
     let first = ahead_of-frame k held.mode known z w (same_in-first front _ z w h) in
     let column = column-frame a.gap (asks_column held a.newlines) z w (same_in-second front _ z w h) in
-    record {
-      hand = ap (λ (b : Ahead). hand_by held (column_at (moved b.gap w)) b) first.nodes ∙ hand-same held _ _ a column;
-      asks = ap (λ (b : Ahead). ahead_asks_of k held.mode known w ++ column_asks held b.newlines b.gap w) first.nodes
-          ∙ ap (λ ls. ls ++ column_asks held a.newlines a.gap w) first.asks
-          ∙ ap (λ ls. front ++ ls) (if-same (asks_column held a.newlines) _ _ _ (λ e. ap (λ c. looked a.gap (record { back = suc c; front = 0 }) ∷ []) (column e)));
-      text = first.text;
-    }
+    grind arith
 
 -- ---- the frame
 
@@ -253,8 +182,7 @@ framed-repeated m w f x z v s h =
 
 -- what grows asked first what it began with
 pub grown-asks : {A : Type 0} (n : ℕ) (shape : Option Shape) (o : Outcome A) → (grown n shape o).asks ≡ o.asks
-grown-asks n None o = refl
-grown-asks n (Some shape) o = refl
+grown-asks n shape o = grind arith
 
 pub grew-asks : {A : Type 0} (n : ℕ) (o : Outcome A) (p : Outcome (Option Shape × A)) (z w : Place) → SameIn (grew n o p).asks z w → SameIn (o.asks ++ shift o.taken p.asks) z w
 grew-asks n o p z w h = subst (λ ls. SameIn ls z w) (grown-asks n p.value.0 (answered p.value.1 (joined o p))) h
@@ -268,10 +196,7 @@ growths-asks m n (suc k) o z w h =
 
 turn-asks : {A : Type 0} (m : A → Meaning (Option Shape × A)) (n k : ℕ) (o : Outcome A) (p : Outcome (Option Shape × A)) (z w : Place)
     → SameIn (if is_more p.value.0 && nat_lt 0 p.taken then growths m n k (grew n o p) z else grew n o p).asks z w → SameIn p.asks (moved o.taken z) (moved o.taken w)
-turn-asks m n k o p z w h =
-    same_in-shift o.taken p.asks z w (same_in-second o.asks _ z w
-    (first_asks (is_more p.value.0 && nat_lt 0 p.taken) (growths m n k (grew n o p) z) (grew n o p) (o.asks ++ shift o.taken p.asks) z w
-    (λ l. grew-asks n o p z w (growths-asks m n k (grew n o p) z w l)) (λ l. grew-asks n o p z w l) h))
+turn-asks m n k o p z w h = grind (arith, same_in-shift, same_in-second, grew-asks, growths-asks)
 
 framed-growths : {A : Type 0} (m : A → Meaning (Option Shape × A)) → ((x : A) → Framed (m x)) → (n k : ℕ) (o : Outcome A) (z w : Place)
     → SameIn (growths m n k o z).asks z w → growths m n k o w ≡ growths m n k o z
@@ -323,26 +248,10 @@ chosen-same false o x y z w h f = refl
 
 framed-chosen : {A : Type 0} (is_wrong : A → Bool) (p q : Meaning A) → Framed p → Framed q → (z w : Place) (s : Point)
     → SameIn (chosen is_wrong (p z s) (q z s)).asks z w → chosen is_wrong (p w s) (q w s) ≡ chosen is_wrong (p z s) (q z s)
-framed-chosen is_wrong p q f g z w s h =
-    let o = p z s in
-    let e = f z w s (chosen-asks (is_wrong o.value) o (q z s) z w h) in
-    rw e (chosen-same (is_wrong o.value) o (q z s) (q w s) z w h (λ l. g z w s (same_in-second o.asks _ z w (same_in-only (o.asks ++ (q z s).asks) z w l))))
-
--- what each question gives, by the token at hand and what else is asked
-abbrev gave_text : CharClasses → Bool → Making → Point → List Ask → Hand → List ℕ → Outcome (Unit {0})
-gave_text k trims making s asks h text = gave h trims h.len (made making (token_node k h.token text)) asks s
-
-abbrev gave_so : CharClasses → Making → Point → List Ask → Hand → Token → ℕ → Look → List ℕ → Outcome (Unit {0})
-gave_so k making s asks h t len l text = gave h false len (made making (token_node k t text)) (asks ++ looked h.gap l ∷ []) s
+framed-chosen is_wrong p q f g z w s h = grind (arith, chosen-asks, chosen-same, same_in-second, same_in-only)
 
 abbrev flushed : Point → List Ask → Hand → Outcome (Unit {0})
 flushed s asks h = record (plain tt (flushed_state h s)) { taken = h.gap; nodes = h.trivia; asks = asks }
-
-abbrev columned : Point → List Ask → Hand → ℕ → Outcome ℕ
-columned s asks h c = record (plain c (asked h s)) { asks = asks ++ looked h.gap (record { back = suc c; front = 0 }) ∷ [] }
-
-abbrev kinded : Point → List Ask → Hand → ℕ → Token → Look → Outcome SyntaxKind
-kinded s asks h at t l = record (plain t.kind (asked h s)) { asks = asks ++ looked at l ∷ [] }
 
 abbrev shown : Point → List Ask → Hand → Outcome AtHand
 shown s asks h = record (plain (as_at_hand h) (asked h s)) { asks = asks }
@@ -352,38 +261,27 @@ module _ (l : Level) where
   at_hand z w s h = hand-frame l.classes s.held s.known z w h
 
   pub framed-done : {A : Type 0} (o : Op A) → Framed (done l o)
-  framed-done hand z w s h =
-      let e = at_hand z w s h in
-      ap (shown s (hand_asks_of l w s)) e.hand ∙ ap (λ ls. shown s ls (hand_of l z s)) e.asks
+  framed-done hand z w s h = let e = at_hand z w s h in cc
   framed-done (so way) z w s h =
       let r = reader_so l way in
       let x = hand_of l z s in
       let e = at_hand z w s (same_in-first (hand_asks_of l z s) _ z w h) in
       let t = token-same r (moved x.gap z) (moved x.gap w) (same_in-second (hand_asks_of l z s) _ z w h).0 in
-      ap (λ (y : Hand). kinded s (hand_asks_of l w s) y y.gap (token_by r (moved y.gap w)) (look r (moved y.gap w))) e.hand
-      ∙ ap (λ ls. kinded s ls x x.gap (token_by r (moved x.gap w)) (look r (moved x.gap w))) e.asks
-      ∙ ap (λ u. kinded s (hand_asks_of l z s) x x.gap u (look r (moved x.gap w))) t.read ∙ ap (kinded s (hand_asks_of l z s) x x.gap (token_by r (moved x.gap z))) t.seen
+      cc
   framed-done further z w s h =
       let r = token l.classes s.reading.mode in
       let x = hand_of l z s in
       let at = x.gap + x.len in
       let e = at_hand z w s (same_in-first (hand_asks_of l z s) _ z w h) in
       let t = token-same r (moved at z) (moved at w) (same_in-second (hand_asks_of l z s) _ z w h).0 in
-      ap (λ (y : Hand). kinded s (hand_asks_of l w s) y (y.gap + y.len) (token_by r (moved (y.gap + y.len) w)) (look r (moved (y.gap + y.len) w))) e.hand
-      ∙ ap (λ ls. kinded s ls x at (token_by r (moved at w)) (look r (moved at w))) e.asks
-      ∙ ap (λ u. kinded s (hand_asks_of l z s) x at u (look r (moved at w))) t.read ∙ ap (kinded s (hand_asks_of l z s) x at (token_by r (moved at z))) t.seen
+      cc
   framed-done column z w s h =
       let x = hand_of l z s in
       let e = at_hand z w s (same_in-first (hand_asks_of l z s) _ z w h) in
       let c = column-same (moved x.gap z) (moved x.gap w) (same_in-second (hand_asks_of l z s) _ z w h).0 in
-      ap (λ (y : Hand). columned s (hand_asks_of l w s) y (column_at (moved y.gap w))) e.hand
-      ∙ ap (λ ls. columned s ls x (column_at (moved x.gap w))) e.asks ∙ ap (columned s (hand_asks_of l z s) x) c
+      cc
   framed-done erred z w s h = refl
-  framed-done (takes trims making) z w s h =
-      let x = hand_of l z s in
-      let e = at_hand z w s h in
-      ap (λ (y : Hand). gave_text l.classes trims making s (hand_asks_of l w s) y (take y.len (moved y.gap w).ahead)) e.hand
-      ∙ ap (λ ls. gave_text l.classes trims making s ls x (take x.len (moved x.gap w).ahead)) e.asks ∙ ap (gave_text l.classes trims making s (hand_asks_of l z s) x) e.text
+  framed-done (takes trims making) z w s h = grind (arith, hand_of l z s, at_hand z w s h)
   framed-done (takes_so way making) z w s h =
       let k = l.classes in
       let r = reader_so l way in
@@ -393,15 +291,8 @@ module _ (l : Level) where
       let asks = hand_asks_of l z s in
       let e = at_hand z w s (same_in-first asks _ z w h) in
       let t = token-same r u v (same_in-second asks _ z w h).0 in
-      ap (λ (y : Hand). let q = moved y.gap w in gave_so k making s (hand_asks_of l w s) y (token_by r q) (len_by r q) (look r q) (take (len_by r q) q.ahead)) e.hand
-      ∙ ap (λ ls. gave_so k making s ls x (token_by r v) (len_by r v) (look r v) (take (len_by r v) v.ahead)) e.asks
-      ∙ ap (λ a. gave_so k making s asks x a (len_by r v) (look r v) (take (len_by r v) v.ahead)) t.read
-      ∙ ap (λ n. gave_so k making s asks x (token_by r u) n (look r v) (take n v.ahead)) t.len
-      ∙ ap (λ a. gave_so k making s asks x (token_by r u) (len_by r u) a (take (len_by r u) v.ahead)) t.seen
-      ∙ ap (gave_so k making s asks x (token_by r u) (len_by r u) (look r u)) t.text
-  framed-done flushes z w s h =
-      let e = at_hand z w s h in
-      ap (flushed s (hand_asks_of l w s)) e.hand ∙ ap (λ ls. flushed s ls (hand_of l z s)) e.asks
+      cc
+  framed-done flushes z w s h = let e = at_hand z w s h in cc
   framed-done (complains message) z w s h = refl
   framed-done (advises hint) z w s h = refl
   framed-done (marks mark) z w s h = refl

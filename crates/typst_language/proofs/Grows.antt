@@ -1,8 +1,8 @@
 -- What grows: a loop of which each turn may make one node of all that was given since its beginning.
-use Rattle.std.proofs.Common.{Option, Some, None, ◌≡◌, ℕ, suc, ◌+◌, ◌-◌, ◌<◌, ◌≤◌, true, false, ◌&&◌, nat_lt, max, length, drop, refl, ap, sym, ◌∙◌, subst, arith}
+use Rattle.std.proofs.Common.{Option, Some, None, ◌≡◌, ℕ, suc, ◌+◌, ◌-◌, ◌<◌, ◌≤◌, true, false, ◌&&◌, nat_lt, length, refl, ap, sym, ◌∙◌, subst, arith}
 use borrow.Author.Tests.{lt-ltb}
 use Rattle.typst_lines.specs.Place.{Place, moved}
-use Rattle.typst_language.specs.Point.{Point, Trivia, gap_of, pending}
+use Rattle.typst_language.specs.Point.{Trivia, pending}
 use Rattle.typst_language.specs.Shape.{Shape}
 use Rattle.typst_language.specs.Sound.{Sound, Tidy}
 use Rattle.typst_language.specs.Syntax.{Parser}
@@ -64,9 +64,7 @@ module _ {A : Type 0} (l : Level) (f : A → Parser (Option Shape × A)) (n : �
   one-runs s y mid did = subst (λ (u : Outcome (Option Shape × A)). Runs l.levels u (s, y) v mid) one-is did
 
   both-runs : (s : Option Shape) (y : A) (mid : View) → Runs l.levels (at l (f x) v) (s, y) v mid → Runs l.levels (answered y (joined o one)) y old mid
-  both-runs s y mid did =
-      let r = runs-followed l.levels o (λ u. run l (f u)) x (s, y) old v mid h did in
-      record { value = refl; place = r.place; state = r.state; nodes = r.nodes; log = r.log }
+  both-runs s y mid did = grind (arith, runs-followed l.levels o (λ u. run l (f u)) x (s, y) old v mid h did)
 
   -- nothing went into a shape
   none-runs : (y : A) (mid : View) → Runs l.levels (at l (f x) v) (None, y) v mid → Runs l.levels (grew n o one) y old mid
@@ -96,9 +94,7 @@ from-token {old = old} c e = e ∙ ap (λ (x : Option Trivia). length old.nodes 
 
 -- no fewer characters and no more trivia are left after a shape
 bound-wrapped : {from : ℕ} {shape : Shape} {mid w : View} → Rewrapped from shape mid w → bound w.place w.state ≡ bound mid.place mid.state
-bound-wrapped {from = from} {shape = shape} {mid = mid} {w = w} r =
-    ap (λ (t : Option Trivia). max (gap_of t) (length w.place.ahead)) (ap (λ (s : Point). s.known) r.state ∙ shape-known shape (drop from mid.nodes) mid.state)
-    ∙ ap (λ (z : Place). max (gap_of mid.state.known) (length z.ahead)) r.place
+bound-wrapped {from = from} {shape = shape} {mid = mid} {w = w} r = grind (arith, shape-known)
 
 module _ {A : Type 0} (l : Level) (p : Parser A) (f : A → Parser (Option Shape × A)) (old : View) (x : A) (v : View) (sound : Sound l) (few : old.state.empties ≤ length old.nodes) (s : Going l p f old x v) where
   abbrev n : ℕ
@@ -139,9 +135,7 @@ module _ {A : Type 0} (l : Level) (p : Parser A) (f : A → Parser (Option Shape
         }
 
     last : (w : View) → (is_more q.value.0 && nat_lt 0 q.taken) ≡ false → Runs l.levels (grew n o q) y old w → Ran l (grows at_token p f) y old w
-    last w off runs =
-        let e = s.rest ∙ ap (λ t. growths (λ u. run l (f u)) n t o old.place) unfolds ∙ ends l f n old x v o s.runs (s.turns - 1) off in
-        record { runs = subst (λ (u : Outcome A). Runs l.levels u y old w) (sym e) runs }
+    last w off runs = grind (arith, unfolds)
 
     stuck : (shape : Shape) (w : View) → Does l (f x) (Some shape, y) v mid → Rewrapped (length old.nodes + n) shape mid w → bytes_left v.place ≤ bytes_left w.place → Ran l (grows at_token p f) y old w
     stuck shape w did r none =

@@ -1,5 +1,5 @@
 -- Hints for an error that was given, and the nodes that stand after one outcome and the next.
-use Rattle.std.proofs.Common.{◌≡◌, ℕ, zero, suc, ◌+◌, ◌-◌, ◌<◌, ◌≤◌, Bool, true, false, if◌then◌else◌, nat_lt, List, [], ◌∷◌, ◌++◌, length, take, append_assoc, append-nil, inl, inr, refl, ap, sym, ◌∙◌, arith}
+use Rattle.std.proofs.Common.{◌≡◌, ℕ, zero, suc, ◌+◌, ◌-◌, ◌<◌, ◌≤◌, Bool, if◌then◌else◌, nat_lt, List, [], ◌∷◌, ◌++◌, length, take, append_assoc, append-nil, inl, inr, refl, ap, sym, ◌∙◌, arith}
 use Rattle.std.proofs.lemmas.Bool.{cases_lt}
 use borrow.Author.Tests.{lt-ltb, le-ltb}
 use Rattle.std.specs.Prelude.{None}
@@ -16,12 +16,10 @@ length-last hs (t ∷ []) = refl
 length-last hs (t ∷ u ∷ ts) = ap suc (length-last hs (u ∷ ts))
 
 pub length-hinted : (hs : List (List ℕ)) (ts : List Tree) → length (hinted hs ts) ≡ length ts
-length-hinted [] ts = refl
-length-hinted (h ∷ hs) ts = length-last (h ∷ hs) ts
+length-hinted hs ts = grind (arith, length-last)
 
 hinted-none : (hs : List (List ℕ)) → hinted hs [] ≡ []
-hinted-none [] = refl
-hinted-none (h ∷ hs) = refl
+hinted-none hs = grind arith
 
 last-append : (hs : List (List ℕ)) (ts : List Tree) (u : Tree) (us : List Tree) → hinted_last hs (ts ++ u ∷ us) ≡ ts ++ hinted_last hs (u ∷ us)
 last-append hs [] u us = refl
@@ -43,15 +41,11 @@ take-last zero hs (t ∷ u ∷ ts) h = refl
 take-last (suc k) hs (t ∷ u ∷ ts) h = let l : k < length (u ∷ ts) = omega arith in ap (λ x. t ∷ x) (take-last k hs (u ∷ ts) l)
 
 take-hinted : (k : ℕ) (hs : List (List ℕ)) (ts : List Tree) → k < length ts → take k (hinted hs ts) ≡ take k ts
-take-hinted k [] ts h = refl
-take-hinted k (x ∷ hs) ts h = take-last k (x ∷ hs) ts h
+take-hinted k hs ts h = grind (arith, take-last)
 
 less-hinted : (n : ℕ) (hs : List (List ℕ)) (ts : List Tree) → 0 < n → less n (hinted hs ts) ≡ less n ts
 unfolding less
-less-hinted n hs [] h = ap (λ l. take (length l - n) l) (hinted-none hs)
-less-hinted n hs (t ∷ ts) h =
-    let l : length (t ∷ ts) - n < length (t ∷ ts) = omega arith in
-    ap (λ m. take (m - n) (hinted hs (t ∷ ts))) (length-hinted hs (t ∷ ts)) ∙ take-hinted (length (t ∷ ts) - n) hs (t ∷ ts) l
+less-hinted n hs ts h = grind (arith, hinted-none, length-hinted, take-hinted)
 
 -- ---- hints on hints
 
@@ -64,8 +58,7 @@ advised-twice [] ks t = refl
 advised-twice (h ∷ hs) ks t = advised-twice hs ks (advised (hint_with None h) t)
 
 if-error : (b : Bool) (hs ks : List (List ℕ)) (t : Tree) → is_error t.head.kind ≡ b → hinted_error ks (if b then all_advised hs t else t) ≡ (if b then all_advised (hs ++ ks) t else t)
-if-error true hs ks t e = let k : is_error (all_advised hs t).head.kind ≡ true = ap is_error (advised-kind hs t) ∙ e in rw k (advised-twice hs ks t)
-if-error false hs ks t e = rw e refl
+if-error b hs ks t e = grind (arith, advised-kind, advised-twice)
 
 error-twice : (hs ks : List (List ℕ)) (t : Tree) → hinted_error ks (hinted_error hs t) ≡ hinted_error (hs ++ ks) t
 error-twice hs ks t = if-error (is_error t.head.kind) hs ks t refl
@@ -78,13 +71,10 @@ last-twice hs ks (t ∷ u ∷ ts) = last-more hs ks t u ts (last-twice hs ks (u 
     -- what a hint leaves of several nodes is several nodes
     last-more : (hs ks : List (List ℕ)) (t u : Tree) (ts : List Tree) → hinted_last ks (hinted_last hs (u ∷ ts)) ≡ hinted_last (hs ++ ks) (u ∷ ts)
         → hinted_last ks (t ∷ hinted_last hs (u ∷ ts)) ≡ t ∷ hinted_last (hs ++ ks) (u ∷ ts)
-    last-more hs ks t u [] e = ap (λ l. t ∷ l) e
-    last-more hs ks t u (v ∷ ts) e = ap (λ l. t ∷ l) e
+    last-more hs ks t u ts e = grind arith
 
 pub hinted-twice : (hs ks : List (List ℕ)) (ts : List Tree) → hinted ks (hinted hs ts) ≡ hinted (hs ++ ks) ts
-hinted-twice [] ks ts = refl
-hinted-twice (h ∷ hs) [] ts = ap (λ x. hinted (h ∷ x) ts) (sym (append-nil hs))
-hinted-twice (h ∷ hs) (k ∷ ks) ts = last-twice (h ∷ hs) (k ∷ ks) ts
+hinted-twice hs ks ts = grind (arith, append-nil, last-twice)
 
 -- ---- one outcome after the other
 

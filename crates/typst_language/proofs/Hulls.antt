@@ -4,10 +4,9 @@ use Rattle.typst_kinds.specs.declared.mode.SyntaxMode.{SyntaxMode}
 use Rattle.typst_lines.specs.Place.{Place, moved}
 use Rattle.typst_lines.specs.Classes.{CharClasses}
 use Rattle.typst_tokens.specs.declared.hull.Hull.{Hull}
-use Rattle.typst_language.specs.Hand.{Ahead, ahead_by, len_at, at_trivia}
+use Rattle.typst_language.specs.Hand.{ahead_by, len_at}
 use Rattle.typst_language.specs.Bytes.{joined_hull, token_hull, tokens_by}
 use Rattle.typst_language.proofs.Places.{moved-sum}
-use Rattle.typst_language.proofs.Within.{on_both}
 
 pub same-hull : (r s l m : ℕ) → r ≡ s → l ≡ m → ◌≡◌ {A = Hull} (record { reach = r; least = l }) (record { reach = s; least = m })
 same-hull r s l m e f = rw (e, f) refl
@@ -22,9 +21,6 @@ in-both u v w i j = record { reach = omega (arith, i.reach, j.reach); least = om
 
 pub itself-in : (u : Hull) → In u u
 itself-in u = record { reach = omega arith; least = omega arith }
-
-pub joined-in : (u v : Hull) → In u (joined_hull u v)
-joined-in u v = record { reach = omega arith; least = omega arith }
 
 pub second-in : (u v : Hull) → In v (joined_hull u v)
 second-in u v = record { reach = omega arith; least = omega arith }
@@ -43,11 +39,8 @@ module _ (k : CharClasses) (m : SyntaxMode) where
       let g = (ahead_by k m f w).gap in
       let rest = own-in f w in
       let t = token_hull k m z in
-      on_pair (λ (a : Ahead) (h : Hull). In (token_hull k m (moved a.gap z)) h) (at_trivia k m z) _ _ _ _
-      (rw (moved-sum l g z) (in-both _ _ (joined_hull t (tokens_by k m f w)) rest (second-in t (tokens_by k m f w))))
-      (itself-in t)
+      grind (arith, on_pair, moved-sum, in-both, second-in, itself-in)
 
   -- the first of them
   pub first-in : (f : ℕ) (z : Place) → In (token_hull k m z) (tokens_by k m f z)
-  first-in zero z = itself-in (token_hull k m z)
-  first-in (suc f) z = on_both (λ (h : Hull). In (token_hull k m z) h) (at_trivia k m z) _ _ (joined-in (token_hull k m z) _) (itself-in (token_hull k m z))
+  first-in f z = grind arith

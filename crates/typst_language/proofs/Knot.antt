@@ -1,5 +1,5 @@
 -- The laws of all that the language can say, by any rules, at every level.
-use Rattle.std.proofs.Common.{◌≡◌, ℕ, zero, suc, true, false, inl, refl, arith}
+use Rattle.std.proofs.Common.{◌≡◌, ℕ, zero, suc, true, false, refl, arith}
 use Rattle.typst_lines.specs.Classes.{CharClasses}
 use Rattle.typst_language.specs.declared.calls.Block.{Block}
 use Rattle.typst_language.specs.Calls.{Call, Answer, no_answer}
@@ -34,22 +34,10 @@ sane-run l d e p = record {
 }
 
 pub sane-plain : {A : Type 0} (a : A) → Sane (λ z s. plain a s)
-sane-plain a = record {
-  framed = λ z w s h. refl;
-  kept = λ z s h. record { text = refl; known = h; blank = blank-nil s.empties };
-  within = λ z s. omega arith;
-  backs = λ z s. record { back = omega arith; left = omega arith };
-  rests = λ z s. record { reading = refl; mode = inl refl; rule = inl refl };
-}
+sane-plain a = grind (arith, blank-nil)
 
 sane-limit : {A : Type 0} (a : A) → Sane (λ z s. record (plain a s) { met = true })
-sane-limit a = record {
-  framed = λ z w s h. refl;
-  kept = λ z s h. record { text = refl; known = h; blank = blank-nil s.empties };
-  within = λ z s. omega arith;
-  backs = λ z s. record { back = omega arith; left = omega arith };
-  rests = λ z s. record { reading = refl; mode = inl refl; rule = inl refl };
-}
+sane-limit a = grind (arith, blank-nil)
 
 module _ (r : Rules) (k : CharClasses) where
   sane-blocks : (levels : ℕ) (d : (call : Call) → Meaning (Answer call)) → ((call : Call) → Sane (d call)) → (b : Block) → Sane (blocks_of r k levels d b)

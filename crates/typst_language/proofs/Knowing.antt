@@ -1,12 +1,11 @@
 -- What stays true of what is remembered of first readings.
-use Rattle.std.proofs.Common.{◌≡◌, ◌⊎◌, inl, inr, ℕ, zero, suc, ◌+◌, ◌-◌, ◌≤◌, min, true, List, [], ◌∷◌, Option, Some, length, refl, ap, sym, ◌∙◌, subst, arith}
+use Rattle.std.proofs.Common.{◌≡◌, ◌⊎◌, inl, inr, ℕ, zero, suc, ◌+◌, ◌-◌, ◌≤◌, min, true, List, [], ◌∷◌, Some, length, refl, ap, sym, ◌∙◌, subst, arith, rules}
 use Rattle.std.specs.Prelude.{insert, slice_get}
 use Rattle.typst_lines.specs.Place.{Place, moved, moved_from, moved_back}
 use Rattle.typst_lines.specs.Scanner.{place}
 use Rattle.typst_tokens.specs.Sight.{hull_of}
 use Rattle.typst_tokens.specs.declared.hull.Hull.{Hull}
 use Rattle.typst_language.specs.declared.calls.AfterName.{AfterName}
-use Rattle.typst_language.specs.declared.calls.Note.{Note}
 use Rattle.typst_language.specs.Ask.{Ask, only_looks}
 use Rattle.typst_language.specs.Ask.Ask.{looked, marked}
 use Rattle.typst_language.specs.Bytes.{LiesIn, bytes_left}
@@ -39,20 +38,14 @@ place-by b (x ∷ a) c [] e l = absurd (omega arith)
 place-by b (x ∷ a) c (y ∷ d) e l = ap moved_back (place-by (x ∷ b) a (y ∷ c) d e (omega arith))
 
 order : (m n : ℕ) → (m ≤ n) ⊎ (n ≤ m)
-order zero n = inl (omega arith)
-order (suc m) zero = inr (omega arith)
-order (suc m) (suc n) = elim (order m n) [ inl h ↦ inl (omega arith) | inr h ↦ inr (omega arith) ]
+order m n = grind arith
 
 -- of two places of one text with as many bytes left, the one with more characters ahead has no more
 no-more : (z w : Place) → end_of z ≡ end_of w → bytes_left z ≡ bytes_left w → length w.ahead ≤ length z.ahead → z ≡ w
 no-more z w e f h =
     let n = length z.ahead - length w.ahead in
     let left = ahead-left n z in
-    let long : length (moved n z).ahead ≡ length w.ahead = omega arith in
-    let same = place-by (moved n z).before (moved n z).ahead w.before w.ahead (end-moved n z ∙ e) long in
-    let bytes = ap bytes_left same in
-    let none = none-bytes n z (omega arith) (omega arith) in
-    ap (λ m. moved m z) (sym none) ∙ same
+    grind (arith, place-by, end-moved, none-bytes)
 
 -- a place of a text is the only one with a given number of bytes left
 pub only-place : (z w : Place) → end_of z ≡ end_of w → bytes_left z ≡ bytes_left w → z ≡ w
@@ -72,10 +65,7 @@ knows-none {g = g} {a = a} e = subst (λ (zs : List Guessed). Knows g a zs) (sym
 
 so-get : (g : Guessing) (a : Place) (es : List Guessed) (k : ℕ) (e : Guessed) → AllSo g a es → slice_get es k ≡ Some e → IsSo g a e
 so-get g a [] k e h f = absurd (cc)
-so-get g a (x ∷ es) zero e h f = subst (λ (y : Guessed). IsSo g a y) (some-is x e f) h.0
-  where
-    some-is : (x y : Guessed) → ◌≡◌ {A = Option Guessed} (Some x) (Some y) → x ≡ y
-    some-is x y f = cc
+so-get g a (x ∷ es) zero e h f = grind arith
 so-get g a (x ∷ es) (suc k) e h f = so-get g a es k e h.1 f
 
 so-insert : (g : Guessing) (a : Place) (es : List Guessed) (k : ℕ) (e : Guessed) → AllSo g a es → IsSo g a e → AllSo g a (insert es k e)
@@ -126,30 +116,17 @@ looks-within n z h (marked at gap fewer mark s ∷ asks) u i k = looks-within n 
 
 -- what was looked at before a reading lies in what was looked at after it
 pub before-in : (n : ℕ) (z : Place) (h : Log) (asks : List Ask) → LiesIn (hull_in h) (hull_in (logged n z h (only_looks asks)))
-before-in n z h asks =
-    let a = looks-among (hull_in h) n z h asks (record { reach = omega arith; least = omega arith }) in
-    record { reach = a.reach; least = a.least }
+before-in n z h asks = grind (arith, looks-among (hull_in h) n z h asks (record { reach = omega arith; least = omega arith }))
 
 -- logs with the same notes in which each other's looks lie are the same
 same-looks-log : (g h : Log) → g.notes ≡ h.notes → LiesIn (hull_in g) (hull_in h) → LiesIn (hull_in h) (hull_in g) → g ≡ h
-same-looks-log g h e i k =
-    let reach : g.reach ≡ h.reach = omega (arith, i.reach, k.reach) in
-    let least : g.least ≡ h.least = omega (arith, i.least, k.least) in
-    parts g.reach h.reach g.least h.least g.notes h.notes reach least e
-  where
-    parts : (r s l m : ℕ) (ns us : Option (List Note)) → r ≡ s → l ≡ m → ns ≡ us → ◌≡◌ {A = Log} (record { reach = r; least = l; notes = ns }) (record { reach = s; least = m; notes = us })
-    parts r s l m ns us d e f = rw (d, e, f) refl
+same-looks-log g h e i k = grind arith
 
 -- where the same stretches hold the looks of one reading and those of another, beside what was looked at before, both leave the same
 pub same-looks : (n : ℕ) (h : Log) (z w : Place) (xs ys : List Ask)
     → ((u : Hull) → LiesIn (hull_in h) u → LooksIn u z xs → LooksIn u w ys) → ((u : Hull) → LiesIn (hull_in h) u → LooksIn u w ys → LooksIn u z xs)
     → logged n z h (only_looks xs) ≡ logged n w h (only_looks ys)
-same-looks n h z w xs ys to from =
-    let x = logged n z h (only_looks xs) in
-    let y = logged n w h (only_looks ys) in
-    same-looks-log x y (looks-notes n z h xs ∙ sym (looks-notes n w h ys))
-    (looks-within n z h xs (hull_in y) (before-in n w h ys) (from (hull_in y) (before-in n w h ys) (looks-in n w h ys)))
-    (looks-within n w h ys (hull_in x) (before-in n z h xs) (to (hull_in x) (before-in n z h xs) (looks-in n z h xs)))
+same-looks n h z w xs ys to from = search (rules, same-looks-log, looks-notes, looks-within, before-in, looks-in)
 
 -- the stretch of a first reading is what it looks at, where its paren was looked at
 pub comes-looks : {g : Guess} {paren hull : Hull} {z : Place} {b : AfterName} (n : ℕ) (h : Log) → Comes g paren hull z b → LiesIn paren (hull_in h) → with_hull hull h ≡ logged n z h (only_looks g.asks)
@@ -159,8 +136,7 @@ comes-looks {g = g} {paren = paren} {hull = hull} {z = z} n h c lies =
     let before = before-in n z h g.asks in
     let whole = c.least (hull_in y) (lies-through lies before) (looks-in n z h g.asks) in
     let inside = looks-within n z h g.asks (hull_in x) (record { reach = omega arith; least = omega arith }) (looks-more hull (hull_in x) z g.asks (record { reach = omega arith; least = omega arith }) c.looks) in
-    same-looks-log x y (sym (looks-notes n z h g.asks))
-    (record { reach = let a = before.reach in let b = whole.reach in omega arith; least = let d = before.least in let e = whole.least in omega arith }) inside
+    grind (arith, same-looks-log, looks-notes)
 
 -- what is remembered of the parens at hand comes after them
 pub found-is : {l : Level} {v : View} (e : Guessed) (k levels left : ℕ) → Fits l v → slice_get v.memo k ≡ Some e → e.left ≡ left → left ≡ bytes_left (place_after_paren v)
@@ -175,15 +151,7 @@ found-is {l = l} {v = v} e k levels left f at is here leaf m n o lies =
 -- one more is remembered
 pub remembers-more : {v w : View} (levels : ℕ) (b : AfterName) (e : Guessed) (k : ℕ) → w ≡ record v { memo = insert v.memo k e } → is_leaf v.hand.token ≡ true
     → e.left ≡ bytes_left (place_after_paren v) → e.levels ≡ levels → e.outer ≡ v.state.reading → e.after ≡ b → e.paren ≡ v.here → e.hull ≡ hull_in v.log → Remembers levels b v w
-remembers-more {v = v} {w = w} levels b e k is leaf left n o c p h = record {
-  same = is ∙ ap (λ (es : List Guessed). record v { memo = es }) (sym (ap (λ (x : View). x.memo) is));
-  knows = λ l m found all.
-      let z = place_after_paren v in
-      let so : IsSo l.guess (end_of v.place) e = λ y end bytes.
-      let here = only-place y z (end ∙ sym (end-moved (v.hand.gap + v.hand.len) v.place)) (bytes ∙ left) in
-      rw (here, n, sym m, o, c, p, h) (found leaf) in
-      knows-at (ap (λ (x : View). x.memo) is) refl (record { all = so-insert l.guess (end_of v.place) v.memo k e all.all so });
-}
+remembers-more {v = v} {w = w} levels b e k is leaf left n o c p h = grind (arith, only-place, end-moved, knows-at, so-insert)
 
 pub remembers-same : {v w : View} (levels : ℕ) (b : AfterName) → w ≡ v → Remembers levels b v w
 remembers-same {v = v} levels b e = rw e (record { same = refl; knows = λ l m found all. all })

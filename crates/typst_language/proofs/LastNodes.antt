@@ -1,5 +1,5 @@
 -- The last of several nodes, by its place.
-use Rattle.std.proofs.Common.{None, true, false, ◌≡◌, ℕ, zero, suc, ◌-◌, ◌<◌, ◌≤◌, Bool, ◌&&◌, List, [], ◌∷◌, length, get_or, refl, ap, sym, ◌∙◌, arith}
+use Rattle.std.proofs.Common.{None, true, false, ◌≡◌, ℕ, zero, suc, ◌-◌, ◌&&◌, List, [], ◌∷◌, length, get_or, refl, ap, sym, ◌∙◌, arith}
 use Rattle.std.proofs.Math.ListN.{set}
 use Rattle.typst_kinds.specs.Kinds.{is_error}
 use Rattle.typst_lexer.specs.Tree.{Tree, advised}
@@ -16,14 +16,10 @@ ends-last c (t ∷ u ∷ ts) zero d h = absurd (omega arith)
 ends-last c (t ∷ u ∷ ts) (suc i) d h = ends-last c (u ∷ ts) i d (omega arith)
 
 pub parens-ends : (ts : List Tree) (i : ℕ) (d e : Tree) → length ts ≡ suc (suc i) → in_parens ts ≡ (is_sign 40 (get_or ts 0 d) && is_sign 41 (get_or ts (suc i) e))
-parens-ends [] i d e h = absurd (omega arith)
-parens-ends (t ∷ []) i d e h = absurd (omega arith)
-parens-ends (t ∷ u ∷ ts) i d e h = ap (λ b. is_sign 40 t && b) (ends-last 41 (u ∷ ts) i e (omega arith))
+parens-ends ts i d e h = grind (arith, ends-last)
 
 hinted-at : (hs : List (List ℕ)) (ts : List Tree) → hinted_last hs ts ≡ at_last (hinted_error hs) ts
-hinted-at hs [] = refl
-hinted-at hs (t ∷ []) = refl
-hinted-at hs (t ∷ u ∷ ts) = ap (λ l. t ∷ l) (hinted-at hs (u ∷ ts))
+hinted-at hs ts = cc
 
 -- the last node has these hints
 pub hinted-set : (hs : List (List ℕ)) (ts : List Tree) (i : ℕ) (t u : Tree) → length ts ≡ suc i → t ≡ get_or ts i t → u ≡ hinted_error hs t → set ts i u ≡ hinted_last hs ts

@@ -1,46 +1,40 @@
 -- The nodes that are given hold the characters that are taken.
-use Rattle.std.proofs.Common.{◌≡◌, ℕ, zero, suc, ◌+◌, ◌-◌, ◌<◌, ◌≤◌, Bool, true, false, ◌&&◌, if◌then◌else◌, nat_lt, List, [], ◌∷◌, ◌++◌, length, take, drop, length-append, append_assoc, append-nil, take-add, take_at, encode_utf8_all, refl, ap, sym, ◌∙◌, subst, arith, Option, Some}
+use Rattle.std.proofs.Common.{◌≡◌, ℕ, zero, suc, ◌+◌, ◌-◌, ◌<◌, ◌≤◌, Bool, true, false, ◌&&◌, if◌then◌else◌, nat_lt, List, [], ◌∷◌, ◌++◌, length, take, drop, length-append, append_assoc, append-nil, take-add, take_at, encode_utf8_all, refl, ap, sym, ◌∙◌, subst, arith, Option, Some, rules}
 use Rattle.std.proofs.lemmas.Str.{encodes-append}
 use Rattle.std.proofs.lemmas.List.{take-append-drop}
 use Rattle.typst_kinds.specs.declared.kind.SyntaxKind.{SyntaxKind}
 use Rattle.typst_kinds.specs.declared.mode.SyntaxMode.{SyntaxMode}
 use Rattle.typst_kinds.specs.Kinds.{is_error}
 use Rattle.typst_lines.specs.Place.{Place, moved}
-use Rattle.typst_lexer.specs.Tree.{Tree, Forest, forest, trees, joined as text_joined, text_of, with_kind, made_error, advised, all_advised, error_of, topped, inner_of}
+use Rattle.typst_lexer.specs.Tree.{Tree, forest, trees, joined as text_joined, text_of, with_kind, made_error, all_advised, error_of, topped}
 use Rattle.typst_lexer.proofs.Texts.{text_all_advised}
-use Rattle.typst_lexer.specs.Tree.Forest.{none, more}
 use Rattle.typst_tree.proofs.SpansAside.{forest_trees}
 use Rattle.typst_kinds.specs.declared.kind.SyntaxKind.TheVariants as kind
-use Rattle.typst_lexer.specs.Messages.{made_unexpected, made_expected, expected_error, expected_message, unexpected_message, is_lost_name, keyword_hint}
-use Rattle.typst_lexer.specs.Diagnostic.{hint_with}
+use Rattle.typst_lexer.specs.Messages.{made_unexpected, made_expected, unexpected_message}
 use Rattle.typst_kinds.specs.Names.{name_of}
-use Rattle.std.specs.Prelude.{codes, None}
+use Rattle.std.specs.Prelude.{None}
 use Rattle.typst_lines.proofs.Bools.{on}
 use Rattle.typst_language.specs.declared.calls.Block.{Block}
-use Rattle.typst_language.specs.Point.{Trivia, Point, forgot}
-use Rattle.typst_language.specs.Shape.{Making, made, hinted_error, hinted_last, hinted, NodeChange, changed, on_first, first_changed, is_delimited, in_parens, renamed_last, parens_renamed, without_parens, Shape, shaped, count_empty, after_node, after_change, after_shape}
+use Rattle.typst_language.specs.Point.{Trivia, Point}
+use Rattle.typst_language.specs.Shape.{Making, made, hinted_error, hinted_last, hinted, NodeChange, changed, first_changed, is_delimited, in_parens, renamed_last, parens_renamed, without_parens, Shape, shaped, count_empty, after_node, after_change, after_shape}
 use Rattle.typst_language.specs.Shape.NodeChange.{stays, turns_wrong, is_not, renamed, unparened}
 use Rattle.typst_language.specs.Shape.Making.{itself, of_kind, surprise, wanted}
-use Rattle.typst_language.specs.Shape.Shape.{keeps, holds, lacks, warns, fails}
 use Rattle.typst_language.specs.declared.reading.Reading.{Reading}
 use Rattle.typst_lines.specs.Classes.{CharClasses}
 use Rattle.typst_lexer.specs.Nodes.{token_node}
 use Rattle.typst_lexer.specs.Tokens.{token}
-use Rattle.typst_language.specs.Hand.{Hand, utf8_ahead, token_at, len_at, token_by, len_by, at_trivia, Ahead, after_trivia, direct, ahead_by, ahead, hand_at, as_at_hand, column_at}
+use Rattle.typst_language.specs.Hand.{utf8_ahead, token_at, len_at, token_by, at_trivia, Ahead, after_trivia, direct, ahead_by, ahead, hand_at, as_at_hand, column_at}
 use Rattle.typst_language.specs.Syntax.{Op, Begin, Parser}
 use Rattle.typst_language.specs.Syntax.Op.{hand, so, further, column, erred, takes, takes_so, flushes, complains, advises, marks, is_deepest}
 use Rattle.typst_language.specs.Syntax.Parser.{gives, does, next, pick, repeat, wraps, grows, nests, scoped, either, calls, block}
-use Rattle.typst_language.specs.Meaning.{Outcome, Meaning, Level, less, joined, answered, followed, turns, as_last, bound, repeated, before, inside, reshaped, wrapped, grown, is_more, growths, growing, nestings, nesting, closed, bounded, given_up, plain, same_mode, entered, left, taken_node, node_by, reader_so, gave, hand_of, hand_asks_of, asked, done, run}
+use Rattle.typst_language.specs.Meaning.{Outcome, Meaning, Level, less, joined, answered, turns, as_last, bound, repeated, before, inside, reshaped, grown, is_more, growths, growing, nestings, nesting, bounded, given_up, plain, entered, left, reader_so, gave, hand_of, asked, done, run}
 use Rattle.typst_language.specs.Sound.{Tidy, Backs, Stands}
-use Rattle.typst_language.specs.Calls.{Call, Answer}
+use Rattle.typst_language.specs.Calls.{Call}
 use Rattle.typst_language.specs.Ask.{Ask}
-use Rattle.typst_language.specs.Ask.Ask.{looked}
-use Rattle.typst_tokens.specs.Reader.{look}
 use Rattle.typst_language.proofs.Within.{grew}
-use Rattle.typst_language.proofs.HintedNodes.{length-hinted}
 use Rattle.typst_language.proofs.Backs.{backs-turns, tidy-nestings, backs-run}
 use Rattle.typst_lexer.proofs.TokenTexts.{text-token}
-use Rattle.typst_language.proofs.Places.{moved-sum, less-append, less-twice, less-none, length-less, moved-ahead}
+use Rattle.typst_language.proofs.Places.{moved-sum, less-append, less-twice, less-none, moved-ahead}
 
 -- ---- texts of nodes
 
@@ -70,11 +64,7 @@ text-error : (message : List ℕ) (t : Tree) → text_of (made_error message t) 
 text-error message t = on (λ (u : Tree). text_of u ≡ text_of t) (is_error t.head.kind) t (error_of message (text_of t)) refl (append-nil (text_of t))
 
 text-wanted : (thing : List ℕ) (t : Tree) → text_of (made_expected thing t) ≡ text_of t
-text-wanted thing t =
-    on (λ (u : Tree). text_of u ≡ text_of t) (is_error t.head.kind) t (expected_error thing t) refl
-    (on (λ (u : Tree). text_of u ≡ text_of t) (is_lost_name t.head.kind thing)
-    (advised (hint_with None (keyword_hint (text_of t))) (error_of (expected_message thing (name_of t.head.kind)) (text_of t)))
-    (error_of (expected_message thing (name_of t.head.kind)) (text_of t)) (append-nil (text_of t)) (append-nil (text_of t)))
+text-wanted thing t = grind (arith, append-nil)
 
 pub text-made : (m : Making) (t : Tree) → text_of (made m t) ≡ text_of t
 text-made itself t = refl
@@ -122,8 +112,7 @@ same-take (suc k) (t ∷ ts) (u ∷ us) h = (h.0, same-take k ts us h.1)
 
 less-same : (k : ℕ) (ts us : List Tree) → Same ts us → texts (less k ts) ≡ texts (less k us)
 unfolding less
-less-same k ts us h =
-    ap (λ n. texts (take (n - k) ts)) (same-long ts us h) ∙ texts-same (take (length us - k) ts) (take (length us - k) us) (same-take (length us - k) ts us h)
+less-same k ts us h = grind (arith, same-long, texts-same, same-take)
 
 -- with hints
 text-hinted : (hints : List (List ℕ)) (t : Tree) → text_of (hinted_error hints t) ≡ text_of t
@@ -135,8 +124,7 @@ same-last hints (t ∷ []) = (text-hinted hints t, tt)
 same-last hints (t ∷ u ∷ ts) = (refl, same-last hints (u ∷ ts))
 
 pub same-hinted : (hints : List (List ℕ)) (ts : List Tree) → Same (hinted hints ts) ts
-same-hinted [] ts = same-all ts
-same-hinted (hint ∷ hints) ts = same-last (hint ∷ hints) ts
+same-hinted hints ts = grind (arith, same-all, same-last)
 
 -- without the parens of math
 same-renamed : (k : SyntaxKind) (ts : List Tree) → Same (renamed_last k ts) ts
@@ -145,8 +133,7 @@ same-renamed k (t ∷ []) = (text-kind k t, tt)
 same-renamed k (t ∷ u ∷ ts) = (refl, same-renamed k (u ∷ ts))
 
 same-parens : (ts : List Tree) → Same (parens_renamed ts) ts
-same-parens [] = tt
-same-parens (t ∷ ts) = (text-kind kind.LeftParen t, same-renamed kind.RightParen ts)
+same-parens ts = grind (arith, text-kind, same-renamed)
 
 text-parens : (t : Tree) → text_of (without_parens t) ≡ text_of t
 text-parens t =
@@ -177,8 +164,7 @@ first-none (renamed k) = refl
 first-none unparened = refl
 
 same-changed : (change : NodeChange) (ts : List Tree) → Same (first_changed change ts) ts
-same-changed change [] = subst (λ us. Same us []) (sym (first-none change)) tt
-same-changed change (t ∷ ts) = subst (λ us. Same us (t ∷ ts)) (sym (first-is change t ts)) (text-changed change t, same-all ts)
+same-changed change ts = grind (arith, first-none, first-is, text-changed, same-all)
 
 texts-changed : (change : NodeChange) (ts : List Tree) → texts (first_changed change ts) ≡ texts ts
 texts-changed change ts = texts-same (first_changed change ts) ts (same-changed change ts)
@@ -188,11 +174,7 @@ texts-lacking : (count : ℕ) (message : List ℕ) (ts : List Tree) → texts (t
 texts-lacking count message ts = texts-append (take count ts) (error_of message [] ∷ drop count ts) ∙ sym (texts-append (take count ts) (drop count ts)) ∙ ap texts (take-append-drop count ts)
 
 pub text-shaped : (shape : Shape) (ts : List Tree) → texts (shaped shape ts) ≡ texts ts
-text-shaped (keeps change) ts = texts-changed change ts
-text-shaped (holds change k) ts = texts-one (inner_of k (forest (first_changed change ts))) ∙ texts-changed change ts
-text-shaped (lacks count message k) ts = texts-one (inner_of k (forest (take count ts ++ error_of message [] ∷ drop count ts))) ∙ texts-lacking count message ts
-text-shaped (warns k message hint) ts = append-nil (texts ts)
-text-shaped (fails message) ts = append-nil (texts ts)
+text-shaped shape ts = grind (arith, texts-changed, texts-one, texts-lacking, append-nil)
 
 -- ---- the last nodes hold no text
 
@@ -207,12 +189,7 @@ blank-none ts k h = let z : k ≡ 0 = omega arith in ap (λ n. texts (less n ts)
 pub blank-last : (n : ℕ) (ts : List Tree) (t : Tree) → n ≤ 1 → (0 < n → text_of t ≡ []) → Blank n (ts ++ t ∷ [])
 unfolding less
 blank-last n ts t le h zero b = ap texts (less-none (ts ++ t ∷ []))
-blank-last n ts t le h (suc k) b =
-    let z : suc k ≡ 1 = omega arith in
-    let l : length (ts ++ t ∷ []) - 1 ≡ length ts = omega (arith, length-append ts (t ∷ [])) in
-    let e : less 1 (ts ++ t ∷ []) ≡ ts = ap (λ m. take m (ts ++ t ∷ [])) l ∙ take_at ts (t ∷ []) (length ts) refl in
-    ap (λ m. texts (less m (ts ++ t ∷ []))) z ∙ ap texts e
-    ∙ sym (texts-append ts (t ∷ []) ∙ ap (λ x. texts ts ++ x) (texts-one t ∙ h (omega arith)) ∙ append-nil (texts ts))
+blank-last n ts t le h (suc k) b = grind (arith, length-append, take_at, texts-append, texts-one, append-nil)
 
 less-nil : (k : ℕ) → less {A = Tree} k [] ≡ []
 unfolding less
@@ -224,8 +201,7 @@ blank-nil n k h = ap texts (less-nil k)
 -- one empty error alone
 blank-error : (n : ℕ) (message : List ℕ) → Blank n (error_of message [] ∷ [])
 unfolding less
-blank-error n message zero h = ap texts (less-none (error_of message [] ∷ []))
-blank-error n message (suc k) h = let z : 1 - suc k ≡ 0 = omega arith in ap (λ m. texts (take m (error_of message [] ∷ []))) z
+blank-error n message g h = grind arith
 
 -- ---- texts of places
 
@@ -249,8 +225,7 @@ ahead-texts k m (suc n) z =
 
 known-texts : (k : CharClasses) (held : Reading) (known : Option Trivia) (z : Place) → Stands z known → texts (hand_at k held known z).trivia ≡ utf8_ahead (hand_at k held known z).gap z
 unfolding hand_at ahead
-known-texts k held None z h = ahead-texts k held.mode (length z.ahead) z
-known-texts k held (Some t) z h = h
+known-texts k held known z h = grind (arith, ahead-texts)
 
 -- the trivia at hand hold the characters before the token
 pub hand-texts : (l : Level) (z : Place) (s : Point) → Stands z s.known → texts (hand_of l z s).trivia ≡ utf8_ahead (hand_of l z s).gap z
@@ -310,18 +285,11 @@ record Empties (n : ℕ) (text : List ℕ) : Type 0 where
   no_text : 0 < n → text ≡ []
 
 empties-counted : (text : List ℕ) → Empties (count_empty text) text
-empties-counted [] = record { few = omega arith; no_text = λ h. refl }
-empties-counted (c ∷ cs) = record { few = omega arith; no_text = λ h. absurd (omega arith) }
+empties-counted text = grind arith
 
 empties-node : (b : Bool) (text : List ℕ) (s : Point) → Empties (after_node b text s).empties text
 empties-node true text s = empties-counted text
 empties-node false text s = record { few = omega arith; no_text = λ h. absurd (omega arith) }
-
-kept-empties : (outer : Reading) (s : Point) → (left outer s).empties ≡ s.empties
-kept-empties outer s = on (λ (t : Point). t.empties ≡ s.empties) (same_mode s.reading.mode outer.mode) _ _ refl refl
-
-kept-known : (w : Place) (outer : Reading) (s : Point) → Stands w s.known → Stands w (left outer s).known
-kept-known w outer s h = on (λ (t : Point). Stands w t.known) (same_mode s.reading.mode outer.mode) _ _ h tt
 
 -- nodes of which the first was changed
 blank-same : (n : ℕ) (ts us : List Tree) → Same ts us → Blank n us → Blank n ts
@@ -329,43 +297,25 @@ blank-same n ts us h b = λ k le. less-same k ts us h ∙ b k le ∙ sym (texts-
 
 blank-one : (b c : Bool) (change : NodeChange) (front : List Tree) (t : Tree) (s : Point) → Blank s.empties (front ++ t ∷ [])
     → Blank (if b then s else after_node c (text_of t) s).empties (front ++ changed change t ∷ [])
-blank-one true c change front t s h =
-    blank-same s.empties (front ++ changed change t ∷ []) (front ++ t ∷ []) (same-append front front (changed change t ∷ []) (t ∷ []) (same-all front) (text-changed change t, tt)) h
+blank-one true c change front t s h = search (rules, blank-same, same-append, same-all, text-changed)
 blank-one false c change front t s h =
     let e = empties-node c (text_of t) s in
     blank-last (after_node c (text_of t) s).empties front (changed change t) e.few (λ l. text-changed change t ∙ e.no_text l)
 
 blank-changed : (change : NodeChange) (front ts : List Tree) (s : Point) → Blank s.empties (front ++ ts) → Blank (after_change change ts s).empties (front ++ first_changed change ts)
 blank-changed change front [] s h = subst (λ us. Blank s.empties (front ++ us)) (sym (first-none change)) h
-blank-changed change front (t ∷ []) s h =
-    subst (λ us. Blank (after_change change (t ∷ []) s).empties (front ++ us)) (sym (first-is change t []))
-    (blank-one (is_error t.head.kind) (is_error (changed change t).head.kind) change front t s h)
-blank-changed change front (t ∷ u ∷ ts) s h =
-    blank-same s.empties (front ++ first_changed change (t ∷ u ∷ ts)) (front ++ t ∷ u ∷ ts)
-    (same-append front front (first_changed change (t ∷ u ∷ ts)) (t ∷ u ∷ ts) (same-all front) (same-changed change (t ∷ u ∷ ts))) h
+blank-changed change front (t ∷ []) s h = grind (arith, first-is, blank-one)
+blank-changed change front (t ∷ u ∷ ts) s h = search (rules, blank-same, same-append, same-all, same-changed)
 
 blank-shaped : (shape : Shape) (front ts : List Tree) (s : Point) → Blank s.empties (front ++ ts) → Blank (after_shape shape ts s).empties (front ++ shaped shape ts)
-blank-shaped (keeps change) front ts s h = blank-changed change front ts s h
-blank-shaped (holds change k) front ts s h = blank-none _
-blank-shaped (lacks count message k) front ts s h = blank-none _
-blank-shaped (warns k message hint) front ts s h = blank-none _
-blank-shaped (fails message) front ts s h =
-    let e = empties-counted (texts ts) in
-    blank-last (count_empty (texts ts)) front (error_of message (texts ts)) e.few (λ l. append-nil (texts ts) ∙ e.no_text l)
+blank-shaped shape front ts s h = grind (arith, blank-changed, blank-none, empties-counted, blank-last, append-nil)
 
 after_node-known : (b : Bool) (text : List ℕ) (s : Point) → (after_node b text s).known ≡ s.known
 after_node-known true text s = refl
 after_node-known false text s = refl
 
 after_shape-known : (shape : Shape) (ts : List Tree) (s : Point) → (after_shape shape ts s).known ≡ s.known
-after_shape-known (keeps change) [] s = refl
-after_shape-known (keeps change) (t ∷ []) s =
-    on (λ (u : Point). u.known ≡ s.known) (is_error t.head.kind) s (after_node (is_error (changed change t).head.kind) (text_of t) s) refl (after_node-known (is_error (changed change t).head.kind) (text_of t) s)
-after_shape-known (keeps change) (t ∷ u ∷ ts) s = refl
-after_shape-known (holds change k) ts s = refl
-after_shape-known (lacks count message k) ts s = refl
-after_shape-known (warns k message hint) ts s = refl
-after_shape-known (fails message) ts s = refl
+after_shape-known shape ts s = grind (arith, after_node-known)
 
 kept-reshaped : {A : Type 0} (z : Place) (shape : Shape) (n : ℕ) (o : Outcome A) → Holds z o → Holds z (reshaped shape n o)
 kept-reshaped z shape n o k =
@@ -404,8 +354,7 @@ kept-nestings f begin m b g (suc n) x z s h =
     (record { text = first.text; known = first.known; blank = first.blank }))
 
 blank-flushed : (s : Point) (ts : List Tree) → Blank (elim ts as (λ _. Point) [ [] ↦ s | u ∷ us ↦ after_node false [] s ]).empties ts
-blank-flushed s [] = blank-nil s.empties
-blank-flushed s (t ∷ ts) = blank-none (t ∷ ts)
+blank-flushed s ts = grind (arith, blank-nil, blank-none)
 
 module _ (l : Level) where
   kept-gave : (z : Place) (s : Point) (trims : Bool) (len : ℕ) (node : Tree) (asks : List Ask) → Stands z s.known → text_of node ≡ utf8_ahead len (moved (hand_of l z s).gap z) → Holds z (gave (hand_of l z s) trims len node asks s)
@@ -427,17 +376,8 @@ module _ (l : Level) where
   kept-done further z s h = kept-asked (token_by (token l.classes s.reading.mode) (moved ((hand_of l z s).gap + (hand_of l z s).len) z)).kind _ z s h
   kept-done column z s h = kept-asked (column_at (moved (hand_of l z s).gap z)) _ z s h
   kept-done erred z s h = kept-plain z s.is_after_error s h
-  kept-done (takes trims making) z s h =
-      let x = hand_of l z s in
-      let taken = take x.len (moved x.gap z).ahead in
-      kept-gave z s trims x.len (taken_node l.classes making x z) (hand_asks_of l z s) h (text-made making (token_node l.classes x.token taken) ∙ text-token l.classes x.token taken)
-  kept-done (takes_so way making) z s h =
-      let x = hand_of l z s in
-      let w = moved x.gap z in
-      let r = reader_so l way in
-      let taken = take (len_by r w) w.ahead in
-      kept-gave z s false (len_by r w) (node_by l.classes making (token_by r w) (len_by r w) w) (hand_asks_of l z s ++ looked x.gap (look r w) ∷ []) h
-      (text-made making (token_node l.classes (token_by r w) taken) ∙ text-token l.classes (token_by r w) taken)
+  kept-done (takes trims making) z s h = search (rules, kept-gave, text-made, text-token)
+  kept-done (takes_so way making) z s h = search (rules, kept-gave, text-made, text-token)
   kept-done flushes z s h = record { text = hand-texts l z s h; known = refl; blank = blank-flushed s (hand_of l z s).trivia }
   kept-done (complains message) z s h = record { text = refl; known = h; blank = blank-error (s.empties + 1) message }
   kept-done (advises hint) z s h = record { text = refl; known = h; blank = blank-nil s.empties }
@@ -467,10 +407,7 @@ module _ (l : Level) where
     kept-run (grows begin p f) z s h =
         kept-growths (λ y. run l (f y)) (λ y. backs-run l b c (f y)) (λ y. kept-run (f y)) (before begin s) (suc (bound z s)) (run l p z s) z (kept-run p z s h)
     kept-run (nests f begin p x) z s h = kept-nestings f begin (λ y. run l (p y)) (λ y. backs-run l b c (p y)) (λ y. kept-run (p y)) (suc (bound z s)) x z s h
-    kept-run (scoped f p) z s h =
-        let o = run l p z (entered (f s.reading) s) in
-        let k = kept-run p z (entered (f s.reading) s) h in
-        record { text = k.text; known = kept-known (moved o.taken z) s.reading o.state k.known; blank = subst (λ n. Blank n o.nodes) (sym (kept-empties s.reading o.state)) k.blank }
+    kept-run (scoped f p) z s h = grind (arith, run l p z (entered (f s.reading) s), kept-run p z (entered (f s.reading) s) h)
     kept-run (either p is_wrong q) z s h =
         let o = run l p z s in
         let k = kept-run q z s h in

@@ -1,5 +1,5 @@
 -- What was looked at and noted.
-use Rattle.std.proofs.Common.{Option, Some, None, ◌≡◌, ℕ, zero, suc, ◌+◌, ◌-◌, ◌≤◌, Bool, true, false, if◌then◌else◌, List, [], ◌∷◌, ◌++◌, length, refl, ap, sym, subst, ◌∙◌, arith}
+use Rattle.std.proofs.Common.{Option, Some, None, ◌≡◌, ℕ, zero, suc, ◌+◌, ◌-◌, ◌≤◌, Bool, true, false, if◌then◌else◌, List, [], ◌∷◌, ◌++◌, refl, ap, ◌∙◌, arith}
 use Rattle.typst_kinds.specs.declared.mode.SyntaxMode.{SyntaxMode}
 use Rattle.typst_lines.specs.Place.{Place, moved}
 use Rattle.typst_lines.specs.Classes.{CharClasses}
@@ -10,7 +10,7 @@ use Rattle.typst_language.specs.declared.reading.Reading.{Reading}
 use Rattle.typst_language.specs.Ask.{Ask, shift, sunk}
 use Rattle.typst_language.specs.Ask.Ask.{looked, marked}
 use Rattle.typst_language.specs.Point.{Trivia}
-use Rattle.typst_language.specs.Hand.{ahead, ahead_by, len_at, at_trivia, asks_by, ahead_asks, column_look, column_asks, asks_column, hand_at, hand_asks}
+use Rattle.typst_language.specs.Hand.{ahead, len_at, at_trivia, asks_by, ahead_asks, column_look, hand_at, hand_asks}
 use Rattle.typst_language.specs.Bytes.{joined_hull, token_hull, tokens_by, tokens_at, column_hull, whole_at}
 use Rattle.typst_language.specs.Log.{Log, with_hull, with_note, logged_one, logged}
 use Rattle.typst_language.proofs.Hulls.{In, own-in, second-in}
@@ -79,35 +79,16 @@ module _ (k : CharClasses) (held : Reading) (z : Place) where
   -- what was asked for the token at hand where nothing was known
   pub logged-none : (n : ℕ) (h : Log) → logged n z h (hand_asks k held None z) ≡ with_hull (whole_at k held z) h
   unfolding hand_asks ahead_asks whole_at tokens_at ahead
-  logged-none n h =
-      let m = held.mode in
-      let f = length z.ahead in
-      let a = ahead_by k m f z in
-      let t = tokens_by k m f z in
-      logged-append n z h (asks_by k m f z) (column_asks held a.newlines a.gap z)
-      ∙ ap (λ x. logged n z x (column_asks held a.newlines a.gap z)) (logged-tokens k m n f z h)
-      ∙ column-log (asks_column held a.newlines) n a.gap h t (token_hull k m (moved a.gap z)) (own-in k m f z)
+  logged-none n h = grind (arith, logged-append, logged-tokens, column-log, own-in)
 
   -- what was asked for it where the trivia are known
   pub logged-some : (n : ℕ) (h : Log) (t : Trivia)
       → logged n z h (hand_asks k held (Some t) z) ≡ with_hull (column_hull held t.newlines (moved t.gap z) (token_hull k held.mode (moved t.gap z))) h
   unfolding hand_asks
-  logged-some n h t =
-      let w = moved t.gap z in
-      let own = token_hull k held.mode w in
-      elim (asks_column held t.newlines) as (λ b. logged n z (with_hull own h) (if b then looked t.gap (column_look w) ∷ [] else []) ≡ with_hull (if b then joined_hull own (hull_of (column_look w) w) else own) h) [
-        | true ↦ same-log _ _ _ _ h.notes (omega arith) (omega arith)
-        | false ↦ refl
-      ]
+  logged-some n h t = grind arith
 
   -- the token itself is among it
   pub hand-among : (known : Option Trivia) (n : ℕ) (h : Log)
       → let a = hand_at k held known z in Among (column_hull held a.newlines (moved a.gap z) (token_hull k held.mode (moved a.gap z))) (logged n z h (hand_asks k held known z))
   unfolding hand_at whole_at
-  hand-among None n h =
-      let a = ahead k held.mode z in
-      let here = column_hull held a.newlines (moved a.gap z) (token_hull k held.mode (moved a.gap z)) in
-      subst (λ (x : Log). Among here x) (sym (logged-none n h)) (in-among here (whole_at k held z) (with_hull (whole_at k held z) h) (second-in (tokens_at k held.mode z) here) (with-again (whole_at k held z) h))
-  hand-among (Some t) n h =
-      let here = column_hull held t.newlines (moved t.gap z) (token_hull k held.mode (moved t.gap z)) in
-      subst (λ (x : Log). Among here x) (sym (logged-some n h t)) (with-again here h)
+  hand-among known n h = grind (arith, logged-none, in-among, second-in, with-again, logged-some)

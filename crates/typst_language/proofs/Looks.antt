@@ -1,6 +1,5 @@
 -- What shows the same where it was looked at.
-use Rattle.std.proofs.Common.{◌≡◌, ℕ, zero, suc, ◌+◌, ◌-◌, ◌<◌, ◌≤◌, min, Bool, true, false, if◌then◌else◌, not, List, [], ◌∷◌, ◌++◌, length, take, slice_get, inl, inr, refl, ap, sym, subst, arith}
-use Rattle.std.proofs.lemmas.Bool.{cases_lt}
+use Rattle.std.proofs.Common.{◌≡◌, ℕ, zero, suc, ◌+◌, ◌-◌, ◌<◌, ◌≤◌, min, Bool, true, false, if◌then◌else◌, not, List, [], ◌∷◌, ◌++◌, length, take, slice_get, refl, arith}
 use Rattle.std.specs.List.{prefix_len}
 use Rattle.typst_lines.specs.Newline.{is_newline}
 use Rattle.typst_lines.specs.Place.{Place, moved, scout, run, past}
@@ -22,10 +21,7 @@ take-fewer (suc m) zero xs ys le e = absurd (omega arith)
 take-fewer (suc m) (suc n) [] [] le e = refl
 take-fewer (suc m) (suc n) [] (y ∷ ys) le e = absurd (cc)
 take-fewer (suc m) (suc n) (x ∷ xs) [] le e = absurd (cc)
-take-fewer (suc m) (suc n) (x ∷ xs) (y ∷ ys) le e =
-    let tails : take n xs ≡ take n ys = cc in
-    let fewer = take-fewer m n xs ys (omega arith) tails in
-    cc
+take-fewer (suc m) (suc n) (x ∷ xs) (y ∷ ys) le e = let tails : take n xs ≡ take n ys = cc in cc (take-fewer m n xs ys (omega arith) tails)
 
 -- what is marked the same is the same
 pub take-unmarked : (n : ℕ) (xs ys : List ℕ) → take n (marked xs) ≡ take n (marked ys) → take n xs ≡ take n ys
@@ -36,7 +32,6 @@ take-unmarked (suc n) (x ∷ xs) [] e = absurd (cc)
 take-unmarked (suc n) (x ∷ xs) (y ∷ ys) e =
     let tails : take n (marked xs) ≡ take n (marked ys) = cc in
     let rest = take-unmarked n xs ys tails in
-    let first : x ≡ y = cc in
     cc
 
 -- a stretch that shows the end of one shows that of the other
@@ -53,11 +48,7 @@ run-at : (p : ℕ → Bool) (b : Bool) (x y : ℕ) (xs ys : List ℕ)
     → (take (suc (prefix_len p xs)) (marked xs) ≡ take (suc (prefix_len p xs)) (marked ys) → prefix_len p ys ≡ prefix_len p xs)
     → take (suc (if b then 1 + prefix_len p xs else 0)) (marked (x ∷ xs)) ≡ take (suc (if b then 1 + prefix_len p xs else 0)) (marked (y ∷ ys))
     → (if b then 1 + prefix_len p ys else 0) ≡ (if b then 1 + prefix_len p xs else 0)
-run-at p true x y xs ys below e =
-    let one : 1 + prefix_len p xs ≡ suc (prefix_len p xs) = omega arith in
-    let f = subst (λ n. take (suc n) (marked (x ∷ xs)) ≡ take (suc n) (marked (y ∷ ys))) one e in
-    let tails : take (suc (prefix_len p xs)) (marked xs) ≡ take (suc (prefix_len p xs)) (marked ys) = cc in
-    ap (λ n. 1 + n) (below tails)
+run-at p true x y xs ys below e = grind arith
 run-at p false x y xs ys below e = refl
 
 -- a run is determined by its characters and what ends it
@@ -72,8 +63,7 @@ run-same p (x ∷ xs) (y ∷ ys) e =
 -- ---- what was asked
 
 pub same_one-shift : (n : ℕ) (ask : Ask) (z w : Place) → SameOne (shift_one n ask) z w → SameOne ask (moved n z) (moved n w)
-same_one-shift n (looked at l) z w h = rw (← moved-sum n at z, ← moved-sum n at w) h
-same_one-shift n (unit at gap fewer mark s) z w h = tt
+same_one-shift n ask z w h = grind (arith, moved-sum)
 
 pub same_in-shift : (n : ℕ) (asks : List Ask) (z w : Place) → SameIn (shift n asks) z w → SameIn asks (moved n z) (moved n w)
 same_in-shift n [] z w h = tt
@@ -100,8 +90,7 @@ same_in-sunk (unit at gap fewer mark s ∷ asks) z w h = (tt, same_in-sunk asks 
 -- ---- a token
 
 eat-covers : (e : ℕ) (l : Look) (a : List ℕ) → min e (suc (length a - 1)) ≤ l.front → min (suc e) (suc (length a)) ≤ (from_before a l).front
-eat-covers e l [] h = omega arith
-eat-covers e l (c ∷ a) h = omega (arith, h)
+eat-covers e l a h = grind arith
 
 skip-covers : (n e : ℕ) (l : Look) (a : List ℕ) → min e (suc (length a - n)) ≤ l.front → min (min n (length a) + e) (suc (length a)) ≤ (skip_look n a l).front
 skip-covers zero e l a h = omega (arith, h)
@@ -125,8 +114,7 @@ front-covers (eat_run test k) p =
 front-covers (see_run test k) p = omega (arith, front-covers (k (run test p)) p)
 
 lengths-same : (e a b f : ℕ) → (a < f → b ≡ a) → (b < f → a ≡ b) → min e (suc a) ≤ f → min e (suc b) ≤ f → min e b ≡ min e a
-lengths-same e a b f g h c d =
-    elim (cases_lt a f) [ inl l ↦ omega (arith, g l) | inr r ↦ elim (cases_lt b f) [ inl l ↦ omega (arith, h l) | inr s ↦ omega arith ] ]
+lengths-same e a b f g h c d = grind arith
 
 pub len-covers : (r : Reader Memory Token) (z : Place) → len_by r z ≤ (look r z).front
 len-covers r z = omega (arith, front-covers r z)
@@ -139,18 +127,7 @@ pub record SameToken (r : Reader Memory Token) (z w : Place) : Type 0 where
   pub text : take (len_by r z) w.ahead ≡ take (len_by r z) z.ahead
 
 pub token-same : (r : Reader Memory Token) (z w : Place) → Agree (look r z) z w → SameToken r z w
-token-same r z w g =
-    let s = frame r z w g in
-    let f = (look r z).front in
-    let at_w : min (eaten r z) (suc (length w.ahead)) ≤ f = omega (arith, front-covers r w, ap (λ l. l.front) s.looks, s.lengths) in
-    let both = lengths-same (eaten r z) (length z.ahead) (length w.ahead) f
-    (λ l. marked-length f z.ahead w.ahead l g.ahead) (λ l. marked-length f w.ahead z.ahead l (sym g.ahead)) (front-covers r z) at_w in
-    record {
-      read = sym s.answers;
-      len = omega (arith, both, s.lengths);
-      seen = sym s.looks;
-      text = sym (take-unmarked (len_by r z) z.ahead w.ahead (take-fewer (len_by r z) f _ _ (len-covers r z) g.ahead));
-    }
+token-same r z w g = let s = frame r z w g in grind (arith, front-covers, lengths-same, marked-length, take-unmarked, take-fewer, len-covers)
 
 -- ---- columns
 

@@ -1,9 +1,7 @@
 -- A token of a formula isn't the end.
-use Rattle.std.proofs.Common.{◌≡◌, ℕ, Bool, false, not, ◌==◌, ◌||◌, List, [], ◌∷◌, length, codes, subst, sym, refl, Option, Some, None}
-use Rattle.std.specs.Char.{is_whitespace}
+use Rattle.std.proofs.Common.{◌≡◌, ℕ, false, ◌==◌, ◌||◌, List, [], ◌∷◌, length, codes, subst, sym, refl, Option, Some, None, arith}
 use Rattle.typst_lines.specs.Classes.{CharClasses}
 use Rattle.typst_lines.specs.declared.classes.MathClass.{MathClass}
-use Rattle.typst_lines.specs.declared.classes.MathClass.TheVariants.{Opening, Closing, Alphabetic}
 use Rattle.typst_kinds.specs.declared.kind.SyntaxKind.{SyntaxKind}
 use Rattle.typst_kinds.specs.declared.kind.SyntaxKind.TheVariants as kind
 use Rattle.typst_lines.specs.Place.{Place, scout, passes, moved, run, past}
@@ -29,11 +27,7 @@ point-goes digits p = goes-if (passes (λ c. c == 125) (scout 0 p)) _ _ p (token
 
 pub backslash-goes : (p : Place) → Goes backslash p
 unfolding backslash
-backslash-goes p =
-    let q = moved 1 p in
-    goes-if (passes (λ d. d == 117) (scout 0 q)) _ _ q
-    (goes-if (passes (λ d. d == 123) (scout 1 q)) _ _ q (point-goes _ _) (goes-if (passes (λ c. not (is_whitespace c)) (scout 0 q)) _ _ q refl refl))
-    (goes-if (passes (λ c. not (is_whitespace c)) (scout 0 q)) _ _ q refl refl)
+backslash-goes p = grind (arith, goes-if, point-goes)
 
 any-goes : (t : SyntaxKind) (words : List (List ℕ)) (other : Reader Memory Token) (p : Place) → is_end t ≡ false → Goes other p → Goes (any_word t words other) p
 any-goes t [] other p h o = o
@@ -50,9 +44,7 @@ module _ (k : CharClasses) (c : ℕ) (p : Place) where
 
   text-goes : Goes (text k c) p
   unfolding text number
-  text-goes =
-      let q = past k.numeric p in
-      goes-if (k.numeric c) _ _ p (goes-if (passes (λ c. c == 46) (scout 0 q)) _ _ q (goes-if (passes k.numeric (scout 1 q)) _ _ q refl refl) refl) cluster-goes
+  text-goes = grind (arith, goes-if, cluster-goes)
 
   named-goes : (own : List ℕ) (q : Place) → Goes (named k own) q
   unfolding named after_name
@@ -68,26 +60,11 @@ module _ (k : CharClasses) (c : ℕ) (p : Place) where
 
   class-goes : (o : Option MathClass) → Goes (by_class k c o) p
   unfolding by_class
-  class-goes None = atom-goes
-  class-goes (Some Opening) = sign-goes kind.LeftBrace refl
-  class-goes (Some Closing) = sign-goes kind.RightBrace refl
-  class-goes (Some Alphabetic) = atom-goes
+  class-goes o = grind (arith, atom-goes, sign-goes)
 
   single-goes : Goes (single k c) p
   unfolding single
-  single-goes =
-      goes-if (c == 42) _ _ p (sign-goes kind.MathShorthand refl)
-      (goes-if (c == 44) _ _ p (sign-goes kind.Comma refl)
-      (goes-if (c == 59) _ _ p (sign-goes kind.Semicolon refl)
-      (goes-if (c == 35) _ _ p (sign-goes kind.Hash refl)
-      (goes-if (c == 95) _ _ p (sign-goes kind.Underscore refl)
-      (goes-if (c == 36) _ _ p (sign-goes kind.Dollar refl)
-      (goes-if (c == 47) _ _ p (sign-goes kind.Slash refl)
-      (goes-if (c == 94) _ _ p (sign-goes kind.Hat refl)
-      (goes-if (c == 38) _ _ p (sign-goes kind.MathAlignPoint refl)
-      (goes-if (c == 40) _ _ p (sign-goes kind.LeftParen refl)
-      (goes-if (c == 41) _ _ p (sign-goes kind.RightParen refl)
-      (goes-if (c == 8730 || c == 8731 || c == 8732) _ _ p (sign-goes kind.Root refl) (class-goes (k.math c)))))))))))))
+  single-goes = grind (arith, goes-if, sign-goes, class-goes)
 
   short-goes : Goes (less_short k) p
   unfolding less_short

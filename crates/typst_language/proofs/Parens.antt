@@ -1,10 +1,10 @@
 -- Parens that go from what they delimit.
-use Rattle.std.proofs.Common.{◌≡◌, ℕ, zero, suc, ◌-◌, ◌<◌, Bool, true, false, ◌&&◌, if◌then◌else◌, List, [], ◌∷◌, length, refl, ap, sym, ◌∙◌, subst, arith}
+use Rattle.std.proofs.Common.{◌≡◌, ℕ, suc, ◌-◌, Bool, true, false, ◌&&◌, List, [], ◌∷◌, length, refl, ap, sym, ◌∙◌, arith}
 use Rattle.typst_kinds.specs.Kinds.{is_error}
 use Rattle.typst_kinds.specs.declared.kind.SyntaxKind.{SyntaxKind}
 use Rattle.typst_kinds.specs.declared.kind.SyntaxKind.TheVariants as kind
 use Rattle.typst_kinds.specs.Head.{Head}
-use Rattle.typst_lexer.specs.Tree.{Tree, Forest, forest, trees, with_kind, at_tree, at_child}
+use Rattle.typst_lexer.specs.Tree.{Tree, Forest, forest, with_kind, at_tree, at_child}
 use Rattle.typst_lexer.specs.Tree.Forest.{more}
 use Rattle.typst_lexer.proofs.SpansAside.{trees_forest}
 use Rattle.typst_language.specs.Shape.{is_delimited, is_sign, in_parens, parens_renamed, renamed_last, without_parens}
@@ -21,15 +21,11 @@ both-ends : (h : Head) (ns : List Tree) → in_parens ns ≡ true
     → at_child (with_kind kind.RightParen) (length ns - 1) (at_child (with_kind kind.LeftParen) 0 (record { head = h; kids = forest ns })) ≡ record { head = h; kids = forest (parens_renamed ns) }
 both-ends h [] p = absurd (cc)
 both-ends h (n ∷ []) p = absurd (no-second (is_sign 40 n) p)
-both-ends h (n ∷ m ∷ ms) p =
-    let l : suc (suc (length ms)) - 1 ≡ suc (length ms) = omega arith in
-    rw l (ap (λ (f : Forest). record { head = h; kids = more (with_kind kind.LeftParen n).head (with_kind kind.LeftParen n).kids f }) (last-tree kind.RightParen m ms))
+both-ends h (n ∷ m ∷ ms) p = let l : suc (suc (length ms)) - 1 ≡ suc (length ms) = omega arith in grind (arith, last-tree)
 
 unparened-head : (h : Head) (ns : List Tree) → is_delimited h.kind ≡ true → in_parens ns ≡ true
     → without_parens (record { head = h; kids = forest ns }) ≡ record { head = record h { kind = kind.Math }; kids = forest (parens_renamed ns) }
-unparened-head h ns e p =
-    let q : in_parens (trees (forest ns)) ≡ true = ap in_parens (trees_forest ns) ∙ p in
-    rw (e, q) (ap (λ (ts : List Tree). record { head = record h { kind = kind.Math }; kids = forest (parens_renamed ts) }) (trees_forest ns))
+unparened-head h ns e p = grind (arith, trees_forest)
 
 renamed-head : (h : Head) (ks : Forest) → is_error h.kind ≡ false → with_kind kind.Math (record { head = h; kids = ks }) ≡ record { head = record h { kind = kind.Math }; kids = ks }
 renamed-head h ks e = rw e refl
@@ -43,9 +39,7 @@ unparened-kids h ns last f e p l =
 -- the parens of what math delimits
 pub unparened-is : (t : Tree) (ns : List Tree) (last : ℕ) → is_error t.head.kind ≡ false → is_delimited t.head.kind ≡ true → forest ns ≡ t.kids → in_parens ns ≡ true → last ≡ length ns - 1
     → with_kind kind.Math (at_child (with_kind kind.RightParen) last (at_child (with_kind kind.LeftParen) 0 t)) ≡ without_parens t
-unparened-is t ns last f e k p l =
-    subst (λ (ks : Forest). with_kind kind.Math (at_child (with_kind kind.RightParen) last (at_child (with_kind kind.LeftParen) 0 (record { head = t.head; kids = ks }))) ≡ without_parens (record { head = t.head; kids = ks })) k
-    (unparened-kids t.head ns last f e p l)
+unparened-is t ns last f e k p l = grind (arith, unparened-kids)
 
 -- anything else stays
 pub other-stays : (t : Tree) → is_delimited t.head.kind ≡ false → t ≡ without_parens t
@@ -56,7 +50,4 @@ no-and true = refl
 no-and false = refl
 
 pub parens-stay : (t : Tree) (ns : List Tree) → forest ns ≡ t.kids → in_parens ns ≡ false → t ≡ without_parens t
-parens-stay t ns k p =
-    let e : in_parens (trees t.kids) ≡ false = ap (λ (f : Forest). in_parens (trees f)) (sym k) ∙ ap in_parens (trees_forest ns) ∙ p in
-    sym (ap (λ (b : Bool). if is_delimited t.head.kind && b then record { head = record t.head { kind = kind.Math }; kids = forest (parens_renamed (trees t.kids)) } else t) e
-    ∙ ap (λ (b : Bool). if b then record { head = record t.head { kind = kind.Math }; kids = forest (parens_renamed (trees t.kids)) } else t) (no-and (is_delimited t.head.kind)))
+parens-stay t ns k p = grind (arith, trees_forest, no-and)

@@ -6,8 +6,7 @@ use Rattle.typst_lines.specs.Place.{Place, moved, moved_from}
 use Rattle.typst_language.specs.Meaning.{less}
 
 at-end : (n : ℕ) (b : List ℕ) → moved_from n b [] ≡ record { before = b; ahead = [] }
-at-end zero b = refl
-at-end (suc n) b = refl
+at-end n b = grind arith
 
 sum-from : (m n : ℕ) (b a : List ℕ) → moved_from (m + n) b a ≡ moved n (moved_from m b a)
 sum-from zero n b a = let e : 0 + n ≡ n = omega arith in rw e refl
@@ -76,21 +75,11 @@ drop-all (suc k) (x ∷ xs) h = let l : length xs ≤ k = omega arith in drop-al
 
 pub less-append : {A : Type 0} (n : ℕ) (xs ys : List A) → less n (xs ++ ys) ≡ less (n - length ys) xs ++ less n ys
 unfolding less
-less-append n xs ys =
-    let l = length-append xs ys in
-    let k = length (xs ++ ys) - n in
-    let e : min k (length xs) ≡ min (length xs - (n - length ys)) (length xs) = omega arith in
-    let f : k - length xs ≡ length ys - n = omega arith in
-    take-both k xs ys ∙ ap (λ zs. zs ++ take (k - length xs) ys) (take-alike k (length xs - (n - length ys)) xs e) ∙ ap (λ j. take (length xs - (n - length ys)) xs ++ take j ys) f
+less-append n xs ys = grind (arith, length-append, take-both, take-alike)
 
 pub less-twice : {A : Type 0} (m n : ℕ) (xs : List A) → less n (less m xs) ≡ less (m + n) xs
 unfolding less
-less-twice m n xs =
-    let k = length xs - m in
-    let l = length-take k xs in
-    let j = length (take k xs) - n in
-    let e : min j k ≡ length xs - (m + n) = omega arith in
-    take-twice j k xs ∙ ap (λ i. take i xs) e
+less-twice m n xs = grind (arith, length-take, take-twice)
 
 pub less-none : {A : Type 0} (xs : List A) → less 0 xs ≡ xs
 unfolding less

@@ -1,5 +1,5 @@
 -- The token at hand, read from its start in another way.
-use Rattle.std.proofs.Common.{◌≡◌, ℕ, ◌+◌, List, [], ◌∷◌, ◌++◌, refl, ap, sym, ◌∙◌}
+use Rattle.std.proofs.Common.{◌≡◌, ℕ, ◌+◌, List, [], ◌∷◌, ◌++◌, ap, sym, ◌∙◌, arith}
 use Rattle.typst_kinds.specs.Kinds.{is_error}
 use Rattle.typst_lines.specs.Place.{Place, moved}
 use Rattle.typst_tree.specs.Tree.{Tree, text_of}
@@ -19,7 +19,7 @@ use Rattle.typst_language.specs.Shape.{Making, made, after_node}
 use Rattle.typst_language.specs.Steps.{eat_so}
 use Rattle.typst_language.specs.Syntax.Op.{so, takes_so}
 use Rattle.typst_language.specs.Syntax.Parser.{does}
-use Rattle.typst_language.specs.Meaning.{Level, asked, hand_of, node_by, reader_so, renewed, run}
+use Rattle.typst_language.specs.Meaning.{Level, node_by, reader_so, renewed, run}
 use Rattle.typst_language.specs.View.{View, Ran, Goes, Does, Fits, Bare, Looked, unasked}
 use Rattle.typst_language.specs.Ways.{GaveUpTo}
 use Rattle.typst_language.proofs.Places.{moved-sum, moved-min, less-none, no-end}
@@ -50,16 +50,7 @@ looked_so l way v = record v { log = with_hull (hull_so l way v.hand v.place) v.
 
 pub ran-so : {l : Level} (way : Way) (v : View) → Fits l v → Ran l (does (so way)) (token_by (reader_so l way) (start_of v.hand v.place)).kind v (looked_so l way v)
 unfolding run
-ran-so {l = l} way v c =
-    record {
-      runs = record {
-        value = ap (λ (h : Hand). (token_by (reader_so l way) (start_of h v.place)).kind) (sym c.hand);
-        place = refl;
-        state = asked-same l v c ∙ ap (λ (h : Hand). asked h v.state) c.hand;
-        nodes = no-end v.nodes;
-        log = ap (λ (h : Hand). with_hull (hull_so l way h v.place) v.log) c.hand ∙ sym (asked-then l v c _);
-      };
-    }
+ran-so {l = l} way v c = grind (arith, asked-same, no-end, asked-then)
 
 pub does-so : {l : Level} (way : Way) (v : View) → Does l (does (so way)) (token_by (reader_so l way) (start_of v.hand v.place)).kind v (looked_so l way v)
 does-so way v = record { ran = λ c. ran-so way v c; ready = λ c. fits-more _ c }
@@ -72,16 +63,11 @@ pub record FoundSo (l : Level) (way : Way) (v : View) (t : Token) (end : Place) 
 -- the code read it by the same classes, at the same place
 pub found-so : {l : Level} (q : CharClasses) (way : Way) (v : View) (from end : Place) (t : Token) (u : Hull) → l.classes ≡ q → from ≡ start_of v.hand v.place → exec (token_so q way) from ≡ (t, end)
     → u ≡ hull_of (look (token_so q way) from) from → FoundSo l way v t end u
-found-so {l = l} q way v from end t u e f g h = record {
-  reads = ap (λ y. exec (token_so l.classes way) y) (sym f) ∙ ap (λ c. exec (token_so c way) from) e ∙ g;
-  hull = h ∙ ap (λ c. hull_of (look (token_so c way) from) from) (sym e) ∙ ap (λ y. hull_of (look (token_so l.classes way) y) y) f;
-}
+found-so {l = l} q way v from end t u e f g h = grind arith
 
 -- what the code found there, and looked at
 pub so-is : (l : Level) (way : Way) (v w : View) (t : Token) (end : Place) (u : Hull) → FoundSo l way v t end u → w ≡ record v { log = with_hull u v.log } → Does l (does (so way)) t.kind v w
-so-is l way v w t end u e f =
-    let k = ap (λ (p : Token × Place). p.0.kind) e.reads in
-    rw (f, e.hull, sym k) (does-so way v)
+so-is l way v w t end u e f = grind (arith, ap (λ (p : Token × Place). p.0.kind) e.reads, does-so)
 
 -- ---- taking it
 
@@ -95,17 +81,7 @@ pub record EatenSo (l : Level) (way : Way) (making : Making) (v w : View) : Type
 
 pub ran-takes_so : {l : Level} {way : Way} {making : Making} {v w : View} → EatenSo l way making v w → Fits l v → Ran l (does (takes_so way making)) tt v w
 unfolding run
-ran-takes_so {l = l} {way = way} {making = making} {v = v} {w = w} h c =
-    record {
-      runs = record {
-        value = refl;
-        place = h.place ∙ ap (λ (x : Hand). moved (x.gap + len_so l way x v.place) v.place) c.hand;
-        state = h.state ∙ ap (λ (x : Hand). renewed (after_node (is_error (node_so l way making x v.place).head.kind) (text_of (node_so l way making x v.place)) v.state)) c.hand;
-        nodes = h.nodes ∙ ap (λ (x : Hand). v.nodes ++ (x.trivia ++ node_so l way making x v.place ∷ [])) c.hand
-            ∙ (let x = hand_of l v.place v.state in ap (λ ns. ns ++ (x.trivia ++ node_so l way making x v.place ∷ [])) (sym (less-none v.nodes)));
-        log = h.log ∙ ap (λ (x : Hand). with_hull (hull_so l way x v.place) v.log) c.hand ∙ sym (asked-then l v c _);
-      };
-    }
+ran-takes_so {l = l} {way = way} {making = making} {v = v} {w = w} h c = grind (arith, less-none, asked-then)
 
 pub does-takes_so : {l : Level} {way : Way} {making : Making} {v w : View} → EatenSo l way making v w → Goes l (Fits l) (Bare l) (does (takes_so way making)) tt v w
 does-takes_so {v = v} h = record { ran = λ c. ran-takes_so h c; ready = λ c. record { known = ap (λ (s : Point). s.known) h.state; knows = knows-at h.memo (ap end_of h.place ∙ end-moved _ v.place) c.knows } }
@@ -127,13 +103,4 @@ eaten-so l q way making v x w from end t u text node same at reads hull cut is l
     let n = len_so l way v.hand v.place in
     let found = found-so {l = l} q way v from end t u same at reads hull in
     let ends = end-so l.classes way z end t found.reads in
-    let whole : text ≡ text_ahead n z = cut n (ends ∙ ap (moved n) (sym at)) ∙ ap (text_ahead n) at in
-    let node_is : node ≡ node_so l way making v.hand v.place =
-    is ∙ ap (λ c. made making (token_node c t text)) (sym same) ∙ ap (λ s. made making (token_node l.classes t s)) whole ∙ ap (λ (p : Token × Place). made making (token_node l.classes p.0 (text_ahead n z))) (sym found.reads) in
-    record {
-      nodes = g.nodes ∙ ap (λ (y : View). y.nodes ++ (y.hand.trivia ++ node ∷ [])) logged ∙ ap (λ (y : Tree). v.nodes ++ (v.hand.trivia ++ y ∷ [])) node_is;
-      place = g.place ∙ ends ∙ sym (moved-sum v.hand.gap n v.place);
-      state = g.state ∙ ap (λ (y : View). renewed (after_node (is_error node.head.kind) (text_of node) y.state)) logged ∙ ap (λ (y : Tree). renewed (after_node (is_error y.head.kind) (text_of y) v.state)) node_is;
-      log = g.log ∙ ap (λ (y : View). y.log) logged ∙ ap (λ (y : Hull). with_hull y v.log) found.hull;
-      memo = g.memo ∙ ap (λ (y : View). y.memo) logged;
-    }
+    grind (arith, moved-sum)

@@ -1,27 +1,26 @@
 -- What the parser of the code does to the token at hand.
-use Rattle.std.proofs.Common.{Option, Some, None, ◌≡◌, ◌≤◌, ℕ, ◌+◌, ◌-◌, Bool, true, false, if◌then◌else◌, List, [], ◌∷◌, ◌++◌, length, length-append, refl, ap, sym, ◌∙◌, arith}
+use Rattle.std.proofs.Common.{Some, None, ◌≡◌, ◌≤◌, ℕ, ◌+◌, ◌-◌, Bool, true, false, if◌then◌else◌, List, [], ◌∷◌, ◌++◌, length, length-append, refl, ap, arith}
 use Rattle.typst_kinds.specs.Kinds.{is_error}
 use Rattle.typst_lines.specs.Place.{Place, moved}
 use Rattle.typst_lines.specs.Scanner.{place}
 use Rattle.typst_tree.specs.Tree.{Tree, text_of}
 use Rattle.typst_lines.specs.Classes.{CharClasses}
 use Rattle.typst_tokens.specs.Sight.{position}
-use Rattle.typst_tokens.specs.declared.hull.Hull.{Hull}
 use Rattle.typst_language.specs.declared.calls.Mark.{Mark}
 use Rattle.typst_language.specs.declared.reading.AtNewline.{AtNewline}
 use Rattle.typst_language.specs.declared.reading.Reading.{Reading}
-use Rattle.typst_language.specs.Point.{Point, Trivia, gap_of, is_nil, state_of}
-use Rattle.typst_language.specs.Hand.{Hand, column_at, judged, hand_at, hand_asks, known_by}
-use Rattle.typst_language.specs.Log.{with_hull, logged}
+use Rattle.typst_language.specs.Point.{Point, Trivia, is_nil, state_of}
+use Rattle.typst_language.specs.Hand.{Hand, column_at, judged, hand_at, known_by}
+use Rattle.typst_language.specs.Log.{with_hull}
 use Rattle.typst_language.specs.Shape.{Making, count_empty, after_node}
 use Rattle.typst_language.specs.Steps.{note}
 use Rattle.typst_language.specs.Syntax.Op.{column, takes}
 use Rattle.typst_language.specs.Syntax.Parser.{does}
-use Rattle.typst_language.specs.Meaning.{Level, flushed_state, less, same_mode, same_rule, renewed, taken_node}
+use Rattle.typst_language.specs.Meaning.{Level, flushed_state, less, same_mode, same_rule, taken_node}
 use Rattle.typst_language.specs.declared.parser.Parser.TheInside.{Inside}
 use Rattle.typst_language.specs.Bytes.{column_hull, token_hull, whole_at}
 use Rattle.typst_language.specs.Cursor.{view_of}
-use Rattle.typst_language.specs.AheadCursor.{Stands, hand_of_ahead}
+use Rattle.typst_language.specs.AheadCursor.{Stands}
 use Rattle.typst_language.specs.declared.ahead.ReadAhead.{ReadAhead}
 use Rattle.typst_language.specs.View.{View, Goes, Does, Fits, Bare, Looked, Left, unasked, noted_here}
 use Rattle.typst_language.specs.Noted.{with_noted}
@@ -31,8 +30,7 @@ use Rattle.typst_language.proofs.Steps.{does-note, does-column, does-takes}
 
 -- what the state says of a node that was added
 pub told-node : (i : Bool) (text : List ℕ) (s : Point) → record s { empties = if i then count_empty text else 0; is_after_error = i } ≡ after_node i text s
-told-node true text s = refl
-told-node false text s = refl
+told-node i text s = grind arith
 
 -- the token at hand became a node
 pub taken-is : (l : Level) (trims : Bool) (making : Making) (v w : View) (node : Tree) → node ≡ taken_node l.classes making v.hand v.place
@@ -40,43 +38,24 @@ pub taken-is : (l : Level) (trims : Bool) (making : Making) (v w : View) (node :
     → w.place ≡ moved (v.hand.gap + v.hand.len) v.place
     → w.state ≡ record v.state { held = v.state.reading; empties = if is_error node.head.kind then count_empty (text_of node) else 0; is_after_error = is_error node.head.kind; known = None }
     → w.log ≡ v.log → w.memo ≡ v.memo → Goes l (Fits l) (Bare l) (does (takes trims making)) tt v w
-taken-is l trims making v w node e ns p s j m =
-    does-takes (record {
-      nodes = ns ∙ ap (λ (x : Tree). less (if trims then v.state.empties else 0) v.nodes ++ (v.hand.trivia ++ x ∷ [])) e;
-      place = p;
-      memo = m;
-      state = s ∙ ap renewed (told-node (is_error node.head.kind) (text_of node) v.state) ∙ ap (λ (x : Tree). renewed (after_node (is_error x.head.kind) (text_of x) v.state)) e;
-      log = j;
-    })
+taken-is l trims making v w node e ns p s j m = grind (arith, does-takes, told-node)
 
 -- the token to come was read
 pub looked-is : (l : Level) (v w : View) → w.nodes ≡ v.nodes → w.place ≡ v.place
     → w.state ≡ record v.state { known = known_by w.hand } → w.hand ≡ hand_at l.classes v.state.held None v.place
     → w.own ≡ token_hull l.classes v.state.held.mode (moved w.hand.gap v.place) → w.here ≡ column_hull v.state.held w.hand.newlines (moved w.hand.gap v.place) w.own
     → w.log ≡ with_hull (whole_at l.classes v.state.held v.place) v.log → w.memo ≡ v.memo → Looked l (unasked v) w
-looked-is l v w n p s h o i j m = record {
-  memo = m;
-  nodes = n;
-  place = p;
-  state = s;
-  hand = h;
-  own = o;
-  here = i;
-  log = j ∙ sym (logged-none l.classes v.state.held v.place l.levels v.log);
-}
+looked-is l v w n p s h o i j m = grind (arith, logged-none)
 
 pub flushed-none : (h : Hand) (s : Point) (ts : List Tree) → is_nil ts ≡ true → h.trivia ≡ ts → flushed_state h s ≡ record s { known = Some (record { nodes = []; gap = 0; newlines = h.newlines }) }
-flushed-none h s [] n e = rw e refl
-flushed-none h s (t ∷ ts) n e = absurd (cc)
+flushed-none h s ts n e = grind arith
 
 pub flushed-some : (h : Hand) (s : Point) (ts : List Tree) → is_nil ts ≡ false → h.trivia ≡ ts
     → flushed_state h s ≡ record s { empties = 0; is_after_error = false; known = Some (record { nodes = []; gap = 0; newlines = h.newlines }) }
-flushed-some h s [] n e = absurd (cc)
-flushed-some h s (t ∷ ts) n e = rw e refl
+flushed-some h s ts n e = grind arith
 
 pub nil-is : (ts : List Tree) → is_nil ts ≡ true → ts ≡ []
-nil-is [] e = refl
-nil-is (t ∷ ts) e = absurd (cc)
+nil-is ts e = grind arith
 
 -- after another mode the token was read again
 pub left-again : (l : Level) (outer : Reading) (v w : View) → same_mode v.state.reading.mode outer.mode ≡ false
@@ -86,8 +65,7 @@ left-again l outer v w m h = λ c. (rw m h)
 -- after the same rule all stays
 pub left-kept : (l : Level) (outer : Reading) (v w : View) → same_mode v.state.reading.mode outer.mode ≡ true → same_rule v.state.reading.at_newline outer.at_newline ≡ true
     → w ≡ record v { state = record v.state { reading = outer } } → Left l outer v w
-left-kept l outer v w m r e = λ c.
-    rw (e, m, r) (fits-looked {l = l} {v = record v { state = record v.state { reading = outer } }} (record { known = c.known; hand = c.hand; own = c.own; here = c.here; there = c.there; log = c.log; knows = c.knows }))
+left-kept l outer v w m r e = grind (arith, fits-looked)
 
 -- the token at hand by another rule
 rejudged : (k : CharClasses) (held : Reading) (rule : AtNewline) (t : Trivia) (z : Place) (h : Hand) → h ≡ hand_at k held (Some t) z
@@ -101,51 +79,14 @@ pub left-judged : (l : Level) (outer : Reading) (v w : View) → same_mode v.sta
     → w.hand ≡ record v.hand { kind = judged (record v.state.held { at_newline = outer.at_newline }) v.hand.newlines v.hand.token.kind (column_at (moved v.hand.gap v.place)) }
     → w.own ≡ v.own → w.here ≡ column_hull (record v.state.held { at_newline = outer.at_newline }) v.hand.newlines (moved v.hand.gap v.place) v.own
     → w.log ≡ with_hull w.here v.log → w.memo ≡ v.memo → Left l outer v w
-left-judged l outer v w m r n p s h o i j remembered = λ c.
-    let k = l.classes in
-    let held = record v.state.held { at_newline = outer.at_newline } in
-    let t : Trivia = record { nodes = v.hand.trivia; gap = v.hand.gap; newlines = v.hand.newlines } in
-    let all : v.hand ≡ hand_at k v.state.held (Some t) v.place = c.hand ∙ ap (λ (x : Option Trivia). hand_at k v.state.held x v.place) c.known in
-    let x : View = record v { state = record v.state { reading = outer; held = held } } in
-    let hand-is : w.hand ≡ hand_at k held v.state.known v.place = h ∙ rejudged k v.state.held outer.at_newline t v.place v.hand all ∙ ap (λ (y : Option Trivia). hand_at k held y v.place) (sym c.known) in
-    let gap-is : w.hand.gap ≡ v.hand.gap = ap (λ (y : Hand). y.gap) h in
-    let lines-is : w.hand.newlines ≡ v.hand.newlines = ap (λ (y : Hand). y.newlines) h in
-    let own-is : w.own ≡ token_hull k held.mode (moved w.hand.gap v.place) = o ∙ c.own ∙ ap (λ g. token_hull k held.mode (moved g v.place)) (sym gap-is) in
-    let here-is : w.here ≡ column_hull held w.hand.newlines (moved w.hand.gap v.place) w.own = i ∙ (rw (gap-is, lines-is, o) refl) in
-    rw (m, r)
-    (record {
-      memo = remembered;
-      nodes = n;
-      place = p;
-      state = s;
-      hand = hand-is;
-      own = own-is;
-      here = here-is;
-      log = j ∙ sym (ap (λ (y : Option Trivia). logged l.levels v.place v.log (hand_asks k held y v.place)) c.known ∙ logged-some k held v.place l.levels v.log t
-          ∙ ap (λ (u : Hull). with_hull u v.log) (ap (column_hull held v.hand.newlines (moved v.hand.gap v.place)) (sym c.own) ∙ sym i));
-    })
+left-judged l outer v w m r n p s h o i j remembered = grind (arith, rejudged, logged-some)
 
 -- ---- notes, columns and shapes
 
 -- this was noted, and the token at hand was looked at again
 pub noted-is : (l : Level) (mark : Mark) (levels before start : ℕ) (v w : View) → l.levels ≡ levels → before ≡ position v.place → start ≡ position (moved v.hand.gap v.place)
     → w ≡ record v { log = with_hull v.here (with_noted mark before start levels (state_of v.state) v.log) } → Does l (note mark) tt v w
-noted-is l mark levels before start v w d b s f =
-    rw (f, sym d, b, s)
-    (does-note mark (λ c.
-    let look = fits-looked c in
-    let gap : position (moved v.hand.gap v.place) ≡ position (moved (gap_of v.state.known) v.place) = ap (λ (x : Option Trivia). position (moved (gap_of x) v.place)) (sym c.known) in
-    record {
-      memo = refl;
-      nodes = refl;
-      place = refl;
-      state = look.state;
-      hand = look.hand;
-      own = look.own;
-      here = look.here;
-      log = ap (λ n. with_hull v.here (with_noted mark (position v.place) n l.levels (state_of v.state) v.log)) gap
-          ∙ sym (asked-log l v (with_noted mark (position v.place) (position (moved (gap_of v.state.known) v.place)) l.levels (state_of v.state) v.log) c);
-    }))
+noted-is l mark levels before start v w d b s f = grind (arith, does-note, fits-looked, asked-log)
 
 -- this was noted where nothing was asked for
 pub noted-here : (mark : Mark) (levels here : ℕ) (v w : View) → here ≡ position v.place → w ≡ record v { log = with_noted mark here here levels (state_of v.state) v.log } → w ≡ noted_here levels mark v
@@ -160,27 +101,15 @@ after-fine i text s e = rw e refl
 
 -- where the trivia are known, the token was read
 pub was-read : {l : Level} (i : Inside) → Fits l (view_of i) → i.ahead.is_read ≡ true
-was-read i f =
-    let h = hand_of_ahead i.ahead i.trivia.items in
-    let t : Trivia = record { nodes = h.trivia; gap = h.gap; newlines = h.newlines } in
-    by-test i.ahead.is_read t t f.known
-  where
-    by-test : (r : Bool) (t u : Trivia) → (if r then Some t else None) ≡ Some u → r ≡ true
-    by-test true t u e = refl
-    by-test false t u e = absurd (cc)
+was-read i f = grind arith
 
 -- where nothing stands between the places, the token is passed
 pub stands-passed : (a : ReadAhead) → a.line.text.now ≡ a.after.text.now → Stands (record a { is_read = false; before = a.after; start = a.after })
-stands-passed a same =
-    let n = length (place a.after).before in
-    let none : n - n ≡ 0 = omega arith in
-    record { start = rw none refl; after = rw none refl; start_text = refl; after_text = refl; line_text = same }
+stands-passed a same = grind arith
 
 count-most : (text : List ℕ) → count_empty text ≤ 1
-count-most [] = omega arith
-count-most (c ∷ cs) = omega arith
+count-most text = grind arith
 
 -- after a node that was given no more empty errors stand than nodes
 pub few-given : (is : Bool) (text : List ℕ) (empties : ℕ) (old new : List Tree) (node : Tree) → empties ≡ (if is then count_empty text else 0) → new ≡ old ++ node ∷ [] → empties ≤ length new
-few-given true text empties old new node e f = omega (arith, e, count-most text, ap length f, length-append old (node ∷ []))
-few-given false text empties old new node e f = omega (arith, e)
+few-given is text empties old new node e f = grind (arith, count-most, length-append)

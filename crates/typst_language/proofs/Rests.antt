@@ -1,30 +1,23 @@
 -- After a parser the reading is the one before it, and the token at hand is read in it or as before.
-use Rattle.std.proofs.Common.{◌≡◌, ◌⊎◌, inl, inr, ℕ, zero, suc, Bool, true, false, ◌&&◌, if◌then◌else◌, nat_lt, List, [], ◌∷◌, ◌++◌, Option, Some, None, refl, ap, sym, ◌∙◌}
-use Rattle.std.proofs.lemmas.Bool.Decides.{nat_tests}
+use Rattle.std.proofs.Common.{◌≡◌, ◌⊎◌, inl, inr, ℕ, zero, suc, Bool, true, false, ◌&&◌, if◌then◌else◌, nat_lt, List, [], ◌∷◌, Option, refl, ap, ◌∙◌}
 use Rattle.std.proofs.Common.{arith}
 use Rattle.typst_kinds.specs.declared.mode.SyntaxMode.{SyntaxMode}
-use Rattle.typst_kinds.specs.declared.mode.SyntaxMode.TheVariants as mode
 use Rattle.typst_lines.specs.Place.{Place, moved}
-use Rattle.typst_kinds.specs.Kinds.{is_error}
-use Rattle.typst_lexer.specs.Tree.{Tree, text_of}
+use Rattle.typst_lexer.specs.Tree.{Tree}
 use Rattle.typst_lines.proofs.Bools.{on}
 use Rattle.typst_language.specs.declared.reading.AtNewline.{AtNewline}
-use Rattle.typst_language.specs.declared.reading.AtNewline.TheVariants.{Continue, Stop, ContextualContinue, StopParBreak, RequireColumn}
 use Rattle.typst_language.specs.declared.calls.Block.{Block}
 use Rattle.typst_language.specs.Calls.{Call}
 use Rattle.typst_language.specs.declared.reading.Reading.{Reading}
 use Rattle.typst_language.specs.Point.{Point}
-use Rattle.typst_language.specs.Shape.{Shape, changed, after_node, after_shape}
-use Rattle.typst_language.specs.Shape.Shape.{keeps, holds, lacks, warns, fails}
+use Rattle.typst_language.specs.Shape.{Shape, after_node, after_shape}
 use Rattle.typst_language.specs.Syntax.{Op, Begin, Parser}
 use Rattle.typst_language.specs.Syntax.Op.{hand, so, further, column, erred, takes, takes_so, flushes, complains, advises, marks, is_deepest}
 use Rattle.typst_language.specs.Syntax.Parser.{gives, does, next, pick, repeat, wraps, grows, nests, scoped, either, calls, block}
-use Rattle.typst_language.specs.Hand.{Hand, len_by, token_by}
+use Rattle.typst_language.specs.Hand.{Hand}
 use Rattle.typst_language.specs.Ask.{Ask}
-use Rattle.typst_language.specs.Ask.Ask.{looked}
-use Rattle.typst_tokens.specs.Reader.{look}
 use Rattle.typst_language.proofs.Within.{grew}
-use Rattle.typst_language.specs.Meaning.{Outcome, Meaning, Level, joined, answered, turns, as_last, bound, repeated, before, inside, grown, is_more, growths, growing, nestings, nesting, given_up, bounded, plain, same_mode, same_rule, entered, left, hand_of, hand_asks_of, gave, taken_node, reader_so, node_by, done, run}
+use Rattle.typst_language.specs.Meaning.{Outcome, Meaning, Level, joined, answered, turns, as_last, bound, repeated, before, inside, grown, is_more, growths, growing, nestings, nesting, given_up, same_mode, same_rule, entered, left, hand_of, hand_asks_of, gave, taken_node, done, run}
 
 pub record Rests (r h : Reading) (s : Point) : Type 0 where
   pub reading : s.reading ≡ r
@@ -41,11 +34,7 @@ through : {A : Type 0} (x y q h r : A) → (y ≡ h) ⊎ (y ≡ r) → q ≡ r �
 through x y q h r a e b = elim b [ inl f ↦ (elim a [ inl g ↦ inl (f ∙ g) | inr g ↦ inr (f ∙ g) ]) | inr f ↦ inr (f ∙ e) ]
 
 rests-then : (r h : Reading) (s t : Point) → Rests r h s → Rests s.reading s.held t → Rests r h t
-rests-then r h s t a b = record {
-  reading = b.reading ∙ a.reading;
-  mode = through t.held.mode s.held.mode s.reading.mode h.mode r.mode a.mode (ap (λ (x : Reading). x.mode) a.reading) b.mode;
-  rule = through t.held.at_newline s.held.at_newline s.reading.at_newline h.at_newline r.at_newline a.rule (ap (λ (x : Reading). x.at_newline) a.reading) b.rule;
-}
+rests-then r h s t a b = grind arith
 
 -- two states that are read alike
 record Alike (s t : Point) : Type 0 where
@@ -53,8 +42,7 @@ record Alike (s t : Point) : Type 0 where
   held : t.held ≡ s.held
 
 rests-like : (r h : Reading) (s t : Point) → Rests r h s → Alike s t → Rests r h t
-rests-like r h s t a b = rests-then r h s t a
-    (record { reading = b.reading; mode = inl (ap (λ (x : Reading). x.mode) b.held); rule = inl (ap (λ (x : Reading). x.at_newline) b.held) })
+rests-like r h s t a b = grind arith
 
 like-node : (b : Bool) (text : List ℕ) (s : Point) → Alike s (after_node b text s)
 like-node true text s = record { reading = refl; held = refl }
@@ -65,33 +53,18 @@ like-if true s t a = record { reading = refl; held = refl }
 like-if false s t a = a
 
 like-shape : (shape : Shape) (ts : List Tree) (s : Point) → Alike s (after_shape shape ts s)
-like-shape (keeps change) [] s = record { reading = refl; held = refl }
-like-shape (keeps change) (t ∷ []) s = like-if (is_error t.head.kind) s _ (like-node (is_error (changed change t).head.kind) (text_of t) s)
-like-shape (keeps change) (t ∷ u ∷ ts) s = record { reading = refl; held = refl }
-like-shape (holds change kind) ts s = record { reading = refl; held = refl }
-like-shape (lacks count message kind) ts s = record { reading = refl; held = refl }
-like-shape (warns kind message hint) ts s = record { reading = refl; held = refl }
-like-shape (fails message) ts s = record { reading = refl; held = refl }
+like-shape shape ts s = grind (arith, like-if, like-node)
 
 like-flushed : (s : Point) (ts : List Tree) → Alike s (elim ts as (λ _. Point) [ [] ↦ s | u ∷ us ↦ after_node false [] s ])
-like-flushed s [] = record { reading = refl; held = refl }
-like-flushed s (t ∷ ts) = record { reading = refl; held = refl }
+like-flushed s ts = grind arith
 
 -- ---- leaving a reading
 
 pub mode-is : (a b : SyntaxMode) → same_mode a b ≡ true → a ≡ b
-mode-is mode.Markup mode.Markup h = refl
-mode-is mode.Math mode.Math h = refl
-mode-is mode.Code mode.Code h = refl
-mode-is _ _ h = cc
+mode-is a b h = grind arith
 
 pub rule-is : (a b : AtNewline) → same_rule a b ≡ true → a ≡ b
-rule-is Continue Continue h = refl
-rule-is Stop Stop h = refl
-rule-is ContextualContinue ContextualContinue h = refl
-rule-is StopParBreak StopParBreak h = refl
-rule-is (RequireColumn a) (RequireColumn b) h = let e : a ≡ b = grind (arith, nat_tests) in ap RequireColumn e
-rule-is _ _ h = cc
+rule-is a b h = grind arith
 
 on_if : {A : Type 0} (P : A → Type 0) (b : Bool) (x y : A) → (b ≡ true → P x) → (b ≡ false → P y) → P (if b then x else y)
 on_if P true x y p q = p refl
@@ -99,18 +72,7 @@ on_if P false x y p q = q refl
 
 -- after a part that was read so
 rests-left : (f r h : Reading) (s : Point) → Rests f h s → Rests r h (left r s)
-rests-left f r h s a =
-    on_if (Rests r h) (same_mode s.reading.mode r.mode)
-    (record s { reading = r; held = record s.held { at_newline = if same_rule s.reading.at_newline r.at_newline then s.held.at_newline else r.at_newline } })
-    (record s { reading = r; held = r; known = None })
-    (λ e. record {
-      reading = refl;
-      mode = (elim a.mode [ inl g ↦ inl g | inr g ↦ inr (g ∙ ap (λ (x : Reading). x.mode) (sym a.reading) ∙ mode-is s.reading.mode r.mode e) ]);
-      rule = on_if (λ (x : AtNewline). (x ≡ h.at_newline) ⊎ (x ≡ r.at_newline)) (same_rule s.reading.at_newline r.at_newline) s.held.at_newline r.at_newline
-          (λ d. elim a.rule [ inl g ↦ inl g | inr g ↦ inr (g ∙ ap (λ (x : Reading). x.at_newline) (sym a.reading) ∙ rule-is s.reading.at_newline r.at_newline d) ])
-          (λ d. inr refl);
-    })
-    (λ e. record { reading = refl; mode = inr refl; rule = inr refl })
+rests-left f r h s a = grind arith
 
 -- ---- the law
 
@@ -124,8 +86,7 @@ rests-turns m h (suc n) x z s =
 
 -- after what grew
 rests-grown : {A : Type 0} (r h : Reading) (n : ℕ) (shape : Option Shape) (o : Outcome A) → Rests r h o.state → Rests r h (grown n shape o).state
-rests-grown r h n None o a = a
-rests-grown r h n (Some shape) o a = rests-like r h o.state (after_shape shape (inside n o) o.state) a (like-shape shape (inside n o) o.state)
+rests-grown r h n shape o a = grind (arith, rests-like, like-shape)
 
 rests-growths : {A : Type 0} (m : A → Meaning (Option Shape × A)) → ((x : A) → Restful (m x)) → (r h : Reading) (n k : ℕ) (o : Outcome A) (z : Place) → Rests r h o.state → Rests r h (growths m n k o z).state
 rests-growths m f r h n zero o z a = a
@@ -147,9 +108,7 @@ rests-nestings f begin m h (suc n) x z s =
 
 module _ (l : Level) where
   rests-gave : (h : Hand) (trims : Bool) (len : ℕ) (node : Tree) (asks : List Ask) (s : Point) → Rests s.reading s.held (gave h trims len node asks s).state
-  rests-gave h trims len node asks s =
-      let a = like-node (is_error node.head.kind) (text_of node) s in
-      record { reading = a.reading; mode = inr (ap (λ (x : Reading). x.mode) a.reading); rule = inr (ap (λ (x : Reading). x.at_newline) a.reading) }
+  rests-gave h trims len node asks s = grind arith
 
   rests-done : {A : Type 0} (o : Op A) → Restful (done l o)
   rests-done hand z s = record { reading = refl; mode = inl refl; rule = inl refl }
@@ -158,11 +117,7 @@ module _ (l : Level) where
   rests-done column z s = record { reading = refl; mode = inl refl; rule = inl refl }
   rests-done erred z s = rests-same s
   rests-done (takes trims making) z s = let h = hand_of l z s in rests-gave h trims h.len (taken_node l.classes making h z) (hand_asks_of l z s) s
-  rests-done (takes_so way making) z s =
-      let h = hand_of l z s in
-      let w = moved h.gap z in
-      let r = reader_so l way in
-      rests-gave h false (len_by r w) (node_by l.classes making (token_by r w) (len_by r w) w) (hand_asks_of l z s ++ looked h.gap (look r w) ∷ []) s
+  rests-done (takes_so way making) z s = grind arith
   rests-done flushes z s = let a = like-flushed s (hand_of l z s).trivia in record { reading = a.reading; mode = inl (ap (λ (x : Reading). x.mode) a.held); rule = inl (ap (λ (x : Reading). x.at_newline) a.held) }
   rests-done (complains message) z s = record { reading = refl; mode = inl refl; rule = inl refl }
   rests-done (advises hint) z s = rests-same s
@@ -170,9 +125,6 @@ module _ (l : Level) where
   rests-done is_deepest z s = rests-same s
 
   module _ (d : (c : Call) → Restful (l.deeper c)) (e : (b : Block) → Restful (l.blocks b)) where
-    rests-bounded : (b : Block) → Restful (bounded b (l.blocks b))
-    rests-bounded b z s = let a = e b z (record s { known = None }) in record { reading = a.reading; mode = a.mode; rule = a.rule }
-
     pub rests-run : {A : Type 0} (p : Parser A) → Restful (run l p)
     unfolding run repeated growing nesting
     rests-run (gives a) z s = rests-same s
@@ -192,7 +144,4 @@ module _ (l : Level) where
         let o = run l p z s in
         on (λ u. Rests s.reading s.held u.state) (is_wrong o.value) (given_up o (run l q z s)) o (rests-run q z s) (rests-run p z s)
     rests-run (calls c) z s = d c z s
-    rests-run (block b) z s =
-        let o = done l flushes z s in
-        let p = bounded b (l.blocks b) (moved o.taken z) o.state in
-        on (λ u. Rests s.reading s.held u.state) (l.has b) (joined o p) (plain tt s) (rests-then s.reading s.held o.state p.state (rests-done flushes z s) (rests-bounded b (moved o.taken z) o.state)) (rests-same s)
+    rests-run (block b) z s = grind arith

@@ -1,5 +1,5 @@
 -- How runs of the code compose.
-use Rattle.std.proofs.Common.{Option, Some, ◌≡◌, ℕ, suc, ◌+◌, ◌-◌, ◌<◌, ◌≤◌, ◌==◌, Bool, true, false, ◌&&◌, nat_lt, if◌then◌else◌, List, [], ◌∷◌, ◌++◌, length, map, take, drop, append_assoc, refl, ap, sym, ◌∙◌, subst, arith}
+use Rattle.std.proofs.Common.{Option, ◌≡◌, ℕ, suc, ◌+◌, ◌-◌, ◌<◌, ◌≤◌, ◌==◌, Bool, true, false, ◌&&◌, nat_lt, if◌then◌else◌, List, [], ◌∷◌, ◌++◌, length, map, take, drop, append_assoc, refl, ap, sym, ◌∙◌, subst, arith, rules}
 use borrow.Author.Tests.{lt-ltb}
 use Rattle.typst_kinds.specs.Kinds.{is_error}
 use Rattle.typst_lines.specs.Place.{Place, moved}
@@ -12,16 +12,16 @@ use Rattle.typst_language.specs.declared.reading.Newlines.{Newlines}
 use Rattle.typst_language.specs.declared.reading.Reading.{Reading}
 use Rattle.typst_language.specs.Calls.{Call, Answer}
 use Rattle.typst_language.specs.Point.{Point, Trivia, gap_of, state_of}
-use Rattle.typst_language.specs.Ask.{Ask, shift}
-use Rattle.typst_language.specs.Hand.{Hand, AtHand, as_at_hand, known_by, hand_at, hand_asks, column_at, column_look}
+use Rattle.typst_language.specs.Ask.{Ask}
+use Rattle.typst_language.specs.Hand.{Hand, as_at_hand, hand_at, column_at, column_look}
 use Rattle.typst_language.specs.Log.{Log, logged, with_hull, with_note}
-use Rattle.typst_language.specs.Shape.{Making, Shape, NodeChange, shaped, after_node, after_change, after_shape, changed, hinted, seen}
+use Rattle.typst_language.specs.Shape.{Making, Shape, NodeChange, after_node, after_change, after_shape, changed, hinted, seen}
 use Rattle.typst_language.specs.Shape.Shape.{keeps, holds, lacks, warns, fails}
 use Rattle.typst_language.specs.Sound.{Sound}
 use Rattle.typst_language.specs.Syntax.{Parser, Begin}
 use Rattle.typst_language.specs.Syntax.Op.{hand, column, erred, takes, flushes, complains, marks, is_deepest}
 use Rattle.typst_language.specs.Syntax.Parser.{gives, does, next, pick, repeat, wraps, scoped, calls}
-use Rattle.typst_language.specs.Meaning.{Outcome, Meaning, Level, asked, before, bound, plain, less, followed, standing, turns, repeated, inside, reshaped, entered, left, renewed, flushed_state, taken_node, hand_of, hand_asks_of, run}
+use Rattle.typst_language.specs.Meaning.{Outcome, Meaning, Level, asked, before, bound, plain, less, followed, turns, repeated, inside, reshaped, entered, left, renewed, flushed_state, taken_node, hand_asks_of, run}
 use Rattle.typst_language.specs.Bytes.{bytes_left, token_hull, column_hull}
 use Rattle.typst_language.specs.View.{View, Runs, Ran, at, Fits, Bare, Looked, Flushed, Rewrapped}
 use Rattle.typst_language.proofs.Places.{moved-sum, take-both, drop-both, take-all, drop-all, less-none, length-less, no-end}
@@ -29,7 +29,7 @@ use Rattle.typst_language.proofs.HintedNodes.{standing-joined, length-hinted}
 use Rattle.typst_language.proofs.Within.{turns-enough, within-run}
 use Rattle.typst_language.proofs.Backs.{backs-run}
 use Rattle.typst_language.proofs.Bytes.{some-bytes, none-bytes}
-use Rattle.typst_language.proofs.Logs.{logged-append, logged-shift, logged-sunk, logged-some, hand-among, Among, among-is, is-among}
+use Rattle.typst_language.proofs.Logs.{logged-append, logged-shift, logged-sunk, logged-some, hand-among, is-among}
 use Rattle.typst_language.proofs.Trivia.{hand-known, gap-there}
 use Rattle.typst_language.specs.Remembered.{Knows, end_of}
 use Rattle.typst_language.proofs.Knowing.{end-moved, knows-at}
@@ -39,26 +39,14 @@ runs-plain n a b v e = record { value = e; place = refl; state = refl; nodes = n
 
 pub runs-followed : {A B : Type 0} (n : ℕ) (o : Outcome B) (f : B → Place → Point → Outcome A) (b : B) (a : A) (old mid new : View)
     → Runs n o b old mid → Runs n (f b mid.place mid.state) a mid new → Runs n (followed o f old.place) a old new
-runs-followed n o f b a old mid new h k =
-    let q = f o.value (moved o.taken old.place) o.state in
-    let e : f b mid.place mid.state ≡ q = rw (h.place, h.state, sym h.value) refl in
-    let l = subst (λ u. Runs n u a mid new) e k in
-    record {
-      value = l.value;
-      place = l.place ∙ ap (moved q.taken) h.place ∙ sym (moved-sum o.taken q.taken old.place);
-      state = l.state;
-      nodes = l.nodes ∙ ap (standing q) h.nodes ∙ sym (standing-joined o q old.nodes);
-      log = l.log ∙ ap (λ z. logged n z mid.log q.asks) h.place ∙ ap (λ x. logged n (moved o.taken old.place) x q.asks) h.log
-          ∙ sym (logged-append n old.place old.log o.asks (shift o.taken q.asks) ∙ logged-shift n o.taken old.place (logged n old.place old.log o.asks) q.asks);
-    }
+runs-followed n o f b a old mid new h k = grind (arith, moved-sum, standing-joined, logged-append, logged-shift)
 
 -- ---- what a parser does after another
 
 pub ran-next : {A B : Type 0} {l : Level} {p : Parser B} {f : B → Parser A} {b : B} {a : A} {old mid new : View}
     → Ran l p b old mid → Ran l (f b) a mid new → Ran l (next p f) a old new
 unfolding run
-ran-next {l = d} {p = p} {f = f} {b = b} {a = a} {old = old} {mid = mid} {new = new} h k =
-    record { runs = runs-followed d.levels (at d p old) (λ x. run d (f x)) b a old mid new h.runs k.runs }
+ran-next {l = d} {p = p} {f = f} {b = b} {a = a} {old = old} {mid = mid} {new = new} h k = search (rules, runs-followed)
 
 pub ran-gives : {A : Type 0} {l : Level} {a : A} {v : View} → Ran l (gives a) a v v
 unfolding run
@@ -66,8 +54,7 @@ ran-gives {l = l} {a = a} {v = v} = record { runs = runs-plain l.levels a a v re
 
 pub ran-calls : {l : Level} {call : Call} {a : Answer call} {old new : View} → Runs (l.levels - 1) (l.deeper call old.place old.state) a old new → Ran l (calls call) a old new
 unfolding run
-ran-calls {l = l} {call = call} {old = old} h =
-    record { runs = record { value = h.value; place = h.place; state = h.state; nodes = h.nodes; log = h.log ∙ sym (logged-sunk l.levels old.place old.log (l.deeper call old.place old.state).asks) } }
+ran-calls {l = l} {call = call} {old = old} h = grind (arith, logged-sunk)
 
 pub ran-pick : {A : Type 0} {l : Level} {b : Bool} {p q : Parser A} {a : A} {old new : View} → b ≡ true → Ran l p a old new → Ran l (pick b p q) a old new
 unfolding run
@@ -81,62 +68,27 @@ ran-other {a = a} {old = old} {new = new} e d = record { runs = rw e d.runs }
 
 pub ran-look : {l : Level} {v w : View} → Looked l v w → Ran l (does hand) (as_at_hand w.hand) v w
 unfolding run
-ran-look {l = l} {v = v} {w = w} h =
-    record {
-      runs = record {
-        value = ap as_at_hand (sym h.hand);
-        place = h.place;
-        state = h.state ∙ ap (λ (x : Hand). asked x v.state) h.hand;
-        nodes = h.nodes ∙ no-end v.nodes;
-        log = h.log;
-      };
-    }
+ran-look {l = l} {v = v} {w = w} h = grind (arith, no-end)
 
 pub own-at : (k : CharClasses) (a b : Reading) (y z : Place) (u : Hull) → a ≡ b → y ≡ z → u ≡ token_hull k b.mode z → u ≡ token_hull k a.mode y
 own-at k a b y z u e f h = h ∙ ap (λ p. token_hull k b.mode p) (sym f) ∙ ap (λ (r : Reading). token_hull k r.mode y) (sym e)
 
 pub here-at : (a b : Reading) (m n : Newlines) (y z : Place) (u o p : Hull) → a ≡ b → m ≡ n → y ≡ z → o ≡ p → u ≡ column_hull b n z p → u ≡ column_hull a m y o
-here-at a b m n y z u o p e f g i h =
-    h ∙ ap (column_hull b n z) (sym i) ∙ ap (λ q. column_hull b n q o) (sym g) ∙ ap (λ x. column_hull b x y o) (sym f) ∙ ap (λ (r : Reading). column_hull r m y o) (sym e)
+here-at a b m n y z u o p e f g i h = cc
 
 pub hand-at : (k : CharClasses) (a b : Reading) (x y : Option Trivia) (w z : Place) → a ≡ b → x ≡ y → w ≡ z → hand_at k a x w ≡ hand_at k b y z
 hand-at k a b x y w z e f g = ap (λ p. hand_at k a x p) g ∙ ap (λ q. hand_at k a q z) f ∙ ap (λ r. hand_at k r y z) e
 
 here-is : (k : CharClasses) (held : Reading) (a h : Hand) (z : Place) (own here : Hull) → h ≡ a → own ≡ token_hull k held.mode (moved h.gap z) → here ≡ column_hull held h.newlines (moved h.gap z) own
     → here ≡ column_hull held a.newlines (moved a.gap z) (token_hull k held.mode (moved a.gap z))
-here-is k held a h z own here e o j =
-    j ∙ ap (column_hull held h.newlines (moved h.gap z)) o ∙ ap (λ (x : Hand). column_hull held x.newlines (moved x.gap z) (token_hull k held.mode (moved x.gap z))) e
+here-is k held a h z own here e o j = cc
 
 pub looked-fits : {l : Level} {v w : View} → gap_of v.state.known ≤ length v.place.ahead → Knows l.guess (end_of v.place) v.memo → Looked l v w → Fits l w
-looked-fits {l = l} {v = v} {w = w} few knows h =
-    let k = l.classes in
-    let held = v.state.held in
-    let a = hand_at k held v.state.known v.place in
-    let among = hand-among k held v.place v.state.known l.levels v.log in
-    let here = here-is k held a w.hand v.place w.own w.here h.hand h.own h.here in
-    let there = gap-there k held v.state.known v.place few in
-    let same : w.state.held ≡ held = ap (λ (s : Point). s.held) h.state in
-    let at : moved w.hand.gap w.place ≡ moved w.hand.gap v.place = ap (moved w.hand.gap) h.place in
-    record {
-      known = ap (λ (s : Point). s.known) h.state;
-      hand = h.hand ∙ sym (hand-known k held v.state.known v.place) ∙ ap (λ (x : Hand). hand_at k held (known_by x) v.place) (sym h.hand)
-          ∙ sym (hand-at k w.state.held held w.state.known (known_by w.hand) w.place v.place same (ap (λ (s : Point). s.known) h.state) h.place);
-      own = own-at k w.state.held held (moved w.hand.gap w.place) (moved w.hand.gap v.place) w.own same at h.own;
-      here = here-at w.state.held held w.hand.newlines w.hand.newlines (moved w.hand.gap w.place) (moved w.hand.gap v.place) w.here w.own w.own same refl at refl h.here;
-      there = rw h.place (let g = ap (λ (x : Hand). x.gap) h.hand in omega arith);
-      log = is-among w.here w.log (subst (λ (u : Hull). Among u w.log) (sym here) (subst (λ (x : Log). Among (column_hull held a.newlines (moved a.gap v.place) (token_hull k held.mode (moved a.gap v.place))) x) (sym h.log) among));
-      knows = knows-at h.memo (ap end_of h.place) knows;
-    }
+looked-fits {l = l} {v = v} {w = w} few knows h = grind (arith, hand-among, here-is, gap-there, hand-known, hand-at, own-at, here-at, is-among, knows-at)
 
 -- the token at hand is asked for alone
 pub asked-log : (l : Level) (v : View) (h : Log) → Fits l v → logged l.levels v.place h (hand_asks_of l v.place v.state) ≡ with_hull v.here h
-asked-log l v h c =
-    let k = l.classes in
-    let held = v.state.held in
-    let t : Trivia = record { nodes = v.hand.trivia; gap = v.hand.gap; newlines = v.hand.newlines } in
-    ap (λ (x : Option Trivia). logged l.levels v.place h (hand_asks k held x v.place)) c.known
-    ∙ logged-some k held v.place l.levels h t
-    ∙ ap (λ (u : Hull). with_hull u h) (ap (column_hull held v.hand.newlines (moved v.hand.gap v.place)) (sym c.own) ∙ sym c.here)
+asked-log l v h c = grind (arith, logged-some)
 
 -- and what was looked at for it is known
 pub asked-again : (l : Level) (v : View) → Fits l v → logged l.levels v.place v.log (hand_asks_of l v.place v.state) ≡ v.log
@@ -160,21 +112,10 @@ column_seen v = let z = moved v.hand.gap v.place in record v { log = with_hull (
 
 pub ran-column : {l : Level} (v : View) → Fits l v → Ran l (does column) (column_at (moved v.hand.gap v.place)) v (column_seen v)
 unfolding run
-ran-column {l = l} v c =
-    record {
-      runs = record {
-        value = ap (λ (h : Hand). column_at (moved h.gap v.place)) (sym c.hand);
-        place = refl;
-        state = asked-same l v c ∙ ap (λ (h : Hand). asked h v.state) c.hand;
-        nodes = no-end v.nodes;
-        log = ap (λ (h : Hand). with_hull (hull_of (column_look (moved h.gap v.place)) (moved h.gap v.place)) v.log) c.hand ∙ sym (asked-then l v c _);
-      };
-    }
+ran-column {l = l} v c = grind (arith, asked-same, no-end, asked-then)
 
 pub fits-more : {l : Level} {v : View} (u : Hull) → Fits l v → Fits l (record v { log = with_hull u v.log })
-fits-more {v = v} u c =
-    let a = among-is v.here v.log c.log in
-    record { known = c.known; hand = c.hand; own = c.own; here = c.here; there = c.there; log = is-among v.here (with_hull u v.log) (record { reach = omega (arith, a.reach); least = omega (arith, a.least) }); knows = c.knows }
+fits-more {v = v} u c = grind arith
 
 pub ran-erred : {l : Level} (v : View) → Ran l (does erred) v.state.is_after_error v v
 unfolding run
@@ -190,9 +131,7 @@ noted levels m v = record v { log = with_note (gap_of v.state.known) levels m (s
 
 pub ran-marks : {l : Level} (m : Mark) (v : View) → Ran l (does (marks m)) tt v (noted l.levels m v)
 unfolding run
-ran-marks {l = l} m v =
-    let e : l.levels - 0 ≡ l.levels = omega arith in
-    record { runs = record { value = refl; place = refl; state = refl; nodes = no-end v.nodes; log = ap (λ n. with_note (gap_of v.state.known) n m (state_of v.state) v.place v.log) (sym e) } }
+ran-marks {l = l} m v = grind (arith, no-end)
 
 -- ---- what takes and gives
 
@@ -206,55 +145,21 @@ pub record Eaten (l : Level) (trims : Bool) (making : Making) (v w : View) : Typ
 
 pub ran-takes : {l : Level} {trims : Bool} {making : Making} {v w : View} → Eaten l trims making v w → Fits l v → Ran l (does (takes trims making)) tt v w
 unfolding run
-ran-takes {l = l} {trims = trims} {making = making} {v = v} {w = w} h c =
-    record {
-      runs = record {
-        value = refl;
-        place = h.place ∙ ap (λ (x : Hand). moved (x.gap + x.len) v.place) c.hand;
-        state = h.state ∙ ap (λ (x : Hand). renewed (after_node (is_error (taken_node l.classes making x v.place).head.kind) (text_of (taken_node l.classes making x v.place)) v.state)) c.hand;
-        nodes = h.nodes ∙ ap (λ (x : Hand). less (if trims then v.state.empties else 0) v.nodes ++ (x.trivia ++ taken_node l.classes making x v.place ∷ [])) c.hand;
-        log = h.log ∙ sym (asked-again l v c);
-      };
-    }
+ran-takes {l = l} {trims = trims} {making = making} {v = v} {w = w} h c = grind (arith, asked-again)
 
 pub eaten-bare : {l : Level} {trims : Bool} {making : Making} {v w : View} → Eaten l trims making v w → Fits l v → Bare l w
 eaten-bare {v = v} h c = record { known = ap (λ (s : Point). s.known) h.state; knows = knows-at h.memo (ap end_of h.place ∙ end-moved (v.hand.gap + v.hand.len) v.place) c.knows }
 
 pub ran-flushes : {l : Level} {v w : View} → Flushed v w → Fits l v → Ran l (does flushes) tt v w
 unfolding run
-ran-flushes {l = l} {v = v} {w = w} h c =
-    record {
-      runs = record {
-        value = refl;
-        place = h.place ∙ ap (λ (x : Hand). moved x.gap v.place) c.hand;
-        state = h.state ∙ ap (λ (x : Hand). flushed_state x v.state) c.hand;
-        log = h.log ∙ sym (asked-again l v c);
-        nodes = h.nodes ∙ ap (λ (x : Hand). v.nodes ++ x.trivia) c.hand ∙ ap (λ ns. ns ++ (hand_of l v.place v.state).trivia) (sym (less-none v.nodes));
-      };
-    }
+ran-flushes {l = l} {v = v} {w = w} h c = grind (arith, asked-again, less-none)
 
 flushed-held : (ts : List Tree) (h : Hand) (s : Point) → h.trivia ≡ ts → (flushed_state h s).held ≡ s.held
-flushed-held [] h s e = rw e refl
-flushed-held (t ∷ ts) h s e = rw e refl
+flushed-held ts h s e = grind arith
 
 pub flushed-fits : {l : Level} {v w : View} → Flushed v w → Fits l v → Fits l w
 unfolding hand_at
-flushed-fits {l = l} {v = v} {w = w} h c =
-    let k = l.classes in
-    let t : Trivia = record { nodes = v.hand.trivia; gap = v.hand.gap; newlines = v.hand.newlines } in
-    let held : w.state.held ≡ v.state.held = ap (λ (s : Point). s.held) h.state ∙ flushed-held v.hand.trivia v.hand v.state refl in
-    let known : w.state.known ≡ Some (record { nodes = []; gap = 0; newlines = v.hand.newlines }) = ap (λ (s : Point). s.known) h.state in
-    let all : v.hand ≡ hand_at k v.state.held (Some t) v.place = c.hand ∙ ap (λ (x : Option Trivia). hand_at k v.state.held x v.place) c.known in
-    let at : moved w.hand.gap w.place ≡ moved v.hand.gap v.place = ap (λ (x : Hand). moved x.gap w.place) h.hand ∙ h.place in
-    record {
-      known = known ∙ ap known_by (sym h.hand);
-      hand = h.hand ∙ ap (λ (x : Hand). record x { trivia = []; gap = 0 }) all ∙ sym (hand-at k w.state.held v.state.held w.state.known _ w.place (moved v.hand.gap v.place) held known h.place);
-      own = h.own ∙ own-at k w.state.held v.state.held (moved w.hand.gap w.place) (moved v.hand.gap v.place) v.own held at c.own;
-      here = h.here ∙ here-at w.state.held v.state.held w.hand.newlines v.hand.newlines (moved w.hand.gap w.place) (moved v.hand.gap v.place) v.here w.own v.own held (ap (λ (x : Hand). x.newlines) h.hand) at h.own c.here;
-      there = let g : w.hand.gap ≡ 0 = ap (λ (x : Hand). x.gap) h.hand in omega arith;
-      log = rw (h.here, h.log) c.log;
-      knows = knows-at h.memo (ap end_of h.place ∙ end-moved v.hand.gap v.place) c.knows;
-    }
+flushed-fits {l = l} {v = v} {w = w} h c = grind (arith, flushed-held, hand-at, own-at, here-at, knows-at, end-moved)
 
 pub ran-complains : {l : Level} (m : List ℕ) (v : View)
     → Ran l (does (complains m)) tt v (record v { nodes = v.nodes ++ error_of m [] ∷ []; state = record v.state { empties = v.state.empties + 1; is_after_error = true } })
@@ -266,9 +171,7 @@ ran-complains m v = record { runs = record { value = refl; place = refl; state =
 pub ran-scoped : {A : Type 0} {l : Level} (f : Reading → Reading) {p : Parser A} {a : A} {old mid : View}
     → Ran l p a (record old { state = entered (f old.state.reading) old.state }) mid → Ran l (scoped f p) a old (record mid { state = left old.state.reading mid.state })
 unfolding run
-ran-scoped f {old = old} d =
-    let h = d.runs in
-    record { runs = record { value = h.value; place = h.place; state = ap (left old.state.reading) h.state; nodes = h.nodes; log = h.log } }
+ran-scoped f {old = old} d = grind arith
 
 -- ---- what goes into a shape
 
@@ -297,17 +200,7 @@ module _ {A : Type 0} (levels n : ℕ) (o : Outcome A) (a : A) (old mid : View) 
       ap (drop k) h.nodes ∙ drop-both k base o.nodes ∙ ap (λ ns. ns ++ drop (k - length base) o.nodes) (drop-all k base short) ∙ ap (λ j. drop j o.nodes) rest
 
   pub runs-reshaped : (shape : Shape) (new : View) → Rewrapped (length old.nodes + n) shape mid new → Runs levels (reshaped shape n o) a old new
-  runs-reshaped shape new w =
-      let k = length old.nodes + n in
-      let within = inside n o in
-      record {
-        value = h.value;
-        place = w.place ∙ h.place;
-        state = w.state ∙ ap (λ ns. after_shape shape ns mid.state) inside-is ∙ ap (λ s. after_shape shape within s) h.state;
-        log = w.log ∙ h.log;
-        nodes = w.nodes ∙ ap (λ ns. ns ++ shaped shape (drop k mid.nodes)) front-is ∙ ap (λ ns. (base ++ take (n + o.back) o.nodes) ++ shaped shape ns) inside-is
-            ∙ append_assoc base (take (n + o.back) o.nodes) (shaped shape within);
-      }
+  runs-reshaped shape new w = grind (arith, inside-is, front-is, append_assoc)
 
 pub ran-wraps : {A : Type 0} {l : Level} {f : A → Shape} {begin : Begin} {p : Parser A} {a : A} {old mid new : View}
     → Sound l → old.state.empties ≤ length old.nodes
@@ -323,26 +216,6 @@ ran-wraps {l = d} {f = f} {begin = begin} {p = p} {a = a} {old = old} {mid = mid
     let r = runs-reshaped d.levels n o a old mid back h (f o.value) new (subst (λ v. Rewrapped k (f v) mid new) (sym h.value) w) in
     let value : ◌≡◌ {A = _ × _} (o.value, map seen (inside n o)) (a, map seen (drop k mid.nodes)) = rw (inside-is d.levels n o a old mid back h, h.value) refl in
     record { runs = record { value = value; place = r.place; state = r.state; nodes = r.nodes; log = r.log } }
-
--- what asks for the token at hand, where it was asked for already
-pub after-peek : {A : Type 0} {l : Level} {f : AtHand → Parser A} {a : A} {w new : View} → Fits l w → Ran l (next (does hand) f) a w new → Ran l (f (as_at_hand w.hand)) a w new
-unfolding run
-after-peek {l = l} {f = f} {a = a} {w = w} {new = new} c d =
-    let h = d.runs in
-    let g = hand_of l w.place w.state in
-    let q = run l (f (as_at_hand g)) w.place (asked g w.state) in
-    let r = run l (f (as_at_hand w.hand)) w.place w.state in
-    let o : Outcome AtHand = record { value = as_at_hand g; taken = 0; state = asked g w.state; back = 0; hints = []; nodes = []; asks = hand_asks_of l w.place w.state; met = false } in
-    let e : q ≡ r = ap (λ (x : Hand). run l (f (as_at_hand x)) w.place (asked x w.state)) (sym c.hand) ∙ ap (λ (s : Point). run l (f (as_at_hand w.hand)) w.place s) (sym (asked-same l w c)) in
-    let none : 0 + q.taken ≡ q.taken = omega arith in
-    let runs : Runs l.levels q a w new = record {
-      value = h.value;
-      place = h.place ∙ ap (λ n. moved n w.place) none;
-      state = h.state;
-      nodes = h.nodes ∙ standing-joined o q w.nodes ∙ ap (standing q) (sym (no-end w.nodes));
-      log = h.log ∙ asked-then l w c (shift 0 q.asks) ∙ logged-shift l.levels 0 w.place w.log q.asks;
-    } in
-    record { runs = subst (λ (x : Outcome _). Runs l.levels x a w new) e runs }
 
 -- ---- a loop: what is left to do, done, is the whole
 
@@ -381,25 +254,9 @@ no_turn false n h = refl
 pub ran-last : {A : Type 0} {l : Level} {p : A → Parser (Bool × A)} {b : Bool} {x y : A} {v w : View}
     → Sound l → gap_of v.state.known ≤ length v.place.ahead → Ran l (p x) (b, y) v w → (b ≡ true → bytes_left v.place ≤ bytes_left w.place) → Ran l (repeat p x) y v w
 unfolding run repeated
-ran-last {l = d} {p = p} {b = b} {x = x} {y = y} {v = v} {w = w} sound few did stuck =
-    let h = did.runs in
-    let o = at d (p x) v in
-    let most = within-run d sound.within sound.within_block (p x) v.place v.state in
-    let there : o.taken ≤ length v.place.ahead = omega (arith, most, few) in
-    let stops : (o.value.0 && nat_lt 0 o.taken) ≡ false = rw h.value (no_turn b o.taken (λ e. taken-none d.levels o (b, y) v w h there (stuck e))) in
-    record { runs = rw stops (record { value = ap (λ u. u.1) h.value; place = h.place; state = h.state; nodes = h.nodes; log = h.log }) }
+ran-last {l = d} {p = p} {b = b} {x = x} {y = y} {v = v} {w = w} sound few did stuck = grind (arith, within-run, no_turn, taken-none)
 
 -- ---- what a shape leaves of the token at hand
-
-change-held : (change : NodeChange) (ts : List Tree) (s : Point) → (after_change change ts s).held ≡ s.held
-change-held change [] s = refl
-change-held change (t ∷ []) s = on-error (is_error t.head.kind) (is_error (changed change t).head.kind) (text_of t) s
-  where
-    on-error : (a b : Bool) (text : List ℕ) (s : Point) → (if a then s else after_node b text s).held ≡ s.held
-    on-error true b text s = refl
-    on-error false true text s = refl
-    on-error false false text s = refl
-change-held change (t ∷ u ∷ ts) s = refl
 
 change-known : (change : NodeChange) (ts : List Tree) (s : Point) → (after_change change ts s).known ≡ s.known
 change-known change [] s = refl
@@ -412,11 +269,7 @@ change-known change (t ∷ []) s = on-error (is_error t.head.kind) (is_error (ch
 change-known change (t ∷ u ∷ ts) s = refl
 
 pub shape-held : (shape : Shape) (ts : List Tree) (s : Point) → (after_shape shape ts s).held ≡ s.held
-shape-held (keeps change) ts s = change-held change ts s
-shape-held (holds change kind) ts s = refl
-shape-held (lacks count message kind) ts s = refl
-shape-held (warns kind message hint) ts s = refl
-shape-held (fails message) ts s = refl
+shape-held shape ts s = grind arith
 
 pub shape-known : (shape : Shape) (ts : List Tree) (s : Point) → (after_shape shape ts s).known ≡ s.known
 shape-known (keeps change) ts s = change-known change ts s
@@ -426,17 +279,4 @@ shape-known (warns kind message hint) ts s = refl
 shape-known (fails message) ts s = refl
 
 pub rewrapped-fits : (l : Level) {from : ℕ} {shape : Shape} {mid new : View} → Rewrapped from shape mid new → Fits l mid → Fits l new
-rewrapped-fits l {from = from} {shape = shape} {mid = mid} {new = new} w c =
-    let ts = drop from mid.nodes in
-    let held : new.state.held ≡ mid.state.held = ap (λ (s : Point). s.held) w.state ∙ shape-held shape ts mid.state in
-    let known : new.state.known ≡ mid.state.known = ap (λ (s : Point). s.known) w.state ∙ shape-known shape ts mid.state in
-    let at : moved new.hand.gap new.place ≡ moved mid.hand.gap mid.place = ap (λ (x : Hand). moved x.gap new.place) w.hand ∙ ap (moved mid.hand.gap) w.place in
-    record {
-      known = known ∙ c.known ∙ ap known_by (sym w.hand);
-      hand = w.hand ∙ c.hand ∙ sym (hand-at l.classes new.state.held mid.state.held new.state.known mid.state.known new.place mid.place held known w.place);
-      own = w.own ∙ own-at l.classes new.state.held mid.state.held (moved new.hand.gap new.place) (moved mid.hand.gap mid.place) mid.own held at c.own;
-      here = w.here ∙ here-at new.state.held mid.state.held new.hand.newlines mid.hand.newlines (moved new.hand.gap new.place) (moved mid.hand.gap mid.place) mid.here new.own mid.own held (ap (λ (x : Hand). x.newlines) w.hand) at w.own c.here;
-      there = rw (w.hand, w.place) c.there;
-      log = rw (w.here, w.log) c.log;
-      knows = knows-at w.memo (ap end_of w.place) c.knows;
-    }
+rewrapped-fits l {from = from} {shape = shape} {mid = mid} {new = new} w c = grind (arith, shape-held, shape-known, hand-at, own-at, here-at, knows-at)

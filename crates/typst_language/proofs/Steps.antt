@@ -1,5 +1,5 @@
 -- How steps of the code compose, most of which begin and end with the right token at hand.
-use Rattle.std.proofs.Common.{Option, None, ◌≡◌, ℕ, ◌+◌, ◌<◌, ◌≤◌, ◌==◌, Bool, true, false, List, [], ◌∷◌, ◌++◌, length, map, drop, refl, ap, sym, ◌∙◌, subst, arith}
+use Rattle.std.proofs.Common.{Option, None, ◌≡◌, ℕ, ◌+◌, ◌<◌, ◌≤◌, ◌==◌, Bool, true, false, List, [], ◌∷◌, ◌++◌, length, map, drop, ap, sym, ◌∙◌, subst, arith}
 use Rattle.typst_kinds.specs.declared.kind.SyntaxKind.{SyntaxKind}
 use Rattle.typst_lines.specs.Place.{moved}
 use Rattle.typst_tree.specs.Tree.{Tree, error_of}
@@ -15,7 +15,7 @@ use Rattle.typst_language.specs.Syntax.{Parser, Begin}
 use Rattle.typst_language.specs.Syntax.Op.{column, erred, takes, complains, marks, is_deepest}
 use Rattle.typst_language.specs.Syntax.Parser.{gives, does, next, pick, repeat, wraps, scoped, calls}
 use Rattle.typst_language.specs.Steps.{peek, eat_making, flush_trivia, within, node, node_with_trivia, note}
-use Rattle.typst_language.specs.Meaning.{Level, before, entered, left, same_mode}
+use Rattle.typst_language.specs.Meaning.{Level, before, entered, left}
 use Rattle.typst_language.specs.Bytes.{bytes_left}
 use Rattle.typst_language.specs.View.{View, Ran, Goes, Does, Makes, Fits, Bare, Loose, Looked, Left, Flushed, Rewrapped, unasked, noted_here}
 use Rattle.typst_language.specs.Remembered.{Knows, end_of}
@@ -39,8 +39,7 @@ pub does-other : {A : Type 0} {l : Level} {P Q : View → Type 0} {b : Bool} {p 
 does-other e d = record { ran = λ c. ran-other e (d.ran c); ready = d.ready }
 
 pub nil-seen : (ts : List Tree) → is_nil (map seen ts) ≡ is_nil ts
-nil-seen [] = refl
-nil-seen (t ∷ ts) = refl
+nil-seen ts = grind arith
 
 pub does-peek : {l : Level} (v : View) → Does l peek (as_at_hand v.hand) v v
 does-peek v = record { ran = λ c. ran-hand v c; ready = λ c. c }
@@ -89,10 +88,7 @@ does-note m {v = v} h = record {
 
 -- this was noted before anything was asked
 pub does-marks : {l : Level} (m : Mark) (v w : View) → (Bare l v → w ≡ noted l.levels m v) → Goes l (Bare l) (Bare l) (does (marks m)) tt v w
-does-marks {l = l} m v w e = record {
-  ran = λ b. rw (e b) (ran-marks m v);
-  ready = λ b. rw (e b) (record { known = b.known; knows = b.knows });
-}
+does-marks {l = l} m v w e = grind (arith, ran-marks)
 
 pub does-complains : {l : Level} (m : List ℕ) (v : View) → Does l (does (complains m)) tt v (record v { nodes = v.nodes ++ error_of m [] ∷ []; state = record v.state { empties = v.state.empties + 1; is_after_error = true } })
 does-complains m v = record { ran = λ c. ran-complains m v; ready = λ c. record { known = c.known; hand = c.hand; own = c.own; here = c.here; there = c.there; log = c.log; knows = c.knows } }
@@ -112,11 +108,7 @@ fits-entered : {l : Level} (f : Reading → Reading) {v : View} → Fits l v →
 fits-entered f c = record { known = c.known; hand = c.hand; own = c.own; here = c.here; there = c.there; log = c.log; knows = c.knows }
 
 left-few : (outer : Reading) (s : Point) (n : ℕ) → gap_of s.known ≤ n → gap_of (left outer s).known ≤ n
-left-few outer s n h = by-mode (same_mode s.reading.mode outer.mode) refl
-  where
-    by-mode : (b : Bool) → same_mode s.reading.mode outer.mode ≡ b → gap_of (left outer s).known ≤ n
-    by-mode true e = rw e h
-    by-mode false e = rw e (omega arith)
+left-few outer s n h = grind arith
 
 -- the tokens to come are read in another way, and then as before
 pub does-within : {A : Type 0} {l : Level} (f : Reading → Reading) {p : Parser A} {a : A} {old mid new : View}
@@ -131,18 +123,11 @@ does-within f {old = old} {mid = mid} h e = record {
 pub does-scoped : {A : Type 0} {l : Level} {Q : View → Type 0} (f : Reading → Reading) {p : Parser A} {a : A} {outer : Reading} {old inner mid new : View}
     → (Q mid → Knows l.guess (end_of mid.place) mid.memo) → inner ≡ record old { state = entered (f old.state.reading) old.state } → outer ≡ old.state.reading
     → Goes l (Fits l) Q p a inner mid → new ≡ record mid { state = left outer mid.state } → Goes l (Fits l) (Loose l) (scoped f p) a old new
-does-scoped {l = l} f {p = p} {a = a} {outer = outer} {old = old} {inner = inner} {mid = mid} {new = new} knows i o h e = record {
-  ran = λ c. (let j = subst (λ (v : View). Fits l v) (sym i) (fits-entered f c) in rw (e, o) (ran-scoped f (subst (λ (v : View). Ran l p a v mid) i (h.ran j))));
-  ready = λ c. (let j = subst (λ (v : View). Fits l v) (sym i) (fits-entered f c) in record { knows = knows-at (ap (λ (v : View). v.memo) e) (ap (λ (v : View). end_of v.place) e) (knows (h.ready j)) });
-}
+does-scoped {l = l} f {p = p} {a = a} {outer = outer} {old = old} {inner = inner} {mid = mid} {new = new} knows i o h e = grind (arith, fits-entered, ran-scoped, knows-at)
 
 -- after another mode nothing is known of a token that wasn't asked for
 left-bare : (outer : Reading) (s : Point) → s.known ≡ None → (left outer s).known ≡ None
-left-bare outer s h = by-mode (same_mode s.reading.mode outer.mode) refl
-  where
-    by-mode : (b : Bool) → same_mode s.reading.mode outer.mode ≡ b → (left outer s).known ≡ None
-    by-mode true e = rw e h
-    by-mode false e = rw e refl
+left-bare outer s h = grind arith
 
 -- the last token was taken in the inner way, and the one after it is asked for in the outer way
 pub does-closed : {A : Type 0} {l : Level} (f : Reading → Reading) {p : Parser A} {a : A} {outer : Reading} {old inner mid last new : View}

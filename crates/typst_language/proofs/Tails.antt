@@ -1,11 +1,6 @@
 -- Where an outcome ends, and what was looked at for it.
-use Rattle.std.proofs.Common.{◌≡◌, ℕ, ◌+◌, Bool, true, false, not, ◌&&◌, ◌||◌, List, [], ◌∷◌, ◌++◌, map, Option, Some, None, refl, ap, sym, ◌∙◌}
-use Rattle.typst_kinds.specs.Kinds.{is_error}
+use Rattle.std.proofs.Common.{◌≡◌, ℕ, ◌+◌, true, false, List, [], ◌∷◌, ◌++◌, map, None, refl, ap, ◌∙◌, arith}
 use Rattle.typst_lines.specs.Place.{Place, moved}
-use Rattle.typst_tree.specs.Tree.{Tree}
-use Rattle.typst_lines.specs.Classes.{CharClasses}
-use Rattle.typst_tokens.specs.declared.token.Token.{Token}
-use Rattle.typst_tokens.specs.declared.token.Fault.{Fault}
 use Rattle.typst_tokens.specs.Sight.{hull_of}
 use Rattle.typst_tokens.specs.declared.hull.Hull.{Hull}
 use Rattle.typst_language.specs.declared.reading.Reading.{Reading}
@@ -13,8 +8,8 @@ use Rattle.typst_language.specs.Ask.{Ask, shift}
 use Rattle.typst_language.specs.Ask.Ask.{looked, marked}
 use Rattle.typst_language.specs.Bytes.{LiesIn}
 use Rattle.typst_language.specs.Hand.{as_at_hand}
-use Rattle.typst_language.specs.Meaning.{Level, Outcome, asked, before, entered, hand_asks_of, hand_of, inside, left, run}
-use Rattle.typst_lexer.specs.Nodes.{has_fields, is_leaf, is_raw, token_node}
+use Rattle.typst_language.specs.Meaning.{Level, asked, before, entered, hand_asks_of, hand_of, inside, left, run}
+use Rattle.typst_lexer.specs.Nodes.{is_leaf}
 use Rattle.typst_language.specs.Point.{Point}
 use Rattle.typst_language.specs.Remembered.{LooksIn}
 use Rattle.typst_language.specs.Shape.{Shape, after_shape, seen}
@@ -23,7 +18,6 @@ use Rattle.typst_language.specs.Syntax.{Begin, Parser}
 use Rattle.typst_language.specs.Syntax.Op.{hand, takes}
 use Rattle.typst_language.specs.Syntax.Parser.{does, gives, next, scoped, wraps}
 use Rattle.typst_language.proofs.Places.{moved-sum}
-use Rattle.typst_lexer.proofs.TokenTexts.{leaf-is}
 
 -- where each look lies
 abbrev pub hulls : Place → List Ask → List Hull
@@ -77,17 +71,7 @@ pub record Is {A : Type 0} (l : Level) (p : Parser A) (z : Place) (s : Point) (a
 pub is-next : {A B : Type 0} {l : Level} {p : Parser B} {f : B → Parser A} {b : B} {a : A} {z w y : Place} {s t x : Point} {hs ks : List Hull}
     → Is l p z s b w t hs → Is l (f b) w t a y x ks → Is l (next p f) z s a y x (hs ++ ks)
 unfolding run
-is-next {A = A} {l = l} {p = p} {f = f} {b = b} {a = a} {z = z} {w = w} {y = y} {s = s} {t = t} {x = x} {hs = hs} {ks = ks} h k =
-    let o = run l p z s in
-    let q = run l (f o.value) (moved o.taken z) o.state in
-    let same : run l (f b) w t ≡ q = rw (h.place, h.state, sym h.value) refl in
-    record {
-      value = ap (λ (u : Outcome A). u.value) (sym same) ∙ k.value;
-      place = k.place ∙ ap (λ (u : Outcome A). moved u.taken w) same ∙ ap (moved q.taken) h.place ∙ sym (moved-sum o.taken q.taken z);
-      state = k.state ∙ ap (λ (u : Outcome A). u.state) same;
-      looks = hulls-append z o.asks (shift o.taken q.asks) ∙ ap (λ xs. xs ++ hulls z (shift o.taken q.asks)) h.looks
-          ∙ ap (λ ys. hs ++ ys) (hulls-shift o.taken z q.asks ∙ ap (λ y. hulls y q.asks) (sym h.place) ∙ ap (λ (u : Outcome A). hulls w u.asks) (sym same) ∙ k.looks);
-    }
+is-next {A = A} {l = l} {p = p} {f = f} {b = b} {a = a} {z = z} {w = w} {y = y} {s = s} {t = t} {x = x} {hs = hs} {ks = ks} h k = grind (arith, moved-sum, hulls-append, hulls-shift)
 
 pub is-self : {A : Type 0} (l : Level) (p : Parser A) (z : Place) (s : Point) → (let o = run l p z s in Is l p z s o.value (moved o.taken z) o.state (hulls z o.asks))
 is-self l p z s = record { value = refl; place = refl; state = refl; looks = refl }
@@ -109,35 +93,10 @@ is-scoped f s h = record { value = h.value; place = h.place; state = ap (left s.
 pub is-wraps : {A : Type 0} {l : Level} (f : A → Shape) (begin : Begin) {p : Parser A} {a : A} {z w : Place} {s t : Point} {hs : List Hull}
     → Is l p z s a w t hs → (let ts = inside (before begin s) (run l p z s) in Is l (wraps f begin p) z s (a, map seen ts) w (after_shape (f a) ts t) hs)
 unfolding run
-is-wraps {l = l} f begin {p = p} {a = a} {z = z} {s = s} {t = t} h =
-    let o = run l p z s in
-    let ts = inside (before begin s) o in
-    record {
-      value = ap (λ x. (x, map seen ts)) h.value;
-      place = h.place;
-      state = ap (λ x. after_shape (f x) ts t) (sym h.value) ∙ ap (after_shape (f o.value) ts) h.state;
-      looks = h.looks;
-    }
-
--- the node of a leaf is no error
-leaf-fine : (k : CharClasses) (t : Token) (taken : List ℕ) → is_leaf t ≡ true → is_error (token_node k t taken).head.kind ≡ false
-leaf-fine k t taken h = ap (λ (x : Tree). is_error x.head.kind) (leaf-is k t taken h) ∙ by-fault t.fault h
-  where
-    by-kind : (e r : Bool) → (not e && not r) ≡ true → e ≡ false
-    by-kind true r h = absurd (cc)
-    by-kind false r h = refl
-
-    by-fault : (fault : Option Fault) → (elim fault [ None ↦ not (is_error t.kind) && not (is_raw t.kind || has_fields t.kind) | Some f ↦ false ]) ≡ true → is_error t.kind ≡ false
-    by-fault None h = by-kind (is_error t.kind) (is_raw t.kind || has_fields t.kind) h
-    by-fault (Some f) h = absurd (cc)
+is-wraps {l = l} f begin {p = p} {a = a} {z = z} {s = s} {t = t} h = grind arith
 
 -- a leaf was taken: nothing before it counts any more
 pub is-takes : {l : Level} (z : Place) (s : Point) → is_leaf (hand_of l z s).token ≡ true
     → Is l (does (takes false itself)) z s tt (moved ((hand_of l z s).gap + (hand_of l z s).len) z) (record s { held = s.reading; empties = 0; is_after_error = false; known = None }) (hulls z (hand_asks_of l z s))
 unfolding run
-is-takes {l = l} z s leaf = record {
-  value = refl;
-  place = refl;
-  state = rw (leaf-fine l.classes (hand_of l z s).token _ leaf) refl;
-  looks = refl;
-}
+is-takes {l = l} z s leaf = grind arith

@@ -2,7 +2,7 @@
 use lib.Utf8.{encode}
 use Rattle.std.proofs.Common.{Option, Some, None, ◌≡◌, ℕ, zero, suc, ◌+◌, ◌-◌, ◌<◌, ◌≤◌, Bool, true, false, ◌&&◌, ◌||◌, nat_lt, List, [], ◌∷◌, ◌++◌, length, take, slice_get, reverse, append_assoc, append-nil, refl, ap, sym, ◌∙◌, subst, arith}
 use Rattle.std.proofs.Math.Bool.{or_assoc}
-use borrow.Author.Tests.{ltb-true, lt-ltb}
+use borrow.Author.Tests.{ltb-true}
 use Rattle.std.proofs.lemmas.Str.{chars-nil}
 use Rattle.std.specs.Str.{chars}
 use Rattle.typst_kinds.specs.declared.mode.SyntaxMode.{SyntaxMode}
@@ -29,18 +29,16 @@ use Rattle.typst_language.specs.declared.ahead.ReadAhead.{ReadAhead as Front}
 use Rattle.typst_lines.specs.declared.scanner.Scanner.{Scanner}
 use Rattle.typst_language.specs.AheadCursor.{IsAhead, distance}
 use Rattle.typst_language.specs.Bytes.{bytes_left}
-use Rattle.typst_language.proofs.Bytes.{some-bytes, none-bytes}
-use Rattle.typst_language.proofs.Hulls.{In, itself-in, second-in, first-in, same-hull}
+use Rattle.typst_language.proofs.Bytes.{none-bytes}
+use Rattle.typst_language.proofs.Hulls.{In, second-in, first-in, same-hull}
 use Rattle.typst_language.proofs.Places.{moved-sum, moved-min, moved-before, ahead-left}
 use Rattle.typst_language.proofs.Within.{if-same, and-second, on_both, on_if}
 
 and-none : (b : Bool) (n : ℕ) → n ≡ 0 → (b && nat_lt 0 n) ≡ false
-and-none true n e = rw e refl
-and-none false n e = refl
+and-none b n e = grind arith
 
 or-none : (b : Bool) → (b || false) ≡ b
-or-none true = refl
-or-none false = refl
+or-none b = grind arith
 
 same-newlines : (a b c d : Bool) → a ≡ c → b ≡ d → ◌≡◌ {A = Newlines} (record { any = a; parbreak = b }) (record { any = c; parbreak = d })
 same-newlines a b c d e f = rw (e, f) refl
@@ -125,24 +123,12 @@ same-hand i j ts us g h l n a b t u p q r s v w = rw (p, q, r, s, v, w) refl
 pub along-end : (k : CharClasses) (held : Reading) (now : Newlines) (ts : List Tree) (from z : Place) (a : Along k held.mode now ts from z) → at_trivia k held.mode z ≡ false
     → record { kind = judged held now (token_at k held.mode z).kind (column_at z); trivia = ts; gap = a.gap; len = len_at k held.mode z; newlines = now; token = token_at k held.mode z } ≡ hand_at k held None from
 unfolding hand_at
-along-end k held now ts from z a h =
-    let m = held.mode in
-    let stop = ahead-stop k m z h in
-    let f = ahead k m from in
-    let token-is : token_at k m z ≡ f.token = sym (a.token ∙ ap (λ (x : Ahead). x.token) stop) in
-    let gap-is : a.gap ≡ f.gap = let s : (ahead k m z).gap ≡ 0 = ap (λ (x : Ahead). x.gap) stop in omega (arith, a.gaps, s) in
-    let line-is : now ≡ f.newlines = sym (a.newlines ∙ ap (λ (x : Ahead). both_newlines now x.newlines) stop ∙ both-none now) in
-    let trivia-is : ts ≡ f.trivia = sym (a.trivia ∙ ap (λ (x : Ahead). ts ++ x.trivia) stop ∙ append-nil ts) in
-    let column-is : column_at z ≡ column_at (moved f.gap from) = ap column_at (a.place ∙ ap (λ n. moved n from) gap-is) in
-    same-hand _ _ _ _ _ _ _ _ _ _ _ _
-    (ap (λ (t : Token). judged held now t.kind (column_at z)) token-is ∙ ap (λ c. judged held now f.token.kind c) column-is ∙ ap (λ n. judged held n f.token.kind (column_at (moved f.gap from))) line-is)
-    trivia-is gap-is (sym (a.len ∙ ap (λ (x : Ahead). x.len) stop)) line-is token-is
+along-end k held now ts from z a h = grind (arith, ahead-stop, both-none, append-nil, same-hand)
 
 -- ---- what is known of trivia
 
 again-direct : (k : CharClasses) (m : SyntaxMode) (p : ℕ) (z : Place) → at_trivia k m z ≡ false → ahead_by k m p z ≡ direct (token_at k m z) (len_at k m z)
-again-direct k m zero z h = refl
-again-direct k m (suc p) z h = rw h refl
+again-direct k m p z h = grind arith
 
 -- after the trivia at a place no trivia comes
 again-stop : (k : CharClasses) (m : SyntaxMode) (n : ℕ) (z : Place) → length z.ahead ≤ n → at_trivia k m (moved (ahead_by k m n z).gap z) ≡ false
@@ -184,12 +170,7 @@ token-after k m z =
 -- where the trivia are known the same token is at hand
 pub hand-known : (k : CharClasses) (held : Reading) (known : Option Trivia) (z : Place) → hand_at k held (known_by (hand_at k held known z)) z ≡ hand_at k held known z
 unfolding hand_at
-hand-known k held None z =
-    let a = ahead k held.mode z in
-    let e = token-after k held.mode z in
-    let t = ap (λ (x : Ahead). x.token) e in
-    same-hand _ _ _ _ _ _ _ _ _ _ _ _ (ap (λ (u : Token). judged held a.newlines u.kind (column_at (moved a.gap z))) t) refl refl (ap (λ (x : Ahead). x.len) e) refl t
-hand-known k held (Some t) z = refl
+hand-known k held known z = grind (arith, token-after, same-hand)
 
 -- no more trivia are known than there are characters
 gap-by : (k : CharClasses) (m : SyntaxMode) (n : ℕ) (z : Place) → (ahead_by k m n z).gap ≤ length z.ahead
@@ -203,8 +184,7 @@ gap-by k m (suc n) z =
 
 pub gap-there : (k : CharClasses) (held : Reading) (known : Option Trivia) (z : Place) → gap_of known ≤ length z.ahead → (hand_at k held known z).gap ≤ length z.ahead
 unfolding hand_at ahead
-gap-there k held None z h = gap-by k held.mode (length z.ahead) z
-gap-there k held (Some t) z h = h
+gap-there k held known z h = grind (arith, gap-by)
 
 -- ---- what the lexer of the code says
 
@@ -215,21 +195,13 @@ pub len-most : (k : CharClasses) (m : SyntaxMode) (z : Place) → len_at k m z �
 len-most k m z = omega arith
 
 pub no-trivia : (k : CharClasses) (m : SyntaxMode) (z w : Place) (t : Token) → exec (token k m) z ≡ (t, w) → is_trivia t.kind ≡ false → at_trivia k m z ≡ false
-no-trivia k m z w t e h =
-    let f : is_trivia (token_at k m z).kind ≡ false = ap (λ (p : Token × Place). is_trivia p.0.kind) e ∙ h in
-    rw f refl
+no-trivia k m z w t e h = cc
 
 pub no-more : (k : CharClasses) (m : SyntaxMode) (z w : Place) (t : Token) → exec (token k m) z ≡ (t, w) → bytes_left z ≤ bytes_left w → at_trivia k m z ≡ false
-no-more k m z w t e h =
-    let p = ap bytes_left (read-place k m z w t e) in
-    and-none (is_trivia (token_at k m z).kind) (len_at k m z) (none-bytes (len_at k m z) z (len-most k m z) (omega arith))
+no-more k m z w t e h = grind (arith, ap bytes_left (read-place k m z w t e), and-none, none-bytes, len-most)
 
 pub some-trivia : (k : CharClasses) (m : SyntaxMode) (z w : Place) (t : Token) → exec (token k m) z ≡ (t, w) → is_trivia t.kind ≡ true → bytes_left w < bytes_left z → at_trivia k m z ≡ true
-some-trivia k m z w t e h b =
-    let p = ap bytes_left (read-place k m z w t e) in
-    let some = some-bytes (len_at k m z) z (omega arith) in
-    let f : is_trivia (token_at k m z).kind ≡ true = ap (λ (q : Token × Place). is_trivia q.0.kind) e ∙ h in
-    rw (f, lt-ltb 0 (len_at k m z) some) refl
+some-trivia k m z w t e h b = let p = ap bytes_left (read-place k m z w t e) in grind arith
 
 -- a space that stands alone is a token of trivia, which takes that character
 pub record Lone (k : CharClasses) (m : SyntaxMode) (z w : Place) : Type 0 where
@@ -249,15 +221,7 @@ lone-is k m z w t e s =
     let a = one-ahead z.ahead s.0 in
     let there = read-place k m z w t e in
     let one : n ≡ 1 = omega (arith, ap (λ (p : Place). length p.ahead) (sym there ∙ s.2), ahead-left n z, ahead-left 1 z, len-most k m z, a.1) in
-    let space : token_at k m z ≡ plain kind.Space = ap (λ (p : Token × Place). p.0) e ∙ s.1 in
-    let f : is_trivia (token_at k m z).kind ≡ true = ap (λ (u : Token). is_trivia u.kind) space in
-    record {
-      token = space;
-      trivia = rw (f, lt-ltb 0 n (omega (arith, one))) refl;
-      next = there;
-      text = ap (λ i. take i z.ahead) one ∙ a.0;
-      fewer = omega (arith, ap (λ (p : Place). length p.ahead) s.2, ahead-left 1 z, a.1);
-    }
+    grind arith
 
 -- its node is a leaf
 pub space-node : (k : CharClasses) → token_node k (plain kind.Space) (32 ∷ []) ≡ leaf_of kind.Space (32 ∷ [])
@@ -270,11 +234,7 @@ distance-is from to n h e = let b = ap (λ (p : Place). length p.before) e ∙ m
 -- what was looked at for the tokens that were read one after the other
 pub tokens-stop : (k : CharClasses) (m : SyntaxMode) (z : Place) → at_trivia k m z ≡ false → tokens_at k m z ≡ token_hull k m z
 unfolding tokens_at
-tokens-stop k m z h = by-count (length z.ahead)
-  where
-    by-count : (n : ℕ) → tokens_by k m n z ≡ token_hull k m z
-    by-count zero = refl
-    by-count (suc n) = rw h refl
+tokens-stop k m z h = grind arith
 
 tokens-enough : (k : CharClasses) (m : SyntaxMode) (n p : ℕ) (z : Place) → length z.ahead ≤ n → length z.ahead ≤ p → tokens_by k m n z ≡ tokens_by k m p z
 tokens-enough k m zero zero z a b = refl
@@ -289,12 +249,7 @@ tokens-enough k m (suc n) (suc p) z a b =
 
 tokens-step : (k : CharClasses) (m : SyntaxMode) (z : Place) → at_trivia k m z ≡ true → tokens_at k m z ≡ joined_hull (token_hull k m z) (tokens_at k m (moved (len_at k m z) z))
 unfolding tokens_at
-tokens-step k m z h =
-    let l = len_at k m z in
-    let w = moved l z in
-    let left = ahead-left l z in
-    tokens-enough k m (length z.ahead) (suc (length z.ahead)) z (omega arith) (omega arith)
-    ∙ (rw h (ap (joined_hull (token_hull k m z)) (tokens-enough k m (length z.ahead) (length w.ahead) w (omega arith) (omega arith))))
+tokens-step k m z h = grind (arith, ahead-left, tokens-enough)
 
 -- what was looked at so far, up to a token that was read
 pub record Looking (k : CharClasses) (m : SyntaxMode) (from z : Place) (tokens : Hull) : Type 0 where
@@ -303,9 +258,7 @@ pub record Looking (k : CharClasses) (m : SyntaxMode) (from z : Place) (tokens :
 
 pub looking-start : (k : CharClasses) (m : SyntaxMode) (z : Place) → Looking k m z z (token_hull k m z)
 unfolding tokens_at
-looking-start k m z =
-    let i = first-in k m (length z.ahead) z in
-    record { all = same-hull _ _ _ _ (omega (arith, i.reach)) (omega (arith, i.least)); last = itself-in (token_hull k m z) }
+looking-start k m z = grind arith
 
 -- before anything was looked at
 pub looking-first : (k : CharClasses) (m : SyntaxMode) (z : Place) (most : ℕ) → (token_hull k m z).least ≤ most → Looking k m z z (joined_hull (record { reach = 0; least = most }) (token_hull k m z))
@@ -317,13 +270,7 @@ tokens-first k m w = first-in k m (length w.ahead) w
 
 pub looking-next : (k : CharClasses) (m : SyntaxMode) (from z w : Place) (tokens : Hull) → Looking k m from z tokens → at_trivia k m z ≡ true → w ≡ moved (len_at k m z) z
     → Looking k m from w (joined_hull tokens (token_hull k m w))
-looking-next k m from z w tokens h t e =
-    let step = tokens-step k m z t ∙ ap (λ p. joined_hull (token_hull k m z) (tokens_at k m p)) (sym e) in
-    let j = tokens-first k m w in
-    record {
-      all = h.all ∙ ap (joined_hull tokens) step ∙ same-hull _ _ _ _ (omega (arith, h.last.reach, j.reach)) (omega (arith, h.last.least, j.least));
-      last = second-in tokens (token_hull k m w);
-    }
+looking-next k m from z w tokens h t e = grind (arith, tokens-step, tokens-first, same-hull, second-in)
 
 pub looking-end : (k : CharClasses) (m : SyntaxMode) (from z : Place) (tokens : Hull) → Looking k m from z tokens → at_trivia k m z ≡ false → tokens_at k m from ≡ tokens
 looking-end k m from z tokens h t = h.all ∙ ap (joined_hull tokens) (tokens-stop k m z t) ∙ same-hull _ _ _ _ (omega (arith, h.last.reach)) (omega (arith, h.last.least))
@@ -355,16 +302,7 @@ is-ahead k held begin ts a same is_read own-is here-is along stop read kind-is o
 pub whole-is : (k : CharClasses) (held : Reading) (now : Newlines) (ts : List Tree) (from z : Place) (tokens : Hull) → Along k held.mode now ts from z → at_trivia k held.mode z ≡ false
     → Looking k held.mode from z tokens → joined_hull tokens (column_hull held now z (token_hull k held.mode z)) ≡ whole_at k held from
 unfolding whole_at
-whole-is k held now ts from z tokens a h l =
-    let m = held.mode in
-    let stop = ahead-stop k m z h in
-    let f = ahead k m from in
-    let gap-is : a.gap ≡ f.gap = let s : (ahead k m z).gap ≡ 0 = ap (λ (x : Ahead). x.gap) stop in omega (arith, a.gaps, s) in
-    let line-is : now ≡ f.newlines = sym (a.newlines ∙ ap (λ (x : Ahead). both_newlines now x.newlines) stop ∙ both-none now) in
-    let place-is : z ≡ moved f.gap from = a.place ∙ ap (λ n. moved n from) gap-is in
-    ap (λ u. joined_hull u (column_hull held now z (token_hull k m z))) (sym (looking-end k m from z tokens l h))
-    ∙ ap (λ n. joined_hull (tokens_at k m from) (column_hull held n z (token_hull k m z))) line-is
-    ∙ ap (λ p. joined_hull (tokens_at k m from) (column_hull held f.newlines p (token_hull k m p))) place-is
+whole-is k held now ts from z tokens a h l = grind (arith, ahead-stop, both-none, looking-end)
 
 pub start-is : (text : List ℕ) → place_at text 0 ≡ record { before = []; ahead = chars text }
 unfolding place_at

@@ -1,5 +1,5 @@
 -- How the code of a production composes.
-use Rattle.std.proofs.Common.{◌≡◌, sym, subst}
+use Rattle.std.proofs.Common.{◌≡◌, sym, subst, arith}
 use Rattle.typst_language.specs.declared.reading.Reading.{Reading}
 use Rattle.typst_language.specs.Meaning.{Level, entered}
 use Rattle.typst_language.specs.Syntax.{Parser}
@@ -14,5 +14,4 @@ does-value {A = A} {l = l} {P = P} {Q = Q} {p = p} {old = old} {new = new} e d =
 -- the code entered a reading, and left it
 pub does-entered : {A : Type 0} {l : Level} (f : Reading → Reading) {p : Parser A} {a : A} {outer : Reading} {old inner mid new : View}
     → inner ≡ record old { state = entered (f old.state.reading) old.state } → Does l p a inner mid → outer ≡ old.state.reading → Left l outer mid new → Does l (within f p) a old new
-does-entered {l = l} f {p = p} {a = a} {old = old} {mid = mid} {new = new} e d o t =
-    does-within f (subst (λ (v : View). Does l p a v mid) e d) (subst (λ (r : Reading). Left l r mid new) o t)
+does-entered {l = l} f {p = p} {a = a} {old = old} {mid = mid} {new = new} e d o t = grind (arith, does-within)

@@ -1,5 +1,5 @@
 -- No more is taken than there is, and no more turns are made than there are characters.
-use Rattle.std.proofs.Common.{Some, [], ◌∷◌, ◌≡◌, ℕ, zero, suc, ◌+◌, ◌<◌, ◌≤◌, Bool, true, false, ◌&&◌, if◌then◌else◌, nat_lt, length, refl, ap, arith, List, None, Option, max, ◌∷◌}
+use Rattle.std.proofs.Common.{Some, ◌≡◌, ℕ, zero, suc, ◌+◌, ◌<◌, ◌≤◌, Bool, true, false, ◌&&◌, if◌then◌else◌, nat_lt, length, refl, ap, arith, List, None, Option, max}
 use borrow.Author.Tests.{ltb-true}
 use Rattle.typst_kinds.specs.declared.mode.SyntaxMode.{SyntaxMode}
 use Rattle.typst_lines.specs.Place.{Place, moved}
@@ -9,7 +9,6 @@ use Rattle.typst_language.specs.declared.calls.Block.{Block}
 use Rattle.typst_language.specs.Calls.{Call}
 use Rattle.typst_language.specs.Point.{Trivia, Point, gap_of}
 use Rattle.typst_language.specs.Shape.{Shape, after_node, after_shape}
-use Rattle.typst_language.specs.Shape.Shape.{keeps, holds, lacks, warns, fails}
 use Rattle.typst_language.specs.declared.reading.Reading.{Reading}
 use Rattle.typst_tokens.specs.Reader.{Reader}
 use Rattle.typst_tokens.specs.declared.token.Token.{Token}
@@ -18,9 +17,8 @@ use Rattle.typst_language.specs.Hand.{Ahead, len_at, len_by, at_trivia, ahead_by
 use Rattle.typst_language.specs.Syntax.{Op, Begin, Parser}
 use Rattle.typst_language.specs.Syntax.Op.{hand, so, further, column, erred, takes, takes_so, flushes, complains, advises, marks, is_deepest}
 use Rattle.typst_language.specs.Syntax.Parser.{gives, does, next, pick, repeat, wraps, grows, nests, scoped, either, calls, block}
-use Rattle.typst_language.specs.Meaning.{Outcome, Meaning, Level, plain, joined, answered, followed, turns, as_last, bound, repeated, before, inside, reshaped, grown, is_more, growths, growing, nestings, nesting, given_up, bounded, entered, left, same_mode, flushed_state, reader_so, done, run}
+use Rattle.typst_language.specs.Meaning.{Outcome, Meaning, Level, plain, joined, answered, followed, turns, as_last, bound, repeated, before, inside, reshaped, grown, is_more, growths, growing, nestings, nesting, given_up, bounded, entered, left, reader_so, done, run}
 use Rattle.typst_language.specs.Sound.{Within}
-use Rattle.typst_kinds.specs.Kinds.{is_error}
 use Rattle.typst_lexer.specs.Tree.{Tree}
 use Rattle.typst_language.proofs.Places.{ahead-left, moved-sum}
 
@@ -56,18 +54,10 @@ record Fits (z : Place) (known gap : ℕ) (len : ℕ) : Type 0 where
   kept : Room z known 0 gap
 
 fits-none : (z : Place) (gap len : ℕ) → gap + len ≤ length z.ahead → Fits z 0 gap len
-fits-none z gap len h = record {
-  taken = omega (arith, ahead-left (gap + len) z);
-  flushed = omega (arith, ahead-left gap z);
-  kept = omega (arith, ahead-left 0 z);
-}
+fits-none z gap len h = grind (arith, ahead-left)
 
 fits-known : (z : Place) (gap len : ℕ) → len ≤ length (moved gap z).ahead → Fits z gap gap len
-fits-known z gap len h = record {
-  taken = omega (arith, ahead-left gap z, ahead-left (gap + len) z);
-  flushed = omega (arith, ahead-left gap z);
-  kept = omega (arith, ahead-left 0 z);
-}
+fits-known z gap len h = grind (arith, ahead-left)
 
 hand-fits : (k : CharClasses) (held : Reading) (known : Option Trivia) (z : Place) → Fits z (gap_of known) (hand_at k held known z).gap (hand_at k held known z).len
 unfolding hand_at ahead
@@ -77,22 +67,17 @@ hand-fits k held (Some t) z = fits-known z t.gap (len_at k held.mode (moved t.ga
 -- the trivia at hand
 trivia-short : (k : CharClasses) (held : Reading) (known : Option Trivia) (z : Place) → (hand_at k held known z).gap ≤ max (gap_of known) (length z.ahead)
 unfolding hand_at ahead
-trivia-short k held None z = omega (arith, ahead-short k held.mode (length z.ahead) z)
-trivia-short k held (Some t) z = omega arith
+trivia-short k held known z = grind (arith, ahead-short)
 
 so-fits : (k : CharClasses) (held : Reading) (known : Option Trivia) (z : Place) (r : Reader Memory Token) → Room z (gap_of known) ((hand_at k held known z).gap + len_by r (moved (hand_at k held known z).gap z)) 0
-so-fits k held known z r =
-    let g = (hand_at k held known z).gap in
-    omega (arith, trivia-short k held known z, ahead-left g z, ahead-left (g + len_by r (moved g z)) z)
+so-fits k held known z r = grind (arith, trivia-short, ahead-left)
 
 -- what is known after a part of a parser
 abbrev pub Enough : {A : Type 0} → Place → ℕ → Outcome A → Type 0
 Enough z known o = Room z known o.taken (gap_of o.state.known)
 
 enough-joined : {A B : Type 0} (z : Place) (known : ℕ) (o : Outcome B) (p : Outcome A) → Enough z known o → Enough (moved o.taken z) (gap_of o.state.known) p → Enough z known (joined o p)
-enough-joined z known o p h k =
-    let e : length (moved (o.taken + p.taken) z).ahead ≡ length (moved p.taken (moved o.taken z)).ahead = ap (λ (w : Place). length w.ahead) (moved-sum o.taken p.taken z) in
-    omega (arith, h, k, e)
+enough-joined z known o p h k = grind (arith, moved-sum)
 
 after_node-gap : (b : Bool) (text : List ℕ) (s : Point) → gap_of (after_node b text s).known ≡ gap_of s.known
 after_node-gap true text s = refl
@@ -103,20 +88,13 @@ after_change-gap true c text s = refl
 after_change-gap false c text s = after_node-gap c text s
 
 after_shape-gap : (shape : Shape) (ts : List Tree) (s : Point) → gap_of (after_shape shape ts s).known ≡ gap_of s.known
-after_shape-gap (keeps change) [] s = refl
-after_shape-gap (keeps change) (t ∷ []) s = after_change-gap (is_error t.head.kind) _ _ s
-after_shape-gap (keeps change) (t ∷ u ∷ ts) s = refl
-after_shape-gap (holds change kind) ts s = refl
-after_shape-gap (lacks count message kind) ts s = refl
-after_shape-gap (warns kind message hint) ts s = refl
-after_shape-gap (fails message) ts s = refl
+after_shape-gap shape ts s = grind (arith, after_change-gap)
 
 enough-reshaped : {A : Type 0} (z : Place) (known : ℕ) (shape : Shape) (n : ℕ) (o : Outcome A) → Enough z known o → Enough z known (reshaped shape n o)
 enough-reshaped z known shape n o h = omega (arith, h, after_shape-gap shape (inside n o) o.state)
 
 enough-left : {A : Type 0} (z : Place) (known : ℕ) (outer : Reading) (o : Outcome A) → Enough z known o → Room z known o.taken (gap_of (left outer o.state).known)
-enough-left z known outer o h =
-    on_both (λ (t : Point). Room z known o.taken (gap_of t.known)) (same_mode o.state.reading.mode outer.mode) _ _ h (omega (arith, h))
+enough-left z known outer o h = grind arith
 
 enough-turns : {A : Type 0} (m : A → Meaning (Bool × A)) → ((x : A) → Within (m x)) → (n : ℕ) (x : A) → Within (turns m n x)
 enough-turns m h zero x z s = omega arith
@@ -147,8 +125,7 @@ abbrev pub grew : {A : Type 0} → ℕ → Outcome A → Outcome (Option Shape �
 grew n o p = grown n p.value.0 (answered p.value.1 (joined o p))
 
 enough-grown : {A : Type 0} (z : Place) (known n : ℕ) (shape : Option Shape) (o : Outcome A) → Enough z known o → Enough z known (grown n shape o)
-enough-grown z known n None o h = h
-enough-grown z known n (Some shape) o h = enough-reshaped z known shape n o h
+enough-grown z known n shape o h = grind (arith, enough-reshaped)
 
 pub enough-grew : {A : Type 0} (z : Place) (known n : ℕ) (o : Outcome A) (p : Outcome (Option Shape × A)) → Enough z known o → Enough (moved o.taken z) (gap_of o.state.known) p → Enough z known (grew n o p)
 enough-grew z known n o p h k = enough-grown z known n p.value.0 (answered p.value.1 (joined o p)) (enough-joined z known o p h k)
@@ -161,8 +138,7 @@ enough-growths m w n (suc k) z known o h =
     on_both (Enough z known) (is_more p.value.0 && nat_lt 0 p.taken) _ _ (enough-growths m w n k z known (grew n o p) e) e
 
 pub grown-taken : {A : Type 0} (n : ℕ) (shape : Option Shape) (o : Outcome A) → (grown n shape o).taken ≡ o.taken
-grown-taken n None o = refl
-grown-taken n (Some shape) o = refl
+grown-taken n shape o = grind arith
 
 -- a given number of turns are never made
 pub growths-enough : {A : Type 0} (m : A → Meaning (Option Shape × A)) → ((x : A) → Within (m x)) → (n i j : ℕ) (z : Place) (known : ℕ) (o : Outcome A) → Enough z known o

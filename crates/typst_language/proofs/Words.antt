@@ -1,13 +1,13 @@
 -- The token further on, hints, and names that were expected.
-use Rattle.std.proofs.Common.{◌≡◌, ℕ, ◌+◌, List, [], ◌∷◌, append-nil, refl, ap, sym, ◌∙◌}
+use Rattle.std.proofs.Common.{◌≡◌, ℕ, ◌+◌, List, [], ◌∷◌, append-nil, refl, ap, sym, ◌∙◌, arith}
 use Rattle.typst_kinds.specs.declared.kind.SyntaxKind.{SyntaxKind}
 use Rattle.typst_lines.specs.Place.{moved}
-use Rattle.typst_language.specs.Hand.{Hand, token_at}
+use Rattle.typst_language.specs.Hand.{token_at}
 use Rattle.typst_language.specs.Log.{with_hull}
 use Rattle.typst_language.specs.Shape.{hinted, hinted_last}
 use Rattle.typst_language.specs.Syntax.Op.{further, advises}
 use Rattle.typst_language.specs.Syntax.Parser.{does}
-use Rattle.typst_language.specs.Meaning.{Level, asked, run}
+use Rattle.typst_language.specs.Meaning.{Level, run}
 use Rattle.typst_language.specs.Bytes.{token_hull}
 use Rattle.typst_language.specs.View.{View, Ran, Does, Fits}
 use Rattle.typst_language.proofs.Places.{less-none, no-end}
@@ -19,17 +19,7 @@ further_seen l v = record v { log = with_hull (token_hull l.classes v.state.read
 
 ran-further : {l : Level} (v : View) → Fits l v → Ran l (does further) (token_at l.classes v.state.reading.mode (moved (v.hand.gap + v.hand.len) v.place)).kind v (further_seen l v)
 unfolding run
-ran-further {l = l} v c =
-    let m = v.state.reading.mode in
-    record {
-      runs = record {
-        value = ap (λ (h : Hand). (token_at l.classes m (moved (h.gap + h.len) v.place)).kind) (sym c.hand);
-        place = refl;
-        state = asked-same l v c ∙ ap (λ (h : Hand). asked h v.state) c.hand;
-        nodes = no-end v.nodes;
-        log = ap (λ (h : Hand). with_hull (token_hull l.classes m (moved (h.gap + h.len) v.place)) v.log) c.hand ∙ sym (asked-then l v c _);
-      };
-    }
+ran-further {l = l} v c = grind (arith, asked-same, no-end, asked-then)
 
 pub does-further : {l : Level} (v : View) → Does l (does further) (token_at l.classes v.state.reading.mode (moved (v.hand.gap + v.hand.len) v.place)).kind v (further_seen l v)
 does-further v = record { ran = λ c. ran-further v c; ready = λ c. fits-more _ c }

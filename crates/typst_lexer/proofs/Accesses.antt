@@ -1,13 +1,12 @@
 -- Names with fields: what a loop over the names between dots makes, and its text.
-use Rattle.std.proofs.Common.{◌≡◌, ◌<◌, ◌≤◌, ℕ, zero, suc, ◌+◌, Bool, true, false, not, if◌then◌else◌, ◌==◌, List, [], ◌∷◌, ◌++◌, length, take, drop, codes, encode_utf8_all, Option, Some, None, refl, ap, sym, ◌∙◌, append-nil, append_assoc, arith}
-use Rattle.std.proofs.lemmas.Bool.Decides.{nat_tests}
+use Rattle.std.proofs.Common.{◌≡◌, ◌<◌, ℕ, suc, ◌+◌, Bool, true, false, not, if◌then◌else◌, ◌==◌, List, [], ◌∷◌, ◌++◌, length, take, codes, encode_utf8_all, refl, ap, sym, ◌∙◌, append-nil, append_assoc, arith}
 use Rattle.std.proofs.lemmas.Str.{encodes-append}
 use Rattle.std.specs.List.{prefix_len}
 use Rattle.std.specs.Str.{chars}
 use Rattle.typst_kinds.specs.declared.kind.SyntaxKind.TheVariants as kind
 use Rattle.typst_tokens.proofs.PairRuns.{moved-less, past-stops}
 use Rattle.typst_lines.specs.Place.{Place, place_at, moved, moved_from, passes, past, run, scout}
-use Rattle.typst_tree.specs.Tree.{Tree, forest, leaf_of, inner_of, joined, text_of}
+use Rattle.typst_tree.specs.Tree.{Tree, forest, leaf_of, inner_of, text_of}
 use Rattle.typst_lexer.specs.Fields.{longer, names_of, name_node, field_node, fields_node, named_node, access_node}
 
 abbrev pub no_dot : ℕ → Bool
@@ -94,9 +93,7 @@ dot-shortens p q w t e f = by p.before p.ahead t e
 -- ---- the text
 
 joined-nodes : (left : Tree) (name : List ℕ) → text_of (field_node left name) ≡ text_of left ++ (46 ∷ encode_utf8_all name)
-joined-nodes left name =
-    ap (λ t. left.head.text ++ (joined left.kids ++ (46 ∷ t))) (append-nil (encode_utf8_all name))
-    ∙ sym (append_assoc left.head.text (joined left.kids) (46 ∷ encode_utf8_all name))
+joined-nodes left name = grind (arith, append-nil, append_assoc)
 
 -- names with a dot before each, and with dots between them
 abbrev dotted : List (List ℕ) → List ℕ
@@ -117,27 +114,17 @@ fields-text left (name ∷ names) =
     ∙ ap (λ t. text_of left ++ (46 ∷ t)) (sym (encodes-append name (dotted names)))
 
 named-text : (names : List (List ℕ)) → text_of (named_node names) ≡ encode_utf8_all (between names)
-named-text [] = refl
-named-text (name ∷ names) =
-    fields-text (name_node name) names
-    ∙ ap (λ t. t ++ encode_utf8_all (dotted names)) (append-nil (encode_utf8_all name))
-    ∙ sym (encodes-append name (dotted names))
+named-text names = grind (arith, fields-text, append-nil, encodes-append)
 
 between-longer : (c : ℕ) (names : List (List ℕ)) → between (longer c names) ≡ c ∷ between names
-between-longer c [] = refl
-between-longer c (name ∷ names) = refl
-
-dotted-some : (cs : List ℕ) → dotted (names_of cs) ≡ 46 ∷ between (names_of cs)
-dotted-some cs = ap dotted (names-run [] cs) ∙ sym (ap (λ n. 46 ∷ between n) (names-run [] cs))
+between-longer c names = grind arith
 
 names-text : (cs : List ℕ) → between (names_of cs) ≡ cs
 names-text [] = refl
 names-text (c ∷ cs) = by (names-text cs) (c == 46) refl
   where
     by : between (names_of cs) ≡ cs → (t : Bool) → (c == 46) ≡ t → between (names_of (c ∷ cs)) ≡ c ∷ cs
-    by more true e =
-        let same : 46 ≡ c = grind (arith, nat_tests) in
-        rw e (dotted-some cs ∙ ap (λ d. d ∷ between (names_of cs)) same ∙ ap (λ ds. c ∷ ds) more)
+    by more true e = grind arith
     by more false e = rw e (between-longer c (names_of cs) ∙ ap (λ ds. c ∷ ds) more)
 
 pub text-access : (taken : List ℕ) → text_of (access_node taken) ≡ encode_utf8_all taken

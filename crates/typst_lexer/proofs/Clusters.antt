@@ -54,8 +54,7 @@ cluster-none k v u w text r t good e f g h i j = by-line (run in_line v.place) (
         absurd (grind (arith, nat_tests))
 
 len-is : (k : CharClasses) (n : ℕ) (cs : List ℕ) → 0 < length cs → n ≡ k.cluster cs → 1 ≤ n → cluster_len k cs ≡ n
-len-is k n [] some e le = absurd (omega arith)
-len-is k n (c ∷ cs) some e le = omega (arith, e)
+len-is k n cs some e le = grind arith
 
 taken-length : (n : ℕ) (cs ds : List ℕ) → cs ≡ take n ds → n ≤ length ds → length cs ≡ n
 taken-length n cs ds e le = omega (arith, ap length e, length-take n ds)
@@ -67,23 +66,14 @@ unfolding cluster
 cluster-some k law v u w text own r t good e f g h i j l =
     let some = some-run v.place text r good e g h in
     let line = subst IsLine e (IsLine-run v.place text good e some) in
-    let within = law.cluster (run in_line v.place) line in
-    let n = k.cluster (run in_line v.place) in
-    let le : n ≤ length v.place.ahead = omega (arith, within.1, length-take (prefix_len in_line v.place.ahead) v.place.ahead) in
-    let size : length (chars own) ≡ n = taken-length n (chars own) v.place.ahead i le in
-    ap (λ m. (plain kind.MathText, went m (saw (suc (prefix_len in_line v.place.ahead)) v))) (len-is k n (run in_line v.place) some refl within.0 ∙ sym size)
-    ∙ ap (λ x. (plain kind.MathText, went (length (chars own)) x)) (sym f)
-    ∙ ap (λ x. (plain kind.MathText, x)) (sym j)
-    ∙ ap (λ x. (x, w)) (sym l)
+    grind (arith, length-take, taken-length, len-is)
 
 -- a cluster's bytes are all bytes where its characters are all characters
 bytes-all : (n : ℕ) (cs : List ℕ) → n ≤ length cs → (length (encode_utf8_all (take n cs)) == length (encode_utf8_all cs)) ≡ (n == length cs)
 bytes-all zero [] le = refl
 bytes-all zero (c ∷ cs) le = grind (arith, nat_tests, length-append (encode_utf8 c) (encode_utf8_all cs), length-encode c)
 bytes-all (suc n) [] le = absurd (omega arith)
-bytes-all (suc n) (c ∷ cs) le =
-    let rest = bytes-all n cs (omega arith) in
-    grind (arith, nat_tests, rest, length-append (encode_utf8 c) (encode_utf8_all cs), length-append (encode_utf8 c) (encode_utf8_all (take n cs)))
+bytes-all (suc n) (c ∷ cs) le = grind (arith, bytes-all n cs (omega arith), nat_tests, length-append)
 
 pub is-cluster : (k : CharClasses) → IsLawful k → (text : List ℕ) (n : ℕ) → IsUtf8 text → IsLine (chars text) → n ≡ length (encode_utf8_all (take (k.cluster (chars text)) (chars text)))
     → (n == length text) ≡ (k.cluster (chars text) == length (chars text))
@@ -100,9 +90,7 @@ take-again (suc n) (d ∷ ds) = ap (λ t. d ∷ t) (take-again n ds)
 
 -- characters that were taken at a place come next there
 pub skipped-is : (n : ℕ) (p q z : Place) (cs : List ℕ) → q ≡ p → z ≡ p → cs ≡ take n q.ahead → take (length cs) z.ahead ≡ cs
-skipped-is n p q z cs e f g =
-    let t : cs ≡ take n p.ahead = g ∙ ap (λ (x : Place). take n x.ahead) e in
-    ap (λ (x : Place). take (length cs) x.ahead) f ∙ ap (λ x. take (length x) p.ahead) t ∙ take-again n p.ahead ∙ sym t
+skipped-is n p q z cs e f g = grind (arith, take-again)
 
 -- a text without a newline character that isn't empty is a line
 pub line-is : (text : List ℕ) → IsUtf8 text → 0 < length text → list_all in_line (chars text) ≡ true → IsLine (chars text)

@@ -3,7 +3,6 @@ use Rattle.std.proofs.Common.{◌≡◌, ◌≤◌, ◌<◌, ℕ, suc, Bool, tru
 use Rattle.std.specs.List.{list_all}
 use Rattle.typst_lines.specs.Classes.{CharClasses, in_line}
 use Rattle.typst_lines.specs.declared.classes.MathClass.{MathClass}
-use Rattle.typst_lines.specs.declared.classes.MathClass.TheVariants.{Opening, Closing, Alphabetic}
 use Rattle.typst_tokens.specs.Strings.{string}
 use Rattle.typst_kinds.specs.declared.kind.SyntaxKind.{SyntaxKind}
 use Rattle.typst_kinds.specs.declared.kind.SyntaxKind.TheVariants as kind
@@ -36,8 +35,7 @@ any-eats t (word ∷ words) other p l e o =
     word-eats 0 word (skip (length word) (answer (plain t))) (any_word t words other) p (omega (arith, l, some)) (any-eats t words other p l (and-second _ _ e) o)
 
 len-some : (k : CharClasses) (line : List ℕ) → 1 ≤ cluster_len k line
-len-some k [] = omega arith
-len-some k (c ∷ line) = omega arith
+len-some k line = grind arith
 
 module _ (k : CharClasses) (c : ℕ) (p : Place) (e : scout 0 p ≡ Some c) where
   some : 1 ≤ length p.ahead
@@ -65,26 +63,11 @@ module _ (k : CharClasses) (c : ℕ) (p : Place) (e : scout 0 p ≡ Some c) wher
 
   class-eats : (o : Option MathClass) → 1 ≤ eaten (by_class k c o) p
   unfolding by_class
-  class-eats None = atom-eats
-  class-eats (Some Opening) = sign-eats _
-  class-eats (Some Closing) = sign-eats _
-  class-eats (Some Alphabetic) = atom-eats
+  class-eats o = grind (arith, atom-eats, sign-eats)
 
   single-eats : 1 ≤ eaten (single k c) p
   unfolding single
-  single-eats =
-      either (c == 42) _ _ p (λ _. sign-eats _)
-      (either (c == 44) _ _ p (λ _. sign-eats _)
-      (either (c == 59) _ _ p (λ _. sign-eats _)
-      (either (c == 35) _ _ p (λ _. sign-eats _)
-      (either (c == 95) _ _ p (λ _. sign-eats _)
-      (either (c == 36) _ _ p (λ _. sign-eats _)
-      (either (c == 47) _ _ p (λ _. sign-eats _)
-      (either (c == 94) _ _ p (λ _. sign-eats _)
-      (either (c == 38) _ _ p (λ _. sign-eats _)
-      (either (c == 40) _ _ p (λ _. sign-eats _)
-      (either (c == 41) _ _ p (λ _. sign-eats _)
-      (either (c == 8730 || c == 8731 || c == 8732) _ _ p (λ _. sign-eats _) (class-eats (k.math c)))))))))))))
+  single-eats = grind (arith, sign-eats, class-eats)
 
   hyphen-eats : 1 ≤ eaten hyphen p
   unfolding hyphen
@@ -132,24 +115,11 @@ module _ (k : CharClasses) (c : ℕ) (p : Place) (e : scout 0 p ≡ Some c) wher
 
   several-eats : (other : Reader Memory Token) → 1 ≤ eaten other p → 1 ≤ eaten (several k c other) p
   unfolding several bracket
-  several-eats other o =
-      either (c == 45) _ _ p (λ _. hyphen-eats)
-      (either (c == 126) _ _ p (λ _. tilde-eats)
-      (either (c == 58) _ _ p (λ _. colon-eats)
-      (either (c == 61) _ _ p (λ _. equals-eats)
-      (either (c == 62) _ _ p (λ _. greater-eats)
-      (either (c == 60) _ _ p (λ _. less-eats)
-      (either (c == 124) _ _ p (λ _. bar-eats)
-      (either (c == 91) _ _ p (λ _. omega arith)
-      (either (c == 33) _ _ p (λ _. bang-eats)
-      (either (c == 46) _ _ p (λ _. dot-eats) o)))))))))
+  several-eats other o = grind (arith, hyphen-eats, tilde-eats, colon-eats, equals-eats, greater-eats, less-eats, bar-eats, bang-eats, dot-eats)
 
   from-eats : 1 ≤ eaten (math_from k c) p
   unfolding math_from backslash string primes
-  from-eats =
-      either (c == 92) _ _ p (λ _. omega arith)
-      (either (c == 34) _ _ p (λ _. omega arith)
-      (either (c == 39) _ _ p (λ t. omega (arith, line-eats (λ d. d == 39) c 39 p e t refl)) (several-eats (single k c) single-eats)))
+  from-eats = grind (arith, line-eats, several-eats, single-eats)
 
 abbrev at_next : CharClasses → Option ℕ → Reader Memory Token
 at_next k o = elim o [ None ↦ answer (plain kind.End) | Some c ↦ math_from k c ]

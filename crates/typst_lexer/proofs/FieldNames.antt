@@ -142,5 +142,4 @@ field-shortens k v w e f =
     omega (arith, ap (λ (x : Sight). length x.place.ahead) f, moved-less (prefix_len (continues k) u.ahead) u.before u.ahead, shorter v.place.before v.place.ahead e)
   where
     shorter : (b a : List ℕ) → is_field k (slice_get a 0) (slice_get a 1) ≡ true → length (moved_from 2 b a).ahead < length a
-    shorter b [] e = absurd (cc)
-    shorter b (c ∷ a) e = omega (arith, moved-less 1 (c ∷ b) a)
+    shorter b a e = grind arith

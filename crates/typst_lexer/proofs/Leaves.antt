@@ -9,7 +9,7 @@ use Rattle.typst_kinds.specs.declared.kind.SyntaxKind.TheVariants as kind
 use Rattle.typst_tree.specs.Tree.{Tree, forest, joined, text_of, error_of}
 use Rattle.typst_lexer.specs.RawLaws.{RawLeaves}
 use Rattle.typst_lexer.specs.RawLines.{RawLine, leaf, trimmed, is_tick, first_line, later_lines, is_blank, dedent, closing, front, line_leaves, first_leaves, block_leaves, inline_leaves}
-use Rattle.typst_lexer.specs.RawTag.{in_tag, tag, is_whole, only_tag, warned}
+use Rattle.typst_lexer.specs.RawTag.{in_tag, tag, warned}
 use Rattle.typst_lexer.specs.Raw.{ticks, past_ticks, before_ticks, tag_leaves, delimited, inline_node, block_node, closed_node, two_delimiters, delimited_node, raw_node}
 use Rattle.typst_lexer.proofs.Rows.{row_chars, lines-joined, front-closing}
 
@@ -25,8 +25,7 @@ texts-append (t ∷ ts) us =
     ∙ sym (append_assoc t.head.text (joined t.kids ++ texts ts) (texts us))
 
 texts-trimmed : (cs : List ℕ) → texts (trimmed cs) ≡ encode_utf8_all cs
-texts-trimmed [] = refl
-texts-trimmed (c ∷ cs) = append-nil (encode_utf8_all (c ∷ cs))
+texts-trimmed cs = grind (arith, append-nil)
 
 both : (xs ys : List ℕ) → encode_utf8_all xs ++ encode_utf8_all ys ≡ encode_utf8_all (xs ++ ys)
 both xs ys = sym (encodes-append xs ys)
@@ -78,8 +77,7 @@ texts-inline cs =
 -- ---- delimiters
 
 texts-tag : (cs : List ℕ) → texts (tag_leaves cs) ≡ encode_utf8_all cs
-texts-tag [] = refl
-texts-tag (c ∷ cs) = append-nil (encode_utf8_all (c ∷ cs))
+texts-tag cs = grind (arith, append-nil)
 
 text-delimited : (delim inner : List ℕ) (leaves : List Tree) → texts leaves ≡ encode_utf8_all inner → text_of (delimited delim leaves) ≡ encode_utf8_all (delim ++ (inner ++ delim))
 text-delimited delim inner leaves e =
@@ -138,11 +136,7 @@ before-is n cs inner e = cases (past_ticks n (reverse cs)) refl e
 
 text-warned : (n : ℕ) (tag inner : List ℕ) (t : Tree) → text_of (warned n tag inner t) ≡ text_of t
 unfolding warned
-text-warned n tag inner t = cases (is_whole tag inner)
-  where
-    cases : (b : Bool) → text_of (if b then only_tag n tag t else t) ≡ text_of t
-    cases true = refl
-    cases false = refl
+text-warned n tag inner t = grind arith
 
 -- ---- the node
 
@@ -189,7 +183,4 @@ text-node cs delim rest n d e = cases (length delim == 2 && length rest == 0) (b
 
 pub raw-leaves : RawLeaves
 unfolding raw_node
-raw-leaves cs =
-    let h = ticks-row cs in
-    let n = prefix_len is_tick cs in
-    text-node cs (ticks cs) (drop (length (ticks cs)) cs) h.0 h.1 (front-joined n cs)
+raw-leaves cs = let h = ticks-row cs in grind (arith, text-node, front-joined)

@@ -10,14 +10,14 @@ use Rattle.std.specs.Str.{chars, IsUtf8}
 use Rattle.typst_lines.specs.Classes.{in_line}
 use Rattle.typst_kinds.specs.declared.kind.SyntaxKind.TheVariants as kind
 use Rattle.typst_lines.specs.Newline.{is_newline, line_end_len}
-use Rattle.typst_lines.specs.Place.{Place, moved, scout, passes, past, run, IsAfter, moved_back, back_from}
+use Rattle.typst_lines.specs.Place.{Place, moved, scout, passes, past, run, IsAfter, moved_back}
 use Rattle.typst_lines.specs.Scanner.{place}
 use Rattle.typst_tree.specs.Tree.{Tree}
-use Rattle.typst_lexer.specs.RawLines.{RawLine, leaf, trimmed, is_tick, first_line, later_lines, last_of, last_raw_line, is_blank, has_spare_space, indent, least_indent, dedent, closing, front, between, line_leaves, first_leaves, block_of, block_leaves, inline_leaves}
+use Rattle.typst_lexer.specs.RawLines.{RawLine, leaf, trimmed, is_tick, first_line, later_lines, last_of, last_raw_line, is_blank, has_spare_space, indent, least_indent, dedent, closing, front, between, line_leaves, first_leaves, block_leaves, inline_leaves}
 use Rattle.typst_lexer.specs.LastLine.{IsLastLine}
 use Rattle.typst_lexer.specs.declared.raw_lines.LastLine.{LastLine}
 use Rattle.typst_lexer.proofs.Rows.{row, chars_of, later-none, front-is, front-closing, ends-closing}
-use Rattle.typst_lexer.proofs.Moves.{at, moved-ahead, moved-more, moved-whole, past-run, run-cut, past-end, later-past, later-step, end-next, nothing-left, between-is, between-none}
+use Rattle.typst_lexer.proofs.Moves.{moved-ahead, moved-more, moved-whole, past-run, run-cut, past-end, later-past, later-step, end-next, nothing-left, between-is, between-none}
 
 -- ---- leaves of lines
 
@@ -82,29 +82,16 @@ way-step d leaves once twice first from s q r t start begin gap line w n eq er i
     rest = line_leaves d [] (later_lines q.ahead) []
 
     joined : all_leaves d twice t t ≡ all_leaves d leaves from s
-    joined =
-        ap (λ x. twice ++ line_leaves d x (later_lines t.ahead) []) (between-none t)
-        ∙ ap (λ x. twice ++ line_leaves d [] x []) (ap later_lines t_ahead ∙ later-past q.ahead)
-        ∙ ap (λ x. x ++ rest) (f ∙ ap (λ x. x ++ leaf kind.Text line ∷ []) e ∙ append_assoc leaves (leaf kind.RawTrimmed gap ∷ []) (leaf kind.Text line ∷ []))
-        ∙ append_assoc leaves (leaf kind.RawTrimmed gap ∷ (leaf kind.Text line ∷ [])) rest
-        ∙ ap (λ x. leaves ++ (leaf kind.RawTrimmed x ∷ (leaf kind.Text line ∷ rest))) gap_is
-        ∙ ap (λ x. leaves ++ (leaf kind.RawTrimmed (between from s ++ (take e_len s.ahead ++ take d (first_line q.ahead))) ∷ (leaf kind.Text x ∷ rest))) line_is
-        ∙ ap (λ x. leaves ++ line_leaves d (between from s) x []) (ap (λ p. row (take e_len s.ahead) (first_line p.ahead) ∷ later_lines p.ahead) eq ∙ sym (later-step s n))
+    joined = grind (arith, between-none, t_ahead, later-past, append_assoc, gap_is, e_len, line_is, later-step)
 
 pub way-end : (d : ℕ) (leaves first : List Tree) (from s start begin : Place) → IsOnWay d leaves from s first start begin → passes is_newline (scout 0 s) ≡ false → leaves ≡ all_leaves d first start begin
-way-end d leaves first from s start begin w n =
-    let none = nothing-left s.ahead w.at_end n in
-    sym (append-nil leaves) ∙ sym (ap (λ x. leaves ++ line_leaves d x (later_lines s.ahead) []) (w.held none) ∙ ap (λ x. leaves ++ line_leaves d [] x []) (ap later_lines none ∙ later-none)) ∙ w.same
+way-end d leaves first from s start begin w n = grind (arith, nothing-left, append-nil, later-none)
 
 -- ---- the least indent
 
 pub least-step : (n m : ℕ) (blank : Bool) (line : List ℕ) (s q t : Place) → passes is_newline (scout 0 s) ≡ true → q ≡ moved (line_end_len s) s → t ≡ past in_line q → line ≡ run in_line q
     → blank ≡ is_blank line → m ≡ (if blank then n else min n (indent line)) → least_indent m (later_lines t.ahead) ≡ least_indent n (later_lines s.ahead)
-least-step n m blank line s q t nl eq et il b e =
-    ap (λ x. least_indent m x) (ap (λ p. later_lines p.ahead) et ∙ ap later_lines (moved-ahead (prefix_len in_line q.ahead) q) ∙ later-past q.ahead)
-    ∙ ap (λ x. least_indent x (later_lines q.ahead)) (e ∙ ap (λ x. if x then n else min n (indent line)) b ∙ ap (λ x. if is_blank x then n else min n (indent x)) il)
-    ∙ ap (λ p. least_indent n (row (take (line_end_len s) s.ahead) (first_line p.ahead) ∷ later_lines p.ahead)) eq
-    ∙ ap (least_indent n) (sym (later-step s nl))
+least-step n m blank line s q t nl eq et il b e = grind (arith, moved-ahead, later-past, later-step)
 
 -- ---- the last line
 
@@ -190,10 +177,7 @@ module _ (cs : List ℕ) (l : LastLine) (h : IsLastLine cs l) where
   trim-spare b e q m =
       let one = row_end false true (sym b) (sym e) in
       let ends = ends-closing cs in
-      let whole : cs ≡ ends.before ++ 32 ∷ [] = ends.is ∙ ap (λ x. ends.before ++ x) one in
-      let back : (place l.end).before ≡ 32 ∷ reverse ends.before = h.to_end ∙ ap reverse whole ∙ reverse-append ends.before (32 ∷ []) in
-      let is : q ≡ at (reverse ends.before) (32 ∷ []) = m ∙ ap (λ x. back_from x (place l.end).ahead) back ∙ ap (λ x. at (reverse ends.before) (32 ∷ x)) h.nothing_left in
-      (ap (λ p. reverse p.before) is ∙ reverse-reverse ends.before ∙ sym (front-is cs ends.before ends.is), ap (λ p. p.ahead) is ∙ sym one)
+      grind (arith, reverse-append, reverse-reverse, front-is)
 
 pub last-line : (cs line : List ℕ) (start s : Place) → IsAtRow cs start line s → is_none (scout 0 s) ≡ true
     → (line ≡ (last_raw_line cs).line) × (start.ahead ≡ (last_raw_line cs).ending ++ (last_raw_line cs).line) × (reverse start.before ++ start.ahead ≡ cs) × (s.before ≡ reverse cs) × (s.ahead ≡ [])
@@ -214,12 +198,10 @@ last-line cs line start s h n =
 -- ---- a first line
 
 pub lead-none : (line : List ℕ) → false ≡ passes (λ c. c == 32) (slice_get line 0) → first_leaves line ≡ leaf kind.Text line ∷ []
-lead-none [] e = refl
-lead-none (c ∷ cs) e = rw (sym e) refl
+lead-none line e = grind arith
 
 pub lead-one : (line : List ℕ) → true ≡ passes (λ c. c == 32) (slice_get line 0) → first_leaves line ≡ leaf kind.RawTrimmed (take 1 line) ∷ (leaf kind.Text (drop 1 line) ∷ [])
-lead-one [] e = absurd (cc)
-lead-one (c ∷ cs) e = rw (sym e) refl
+lead-one line e = grind arith
 
 pub pushed-two : (old once twice : List Tree) (a b : Tree) → once ≡ old ++ a ∷ [] → twice ≡ once ++ b ∷ [] → twice ≡ old ++ (a ∷ (b ∷ []))
 pushed-two old once twice a b e f = f ∙ ap (λ x. x ++ b ∷ []) e ∙ append_assoc old (a ∷ []) (b ∷ [])
@@ -245,9 +227,7 @@ lines-closing d [] end = refl
 lines-closing d (r ∷ rs) end = ap (λ t. leaf kind.RawTrimmed (r.ending ++ take d r.line) ∷ (leaf kind.Text (drop d r.line) ∷ t)) (lines-closing d rs end)
 
 held-closing : (d : ℕ) (held : List ℕ) (r : RawLine) (rs all : List RawLine) (end : List ℕ) → all ≡ r ∷ rs → line_leaves d held all end ≡ line_leaves d held all [] ++ trimmed end
-held-closing d held r rs all end e =
-    ap (λ x. line_leaves d held x end) e ∙ ap (λ t. leaf kind.RawTrimmed (held ++ (r.ending ++ take d r.line)) ∷ (leaf kind.Text (drop d r.line) ∷ t)) (lines-closing d rs end)
-    ∙ ap (λ x. line_leaves d held x [] ++ trimmed end) (sym e)
+held-closing d held r rs all end e = grind (arith, lines-closing)
 
 module _ (cs : List ℕ) (d : ℕ) (start s : Place) (first end : List ℕ) (begin : start.ahead ≡ front cs) (moves : s ≡ past in_line start) (line : first ≡ run in_line start) (least : d ≡ dedent cs) (closes : end ≡ closing cs) where
   first_is : first ≡ first_line (front cs)
@@ -259,10 +239,7 @@ module _ (cs : List ℕ) (d : ℕ) (start s : Place) (first end : List ℕ) (beg
   -- what the definition says, by what the code has
   block_is : (b : Bool) → b ≡ is_blank first → block_leaves cs ≡ (if b then line_leaves d first (later_lines s.ahead) end else first_leaves first ++ line_leaves d [] (later_lines s.ahead) end)
   unfolding block_leaves
-  block_is b e =
-      ap (λ x. block_of x (first_line (front cs)) (later_lines (front cs)) (closing cs)) (sym least) ∙ ap (λ x. block_of d x (later_lines (front cs)) (closing cs)) (sym first_is)
-      ∙ ap (λ x. block_of d first x (closing cs)) (sym rows_are) ∙ ap (block_of d first (later_lines s.ahead)) (sym closes)
-      ∙ ap (λ x. if x then line_leaves d first (later_lines s.ahead) end else first_leaves first ++ line_leaves d [] (later_lines s.ahead) end) (sym e)
+  block_is b e = grind (arith, first_is, rows_are)
 
   pub block-first : (old one two three : List Tree) → false ≡ is_blank first → one ≡ old ++ first_leaves first → two ≡ one ++ line_leaves d (between s s) (later_lines s.ahead) [] → three ≡ two ++ trimmed end → three ≡ old ++ block_leaves cs
   block-first old one two three b e f g =
@@ -298,7 +275,4 @@ dedent-is cs line n e f = f ∙ ap (λ x. least_indent (indent x) (later_lines c
 pub inline-is : (cs : List ℕ) (start s : Place) (first : List ℕ) (old one two : List Tree) → start.ahead ≡ cs → s ≡ past in_line start → first ≡ run in_line start
     → one ≡ old ++ leaf kind.Text first ∷ [] → two ≡ one ++ line_leaves 0 (between s s) (later_lines s.ahead) [] → two ≡ old ++ inline_leaves cs
 unfolding inline_leaves
-inline-is cs start s first old one two begin moves line e f =
-    let rows : later_lines s.ahead ≡ later_lines cs = ap (λ p. later_lines p.ahead) moves ∙ ap later_lines (moved-ahead (prefix_len in_line start.ahead) start) ∙ later-past start.ahead ∙ ap later_lines begin in
-    f ∙ ap (λ x. one ++ line_leaves 0 x (later_lines s.ahead) []) (between-none s) ∙ ap (λ x. one ++ line_leaves 0 [] x []) rows ∙ ap (λ x. x ++ line_leaves 0 [] (later_lines cs) []) e
-    ∙ append_assoc old (leaf kind.Text first ∷ []) (line_leaves 0 [] (later_lines cs) []) ∙ ap (λ x. old ++ (leaf kind.Text x ∷ line_leaves 0 [] (later_lines cs) [])) (line ∙ ap first_line begin)
+inline-is cs start s first old one two begin moves line e f = grind (arith, moved-ahead, later-past, between-none, append_assoc)

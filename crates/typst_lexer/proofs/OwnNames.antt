@@ -1,5 +1,5 @@
 -- A name's own text.
-use Rattle.std.proofs.Common.{◌≡◌, ◌<◌, ◌+◌, ◌++◌, ◌&&◌, ◌==◌, ℕ, suc, Bool, true, false, not, List, [], ◌∷◌, length, reverse, slice_get, take, refl, sym, ap, subst, ◌∙◌, arith, Some, encode_utf8_all, if◌then◌else◌}
+use Rattle.std.proofs.Common.{◌≡◌, ◌<◌, ◌+◌, ◌++◌, ◌&&◌, ◌==◌, ℕ, Bool, true, false, not, List, [], ◌∷◌, length, reverse, slice_get, take, refl, sym, ap, subst, ◌∙◌, arith, Some, encode_utf8_all}
 use Rattle.std.proofs.lemmas.Bool.Decides.{nat_tests}
 use Rattle.std.proofs.lemmas.Str.{scalars-chars}
 use Rattle.std.specs.Char.{IsScalar, is_whitespace}
@@ -10,12 +10,9 @@ use Rattle.typst_lexer.proofs.Clusters.{all-run}
 use Rattle.typst_lines.specs.Classes.{CharClasses, IsLawful, in_line}
 use Rattle.typst_kinds.specs.declared.kind.SyntaxKind.TheVariants as kind
 use Rattle.typst_lines.specs.Newline.{is_newline}
-use Rattle.typst_lines.specs.Place.{Place, moved, moved_from, passes, past, run, scout}
-use Rattle.typst_lexer.specs.Atoms.{text}
+use Rattle.typst_lines.specs.Place.{Place, moved, moved_from, passes, run, scout}
 use Rattle.typst_lexer.specs.MathNames.{continues, named, name, after_name}
-use Rattle.typst_tokens.proofs.Moves.{moved-more}
 use Rattle.typst_tokens.proofs.Sights.{text-on}
-use Rattle.typst_tokens.specs.Reader.Reader.{answer, eat, eat_run}
 use Rattle.typst_tokens.specs.Sight.{Sight, text_of, saw, went, went_past, sight}
 use Rattle.typst_tokens.specs.Token.{plain}
 use Rattle.typst_tokens.specs.declared.token.Token.{Token}
@@ -26,9 +23,7 @@ size k p = 1 + prefix_len (continues k) (moved 1 p).ahead
 
 -- the place after it
 pub after-is : (k : CharClasses) (v u w : Sight) → u ≡ went 1 (saw 2 v) → w ≡ went_past (continues k) u → w.place ≡ moved (size k v.place) v.place
-after-is k v u w e f =
-    ap (λ (x : Sight). x.place) f ∙ ap (λ (x : Sight). past (continues k) x.place) e
-    ∙ moved-more 1 (prefix_len (continues k) (moved 1 v.place).ahead) v.place.before v.place.ahead
+after-is k v u w e f = grind arith
 
 -- the text stays
 pub text-stays : (n : ℕ) (z w : Place) → w ≡ moved n z → text_of w ≡ text_of z
@@ -37,11 +32,7 @@ text-stays n z w e = ap (λ (x : Place). encode_utf8_all (reverse x.before ++ x.
 
 own-on : (test : ℕ → Bool) (c : ℕ) (b a : List ℕ) → slice_get a 0 ≡ Some c
     → take (1 + prefix_len test (moved_from 1 b a).ahead) a ≡ c ∷ take (prefix_len test (moved_from 1 b a).ahead) (moved_from 1 b a).ahead
-own-on test c b [] e = absurd (cc)
-own-on test c b (d ∷ a) e =
-    let same : d ≡ c = cc in
-    let one : 1 + prefix_len test a ≡ suc (prefix_len test a) = omega arith in
-    rw one (ap (λ x. x ∷ take (prefix_len test a) a) same)
+own-on test c b a e = grind arith
 
 -- its characters
 pub own-is : (k : CharClasses) (c : ℕ) (p : Place) (cs : List ℕ) → scout 0 p ≡ Some c → cs ≡ take (size k p) p.ahead → cs ≡ c ∷ run (continues k) (moved 1 p)
@@ -84,25 +75,16 @@ own-inside k law c p own u e starts =
 name-by : (k : CharClasses) (c : ℕ) (v u w : Sight) (cs : List ℕ) → passes (continues k) (scout 1 v.place) ≡ true → u ≡ went 1 (saw 2 v) → w ≡ went_past (continues k) u → cs ≡ c ∷ run (continues k) (moved 1 v.place)
     → sight (name k c) v ≡ sight (named k cs) w
 unfolding name
-name-by k c v u w cs e f g h =
-    ap (λ b. sight (if b then eat (eat_run (continues k) (λ rest. named k (c ∷ rest))) else text k c) (saw 2 v)) e
-    ∙ (ap (λ (x : Sight). sight (named k (c ∷ run (continues k) x.place)) (went_past (continues k) x)) (sym f)
-    ∙ ap (λ x. sight (named k (c ∷ run (continues k) u.place)) x) (sym g)
-    ∙ ap (λ (x : Sight). sight (named k (c ∷ run (continues k) x.place)) w) f
-    ∙ ap (λ x. sight (named k x) w) (sym h))
+name-by k c v u w cs e f g h = grind arith
 
 -- the name is one cluster
 pub name-cluster : (k : CharClasses) (c : ℕ) (v u w : Sight) (cs : List ℕ) (r : Bool) (t : Token) → passes (continues k) (scout 1 v.place) ≡ true → u ≡ went 1 (saw 2 v) → w ≡ went_past (continues k) u
     → cs ≡ c ∷ run (continues k) (moved 1 v.place) → r ≡ (k.cluster cs == length cs) → r ≡ true → t ≡ plain kind.MathText → sight (name k c) v ≡ (t, w)
 unfolding named
-name-cluster k c v u w cs r t e f g h i j l =
-    let is : (k.cluster cs == length cs) ≡ true = sym i ∙ j in
-    name-by k c v u w cs e f g h ∙ ap (λ b. sight (if b then answer (plain kind.MathText) else after_name k) w) is ∙ ap (λ x. (x, w)) (sym l)
+name-cluster k c v u w cs r t e f g h i j l = grind (arith, name-by)
 
 -- it is not
 pub name-ident : (k : CharClasses) (c : ℕ) (v u w x : Sight) (cs : List ℕ) (r : Bool) (t : Token) → passes (continues k) (scout 1 v.place) ≡ true → u ≡ went 1 (saw 2 v) → w ≡ went_past (continues k) u
     → cs ≡ c ∷ run (continues k) (moved 1 v.place) → r ≡ (k.cluster cs == length cs) → r ≡ false → sight (after_name k) w ≡ (t, x) → sight (name k c) v ≡ (t, x)
 unfolding named
-name-ident k c v u w x cs r t e f g h i j l =
-    let is : (k.cluster cs == length cs) ≡ false = sym i ∙ j in
-    name-by k c v u w cs e f g h ∙ ap (λ b. sight (if b then answer (plain kind.MathText) else after_name k) w) is ∙ l
+name-ident k c v u w x cs r t e f g h i j l = grind (arith, name-by)

@@ -1,5 +1,5 @@
 -- Facts on the lines of characters.
-use Rattle.std.proofs.Common.{◌≡◌, ℕ, suc, ◌+◌, ◌-◌, Bool, true, false, ◌&&◌, ◌==◌, List, [], ◌∷◌, ◌++◌, length, take, drop, reverse, slice_get, refl, sym, ap, subst, ◌∙◌, arith, append_assoc, append-nil, take_at, length-append}
+use Rattle.std.proofs.Common.{◌≡◌, ℕ, suc, ◌+◌, ◌-◌, Bool, true, false, ◌&&◌, ◌==◌, List, [], ◌∷◌, ◌++◌, drop, reverse, slice_get, refl, sym, ap, ◌∙◌, arith, append_assoc, append-nil, take_at, length-append}
 use Rattle.std.proofs.lemmas.Bool.Decides.{nat_tests}
 use Rattle.std.proofs.lemmas.List.{reverse-reverse, reverse-append}
 use Rattle.std.proofs.lemmas.Bool.{and_parts}
@@ -8,7 +8,6 @@ use Rattle.typst_lines.specs.Classes.{in_line}
 use Rattle.typst_lines.specs.Newline.{is_newline, stretches, line_ends, onto_first}
 use Rattle.typst_lines.specs.Place.{passes}
 use Rattle.typst_lexer.specs.RawLines.{RawLine, paired, first_line, later_lines, last_of, last_raw_line, is_blank, has_spare_space, end_of, closing, front}
-use Rattle.typst_lines.proofs.Bools.{and-second}
 
 abbrev pub row : List ℕ → List ℕ → RawLine
 row ending line = record { ending = ending; line = line }
@@ -53,23 +52,13 @@ pub by_lines : (P : List ℕ → Type 0) → P [] → ((c : ℕ) (cs : List ℕ)
     → ((c : ℕ) (cs : List ℕ) → is_newline c ≡ true → crlf c cs ≡ false → P cs → P (c ∷ cs))
     → ((c : ℕ) (cs : List ℕ) → is_newline c ≡ true → crlf c (10 ∷ cs) ≡ true → P cs → P (c ∷ 10 ∷ cs)) → (cs : List ℕ) → P cs
 by_lines P none plain lone both [] = none
-by_lines P none plain lone both (c ∷ []) = ending (is_newline c) refl
-  where
-    no-second : (b : Bool) → (b && false) ≡ false
-    no-second true = refl
-    no-second false = refl
-
-    ending : (n : Bool) → is_newline c ≡ n → P (c ∷ [])
-    ending true n = lone c [] n (no-second (c == 13)) none
-    ending false n = plain c [] n none
+by_lines P none plain lone both (c ∷ []) = grind arith
 by_lines P none plain lone both (c ∷ d ∷ cs) = ending (is_newline c) (crlf c (d ∷ cs)) refl refl (by_lines P none plain lone both (d ∷ cs)) (by_lines P none plain lone both cs)
   where
     ending : (n b : Bool) → is_newline c ≡ n → crlf c (d ∷ cs) ≡ b → P (d ∷ cs) → P cs → P (c ∷ d ∷ cs)
     ending false b n e h k = plain c (d ∷ cs) n h
     ending true false n e h k = lone c (d ∷ cs) n e h
-    ending true true n e h k =
-        let is : d ≡ 10 = ten d (and-second (c == 13) (d == 10) e) in
-        subst (λ x. P (c ∷ x ∷ cs)) (sym is) (both c cs n (ap (λ x. crlf c (x ∷ cs)) (sym is) ∙ e) k)
+    ending true true n e h k = grind arith
 
 -- the stretches begin with the first line
 pub stretches-first : (cs : List ℕ) → stretches cs ≡ first_line cs ∷ drop 1 (stretches cs)
@@ -83,8 +72,7 @@ unfolding later_lines
 later-none = refl
 
 drop-onto : (c : ℕ) (texts : List (List ℕ)) → drop 1 (onto_first c texts) ≡ drop 1 texts
-drop-onto c [] = refl
-drop-onto c (text ∷ texts) = refl
+drop-onto c texts = grind arith
 
 pub later-plain : (c : ℕ) (cs : List ℕ) → is_newline c ≡ false → later_lines (c ∷ cs) ≡ later_lines cs
 unfolding later_lines
@@ -160,9 +148,7 @@ ends-closing cs = ends-of cs (last_raw_line cs) (is_blank (last_raw_line cs).lin
 -- what stands before the closing is the front
 pub front-is : (cs before : List ℕ) → cs ≡ before ++ closing cs → front cs ≡ before
 unfolding front
-front-is cs before e =
-    let size : length cs - length (closing cs) ≡ length before = omega (arith, ap length e, length-append before (closing cs)) in
-    ap (λ n. take n cs) size ∙ ap (take (length before)) e ∙ take_at before (closing cs) (length before) refl
+front-is cs before e = grind (arith, length-append, take_at)
 
 pub front-closing : (cs : List ℕ) → front cs ++ closing cs ≡ cs
 front-closing cs = let h = ends-closing cs in ap (λ t. t ++ closing cs) (front-is cs h.before h.is) ∙ sym h.is

@@ -1,10 +1,9 @@
 -- A space before a printable character of ASCII is a token in each mode.
-use Rattle.std.proofs.Common.{◌≡◌, ◌≤◌, ◌==◌, ℕ, suc, false, true, List, [], ◌∷◌, Option, None, Some, take, slice_get, refl, ap, ◌∙◌, arith}
+use Rattle.std.proofs.Common.{◌≡◌, ◌≤◌, ◌==◌, ℕ, false, true, List, [], ◌∷◌, Option, Some, slice_get, refl, ap, ◌∙◌, arith}
 use Rattle.std.proofs.lemmas.Bool.Decides.{nat_tests}
 use Rattle.std.specs.List.{prefix_len}
 use Rattle.typst_kinds.specs.declared.kind.SyntaxKind.TheVariants as kind
 use Rattle.typst_kinds.specs.declared.mode.SyntaxMode.{SyntaxMode}
-use Rattle.typst_kinds.specs.declared.mode.SyntaxMode.TheVariants.{Markup, Math, Code}
 use Rattle.typst_lines.specs.Classes.{CharClasses}
 use Rattle.typst_lines.specs.Place.{moved, moved_from, passes, scout}
 use Rattle.typst_tokens.specs.Characters.{is_space}
@@ -12,21 +11,16 @@ use Rattle.typst_tokens.specs.Common.{line_ends, space, whitespace}
 use Rattle.typst_tokens.specs.Reader.{place}
 use Rattle.typst_tokens.specs.Sight.{Sight, saw, sight, went}
 use Rattle.typst_tokens.specs.Token.{plain}
-use Rattle.typst_tokens.specs.declared.token.Token.{Token}
 use Rattle.typst_tokens.proofs.Sights.{far-on, same-sight}
 use Rattle.typst_lexer.specs.Tokens.{token}
 
 -- a space is whitespace in each mode
 space-is : (mode : SyntaxMode) → is_space mode 32 ≡ true
-space-is Markup = refl
-space-is Math = refl
-space-is Code = refl
+space-is mode = grind arith
 
 -- a printable character of ASCII is in none
 printable-is-none : (mode : SyntaxMode) (c : ℕ) → 33 ≤ c → c ≤ 126 → is_space mode c ≡ false
-printable-is-none Markup c low high = grind (arith, nat_tests)
-printable-is-none Math c low high = grind (arith, nat_tests)
-printable-is-none Code c low high = grind (arith, nat_tests)
+printable-is-none mode c low high = grind arith
 
 -- so the run of whitespace ends after the space
 run-is-one : (mode : SyntaxMode) (c : ℕ) (a : List ℕ) → 33 ≤ c → c ≤ 126 → prefix_len (is_space mode) (32 ∷ c ∷ a) ≡ 1
@@ -36,15 +30,9 @@ module _ (k : CharClasses) (b a : List ℕ) (c r l : ℕ) (low : 33 ≤ c) (high
   abbrev at_space : Sight
   at_space = record { place = place b (32 ∷ c ∷ a); reach = r; least = l }
 
-  -- whitespace of a given number of characters, and what was looked at for it
-  abbrev of_length : SyntaxMode → ℕ → Token × Sight
-  of_length mode n = (space mode (line_ends false (take n (32 ∷ c ∷ a))), went n (saw (suc n) (saw 1 at_space)))
-
   read-space : (mode : SyntaxMode) → sight (token k mode) at_space ≡ (plain kind.Space, went 1 (saw 2 (saw 1 at_space)))
   unfolding token whitespace line_ends
-  read-space Markup = ap (of_length Markup) (run-is-one Markup c a low high)
-  read-space Math = ap (of_length Math) (run-is-one Math c a low high)
-  read-space Code = ap (of_length Code) (run-is-one Code c a low high)
+  read-space mode = grind (arith, run-is-one)
 
   -- to look at the character after the space from there is the same
   looked : went 1 (saw 2 (saw 1 at_space)) ≡ saw 1 (went 1 at_space)
@@ -52,8 +40,7 @@ module _ (k : CharClasses) (b a : List ℕ) (c r l : ℕ) (low : 33 ≤ c) (high
 
 -- the next character is a space
 pub is-space : (o : Option ℕ) → passes (λ d. d == 32) o ≡ true → o ≡ Some 32
-is-space None e = absurd (cc)
-is-space (Some d) e = let f : d ≡ 32 = grind (arith, nat_tests, e) in rw f refl
+is-space o e = grind arith
 
 -- what is read where a space stands before such a character
 pub lone-space : (k : CharClasses) (mode : SyntaxMode) (v : Sight) (c : ℕ) → passes (λ d. d == 32) (scout 0 v.place) ≡ true → Some c ≡ scout 0 (moved 1 v.place) → 33 ≤ c → c ≤ 126

@@ -1,10 +1,8 @@
 -- A number and its suffix.
-use Rattle.std.proofs.Common.{◌≡◌, ℕ, Bool, List, [], ◌∷◌, drop, refl, sym, ap, ◌∙◌, Option, Some, None}
+use Rattle.std.proofs.Common.{◌≡◌, ℕ, List, [], drop, refl, ap, ◌∙◌, Option, Some, None, arith}
 use Rattle.std.proofs.lemmas.Str.{encodes-chars}
-use Rattle.std.specs.Prelude.{encode_utf8_all}
 use Rattle.std.specs.Str.{chars, IsUtf8}
-use Rattle.typst_lines.specs.Place.{Place, place_at, moved, moved_from, past}
-use Rattle.typst_tokens.proofs.Moves.{moved-more}
+use Rattle.typst_lines.specs.Place.{Place, place_at, moved}
 use Rattle.typst_tokens.specs.Reader.{place}
 use Rattle.typst_lexer.specs.Faults.{without_suffix, suffix_of, value_of, number_message, number_hints, message, hints}
 use Rattle.typst_tokens.specs.declared.token.Fault.TheVariants.{Number}
@@ -20,12 +18,7 @@ start-of text = refl
 -- ---- the digits of a base
 
 pub second-on : (p : Place) → (moved 1 (moved 1 p)).ahead ≡ drop 2 p.ahead
-second-on p = by p.before p.ahead
-  where
-    by : (b a : List ℕ) → (moved 1 (moved_from 1 b a)).ahead ≡ drop 2 a
-    by b [] = refl
-    by b (c ∷ []) = refl
-    by b (c ∷ d ∷ a) = refl
+second-on p = grind arith
 
 pub start-ahead : (text : List ℕ) → (place_at text 0).ahead ≡ chars text
 unfolding place_at
@@ -40,7 +33,4 @@ value-is b r ds cs o e f g = ap or_zero (e ∙ ap (λ x. number x ds) f ∙ ap (
 -- what is said of a number, by its pieces
 pub said : (f : NumberFault) (taken before suffix : List ℕ) → IsUtf8 before → IsUtf8 suffix → chars before ≡ without_suffix f taken → chars suffix ≡ suffix_of f taken
     → (number_message f before suffix ≡ message (Number f) taken) × (number_hints f (chars before) suffix ≡ hints (Number f) taken)
-said f taken before suffix u v b s =
-    let before-is : before ≡ encode_utf8_all (without_suffix f taken) = sym (encodes-chars before u) ∙ ap encode_utf8_all b in
-    let suffix-is : suffix ≡ encode_utf8_all (suffix_of f taken) = sym (encodes-chars suffix v) ∙ ap encode_utf8_all s in
-    (ap (λ x. number_message f x suffix) before-is ∙ ap (number_message f (encode_utf8_all (without_suffix f taken))) suffix-is, ap (λ x. number_hints f x suffix) b ∙ ap (number_hints f (without_suffix f taken)) suffix-is)
+said f taken before suffix u v b s = grind (arith, encodes-chars)

@@ -1,5 +1,5 @@
 -- Facts on tags, and on what is warned of.
-use Rattle.std.proofs.Common.{◌≡◌, ◌<◌, ℕ, suc, ◌+◌, ◌-◌, Bool, true, false, ◌==◌, List, [], ◌∷◌, ◌++◌, length, take, drop, reverse, slice_get, Some, None, refl, sym, ap, ◌∙◌, arith, length-take-le}
+use Rattle.std.proofs.Common.{◌≡◌, ◌<◌, ℕ, suc, ◌+◌, ◌-◌, Bool, true, false, ◌==◌, List, [], ◌∷◌, length, take, drop, reverse, slice_get, Some, None, refl, sym, ap, ◌∙◌, arith, length-take-le}
 use Rattle.std.proofs.lemmas.Bool.Decides.{nat_tests}
 use Rattle.std.proofs.lemmas.List.Sums.{prefix_len-le-length}
 use Rattle.std.proofs.lemmas.Str.{chars-nil, encodes-chars}
@@ -13,7 +13,7 @@ use Rattle.typst_lines.specs.Place.{Place, place_at, moved_back, passes, past, r
 use Rattle.typst_tree.specs.Diagnostic.{warning_with, hint_with}
 use Rattle.typst_tree.specs.Tree.{Tree, error_of, remarked, advised}
 use Rattle.typst_lexer.specs.RawLines.{leaf, is_tick}
-use Rattle.typst_lexer.specs.Raw.{ticks, past_ticks, before_ticks, tag_leaves, is_pair, two_delimiters, closed_node, delimited_node, raw_node}
+use Rattle.typst_lexer.specs.Raw.{past_ticks, before_ticks, tag_leaves, is_pair, two_delimiters, closed_node, delimited_node, raw_node}
 use Rattle.typst_lexer.specs.RawTag.{in_tag, tag, width, stretch, treated, is_whole, only_tag, warned}
 use Rattle.typst_lexer.proofs.Moves.{at, start-ahead, start-before, moved-ahead, moved-before}
 
@@ -31,15 +31,11 @@ module _ (text : List ℕ) (p q : Place) (start : p ≡ place_at text 0) (moves 
 
   pub tag-before : reverse q.before ≡ tag (chars text)
   unfolding tag
-  tag-before =
-      ap (λ x. reverse x.before) moves ∙ moved-before (prefix_len in_tag p.ahead) p
-      ∙ ap (λ x. reverse x ++ take (prefix_len in_tag p.ahead) p.ahead) before-is ∙ ap (λ x. take (prefix_len in_tag x) x) ahead-is
+  tag-before = grind (arith, moved-before, before-is, ahead-is)
 
   pub tag-ahead : q.ahead ≡ drop (length (tag (chars text))) (chars text)
   unfolding tag
-  tag-ahead =
-      ap (λ x. x.ahead) moves ∙ moved-ahead (prefix_len in_tag p.ahead) p
-      ∙ ap (λ x. drop (prefix_len in_tag x) x) ahead-is ∙ sym (drop-taken in_tag (chars text))
+  tag-ahead = grind (arith, moved-ahead, ahead-is, drop-taken)
 
 -- ---- texts and their characters
 
@@ -73,10 +69,7 @@ ticks-width cs = run-width is_tick small cs
 module _ (n : ℕ) (tag : List ℕ) (node t1 t2 t3 : Tree) (r : Bytes) (m : List ℕ) where
   pub only_tag-is : r ≡ stretch n tag → m ≡ treated tag → t1 ≡ remarked (warning_with None (codes "empty raw text")) node
       → t2 ≡ advised (hint_with None m) t1 → t3 ≡ advised (hint_with (Some r) (codes "to treat this as text, add a space after the initial backticks")) t2 → t3 ≡ only_tag n tag node
-  only_tag-is a d f g h =
-      h ∙ ap (λ x. advised (hint_with (Some x) (codes "to treat this as text, add a space after the initial backticks")) t2) a
-      ∙ ap (advised (hint_with (Some (stretch n tag)) (codes "to treat this as text, add a space after the initial backticks")))
-      (g ∙ ap (λ x. advised (hint_with None x) t1) d ∙ ap (advised (hint_with None (treated tag))) f)
+  only_tag-is a d f g h = cc
 
 pub warned-only : (n : ℕ) (tag inner : List ℕ) (t : Tree) → is_whole tag inner ≡ true → warned n tag inner t ≡ only_tag n tag t
 unfolding warned
@@ -102,8 +95,7 @@ pair-is delim rest e = rw e refl
 
 pub node-is : (cs delim rest : List ℕ) → delim ≡ take (prefix_len is_tick cs) cs → rest ≡ drop (prefix_len is_tick cs) cs → raw_node cs ≡ delimited_node cs delim rest
 unfolding raw_node
-node-is cs delim rest d r =
-    ap (delimited_node cs (ticks cs)) (drop-taken is_tick cs) ∙ ap (λ x. delimited_node cs x (drop (prefix_len is_tick cs) cs)) (sym d) ∙ ap (delimited_node cs delim) (sym r)
+node-is cs delim rest d r = grind (arith, drop-taken)
 
 pub node-pair : (cs delim rest : List ℕ) → is_pair delim rest ≡ true → delimited_node cs delim rest ≡ two_delimiters
 node-pair cs delim rest e = rw e refl

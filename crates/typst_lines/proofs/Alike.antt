@@ -57,8 +57,7 @@ module _ (old new : List ℕ) (u : IsUtf8 old) (v : IsUtf8 new) where
     front-from h le bound = shared-front n i (omega (arith, h.in_second, ap length f)) (ap (take n) (sym e) ∙ h.same ∙ ap (take n) f) le bound
 
     pub end-from : EndAlike xs ys block n → length old - n ≤ i → IsCharBoundary old i → IsSharedEnd old new (length old - i)
-    end-from h le bound =
-        shared-end n i (omega (arith, h.in_first, ap length e)) (omega (arith, h.in_second, ap length f)) (ap (λ t. drop (length t - n) t) (sym e) ∙ h.same ∙ ap (λ t. drop (length t - n) t) f) le bound
+    end-from h le bound = grind (arith, shared-end)
 
   -- the places there
   shares-front : (n : ℕ) → IsSharedFront old new n → Shares (chars old) (chars new) (place_at old n).ahead (place_at new n).ahead

@@ -1,7 +1,7 @@
 -- The first cluster of a line in bytes and in characters.
 use Rattle.std.proofs.Common.{◌≡◌, ◌<◌, ℕ, Bool, true, false, if◌then◌else◌, List, [], ◌∷◌, take, length, refl, sym, ap, subst, ◌∙◌, arith, ltb-true, length-take-le, suc, append-nil}
 use Rattle.std.proofs.lemmas.Bool.Decides.{nat_tests}
-use Rattle.std.proofs.lemmas.Str.{length-encode, encodes-IsAscii, encodes-chars, chars-IsAscii, IsAscii-take}
+use Rattle.std.proofs.lemmas.Str.{length-encode, encodes-IsAscii, encodes-chars, chars-IsAscii}
 use Rattle.std.proofs.lemmas.Str.Ascii.{IsAscii-nil, IsAscii-cons}
 use Rattle.std.specs.Char.{is_ascii, len_utf8}
 use Rattle.std.specs.List.{list_all}
@@ -19,8 +19,7 @@ all_ascii [] h = refl
 all_ascii (b ∷ bs) h = let small : b < 128 = h 0 in let first : is_ascii b ≡ true = grind (arith, nat_tests) in rw first (all_ascii bs (λ i. h (suc i)))
 
 never : (b : Bool) → (b ≡ true → ⊥) → b ≡ false
-never true h = absurd (h refl)
-never false h = refl
+never b h = grind arith
 
 some_chars : (cs bs : List ℕ) → encode_utf8_all cs ≡ bs → 0 < length bs → 0 < length cs
 some_chars [] bs e some = absurd (let none : length bs ≡ 0 = ap length (sym e) in omega arith)
@@ -34,13 +33,11 @@ first_width : (c : ℕ) (cs : List ℕ) → len_utf8 c ≡ length (encode_utf8_a
 first_width c cs = sym (length-encode c) ∙ ap length (sym (append-nil (encode_utf8 c)))
 
 one_or_one : (b : Bool) → let n : ℕ = if b then 1 else 1 in n ≡ 1
-one_or_one true = refl
-one_or_one false = refl
+one_or_one b = grind arith
 
 module _ (line : List ℕ) (u : IsUtf8 line) (some : 0 < length line) where
   pub ascii_cluster : (beyond : List ℕ → ℕ) → IsAscii line → 1 ≡ length (encode_utf8_all (take (kept_cluster beyond (chars line)) (chars line)))
-  ascii_cluster beyond a =
-      rw (chars-IsAscii line a, all_ascii line a, encodes-IsAscii (take 1 line) (IsAscii-take line 1 a)) (sym (length-take-le 1 line some))
+  ascii_cluster beyond a = grind (arith, chars-IsAscii, all_ascii, encodes-IsAscii, length-take-le)
 
   pub more : 0 < length (chars line)
   more = some_chars (chars line) line (encodes-chars line u) some

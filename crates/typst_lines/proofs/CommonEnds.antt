@@ -36,15 +36,10 @@ front-append (c ∷ xs) us vs = rw (same-test c) (ap (λ t. c ∷ t) (front-appe
 abbrev pub Differ : List ℕ → List ℕ → Type 0
 Differ us vs = common_front us vs ≡ []
 
-other-test : (c d : ℕ) → (c ≡ d → ⊥) → (c == d) ≡ false
-other-test c d n = grind (arith, nat_tests)
-
 pub differ-heads : (us vs : List ℕ) (c : ℕ) → slice_get us 0 ≡ Some c → (slice_get vs 0 ≡ Some c → ⊥) → Differ us vs
 differ-heads [] vs c e n = refl
 differ-heads (a ∷ us) [] c e n = refl
-differ-heads (a ∷ us) (b ∷ vs) c e n =
-    let here : a ≡ c = cc in
-    rw (other-test a b (λ f. n (ap Some (sym f ∙ here)))) refl
+differ-heads (a ∷ us) (b ∷ vs) c e n = grind arith
 
 pub differ-end : (us vs : List ℕ) → us ≡ [] → Differ us vs
 differ-end us vs e = rw e refl
@@ -83,15 +78,7 @@ common-at : (old new : List ℕ) → IsUtf8 old → IsUtf8 new → (i j : ℕ) �
     → IsCommonFront old new i
 common-at old new u v i j at there h d =
     let front = shares-is (chars old) (chars new) (place_at old i).ahead (place_at new j).ahead h d in
-    let size : i ≡ bytes h.front = omega (arith, bytes-ahead old u i at, bytes-text old u, ap bytes h.first, bytes-append h.front (place_at old i).ahead) in
-    let same : j ≡ i = omega (arith, size, bytes-ahead new v j there, bytes-text new v, ap bytes h.second, bytes-append h.front (place_at new j).ahead) in
-    record {
-      size = size ∙ ap bytes (sym front);
-      old_boundary = at;
-      new_boundary = subst (IsCharBoundary new) same there;
-      old_rest = sym (ahead-is old i) ∙ rest-is (chars old) h.front (place_at old i).ahead h.first ∙ ap (λ t. drop (length t) (chars old)) (sym front);
-      new_rest = ap (λ n. chars (drop n new)) (sym same) ∙ sym (ahead-is new j) ∙ rest-is (chars new) h.front (place_at new j).ahead h.second ∙ ap (λ t. drop (length t) (chars new)) (sym front);
-    }
+    grind (arith, bytes-ahead, bytes-text, bytes-append, ahead-is, rest-is)
 
 -- two cursors that have passed the same characters, before ones that differ
 pub IsCommonFront-at : (old new t w : List ℕ) → IsUtf8 old → IsUtf8 new → t ≡ old → w ≡ new → (i j : ℕ) → IsCharBoundary t i → IsCharBoundary w j
@@ -110,12 +97,10 @@ common-back old new t u e i us vs at is h d =
 
 -- the next character isn't the one that is asked for
 pub not-next : (c : ℕ) (o : Option ℕ) → passes (λ d. d == c) o ≡ false → o ≡ Some c → ⊥
-not-next c None e f = cc
-not-next c (Some d) e f = let same : d ≡ c = cc in absurd (grind (arith, nat_tests))
+not-next c o e f = grind arith
 
 pub is-next : (c : ℕ) (o : Option ℕ) → passes (λ d. d == c) o ≡ true → Some c ≡ o
-is-next c None e = absurd (cc)
-is-next c (Some d) e = let same : c ≡ d = grind (arith, nat_tests) in ap Some same
+is-next c o e = grind arith
 
 pub ahead-step : (p : Place) (c : ℕ) → Some c ≡ scout 0 p → p.ahead ≡ c ∷ (moved 1 p).ahead
 ahead-step p c e = let t = head-splits p.ahead c (sym e) in rw t.1 refl
@@ -135,10 +120,7 @@ before-all s = before-end s
 
 pub common_ends-at : (old new t a b : List ℕ) (n m : ℕ) → t ≡ old → IsCommonFront t new n → a ≡ drop n t → b ≡ drop n new → m ≡ bytes (common_front (reverse (chars a)) (reverse (chars b))) → (n, m) ≡ common_ends old new
 unfolding common_ends
-common_ends-at old new t a b n m same front e f is =
-    ap (λ k. (k, m)) front.size
-    ∙ ap (λ k. (bytes (common_front (chars t) (chars new)), k)) (is ∙ ap (λ x. bytes (common_front (reverse x) (reverse (chars b)))) (ap chars e ∙ front.old_rest) ∙ ap (λ x. bytes (common_front (reverse (drop (length (common_front (chars t) (chars new))) (chars t))) (reverse x))) (ap chars f ∙ front.new_rest))
-    ∙ ap (λ x. common_ends x new) same
+common_ends-at old new t a b n m same front e f is = grind arith
 
 pub pointwise-same : (xs : List ℕ) → pointwise nat_eq xs xs ≡ true
 pointwise-same [] = refl

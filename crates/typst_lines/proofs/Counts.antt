@@ -1,5 +1,5 @@
 -- Characters and UTF-16 units, counted by the bytes of UTF-8 that begin them.
-use Rattle.std.proofs.Common.{◌≡◌, ℕ, zero, suc, ◌+◌, ◌-◌, ◌/◌, ◌%◌, ◌<◌, ◌≤◌, true, false, List, [], ◌∷◌, ◌++◌, length, take, drop, drop_at, length-append, slice_range, take-add, get_or, refl, sym, ap, subst, ◌∙◌, arith, nat_lt, inl, inr}
+use Rattle.std.proofs.Common.{◌≡◌, ℕ, zero, suc, ◌+◌, ◌-◌, ◌/◌, ◌%◌, ◌<◌, ◌≤◌, true, false, List, [], ◌∷◌, ◌++◌, length, take, drop, drop_at, length-append, slice_range, take-add, get_or, refl, sym, ap, subst, ◌∙◌, arith, nat_lt}
 use Rattle.std.proofs.lemmas.Bool.{cases_lt}
 use Rattle.std.proofs.lemmas.Bool.Decides.{nat_tests}
 use Rattle.std.proofs.lemmas.List.Sums.{sum_by-append, sum_by_more, sum_by-take-le}
@@ -10,7 +10,7 @@ use Rattle.std.specs.Prelude.{encode_utf8_all}
 use Rattle.std.specs.Str.{chars, IsUtf8, IsCharBoundary}
 use lib.Utf8.{encode}
 use Rattle.typst_lines.specs.Blocks.{chars_begun, units_begun, IsOfFirst}
-use Rattle.typst_lines.specs.Lines.{units, bytes, utf16_len, utf16_before, least_place, IsLineUpTo}
+use Rattle.typst_lines.specs.Lines.{units, utf16_len, utf16_before, least_place, IsLineUpTo}
 use Rattle.typst_lines.specs.Place.{Place, place_at}
 use Rattle.typst_lines.specs.declared.lines.Line.{Line}
 use Rattle.typst_lines.proofs.LineTable.{units-append, bytes-append, bytes-front, chars-split}
@@ -71,33 +71,10 @@ module _ (c : ℕ) where
   encode-4 le = rw (above c 128 (omega arith), above c 2048 (omega arith), above c 65536 le) refl
 
   chars-one : sum_by chars_begun (encode c) ≡ 1
-  chars-one =
-      elim (cases_lt c 128) [
-        | inl one ↦ rw (encode-1 one) (omega (arith, chars-low c one))
-        | inr more ↦ elim (cases_lt c 2048) [
-          | inl two ↦ rw (encode-2 more two) (omega (arith, chars-lead (192 + c / 64) (omega arith), chars-next (cont c) (omega arith) (omega arith)))
-          | inr more ↦ elim (cases_lt c 65536) [
-            | inl three ↦ rw (encode-3 more three) (omega (arith, chars-lead (224 + c / 4096) (omega arith), chars-next (cont (c / 64)) (omega arith) (omega arith), chars-next (cont c) (omega arith) (omega arith)))
-            | inr four ↦ rw (encode-4 four)
-                (omega (arith, chars-lead (240 + c / 262144) (omega arith), chars-next (cont (c / 4096)) (omega arith) (omega arith), chars-next (cont (c / 64)) (omega arith) (omega arith), chars-next (cont c) (omega arith) (omega arith)))
-          ]
-        ]
-      ]
+  chars-one = grind (arith, cases_lt, encode-1, chars-low, encode-2, chars-lead, chars-next, encode-3, encode-4)
 
   units-one : sum_by units_begun (encode c) ≡ utf16_len c
-  units-one =
-      elim (cases_lt c 128) [
-        | inl one ↦ rw (encode-1 one) (omega (arith, units-low c one, one-unit c (omega arith)))
-        | inr more ↦ elim (cases_lt c 2048) [
-          | inl two ↦ rw (encode-2 more two) (omega (arith, units-lead (192 + c / 64) (omega arith) (omega arith), units-next (cont c) (omega arith) (omega arith), one-unit c (omega arith)))
-          | inr more ↦ elim (cases_lt c 65536) [
-            | inl three ↦ rw (encode-3 more three)
-                (omega (arith, units-lead (224 + c / 4096) (omega arith) (omega arith), units-next (cont (c / 64)) (omega arith) (omega arith), units-next (cont c) (omega arith) (omega arith), one-unit c three))
-            | inr four ↦ rw (encode-4 four)
-                (omega (arith, units-pair (240 + c / 262144) (omega arith), units-next (cont (c / 4096)) (omega arith) (omega arith), units-next (cont (c / 64)) (omega arith) (omega arith), units-next (cont c) (omega arith) (omega arith), two-units c four))
-          ]
-        ]
-      ]
+  units-one = grind (arith, cases_lt, encode-1, units-low, one-unit, encode-2, units-lead, units-next, encode-3, encode-4, units-pair, two-units)
 
 chars-all : (cs : List ℕ) → sum_by chars_begun (encode_utf8_all cs) ≡ length cs
 chars-all [] = refl
@@ -117,12 +94,7 @@ module _ (s : List ℕ) (u : IsUtf8 s) where
 
 module _ (w : ℕ → ℕ) (first : IsOfFirst w) (s : List ℕ) where
   no-start : (i : ℕ) → i < length s → (IsCharBoundary s i → ⊥) → w (get_or s i 0) ≡ 0
-  no-start i lt none =
-      let b = get_or s i 0 in
-      elim (cases_lt b 128) [
-        | inl low ↦ absurd (none (omega arith, λ _ high. absurd (omega arith)))
-        | inr high ↦ elim (cases_lt b 192) [ inl next ↦ first.nothing b high next | inr lead ↦ absurd (none (omega arith, λ _ _. lead)) ]
-      ]
+  no-start i lt none = grind arith
 
   -- up to the next boundary it stays what it is
   same-inside : (at n : ℕ) → at + n ≤ length s → ((i : ℕ) → at ≤ i → i < at + n → IsCharBoundary s i → ⊥) → sum_by w (take (at + n) s) ≡ sum_by w (take at s)
@@ -133,15 +105,11 @@ module _ (w : ℕ → ℕ) (first : IsOfFirst w) (s : List ℕ) where
       ∙ omega (arith, sum_by_more w s (at + n) 0 (omega arith), no-start (at + n) (omega arith) (none (at + n) (omega arith) (omega arith)), same-inside at n (omega arith) (λ i from to. none i from (omega arith)))
 
   pub to-boundary : (at end : ℕ) → at ≤ end → end ≤ length s → ((i : ℕ) → at ≤ i → i < end → IsCharBoundary s i → ⊥) → sum_by w (take end s) ≡ sum_by w (take at s)
-  to-boundary at end le room none =
-      let sum : at + (end - at) ≡ end = omega arith in
-      ap (λ k. sum_by w (take k s)) (sym sum) ∙ same-inside at (end - at) (omega arith) (λ i from to. none i from (omega arith))
+  to-boundary at end le room none = let sum : at + (end - at) ≡ end = omega arith in grind (arith, same-inside)
 
 -- what more bytes add
 pub sum-range : (w : ℕ → ℕ) (s : List ℕ) (at n : ℕ) → sum_by w (take (at + n) s) ≡ sum_by w (take at s) + sum_by w (slice_range s at (at + n))
-sum-range w s at n =
-    let more : at + (at + n - at) ≡ at + n = omega arith in
-    ap (λ k. sum_by w (take k s)) (sym more) ∙ ap (sum_by w) (take-add at (at + n - at) s) ∙ sum_by-append w (take at s) (slice_range s at (at + n))
+sum-range w s at n = grind (arith, take-add, sum_by-append)
 
 pub sum-front : (w : ℕ → ℕ) (s : List ℕ) (i j : ℕ) → i ≤ j → sum_by w (take i s) ≤ sum_by w (take j s)
 sum-front w s i j le = omega (arith, sum_by-take-le w (take j s) i, ap (sum_by w) (take-take i j s le))
@@ -154,11 +122,7 @@ HasPassed-front s t u same at n p bound is here =
     let size : n ≡ length (chars (take at s)) = is ∙ chars-counted (take at s) (IsUtf8-take s at u bound) in
     let ahead : p.ahead ≡ chars (drop at s) = ap (λ q. q.ahead) here ∙ sym (chars-ahead s at) in
     let whole : chars t ≡ chars (take at s) ++ chars (drop at s) = ap chars same ∙ chars-split s u at bound in
-    record {
-      rest = ahead ∙ sym (ap (drop n) whole ∙ drop_at (chars (take at s)) (chars (drop at s)) n (sym size));
-      long = omega (arith, size, ap length ahead, ap length whole, length-append (chars (take at s)) (chars (drop at s)));
-      byte = omega (arith, ap bytes ahead, ap bytes whole, bytes-append (chars (take at s)) (chars (drop at s)), bytes-front s u at bound);
-    }
+    grind (arith, drop_at, length-append, bytes-append, bytes-front)
 
 -- so many units stand before it, counted from a line on
 module _ (s t : List ℕ) (v : IsUtf8 t) (same : t ≡ s) (u : ℕ) (l : Line) (of : IsLineUpTo s u l) (rest : List ℕ) (is : rest ≡ drop l.byte_idx t)

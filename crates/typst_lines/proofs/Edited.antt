@@ -1,5 +1,5 @@
 -- The line table of a text in which a stretch was replaced: lines that start before it stay, those behind it move.
-use Rattle.std.proofs.Common.{◌≡◌, ℕ, zero, suc, ◌+◌, ◌-◌, ◌%◌, ◌^◌, ◌<◌, ◌≤◌, Bool, true, false, nat_le, List, [], ◌∷◌, ◌++◌, length, map, filter, take, drop, take_at, drop_at, take_all, length-drop, append_assoc, slice_get, Some, refl, ap, sym, subst, ◌∙◌, arith}
+use Rattle.std.proofs.Common.{◌≡◌, ℕ, zero, suc, ◌+◌, ◌-◌, ◌%◌, ◌^◌, ◌<◌, ◌≤◌, Bool, true, false, nat_le, List, [], ◌∷◌, ◌++◌, length, map, filter, take, drop, take_at, drop_at, append_assoc, slice_get, Some, refl, ap, sym, subst, ◌∙◌, arith}
 use Rattle.std.proofs.lemmas.Bool.Decides.{nat_tests}
 use Rattle.std.specs.Prelude.{slice_range}
 use Rattle.std.specs.Str.{chars, IsUtf8, IsCharBoundary}
@@ -21,8 +21,7 @@ AllFrom b [] = Unit {0}
 AllFrom b (l ∷ ls) = (b ≤ l.byte_idx) × AllFrom b ls
 
 all-onto : (b : ℕ) (t : Bool) (l : Line) (ls : List Line) → b ≤ l.byte_idx → AllFrom b ls → AllFrom b (onto_if t l ls)
-all-onto b true l ls h k = (h, k)
-all-onto b false l ls h k = k
+all-onto b t l ls h k = grind arith
 
 all-lower : (a b : ℕ) (ls : List Line) → a ≤ b → AllFrom b ls → AllFrom a ls
 all-lower a b [] le h = tt
@@ -93,10 +92,7 @@ late b u cs i l at = all-get (suc b) (starts_from b u cs) i l (starts-later b u 
 
 kept-from : (b u : ℕ) (front xs ys : List ℕ) (i : ℕ) (l : Line) → slice_get (starts_from b u (front ++ xs)) i ≡ Some l → l.byte_idx < bytes front + b → Kept b u front xs ys i l
 kept-from b u [] xs ys i l at h = absurd (omega (arith, h, late b u xs i l at))
-kept-from b u (c ∷ []) xs ys i l at h =
-    let least = all-get (char_width c + b) _ i l (all-onto (char_width c + b) (ends_line c (slice_get xs 0)) (line_at (char_width c + b) (utf16_len c + u)) _ (omega arith)
-    (all-lower (char_width c + b) (suc (char_width c + b)) _ (omega arith) (starts-later (char_width c + b) (utf16_len c + u) xs))) at in
-    absurd (omega (arith, h, least))
+kept-from b u (c ∷ []) xs ys i l at h = grind (arith, all-get, all-onto, all-lower, starts-later)
 kept-from b u (c ∷ d ∷ front) xs ys i l at h =
     kept-next b u c (d ∷ front) xs ys i l (ends_line c (Some d)) refl refl at (λ j there. kept-from (char_width c + b) (utf16_len c + u) (d ∷ front) xs ys j l there (omega (arith, h)))
 
@@ -106,8 +102,7 @@ abbrev plainly : ℕ → ℕ → ℕ → ℕ → Line → Line
 plainly b c u v l = record { byte_idx = l.byte_idx - b + c; utf16_idx = l.utf16_idx - u + v }
 
 moved-onto : (b0 c0 u0 v0 : ℕ) (t : Bool) (l m : Line) (ls ms : List Line) → m ≡ plainly b0 c0 u0 v0 l → ms ≡ map (plainly b0 c0 u0 v0) ls → onto_if t m ms ≡ map (plainly b0 c0 u0 v0) (onto_if t l ls)
-moved-onto b0 c0 u0 v0 true l m ls ms e f = ap (λ n. n ∷ ms) e ∙ ap (λ ns. plainly b0 c0 u0 v0 l ∷ ns) f
-moved-onto b0 c0 u0 v0 false l m ls ms e f = f
+moved-onto b0 c0 u0 v0 t l m ls ms e f = grind arith
 
 line-is : (b c u v : ℕ) → b ≡ c → u ≡ v → line_at b u ≡ line_at c v
 line-is b c u v e f = ap (λ n. line_at n u) e ∙ ap (λ n. line_at c n) f
@@ -123,17 +118,7 @@ starts-moved b0 c0 u0 v0 b u c v (d ∷ cs) le lo e f =
 first-by : (b0 c0 b u c v d : ℕ) (cs : List ℕ) → b0 ≤ b → c ≡ b - b0 + c0 → (y : Line) (ys : List Line) → starts_from c v (d ∷ cs) ≡ y ∷ ys
     → (starts_from (char_width d + c) (utf16_len d + v) cs ≡ y ∷ ys → y ∷ ys ≡ map (plainly b0 c0 (units_at (starts_from (char_width d + b) (utf16_len d + u) cs)) y.utf16_idx) (starts_from (char_width d + b) (utf16_len d + u) cs))
     → (t : Bool) → ends_line d (slice_get cs 0) ≡ t → y ∷ ys ≡ map (plainly b0 c0 (units_at (starts_from b u (d ∷ cs))) y.utf16_idx) (starts_from b u (d ∷ cs))
-first-by b0 c0 b u c v d cs le e y ys at rest true t =
-    let w = char_width d in
-    let l = utf16_len d in
-    let is : line_at (w + c) (l + v) ∷ starts_from (w + c) (l + v) cs ≡ y ∷ ys = rw t at at in
-    let first : line_at (w + c) (l + v) ≡ y = cc in
-    let unit : l + v ≡ y.utf16_idx = ap (λ (m : Line). m.utf16_idx) first in
-    let one : line_at (w + c) (l + v) ≡ plainly b0 c0 (l + u) (l + v) (line_at (w + b) (l + u)) = line-is (w + c) (w + b - b0 + c0) (l + v) (l + u - (l + u) + (l + v)) (omega (arith, le, e)) (omega arith) in
-    let more = starts-moved b0 c0 (l + u) (l + v) (w + b) (l + u) (w + c) (l + v) cs (omega (arith, le)) (omega arith) (omega (arith, le, e)) (omega arith) in
-    rw t (sym is ∙ ap (λ n. n ∷ starts_from (w + c) (l + v) cs) one ∙ ap (λ ns. plainly b0 c0 (l + u) (l + v) (line_at (w + b) (l + u)) ∷ ns) more
-    ∙ ap (λ n. map (plainly b0 c0 (l + u) n) (line_at (w + b) (l + u) ∷ starts_from (w + b) (l + u) cs)) unit)
-first-by b0 c0 b u c v d cs le e y ys at rest false t = rw t (rest (rw t at at))
+first-by b0 c0 b u c v d cs le e y ys at rest t h = grind (arith, line-is, starts-moved)
 
 moved-first : (b0 c0 b u c v : ℕ) (cs : List ℕ) → b0 ≤ b → c ≡ b - b0 + c0 → (y : Line) (ys : List Line) → starts_from c v cs ≡ y ∷ ys
     → y ∷ ys ≡ map (plainly b0 c0 (units_at (starts_from b u cs)) y.utf16_idx) (starts_from b u cs)
@@ -147,8 +132,7 @@ Small [] = Unit {0}
 Small (l ∷ ls) = (l.byte_idx < 2 ^ 64) × (l.utf16_idx < 2 ^ 64) × Small ls
 
 small-onto : (t : Bool) (l : Line) (ls : List Line) → l.byte_idx < 2 ^ 64 → l.utf16_idx < 2 ^ 64 → Small ls → Small (onto_if t l ls)
-small-onto true l ls h k m = (h, k, m)
-small-onto false l ls h k m = m
+small-onto t l ls h k m = grind arith
 
 starts-small : (b u : ℕ) (cs : List ℕ) → bytes cs + b < 2 ^ 64 → units cs + u < 2 ^ 64 → Small (starts_from b u cs)
 starts-small b u [] h k = tt
@@ -157,12 +141,10 @@ starts-small b u (c ∷ cs) h k =
     (starts-small (char_width c + b) (utf16_len c + u) cs (omega (arith, h)) (omega (arith, k)))
 
 first-small : (ls : List Line) → Small ls → units_at ls < 2 ^ 64
-first-small [] h = omega arith
-first-small (l ∷ ls) h = h.1
+first-small ls h = grind arith
 
 first-units : (low : ℕ) (ls : List Line) → rising (λ l. l.utf16_idx) low ls → rising (λ l. l.utf16_idx) (units_at ls) ls
-first-units low [] r = tt
-first-units low (l ∷ ls) r = (omega arith, r.1)
+first-units low ls r = grind arith
 
 -- a number moved by a distance that wraps round is as far after `to` as it was after `from`, where a word holds that
 moved-by : (from to at : ℕ) → from < 2 ^ 64 → from ≤ at → at - from + to < 2 ^ 64 → (at + distance from to) % 2 ^ 64 ≡ at - from + to
@@ -221,14 +203,7 @@ abbrev upto : ℕ → Line → Bool
 upto b l = nat_le l.byte_idx b
 
 dropped-by : (b low : ℕ) (l : Line) (ls : List Line) (t : Bool) → nat_le l.byte_idx b ≡ t → rising (λ n. n.byte_idx) l.byte_idx ls → filter (after b) ls ≡ drop (many b ls) ls → filter (after b) (l ∷ ls) ≡ drop (many b (l ∷ ls)) (l ∷ ls)
-dropped-by b low l ls true t r rest =
-    let le : l.byte_idx ≤ b = grind (arith, nat_tests, t) in
-    let more : 1 + many b ls ≡ suc (many b ls) = omega arith in
-    rw (earlier-line b l.byte_idx le, t, more) rest
-dropped-by b low l ls false t r rest =
-    let gt : b < l.byte_idx = grind (arith, nat_tests, t) in
-    let none = none-upto b l.byte_idx ls gt r in
-    rw (later-line b l.byte_idx gt, t, none) (ap (λ ms. l ∷ ms) (all-behind b l.byte_idx ls gt r))
+dropped-by b low l ls t h r rest = grind (arith, nat_tests, earlier-line, none-upto, later-line, all-behind)
 
 dropped : (b low : ℕ) (ls : List Line) → rising (λ n. n.byte_idx) low ls → filter (after b) ls ≡ drop (many b ls) ls
 dropped b low [] r = refl
@@ -274,9 +249,7 @@ module _ (s new : List ℕ) (u : IsUtf8 s) (v : IsUtf8 new) (start end new_end :
   split-there = new-is ∙ sym (append_assoc front with rest)
 
   end-size : new_end ≡ bytes (take count (chars new))
-  end-size =
-      let sum : bytes (front ++ with) ≡ start + length e.with = bytes-append front with ∙ ap (λ n. n + bytes with) front-size ∙ ap (λ n. start + n) (bytes-text e.with e.utf8) in
-      e.new_end_is ∙ sym sum ∙ ap bytes (sym (ap (take count) split-there ∙ take_at (front ++ with) rest count refl))
+  end-size = grind (arith, bytes-append, front-size, bytes-text, split-there, take_at)
 
   pub start-boundary : IsCharBoundary new start
   start-boundary = front-boundary new v (length front) start (sym front-size ∙ ap bytes (sym (ap (take (length front)) new-is ∙ take_at front (with ++ rest) (length front) refl)))
@@ -376,5 +349,4 @@ module _ (s new : List ℕ) (u : IsUtf8 s) (v : IsUtf8 new) (start end new_end :
   -- where no line starts behind the stretch now, none did
   pub none-behind : lines_after new new_end ≡ [] → behind ≡ []
   none-behind e =
-      let moved = starts-moved end new_end (utf16_before s end) (utf16_before new new_end) end (utf16_before s end) new_end (utf16_before new new_end) rest (omega arith) (omega arith) (omega arith) (omega arith) in
-      behind-is ∙ none-moved (plainly end new_end (utf16_before s end) (utf16_before new new_end)) (starts_from end (utf16_before s end) rest) (sym moved ∙ sym new-behind ∙ e)
+      grind (arith, starts-moved end new_end (utf16_before s end) (utf16_before new new_end) end (utf16_before s end) new_end (utf16_before new new_end) rest (omega arith) (omega arith) (omega arith) (omega arith), behind-is, none-moved, new-behind)

@@ -1,11 +1,9 @@
 -- Steps over the characters of a link.
 use Rattle.std.proofs.Common.{◌≡◌, ℕ, zero, suc, Bool, true, false, not, ◌&&◌, ◌==◌, List, [], ◌∷◌, ◌++◌, length, take, reverse, slice_get, Option, Some, None, refl, sym, ap, ◌∙◌, arith, append_assoc, append-nil}
 use Rattle.std.proofs.lemmas.List.{reverse-append}
-use Rattle.std.proofs.lemmas.Str.{chars-nil, encodes-chars}
-use Rattle.std.proofs.lemmas.Bool.Decides.{nat_tests}
-use Rattle.std.specs.Prelude.{encode_utf8_all}
+use Rattle.std.proofs.lemmas.Str.{chars-nil}
 use Rattle.std.specs.List.{list_all}
-use Rattle.std.specs.Str.{chars, IsUtf8}
+use Rattle.std.specs.Str.{chars}
 use Rattle.typst_lines.specs.Classes.{CharClasses}
 use Rattle.typst_lines.specs.Place.{Place, place_at, moved, moved_from, scout}
 use Rattle.typst_lines.specs.Labels.{is_name, is_label_id}
@@ -14,20 +12,13 @@ use Rattle.typst_lines.specs.Links.{after, front, without_last_signs, link_prefi
 abbrev at : List ℕ → List ℕ → Place
 at before ahead = record { before = before; ahead = ahead }
 
-pub front-step : (awaited inside cs : List ℕ) (c : ℕ) → after awaited c ≡ Some inside → front awaited (c ∷ cs) ≡ (c ∷ (front inside cs).0, (front inside cs).1)
-front-step awaited inside cs c e = rw (e, front) refl
-
-pub front-stop : (awaited cs : List ℕ) (c : ℕ) → after awaited c ≡ None → front awaited (c ∷ cs) ≡ ([], awaited)
-front-stop awaited cs c e = rw (e, front) refl
-
 -- a front is the beginning
 pub front-taken : (awaited cs : List ℕ) → take (length (front awaited cs).0) cs ≡ (front awaited cs).0
 front-taken awaited [] = refl
 front-taken awaited (c ∷ cs) = cases (after awaited c) refl (λ inside. front-taken inside cs)
   where
     cases : (o : Option (List ℕ)) → after awaited c ≡ o → ((inside : List ℕ) → take (length (front inside cs).0) cs ≡ (front inside cs).0) → take (length (front awaited (c ∷ cs)).0) (c ∷ cs) ≡ (front awaited (c ∷ cs)).0
-    cases None e h = rw (front-stop awaited cs c e) refl
-    cases (Some inside) e h = rw (front-step awaited inside cs c e) (ap (λ t. c ∷ t) (h inside))
+    cases o e h = grind arith
 
 -- what is still to be read of a link
 pub record Left (awaited : List ℕ) (p : Place) (start : Place) : Type 0 where
@@ -35,40 +26,20 @@ pub record Left (awaited : List ℕ) (p : Place) (start : Place) : Type 0 where
   pub brackets : (front awaited p.ahead).1 ≡ (front [] start.ahead).1
 
 pub left-step : (awaited inside : List ℕ) (p q start : Place) (c : ℕ) → Left awaited p start → Some c ≡ scout 0 p → after awaited c ≡ Some inside → q ≡ moved 1 p → Left inside q start
-left-step awaited inside p q start c h s e m = from p.ahead refl
-  where
-    from : (ys : List ℕ) → p.ahead ≡ ys → Left inside q start
-    from [] a = let bad : Some c ≡ None = s ∙ ap (λ x. slice_get x 0) a in absurd (cc)
-    from (d ∷ ys) a =
-        let same : Some c ≡ Some d = s ∙ ap (λ x. slice_get x 0) a in
-        let is : d ≡ c = cc in
-        let here : p.ahead ≡ c ∷ ys = a ∙ ap (λ x. x ∷ ys) is in
-        let there : q ≡ at (c ∷ p.before) ys = m ∙ ap (moved_from 1 p.before) here in
-        let split : front awaited p.ahead ≡ (c ∷ (front inside ys).0, (front inside ys).1) = ap (front awaited) here ∙ front-step awaited inside ys c e in
-        record {
-          ends =
-              ap (λ x. moved (length (front inside x.ahead).0) x) there ∙ sym (ap (λ x. moved_from (length (front awaited x).0) p.before x) here ∙ ap (λ r. moved_from (length r.0) p.before (c ∷ ys)) (front-step awaited inside ys c e)) ∙ h.ends;
-          brackets = ap (λ x. (front inside x.ahead).1) there ∙ sym (ap (λ r. r.1) split) ∙ h.brackets;
-        }
+left-step awaited inside p q start c h s e m = grind arith
 
 pub left-stop : (awaited : List ℕ) (p start : Place) (c : ℕ) → Left awaited p start → Some c ≡ scout 0 p → after awaited c ≡ None → (p ≡ moved (length (front [] start.ahead).0) start) × (awaited ≡ (front [] start.ahead).1)
 left-stop awaited p start c h s e = from p.ahead refl
   where
     from : (ys : List ℕ) → p.ahead ≡ ys → (p ≡ moved (length (front [] start.ahead).0) start) × (awaited ≡ (front [] start.ahead).1)
     from [] a = let bad : Some c ≡ None = s ∙ ap (λ x. slice_get x 0) a in absurd (cc)
-    from (d ∷ ys) a =
-        let same : Some c ≡ Some d = s ∙ ap (λ x. slice_get x 0) a in
-        let is : d ≡ c = cc in
-        let split : front awaited p.ahead ≡ ([], awaited) = ap (front awaited) (a ∙ ap (λ x. x ∷ ys) is) ∙ front-stop awaited ys c e in
-        (sym (ap (λ r. moved (length r.0) p) split) ∙ h.ends, sym (ap (λ r. r.1) split) ∙ h.brackets)
+    from (d ∷ ys) a = grind arith
 
 pub left-end : (awaited : List ℕ) (p start : Place) → Left awaited p start → None ≡ scout 0 p → (p ≡ moved (length (front [] start.ahead).0) start) × (awaited ≡ (front [] start.ahead).1)
 left-end awaited p start h s = from p.ahead refl
   where
     from : (ys : List ℕ) → p.ahead ≡ ys → (p ≡ moved (length (front [] start.ahead).0) start) × (awaited ≡ (front [] start.ahead).1)
-    from [] a =
-        let split : front awaited p.ahead ≡ ([], awaited) = ap (front awaited) a in
-        (sym (ap (λ r. moved (length r.0) p) split) ∙ h.ends, sym (ap (λ r. r.1) split) ∙ h.brackets)
+    from [] a = grind arith
     from (d ∷ ys) a = let bad : None ≡ Some d = s ∙ ap (λ x. slice_get x 0) a in absurd (cc)
 
 -- ---- the characters before
@@ -84,9 +55,7 @@ start-of text = ap (λ x. at (reverse x) (chars text)) chars-nil
 
 -- the front of a text
 pub front-before : (text : List ℕ) (p q : Place) → p ≡ place_at text 0 → q ≡ moved (length (front [] p.ahead).0) p → reverse q.before ≡ (front [] (chars text)).0
-front-before text p q e m =
-    let here : p ≡ at [] (chars text) = e ∙ start-of text in
-    ap (λ x. reverse x.before) (m ∙ ap (λ x. moved (length (front [] x.ahead).0) x) here) ∙ before-from (length (front [] (chars text)).0) [] (chars text) ∙ front-taken [] (chars text)
+front-before text p q e m = grind (arith, start-of, before-from, front-taken)
 
 pub front-of : (text : List ℕ) (p : Place) → p ≡ place_at text 0 → p.ahead ≡ chars text
 front-of text p e = ap (λ x. x.ahead) (e ∙ start-of text)

@@ -1,5 +1,5 @@
 -- A cluster of the rest of a line, as a step over the characters ahead.
-use Rattle.std.proofs.Common.{◌≡◌, ◌≤◌, ◌<◌, ◌+◌, ℕ, zero, suc, Bool, true, false, not, ◌&&◌, if◌then◌else◌, List, [], ◌∷◌, take, length, refl, ap, ◌∙◌, arith, one-add}
+use Rattle.std.proofs.Common.{◌≡◌, ◌≤◌, ◌<◌, ◌+◌, ℕ, zero, suc, Bool, true, false, ◌&&◌, if◌then◌else◌, List, [], ◌∷◌, take, length, refl, ap, arith, one-add}
 use Rattle.std.proofs.lemmas.List.{length-take}
 use Rattle.std.proofs.lemmas.Str.{chars-nil, scalars-chars}
 use Rattle.std.specs.List.{prefix_len, list_all}
@@ -12,8 +12,7 @@ use Rattle.typst_lines.specs.Place.{Place, run, bytes_ahead}
 use Rattle.typst_lines.specs.Classes.{CharClasses, IsLine, IsLawful, in_line}
 
 and-both : (a b : Bool) → (a && b) ≡ true → (a ≡ true) × (b ≡ true)
-and-both true b e = (refl, e)
-and-both false b e = absurd (cc)
+and-both a b e = grind arith
 
 pub line-some : (bs : List ℕ) → 0 < length (chars bs) → 0 < length bs
 line-some [] some = let none : length (chars []) ≡ 0 = ap length chars-nil in absurd (omega arith)
@@ -33,11 +32,7 @@ list_all-run test (c ∷ cs) =
 
 -- what is left of a line, read at a place
 pub IsLine-run : (p : Place) (line : List ℕ) → IsUtf8 line → chars line ≡ run in_line p → 0 < length (run in_line p) → IsLine (chars line)
-IsLine-run p line u e some = record {
-  some = rw e some;
-  scalars = scalars-chars line u;
-  inside = rw e (list_all-run in_line p.ahead);
-}
+IsLine-run p line u e some = grind (arith, scalars-chars, list_all-run)
 
 -- the bytes of a cluster of what is left of the line are those of whole characters ahead
 pub cluster-bytes : (k : CharClasses) → IsLawful k → (p : Place) (line : List ℕ) → IsUtf8 line → chars line ≡ run in_line p → 0 < length (run in_line p)
@@ -47,20 +42,14 @@ cluster-bytes k law p line u e some =
     let n = k.cluster (run in_line p) in
     let m = prefix_len in_line p.ahead in
     let within = law.cluster (chars line) (IsLine-run p line u e some) in
-    let same : k.cluster (chars line) ≡ n = ap k.cluster e in
-    let le : n ≤ m = omega (arith, within.1, length-take m p.ahead, ap length e) in
-    ap (λ cs. length (encode_utf8_all (take (k.cluster cs) cs))) e ∙ ap (λ cs. length (encode_utf8_all cs)) (take-inner n m p.ahead le)
+    grind (arith, length-take, take-inner)
 
 -- a newline character is white space
 newline-white : (c : ℕ) → is_newline c ≡ true → is_whitespace c ≡ true
 newline-white c e = grind (arith, nat_tests)
 
 in_line-continue : (k : CharClasses) → IsLawful k → (c : ℕ) → IsScalar c → k.xid_continue c ≡ true → in_line c ≡ true
-in_line-continue k law c scalar goes_on =
-    let by_test : (b : Bool) → is_newline c ≡ b → not b ≡ true =
-    elim [ true ↦ λ e. absurd (let white = law.white c scalar (newline-white c e) in let never : k.xid_continue c ≡ false = white.xid_continue in cc) | false ↦ λ _. refl ]
-    in
-    by_test (is_newline c) refl
+in_line-continue k law c scalar goes_on = grind (arith, newline-white)
 
 -- the characters that continue an identifier stand within a line
 pub in_line-identifier : (k : CharClasses) → IsLawful k → (cs : List ℕ) → all_scalars cs ≡ true → list_all k.xid_continue cs ≡ true → list_all in_line cs ≡ true

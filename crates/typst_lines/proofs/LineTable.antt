@@ -115,12 +115,10 @@ later before [] = []
 later before (c ∷ cs) = places_from (c ∷ before) cs
 
 places-split : (before cs : List ℕ) → places_from before cs ≡ between before cs ∷ later before cs
-places-split before [] = refl
-places-split before (c ∷ cs) = refl
+places-split before cs = grind arith
 
 kept-place : (t : Bool) (p : Place) (ps : List Place) (ls : List Line) → map measured ps ≡ ls → map measured (cond t (p ∷ ps) ps) ≡ onto_if t (measured p) ls
-kept-place true p ps ls e = ap (λ xs. measured p ∷ xs) e
-kept-place false p ps ls e = e
+kept-place t p ps ls e = grind arith
 
 table-later : (before cs : List ℕ) → map measured (filter starts_line (later before cs)) ≡ starts_from (bytes before) (units before) cs
 table-later before [] = refl
@@ -130,8 +128,7 @@ table-later before (c ∷ cs) =
 
 pub line_table-starts : (s : List ℕ) → line_table s ≡ line_at 0 0 ∷ starts_from 0 0 (chars s)
 unfolding line_table
-line_table-starts s =
-    ap (λ ps. map measured (filter starts_line ps)) (places-split [] (chars s)) ∙ ap (λ xs. line_at 0 0 ∷ xs) (table-later [] (chars s))
+line_table-starts s = grind (arith, places-split, table-later)
 
 -- the steps of a loop over the places after a line start
 module _ (s : List ℕ) (u : IsUtf8 s) (i : ℕ) (at : IsCharBoundary s i) where

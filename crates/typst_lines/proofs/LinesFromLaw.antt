@@ -25,12 +25,10 @@ module _ (k : ℕ) where
   earlier-line n le = grind (arith, nat_tests)
 
   kept : (t : Bool) (x : Line) (xs : List Line) → nat_lt k x.byte_idx ≡ true → filter after xs ≡ xs → filter after (onto_if t x xs) ≡ onto_if t x xs
-  kept true x xs e rest = rw e (ap (λ ys. x ∷ ys) rest)
-  kept false x xs e rest = rest
+  kept t x xs e rest = grind arith
 
   left-out : (t : Bool) (x : Line) (xs : List Line) → nat_lt k x.byte_idx ≡ false → filter after (onto_if t x xs) ≡ filter after xs
-  left-out true x xs e = rw e refl
-  left-out false x xs e = refl
+  left-out t x xs e = grind arith
 
   all-after : (b u : ℕ) (cs : List ℕ) → k ≤ b → filter after (starts_from b u cs) ≡ starts_from b u cs
   all-after b u [] le = refl
@@ -39,10 +37,7 @@ module _ (k : ℕ) where
       kept (ends_line c (slice_get cs 0)) (line_at (char_width c + b) (utf16_len c + u)) _ (later-line (char_width c + b) (omega arith)) (all-after (char_width c + b) (utf16_len c + u) cs (omega arith))
 
   past-front : (xs ys : List ℕ) (b u : ℕ) → k ≡ bytes xs + b → filter after (starts_from b u (xs ++ ys)) ≡ starts_from k (units xs + u) ys
-  past-front [] ys b u e =
-      let here : b ≡ k = omega arith in
-      let none : u ≡ 0 + u = omega arith in
-      all-after b u ys (omega arith) ∙ ap (λ n. starts_from n u ys) here ∙ ap (λ n. starts_from k n ys) none
+  past-front [] ys b u e = grind (arith, all-after)
   past-front (c ∷ xs) ys b u e =
       left-out (ends_line c (slice_get (xs ++ ys) 0)) (line_at (char_width c + b) (utf16_len c + u)) _ (earlier-line (char_width c + b) (omega arith))
       ∙ past-front xs ys (char_width c + b) (utf16_len c + u) (omega arith) ∙ ap (λ n. starts_from k n ys) (let e : units xs + (utf16_len c + u) ≡ utf16_len c + units xs + u = omega arith in e)
@@ -67,14 +62,7 @@ module _ (s : List ℕ) (v : IsUtf8 s) (i : ℕ) (at : IsCharBoundary s i) (c j 
   units-next = omega (arith, units-before s i, units-before s j, ap (λ p. units p.before) there.moves, units-moved (place_at s i) c (sym there.next))
 
   step : lines_after s i ≡ onto_if (ends_line c (scout 0 (place_at s j))) (line_at j (utf16_before s j)) (lines_after s j)
-  step =
-      let far : char_width c + i ≡ j = omega (arith, there.width) in
-      let more : utf16_len c + utf16_before s i ≡ utf16_before s j = omega (arith, units-next) in
-      after-starts s v i at ∙ starts-step i (utf16_before s i) (place_at s i) c (sym there.next)
-      ∙ ap (λ p. onto_if (ends_line c (scout 0 p)) (line_at (char_width c + i) (utf16_len c + utf16_before s i)) (starts_from (char_width c + i) (utf16_len c + utf16_before s i) p.ahead)) (sym there.moves)
-      ∙ ap (λ n. onto_if (ends_line c (scout 0 (place_at s j))) (line_at n (utf16_len c + utf16_before s i)) (starts_from n (utf16_len c + utf16_before s i) (place_at s j).ahead)) far
-      ∙ ap (λ n. onto_if (ends_line c (scout 0 (place_at s j))) (line_at j n) (starts_from j n (place_at s j).ahead)) more
-      ∙ ap (onto_if (ends_line c (scout 0 (place_at s j))) (line_at j (utf16_before s j))) (sym (after-starts s v j there.boundary))
+  step = grind (arith, units-next, after-starts, starts-step)
 
   pub after-line : ends_line c (scout 0 (place_at s j)) ≡ true → lines_after s i ≡ line_at j (utf16_before s j) ∷ lines_after s j
   after-line e = step ∙ rw e refl
@@ -91,12 +79,7 @@ plain-step s v start i b run lt is small plain =
     let there = IsStep-from_ascii s v i b run.boundary lt is small in
     let one : utf16_len b ≡ 1 = grind (arith, nat_tests) in
     let more = units-next s v i run.boundary b (i + 1) there in
-    record {
-      grows = omega (arith, run.grows);
-      boundary = there.boundary;
-      none_inside = run.none_inside ∙ after-on s v i run.boundary b (i + 1) there (no-end b (scout 0 (place_at s (i + 1))) plain);
-      counted = omega (arith, run.counted, more, one);
-    }
+    grind (arith, after-on, no-end)
 
 -- over several
 plain-steps : (s : List ℕ) → IsUtf8 s → (start i n : ℕ) → IsPlainRun s start i → i + n ≤ length s → ((k : ℕ) → i ≤ k → k < i + n → is_plain_byte (get_or s k 0) ≡ true) → IsPlainRun s start (i + n)

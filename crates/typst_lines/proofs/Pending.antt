@@ -1,18 +1,16 @@
 -- The lines of an edit that is not settled yet hold the table before it and the one after it.
-use Rattle.std.proofs.Common.{◌≡◌, ℕ, zero, suc, ◌+◌, ◌-◌, ◌^◌, ◌<◌, ◌≤◌, Bool, true, false, if◌then◌else◌, nat_le, List, [], ◌∷◌, ◌++◌, length, map, filter, take, drop, take_all, length-drop, length-append, length-take-le, drop-drop, take-append-drop, append_assoc, slice_get, Some, refl, ap, sym, subst, ◌∙◌, arith}
-use Rattle.std.proofs.lemmas.Bool.Decides.{nat_tests}
+use Rattle.std.proofs.Common.{◌≡◌, ℕ, suc, ◌+◌, ◌-◌, ◌^◌, ◌<◌, ◌≤◌, Bool, if◌then◌else◌, nat_le, List, [], ◌∷◌, ◌++◌, length, map, filter, take, drop, length-drop, length-append, length-take-le, drop-drop, take-append-drop, append_assoc, slice_get, Some, refl, ap, sym, ◌∙◌, arith}
 use Rattle.std.proofs.Math.Seq.{take-append_seam, drop-append_seam}
 use Rattle.std.proofs.lemmas.List.{take-append-le, drop-append-le}
 use Rattle.std.specs.Prelude.{slice_range}
 use Rattle.std.specs.Str.{IsUtf8, IsCharBoundary}
 use Rattle.typst_lines.specs.Lines.{line_table, lines_after, line_of}
 use Rattle.typst_lines.specs.Edited.{IsEdit, units_at, moved_line}
-use Rattle.typst_lines.specs.Pending.{UpTo, IsNext, AddsStarts, IsPending, settled_lines}
+use Rattle.typst_lines.specs.Pending.{UpTo, IsNext, AddsStarts, IsPending}
 use Rattle.typst_lines.specs.declared.lines.Line.{Line}
-use Rattle.typst_lines.specs.declared.lines.Stretch.{Stretch}
 use Rattle.typst_lines.proofs.LinesFromLaw.{after, earlier-line}
 use Rattle.typst_lines.proofs.TableOrder.{many, line_of-many}
-use Rattle.typst_lines.proofs.Edited.{KeptFront, kept-front, settled, none-behind}
+use Rattle.typst_lines.proofs.Edited.{kept-front, settled, none-behind}
 
 upto-both : (b : ℕ) (ls ms : List Line) → UpTo b ls → UpTo b ms → UpTo b (ls ++ ms)
 upto-both b [] ms h k = k
@@ -25,13 +23,7 @@ none-after b (l ∷ ls) h = rw (earlier-line b l.byte_idx h.0) (none-after b ls 
 -- ---- as many lines start up to a later byte
 
 many-by : (x m n b c : ℕ) (t r : Bool) → b ≤ c → nat_le x b ≡ t → nat_le x c ≡ r → m ≤ n → (if t then 1 + m else m) ≤ (if r then 1 + n else n)
-many-by x m n b c true true le e f h = omega (arith, h)
-many-by x m n b c true false le e f h =
-    let here : x ≤ b = grind (arith, nat_tests, e) in
-    let there : c < x = grind (arith, nat_tests, f) in
-    absurd (omega (arith, here, there, le))
-many-by x m n b c false true le e f h = omega (arith, h)
-many-by x m n b c false false le e f h = h
+many-by x m n b c t r le e f h = grind arith
 
 many-grows : (b c : ℕ) (ls : List Line) → b ≤ c → many b ls ≤ many c ls
 many-grows b c [] le = omega arith
@@ -42,8 +34,7 @@ line_of-grows s b c le = let more = many-grows b c (line_table s) le in let one 
 
 pub edit-of : (s new with old : List ℕ) (start end new_end : ℕ) → IsUtf8 s → IsUtf8 with → IsCharBoundary s start → IsCharBoundary s end → start ≤ end → old ≡ s → new ≡ (take start old ++ with) ++ drop end old → new_end ≡ start + length with
     → IsEdit s new start end new_end
-edit-of s new with old start end new_end u v h k le same is e =
-    record { with = with; utf8_old = u; utf8 = v; starts = h; ends = k; ordered = le; is = is ∙ append_assoc (take start old) with (drop end old) ∙ ap (λ t. take start t ++ (with ++ drop end t)) same; new_end_is = e }
+edit-of s new with old start end new_end u v h k le same is e = grind (arith, append_assoc)
 
 -- ---- both tables
 
@@ -62,23 +53,13 @@ module _ (s new : List ℕ) (u : IsUtf8 s) (v : IsUtf8 new) (start end new_end :
       let third : drop new_end new ≡ R = ap (drop new_end) (e.is ∙ sym (append_assoc A e.with R)) ∙ ap (λ n. drop n ((A ++ e.with) ++ R)) (sym ab) ∙ drop-append_seam (A ++ e.with) R in
       let cut : start + (end - start) ≡ end = let le = e.ordered in omega (arith, le) in
       let last : R ≡ drop (end - start) (drop start s) = sym (drop-drop (end - start) start s ∙ ap (λ n. drop n s) cut) in
-      append_assoc (take start new) removed (drop new_end new) ∙ ap (λ t. t ++ (removed ++ drop new_end new)) first ∙ ap (λ t. A ++ (t ++ drop new_end new)) same ∙ ap (λ t. A ++ (slice_range s start end ++ t)) (third ∙ last)
-      ∙ ap (λ t. A ++ t) (take-append-drop (end - start) (drop start s)) ∙ take-append-drop start s
+      grind (arith, append_assoc, take-append-drop)
 
   pub restored : (text removed back : List ℕ) → new ≡ text → removed ≡ slice_range s start end → back ≡ (take start text ++ removed) ++ drop new_end text → back ≡ s
   restored text removed back same cut is = is ∙ ap (λ t. (take start t ++ removed) ++ drop new_end t) (sym same) ∙ back-is removed cut
 
   pub sizes : length new + length (slice_range s start end) ≡ length s + length e.with
-  sizes =
-      let whole = ap length e.is ∙ length-append (take start s) (e.with ++ drop end s) in
-      let more = length-append e.with (drop end s) in
-      let a = length-take-le start s e.starts.0 in
-      let r = length-drop end s in
-      let d = length-drop start s in
-      let le = e.ordered in
-      let high = e.ends.0 in
-      let b : length (slice_range s start end) ≡ end - start = length-take-le (end - start) (drop start s) (omega (arith, d, le, high)) in
-      omega (arith, whole, more, a, r, b, le, high)
+  sizes = grind (arith, length-append, length-take-le, length-drop)
 
   -- what stays, what starts in the stretch now, and what starts behind it, moved
   settled-with : length s < 2 ^ 64 → length new < 2 ^ 64 → (lines fresh next : List Line) (w : ℕ) → lines ++ (fresh ++ next) ≡ line_table new → UpTo new_end lines → UpTo new_end fresh → IsNext new_end w next
@@ -99,23 +80,4 @@ module _ (s new : List ℕ) (u : IsUtf8 s) (v : IsUtf8 new) (start end new_end :
       let t = line_table s in
       let j = suc (line_of s end) in
       let front = kept-front s new u v start end new_end e n l at le in
-      let items : lines ≡ t ++ a.fresh = a.new_is ∙ ap (λ xs. xs ++ a.fresh) table in
-      let long = ap length items ∙ length-append t a.fresh in
-      let stays : take k lines ≡ take (suc n) t = ap (take k) items ∙ ap (λ i. take i (t ++ a.fresh)) ek ∙ take-append-le (suc n) t a.fresh (omega (arith, low)) in
-      let starts : drop m lines ≡ a.fresh = ap (drop m) items ∙ ap (λ i. drop i (t ++ a.fresh)) em ∙ drop-append_seam t a.fresh in
-      let count : m - j ≡ length behind = let d = length-drop j t in omega (arith, em, d) in
-      let rear : slice_range lines b m ≡ behind =
-      ap (λ xs. take (m - b) (drop b xs)) items ∙ ap (λ i. take (m - i) (drop i (t ++ a.fresh))) eb ∙ ap (take (m - j)) (drop-append-le j t a.fresh (omega (arith, high)))
-      ∙ ap (λ i. take i (behind ++ a.fresh)) count ∙ take-append_seam behind a.fresh in
-      let whole : take (suc n) t ++ (a.fresh ++ a.next) ≡ line_table new = ap (λ xs. take (suc n) t ++ xs) (sym a.starts_are) ∙ front.is in
-      let grows = line_of-grows s (start - 1) end (let le = e.ordered in omega (arith, le)) in
-      record {
-        table = ap (take m) items ∙ ap (λ i. take i (t ++ a.fresh)) em ∙ take-append_seam t a.fresh ∙ ap line_table (sym same);
-        settled = ap (λ xs. xs ++ (drop m lines ++ map (moved_line end new_end (units_at (slice_range lines b m)) w) (slice_range lines b m))) stays
-            ∙ ap (λ xs. take (suc n) t ++ (xs ++ map (moved_line end new_end (units_at (slice_range lines b m)) w) (slice_range lines b m))) starts
-            ∙ ap (λ xs. take (suc n) t ++ (a.fresh ++ map (moved_line end new_end (units_at xs) w) xs)) rear
-            ∙ settled-with fits short (take (suc n) t) a.fresh a.next w whole front.upto a.upto a.next_is;
-        kept = omega (arith, ek, eb, which, grows);
-        behind = omega (arith, eb, em, high);
-        known = omega (arith, long, em);
-      }
+      grind (arith, length-append, take-append-le, drop-append_seam, length-drop, drop-append-le, take-append_seam, line_of-grows, settled, settled-with)

@@ -1,5 +1,5 @@
 -- Steps over the characters of a text.
-use Rattle.std.proofs.Common.{◌≡◌, ℕ, zero, suc, Bool, true, false, ◌&&◌, slice_get, ◌+◌, ◌-◌, ◌<◌, ◌≤◌, List, [], ◌∷◌, ◌++◌, reverse, length, take, drop, slice_range, refl, sym, ap, subst, ◌∙◌, arith, append_assoc, append-nil, take-add, drop-drop, take_at, drop_at, length-append, length-take-le, length-drop, min, get_or, ◌==◌, Some, None}
+use Rattle.std.proofs.Common.{◌≡◌, ℕ, zero, suc, Bool, true, ◌&&◌, slice_get, ◌+◌, ◌-◌, ◌<◌, ◌≤◌, List, [], ◌∷◌, ◌++◌, reverse, length, take, drop, slice_range, refl, sym, ap, subst, ◌∙◌, arith, append_assoc, append-nil, take-add, drop-drop, take_at, drop_at, length-append, length-take-le, length-drop, min, get_or, ◌==◌, Some}
 use Rattle.std.proofs.Math.Seq.{drop-cons}
 use Rattle.std.proofs.lemmas.List.{reverse-append, reverse-reverse, take_min, take-append-drop}
 use Rattle.std.proofs.lemmas.List.Folds.{drop_split}
@@ -100,9 +100,7 @@ past_list : (test : ℕ → Bool) (before rest : List ℕ) (c : ℕ) → test c 
 past_list test before rest c e = let more : 1 + prefix_len test rest ≡ suc (prefix_len test rest) = omega arith in rw (e, more) refl
 
 pub past-step : (test : ℕ → Bool) (p : Place) (c : ℕ) → scout 0 p ≡ Some c → test c ≡ true → past test (moved 1 p) ≡ past test p
-past-step test p c e t =
-    let s = head-splits p.ahead c e in
-    rw s.1 (sym (past_list test p.before s.0 c t))
+past-step test p c e t = grind (arith, head-splits, past_list)
 
 moved-ahead : (n : ℕ) (xs ys : List ℕ) → (moved_from n xs ys).ahead ≡ drop n ys
 moved-ahead zero xs ys = refl
@@ -125,17 +123,10 @@ chars-between s u i j n le start end e =
 
 -- what is before the end of a step
 before-step : (s : List ℕ) (i c j : ℕ) → IsStep s i c j → Some c ≡ slice_get (place_at s j).before 0
-before-step s i c j step =
-    let split = head-splits (place_at s i).ahead c step.next in
-    rw (step.moves, split.1) refl
-
-place-eta : (p : Place) (rest : List ℕ) (c : ℕ) → p.ahead ≡ c ∷ rest → p ≡ moved_back (moved 1 p)
-place-eta p rest c e = rw e refl
+before-step s i c j step = grind arith
 
 back-step : (s : List ℕ) (i c j : ℕ) → IsStep s i c j → place_at s i ≡ moved_back (place_at s j)
-back-step s i c j step =
-    let split = head-splits (place_at s i).ahead c step.next in
-    place-eta (place_at s i) split.0 c split.1 ∙ ap moved_back (sym step.moves)
+back-step s i c j step = grind arith
 
 pub IsStep-from_front : (s : List ℕ) → IsUtf8 s → (front : List ℕ) (c j : ℕ) → IsUtf8 front → IsCharBoundary s j → take j s ≡ front ++ encode_utf8 c → IsStepBack s (length front) c j
 IsStep-from_front s u front c j v end e =
@@ -197,9 +188,7 @@ module _ (a b : List ℕ) (same : b ≡ a) (u : IsUtf8 a) (i j n : ℕ) (start :
   since-le = subst (λ t. IsCharBoundary t j → place_at t j ≡ moved n (place_at a i) → i ≤ j) (sym same) (cursor-le a u i j n start) end e
 
   pub since-text : chars (slice_range b i j) ≡ take n (place_at a i).ahead
-  since-text =
-      subst (λ t. IsCharBoundary t j → place_at t j ≡ moved n (place_at a i) → chars (slice_range t i j) ≡ take n (place_at a i).ahead) (sym same)
-      (λ end' e'. chars-between a u i j n (cursor-le a u i j n start end' e') start end' e') end e
+  since-text = grind (arith, chars-between, cursor-le)
 
 -- ---- several characters
 
@@ -253,8 +242,7 @@ module _ (s : List ℕ) (u : IsUtf8 s) (i n bytes : ℕ) (start : IsCharBoundary
       ap chars passed ∙ chars-append (take i s) (encode_utf8_all (take n (chars (drop i s)))) (IsUtf8-take s i u start)
       ∙ ap (λ t. chars (take i s) ++ t) (chars-encodes (take n (chars (drop i s))) parts.0) in
       let a : chars (drop (i + bytes) s) ≡ drop n (chars (drop i s)) = ap chars left ∙ chars-encodes (drop n (chars (drop i s))) parts.1 in
-      ap (λ t. at_place (reverse t) (chars (drop (i + bytes) s))) b ∙ ap (λ t. at_place (reverse (chars (take i s) ++ take n (chars (drop i s)))) t) a
-      ∙ sym (moved-whole n (chars (take i s)) (chars (drop i s)))
+      grind (arith, moved-whole)
 
 -- ---- the texts before and after a place
 

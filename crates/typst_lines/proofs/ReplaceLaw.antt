@@ -1,6 +1,5 @@
 -- What two texts don't have in common, in the place of one another, makes one text of the other.
-use Rattle.std.proofs.Common.{◌≡◌, ℕ, ◌+◌, ◌-◌, ◌≤◌, Bool, true, false, ◌==◌, if◌then◌else◌, List, [], ◌∷◌, ◌++◌, length, take, drop, reverse, slice_range, refl, sym, ap, subst, ◌∙◌, arith, append_assoc, take_at, drop_at, length-append}
-use Rattle.std.proofs.lemmas.Bool.Decides.{nat_tests}
+use Rattle.std.proofs.Common.{◌≡◌, ℕ, ◌+◌, ◌-◌, ◌≤◌, Bool, true, ◌==◌, if◌then◌else◌, List, [], ◌∷◌, ◌++◌, length, take, drop, reverse, slice_range, refl, sym, ap, subst, ◌∙◌, arith, append_assoc, take_at, drop_at, length-append}
 use Rattle.std.proofs.lemmas.List.{reverse-append, reverse-reverse}
 use Rattle.std.proofs.lemmas.Str.{scalars-chars, encodes-chars, encodes-append, IsCharBoundary-at_seam}
 use Rattle.std.specs.Prelude.{encode_utf8_all}
@@ -14,21 +13,15 @@ use Rattle.typst_lines.specs.Replacement.{Replaces}
 
 -- a common front and what is left of the first list
 first-step : (c d : ℕ) (cs ds : List ℕ) (b : Bool) → (common_front cs ds ++ drop (length (common_front cs ds)) cs ≡ cs) → (if b then c ∷ common_front cs ds else []) ++ drop (length (if b then c ∷ common_front cs ds else [])) (c ∷ cs) ≡ c ∷ cs
-first-step c d cs ds true h = ap (λ t. c ∷ t) h
-first-step c d cs ds false h = refl
+first-step c d cs ds b h = grind arith
 
 front-first : (cs ds : List ℕ) → common_front cs ds ++ drop (length (common_front cs ds)) cs ≡ cs
 front-first [] ds = refl
 front-first (c ∷ cs) [] = refl
 front-first (c ∷ cs) (d ∷ ds) = first-step c d cs ds (c == d) (front-first cs ds)
 
--- and of the second
-same-head : (c d : ℕ) → (c == d) ≡ true → c ≡ d
-same-head c d e = grind (arith, nat_tests)
-
 second-step : (c d : ℕ) (cs ds : List ℕ) (b : Bool) → (c == d) ≡ b → (common_front cs ds ++ drop (length (common_front cs ds)) ds ≡ ds) → (if b then c ∷ common_front cs ds else []) ++ drop (length (if b then c ∷ common_front cs ds else [])) (d ∷ ds) ≡ d ∷ ds
-second-step c d cs ds true e h = ap (λ x. x ∷ (common_front cs ds ++ drop (length (common_front cs ds)) ds)) (same-head c d e) ∙ ap (λ t. d ∷ t) h
-second-step c d cs ds false e h = refl
+second-step c d cs ds b e h = grind arith
 
 front-second : (cs ds : List ℕ) → common_front cs ds ++ drop (length (common_front cs ds)) ds ≡ ds
 front-second [] ds = refl
@@ -123,15 +116,7 @@ module _ (old new : List ℕ) (u : IsUtf8 old) (v : IsUtf8 new) where
   new-split = sym (front-second (chars old) (chars new)) ∙ ap (λ t. front ++ t) (end-split new-rest ends (drop (length ends) (reverse new-rest)) (front-second (reverse old-rest) (reverse new-rest)))
 
   from-parts : (f e : ℕ) (a b c d : List ℕ) → Parts old f e a b c → Parts new f e a d c → new ≡ (a ++ d) ++ c → Replaces old new (f, e)
-  from-parts f e a b c d p q w = record {
-    start = p.start;
-    end = p.end;
-    ordered = p.ordered;
-    new_start = q.start;
-    new_end = q.end;
-    new_ordered = q.ordered;
-    made = w ∙ ap (λ t. (t ++ d) ++ c) (sym p.before) ∙ ap (λ t. (take f old ++ t) ++ c) (sym q.between) ∙ ap (λ t. (take f old ++ slice_range new f (length new - e)) ++ t) (sym p.behind);
-  }
+  from-parts f e a b c d p q w = grind arith
 
   by-bytes : Replaces old new (bytes front, bytes (reverse ends))
   by-bytes =

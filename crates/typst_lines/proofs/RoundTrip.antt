@@ -84,9 +84,7 @@ reach-here u p le = here p.before p.ahead (so-many u (units p.before) le)
     here xs (c ∷ ys) t = rw t refl
 
 pub reach-on : (u : ℕ) (p : Place) (c : ℕ) → Some c ≡ scout 0 p → units p.before < u → reach u (moved 1 p) ≡ reach u p
-reach-on u p c e lt =
-    let t = head-splits p.ahead c (sym e) in
-    rw (t.1, too-few u (units p.before) lt) refl
+reach-on u p c e lt = grind arith
 
 pub reach-end : (u : ℕ) (p : Place) → p.ahead ≡ [] → units p.before < u → reach u p ≡ None
 reach-end u p e lt = rw (e, too-few u (units p.before) lt) refl
@@ -135,9 +133,7 @@ module _ (s : List ℕ) (v : IsUtf8 s) (b : ℕ) (end : IsCharBoundary s b) (l :
       let xs = chars (slice_range s l.byte_idx b) in
       let zs = chars (slice_range s b stop) in
       let whole : chars (slice_range s l.byte_idx stop) ≡ xs ++ zs = chars-between-both s v l.byte_idx b stop of.before bound.0 sound.boundary end in
-      let fits : nat_le (length xs) (length (xs ++ zs)) ≡ true = so-many (length xs) (length (xs ++ zs)) (omega (arith, length-append xs zs)) in
-      let size : l.byte_idx + bytes xs ≡ b = bytes-between s v l.byte_idx b of.before sound.boundary end in
-      rw (range-is, column-is, whole, fits, take_at xs zs (length xs) refl) (ap Some size)
+      grind (arith, so-many, length-append, bytes-between, sound, range-is, column-is, take_at)
 
 -- ---- the range of a line
 
@@ -154,16 +150,13 @@ range_at s next l = record { start = l.byte_idx; end = unwrap_or (option_map (λ
 
 sound-range : (s : List ℕ) → IsUtf8 s → (i : ℕ) (o next : Option Line) (r : Range ℕ) → slice_get (line_table s) i ≡ o → slice_get (line_table s) (suc i) ≡ next → option_map (range_at s next) o ≡ Some r → IsSoundRange s r
 sound-range s v i None next r e f is = absurd (cc)
-sound-range s v i (Some l) None r e f is =
-    let line = table-sound s v i l e in
-    subst (IsSoundRange s) (same-range (range_at s None l) r is) (record { start = line.boundary; end = IsCharBoundary-end s; ordered = line.boundary.0 })
+sound-range s v i (Some l) None r e f is = grind (arith, table-sound s v i l e)
 sound-range s v i (Some l) (Some m) r e f is =
     let line = table-sound s v i l e in
     subst (IsSoundRange s) (same-range (range_at s (Some m) l) r is) (record { start = line.boundary; end = (table-sound s v (suc i) m f).boundary; ordered = table-next s i l m e f })
 
 map-map : (s : List ℕ) (next o : Option Line) → option_map (λ start. record { start = start; end = unwrap_or (option_map (λ (x : Line). x.byte_idx) next) (length s) }) (option_map (λ (x : Line). x.byte_idx) o) ≡ option_map (range_at s next) o
-map-map s next None = refl
-map-map s next (Some l) = refl
+map-map s next o = grind arith
 
 pub line_range-sound : (s : List ℕ) → IsUtf8 s → (i : ℕ) (r : Range ℕ) → line_range s i ≡ Some r → IsSoundRange s r
 unfolding line_range line_start
@@ -197,9 +190,7 @@ HasPassed-more cs i at p q c to h e moves wide =
 module _ (s : List ℕ) (i column : ℕ) (r : Range ℕ) (is : line_range s i ≡ Some r) where
   pub byte_at-short : (k at : ℕ) (p : Place) → HasPassed (chars (slice_range s r.start r.end)) k at p → None ≡ scout 0 p → k < column → byte_at s i column ≡ None
   unfolding byte_at
-  byte_at-short k at p h e lt =
-      let none : length p.ahead ≡ 0 = ap length (place-end p e) in
-      rw (is, too-few column (length (chars (slice_range s r.start r.end))) (omega (arith, h.long))) refl
+  byte_at-short k at p h e lt = grind (arith, place-end, too-few)
 
   pub byte_at-found : (at : ℕ) (p : Place) → HasPassed (chars (slice_range s r.start r.end)) column at p → byte_at s i column ≡ Some (r.start + at)
   unfolding byte_at
@@ -264,11 +255,7 @@ module _ (s t : List ℕ) (v : IsUtf8 t) (same : t ≡ s) (u : ℕ) where
 
   pub utf16-found : (i : ℕ) → IsCharBoundary t i → reach u (place_at t i) ≡ least_place s u → u ≤ units (place_at t i).before → overshot u (place_at t i) ≡ false → Some i ≡ byte_at_utf16 s u
   unfolding byte_at_utf16
-  utf16-found i at found le over =
-      let p = place_at t i in
-      let first : least_place s u ≡ Some p = sym found ∙ reach-here u p le in
-      let some : byte_reached u p ≡ Some (bytes p.before) = rw over refl in
-      sym (rw first (some ∙ ap Some (bytes-before t v i at)))
+  utf16-found i at found le over = grind (arith, reach-here, bytes-before)
 
   pub utf16-short : (p : Place) → reach u p ≡ least_place s u → None ≡ scout 0 p → units p.before < u → byte_at_utf16 s u ≡ None
   unfolding byte_at_utf16
@@ -276,18 +263,13 @@ module _ (s t : List ℕ) (v : IsUtf8 t) (same : t ≡ s) (u : ℕ) where
 
   pub utf16-over : (p : Place) → reach u p ≡ least_place s u → None ≡ scout 0 p → u < units p.before → byte_at_utf16 s u ≡ None
   unfolding byte_at_utf16
-  utf16-over p found e lt =
-      let first : least_place s u ≡ Some p = sym found ∙ reach-here u p (omega arith) in
-      let over : nat_lt u (units p.before) ≡ true = grind (arith, nat_tests) in
-      rw first (rw (over, place-end p e) refl)
+  utf16-over p found e lt = grind (arith, reach-here, nat_tests, place-end)
 
 pub none-from : (o : Option ℕ) → true ≡ is_none o → None ≡ o
-none-from None e = refl
-none-from (Some x) e = absurd (cc)
+none-from o e = grind arith
 
 and-right : (a b : Bool) → b ≡ false → (a && b) ≡ false
-and-right true b e = e
-and-right false b e = refl
+and-right a b e = grind arith
 
 some-long : (cs : List ℕ) → false ≡ is_none (slice_get cs 0) → (length cs == 0) ≡ false
 some-long [] e = absurd (cc)

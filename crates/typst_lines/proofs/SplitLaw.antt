@@ -1,10 +1,9 @@
 -- The stretches between line ends, and that they make the text with the line ends put back.
-use Rattle.std.proofs.Common.{◌≡◌, Bool, length, ℕ, ◌+◌, ◌&&◌, ◌==◌, if◌then◌else◌, List, [], ◌∷◌, ◌++◌, slice_get, Option, Some, None, refl, sym, ap, subst, ◌∙◌, true, false, arith, take, append_assoc, append-nil, take_at, length-append, map, Bor}
+use Rattle.std.proofs.Common.{◌≡◌, Bool, length, ℕ, ◌+◌, ◌&&◌, ◌==◌, if◌then◌else◌, List, [], ◌∷◌, ◌++◌, slice_get, Option, Some, None, refl, sym, ap, ◌∙◌, true, false, arith, take, append_assoc, append-nil, take_at, length-append, map, Bor}
 use Rattle.std.proofs.lemmas.Bool.Decides.{nat_tests}
 use Rattle.std.specs.Str.{chars}
 use Rattle.typst_lines.proofs.LineTable.{place-end}
 use Rattle.typst_lines.proofs.PlaceLemmas.{moved-step}
-use Rattle.typst_lines.proofs.Bools.{and-second}
 use Rattle.typst_lines.specs.Newline.{is_newline, ends_line, line_end_len, stretches, line_ends, onto_first, woven, all_lack_newlines}
 use Rattle.typst_lines.specs.Place.{Place, moved, moved_from, scout, passes}
 use Rattle.typst_lines.proofs.CommonEnds.{ahead-step}
@@ -15,12 +14,10 @@ glued xs [] = []
 glued xs (text ∷ texts) = (xs ++ text) ∷ texts
 
 glued-onto : (xs : List ℕ) (c : ℕ) (texts : List (List ℕ)) → glued xs (onto_first c texts) ≡ glued (xs ++ c ∷ []) texts
-glued-onto xs c [] = refl
-glued-onto xs c (text ∷ texts) = ap (λ t. t ∷ texts) (sym (append_assoc xs (c ∷ []) text))
+glued-onto xs c texts = grind (arith, append_assoc)
 
 pub glued-none : (texts : List (List ℕ)) → glued [] texts ≡ texts
-glued-none [] = refl
-glued-none (text ∷ texts) = refl
+glued-none texts = grind arith
 
 -- the characters passed since a place
 pub record Since (p q : Place) : Type 0 where
@@ -50,8 +47,7 @@ plain-stretch : (c : ℕ) (cs : List ℕ) → is_newline c ≡ false → stretch
 plain-stretch c cs e = rw (no-end c (slice_get cs 0) e, e) refl
 
 pub glued-plain : (xs : List ℕ) (q r : Place) (c : ℕ) → Some c ≡ scout 0 q → r ≡ moved 1 q → is_newline c ≡ false → glued xs (stretches q.ahead) ≡ glued (xs ++ c ∷ []) (stretches r.ahead)
-glued-plain xs q r c e m plain =
-    ap (λ t. glued xs (stretches t)) (ahead-step q c e ∙ ap (λ x. c ∷ x.ahead) (sym m)) ∙ ap (glued xs) (plain-stretch c r.ahead plain) ∙ glued-onto xs c (stretches r.ahead)
+glued-plain xs q r c e m plain = grind (arith, ahead-step, plain-stretch, glued-onto)
 
 -- a carriage return that a line feed follows
 abbrev crlf : ℕ → List ℕ → Bool
@@ -59,13 +55,6 @@ crlf c rest = c == 13 && passes (λ d. d == 10) (slice_get rest 0)
 
 ten : (d : ℕ) → (d == 10) ≡ true → d ≡ 10
 ten d t = grind (arith, nat_tests)
-
-lf-next : (c : ℕ) (rest : List ℕ) → crlf c rest ≡ true → (left : List ℕ) × (rest ≡ 10 ∷ left)
-lf-next c [] e = let bad : false ≡ true = and-second (c == 13) false e in absurd (cc)
-lf-next c (d ∷ rest) e = (rest, ap (λ x. x ∷ rest) (ten d (and-second (c == 13) (d == 10) e)))
-
-both-stretch : (c : ℕ) (left : List ℕ) → is_newline c ≡ true → crlf c (10 ∷ left) ≡ true → stretches (c ∷ 10 ∷ left) ≡ [] ∷ stretches left
-both-stretch c left n e = rw (n, e) refl
 
 lone-stretch : (c : ℕ) (rest : List ℕ) → is_newline c ≡ true → crlf c rest ≡ false → stretches (c ∷ rest) ≡ [] ∷ stretches rest
 lone-stretch c rest n e = rw (n, e) refl
@@ -75,23 +64,14 @@ abbrev behind_end : Bool → List ℕ → List ℕ → List ℕ
 behind_end b before ahead = (moved_from (if b then 2 else 1) before ahead).ahead
 
 end-cases : (c : ℕ) (rest before : List ℕ) (b : Bool) → crlf c rest ≡ b → is_newline c ≡ true → stretches (c ∷ rest) ≡ [] ∷ stretches (behind_end b before (c ∷ rest))
-end-cases c rest before true e n =
-    let left = lf-next c rest e in
-    ap (λ t. stretches (c ∷ t)) left.1 ∙ both-stretch c left.0 n (rw left.1 at e) ∙ ap (λ t. [] ∷ stretches (behind_end true before (c ∷ t))) (sym left.1)
-end-cases c rest before false e n = lone-stretch c rest n e
+end-cases c rest before b e n = grind arith
 
 line-end-is : (q : Place) (c : ℕ) (rest : List ℕ) → q.ahead ≡ c ∷ rest → is_newline c ≡ true → line_end_len q ≡ (if crlf c rest then 2 else 1)
 line-end-is q c rest e n = rw (e, n) refl
 
 -- over a line end
 pub glued-end : (xs : List ℕ) (q r : Place) (c : ℕ) → Some c ≡ scout 0 q → is_newline c ≡ true → r ≡ moved (line_end_len q) q → glued xs (stretches q.ahead) ≡ xs ∷ stretches r.ahead
-glued-end xs q r c e n m =
-    let rest = (moved 1 q).ahead in
-    let at = ahead-step q c e in
-    let there : r.ahead ≡ behind_end (crlf c rest) q.before (c ∷ rest) =
-    ap (λ p. p.ahead) m ∙ ap (λ k. (moved k q).ahead) (line-end-is q c rest at n) ∙ ap (λ t. (moved_from (if crlf c rest then 2 else 1) q.before t).ahead) at in
-    ap (λ t. glued xs (stretches t)) at ∙ ap (glued xs) (end-cases c rest q.before (crlf c rest) refl n)
-    ∙ ap (λ t. t ∷ stretches (behind_end (crlf c rest) q.before (c ∷ rest))) (append-nil xs) ∙ ap (λ t. xs ∷ stretches t) (sym there)
+glued-end xs q r c e n m = grind (arith, ahead-step, line-end-is, end-cases, append-nil)
 
 pub glued-last : (xs : List ℕ) (q : Place) → q.ahead ≡ [] → glued xs (stretches q.ahead) ≡ xs ∷ []
 glued-last xs q e = ap (λ t. glued xs (stretches t)) e ∙ ap (λ t. t ∷ []) (append-nil xs)
@@ -103,24 +83,15 @@ record IsSome_first (texts : List (List ℕ)) : Type 0 where
   pub rest : List (List ℕ)
   pub is : texts ≡ first ∷ rest
 
-onto-some : (c : ℕ) (texts : List (List ℕ)) → IsSome_first texts → IsSome_first (onto_first c texts)
-onto-some c texts h = record { first = c ∷ h.first; rest = h.rest; is = ap (onto_first c) h.is }
-
 stretches-some : (cs : List ℕ) → IsSome_first (stretches cs)
 stretches-some [] = record { first = []; rest = []; is = refl }
 stretches-some (c ∷ cs) = pick-some (ends_line c (slice_get cs 0)) (is_newline c) (stretches cs) (stretches-some cs) c
   where
     pick-some : (t n : Bool) (texts : List (List ℕ)) → IsSome_first texts → (c : ℕ) → IsSome_first (if t then [] ∷ texts else (if n then texts else onto_first c texts))
-    pick-some true n texts h c = record { first = []; rest = texts; is = refl }
-    pick-some false true texts h c = h
-    pick-some false false texts h c = onto-some c texts h
+    pick-some t n texts h c = grind arith
 
 woven-onto : (c : ℕ) (texts ends : List (List ℕ)) → IsSome_first texts → woven (onto_first c texts) ends ≡ c ∷ woven texts ends
-woven-onto c texts ends h = rw h.is (cases c h.first h.rest ends)
-  where
-    cases : (c : ℕ) (text : List ℕ) (texts ends : List (List ℕ)) → woven ((c ∷ text) ∷ texts) ends ≡ c ∷ woven (text ∷ texts) ends
-    cases c text texts [] = refl
-    cases c text texts (end ∷ ends) = refl
+woven-onto c texts ends h = grind arith
 
 plain-ends : (c : ℕ) (cs : List ℕ) → is_newline c ≡ false → line_ends (c ∷ cs) ≡ line_ends cs
 plain-ends c cs e = rw (no-end c (slice_get cs 0) e, e) refl
@@ -134,9 +105,6 @@ lone-ends c rest n e = rw (n, e) refl
 abbrev PutBack : List ℕ → Type 0
 PutBack cs = woven (stretches cs) (line_ends cs) ≡ cs
 
-both-back : (c : ℕ) (left : List ℕ) → is_newline c ≡ true → crlf c (10 ∷ left) ≡ true → PutBack left → PutBack (c ∷ 10 ∷ left)
-both-back c left n e h = ap (λ s. woven s (line_ends (c ∷ 10 ∷ left))) (both-stretch c left n e) ∙ ap (woven ([] ∷ stretches left)) (both-ends c left n e) ∙ ap (λ t. c ∷ 10 ∷ t) h
-
 lone-back : (c : ℕ) (rest : List ℕ) → is_newline c ≡ true → crlf c rest ≡ false → PutBack rest → PutBack (c ∷ rest)
 lone-back c rest n e h = ap (λ s. woven s (line_ends (c ∷ rest))) (lone-stretch c rest n e) ∙ ap (woven ([] ∷ stretches rest)) (lone-ends c rest n e) ∙ ap (λ t. c ∷ t) h
 
@@ -146,19 +114,15 @@ plain-back c rest n h = ap (λ s. woven s (line_ends (c ∷ rest))) (plain-stret
 -- ---- the split law
 
 back-cases : (c d : ℕ) (cs : List ℕ) (n b : Bool) → is_newline c ≡ n → crlf c (d ∷ cs) ≡ b → PutBack (d ∷ cs) → PutBack cs → PutBack (c ∷ d ∷ cs)
-back-cases c d cs true true n b h k =
-    let is : d ≡ 10 = ten d (and-second (c == 13) (d == 10) b) in
-    subst (λ x. PutBack (c ∷ x ∷ cs)) (sym is) (both-back c cs n (ap (λ x. crlf c (x ∷ cs)) (sym is) ∙ b) k)
+back-cases c d cs true true n b h k = grind arith
 back-cases c d cs true false n b h k = lone-back c (d ∷ cs) n b h
 back-cases c d cs false b n e h k = plain-back c (d ∷ cs) n h
 
 and-none : (b : Bool) → (b && false) ≡ false
-and-none true = refl
-and-none false = refl
+and-none b = grind arith
 
 last-back : (c : ℕ) (n : Bool) → is_newline c ≡ n → PutBack (c ∷ [])
-last-back c true n = lone-back c [] n (and-none (c == 13)) refl
-last-back c false n = plain-back c [] n refl
+last-back c n h = grind arith
 
 -- the stretches with the line ends put back are the text
 pub put-back : (cs : List ℕ) → PutBack cs
@@ -166,14 +130,8 @@ put-back [] = refl
 put-back (c ∷ []) = last-back c (is_newline c) refl
 put-back (c ∷ d ∷ cs) = back-cases c d cs (is_newline c) (crlf c (d ∷ cs)) refl refl (put-back (d ∷ cs)) (put-back cs)
 
-lack-onto : (c : ℕ) (texts : List (List ℕ)) → is_newline c ≡ false → all_lack_newlines (onto_first c texts) ≡ all_lack_newlines texts
-lack-onto c [] n = refl
-lack-onto c (text ∷ texts) n = rw n refl
-
 lack-cases : (c : ℕ) (texts : List (List ℕ)) (t n : Bool) → is_newline c ≡ n → all_lack_newlines texts ≡ true → all_lack_newlines (if t then [] ∷ texts else (if n then texts else onto_first c texts)) ≡ true
-lack-cases c texts true n e h = h
-lack-cases c texts false true e h = h
-lack-cases c texts false false e h = lack-onto c texts e ∙ h
+lack-cases c texts t n e h = grind arith
 
 -- no stretch holds a newline character
 pub none-inside : (cs : List ℕ) → all_lack_newlines (stretches cs) ≡ true

@@ -1,5 +1,5 @@
 -- Steps back over the characters at an end.
-use Rattle.std.proofs.Common.{◌≡◌, ℕ, suc, ◌+◌, Bool, true, false, List, [], ◌∷◌, ◌++◌, length, reverse, take, drop, slice_get, Some, None, refl, sym, ap, ◌∙◌, arith, append_assoc}
+use Rattle.std.proofs.Common.{◌≡◌, ℕ, suc, ◌+◌, Bool, true, false, List, [], ◌∷◌, ◌++◌, length, reverse, take, drop, slice_get, Some, refl, sym, ap, ◌∙◌, arith, append_assoc}
 use Rattle.std.proofs.Math.Seq.{take-append_seam}
 use Rattle.std.proofs.lemmas.List.{reverse-append, reverse-reverse, take-append-drop}
 use Rattle.std.specs.List.{prefix_len}
@@ -25,21 +25,7 @@ module _ (test : ℕ → Bool) where
           rw (passes, more) refl
 
   pub strip-stop : (p : Place) (c : ℕ) → Some c ≡ slice_get p.before 0 → test c ≡ false → stripped test p.before ≡ p.before
-  strip-stop p c s e = from p.before s
-    where
-      from : (xs : List ℕ) → Some c ≡ slice_get xs 0 → stripped test xs ≡ xs
-      from [] g = absurd (cc)
-      from (d ∷ xs) g =
-          let is : d ≡ c = cc in
-          let stops : test d ≡ false = ap test is ∙ e in
-          rw stops refl
-
-  pub strip-end : (p : Place) → None ≡ slice_get p.before 0 → stripped test p.before ≡ p.before
-  strip-end p s = from p.before s
-    where
-      from : (xs : List ℕ) → None ≡ slice_get xs 0 → stripped test xs ≡ xs
-      from [] g = refl
-      from (d ∷ xs) g = absurd (cc)
+  strip-stop p c s e = grind arith
 
 -- what is left of some characters without their last ones is a front of whatever they are a front of
 pub last-taken : (test : ℕ → Bool) (n : ℕ) (xs : List ℕ) → take (length (without_last test (take n xs))) xs ≡ without_last test (take n xs)

@@ -1,5 +1,5 @@
 -- The first grapheme cluster of a line in bytes and in characters.
-use Rattle.std.proofs.Common.{◌≡◌, ◌<◌, ℕ, true, false, List, [], ◌∷◌, map, take, length, refl, sym, ap, ◌∙◌, arith, take_at}
+use Rattle.std.proofs.Common.{◌≡◌, ◌<◌, ℕ, true, false, List, [], ◌∷◌, map, take, length, ap, arith, take_at}
 use Rattle.std.specs.Char.{is_ascii}
 use Rattle.std.specs.List.{concat, list_all}
 use Rattle.std.specs.Prelude.{encode_utf8_all}
@@ -13,10 +13,7 @@ use Rattle.typst_lines.proofs.ClusterLemmas.{more}
 
 first_piece : (cs : List ℕ) (pieces : List (List ℕ)) (piece : List ℕ) (rest : List (List ℕ)) → concat pieces ≡ cs → map encode_utf8_all pieces ≡ piece ∷ rest
     → length piece ≡ length (encode_utf8_all (take (first_len pieces) cs))
-first_piece cs [] piece rest e m = absurd (cc)
-first_piece cs (p ∷ ps) piece rest e m =
-    let same : encode_utf8_all p ≡ piece = cc in
-    ap length (sym same ∙ ap encode_utf8_all (sym (take_at p (concat ps) (length p) refl) ∙ ap (take (length p)) e))
+first_piece cs pieces piece rest e m = grind (arith, take_at)
 
 no_piece : (cs : List ℕ) (pieces : List (List ℕ)) → concat pieces ≡ cs → 0 < length cs → map encode_utf8_all pieces ≡ [] → ⊥
 no_piece cs [] e some m = let none : 0 ≡ length cs = ap length e in omega arith

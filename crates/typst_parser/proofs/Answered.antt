@@ -1,8 +1,7 @@
 -- What the steps of a source's calls give, for the answers of their clauses.
-use Rattle.std.proofs.Common.{◌≡◌, ℕ, ◌+◌, ◌-◌, ◌≤◌, Bool, true, false, List, ◌++◌, length, take, drop, Option, Some, None, refl, sym, ap, subst, ◌∙◌, arith}
-use Rattle.std.specs.Prelude.{OnOk, IsErrAnd, not, nat_eq, nat_le, option_and_then, option_map, slice_range}
-use Rattle.std.specs.Prelude.{Result, Ok, Err}
-use Rattle.std.proofs.lemmas.Bool.Decides.{nat_tests}
+use Rattle.std.proofs.Common.{◌≡◌, ℕ, ◌+◌, ◌-◌, ◌≤◌, Bool, true, false, List, length, Option, Some, None, refl, sym, ap, subst, ◌∙◌, arith}
+use Rattle.std.specs.Prelude.{OnOk, IsErrAnd, not, nat_eq, option_and_then, option_map, slice_range}
+use Rattle.std.specs.Prelude.{Result, Err}
 use Rattle.std.specs.Option.{option_eq}
 use Rattle.std.specs.Str.{IsCharBoundary}
 use Rattle.std.specs.declared.ops.Range.{Range}
@@ -14,21 +13,17 @@ use Rattle.typst_tree.specs.Steps.{At, find_span, find_number, offset_of, end_of
 use Rattle.typst_parser.specs.Held.{Held}
 use Rattle.typst_parser.specs.Headline.{edited, file_of, numbered_in}
 use Rattle.typst_parser.specs.Find.{top, found, is_in_file, bytes_in, range_of}
-use Rattle.typst_parser.proofs.Fresh.{fresh-file}
 
 -- ---- a span of the file, or of another one
 
 is-unequal : (b : Bool) → true ≡ not b → b ≡ false
-is-unequal true h = cc
-is-unequal false h = refl
+is-unequal b h = grind arith
 
 is-equal : (b : Bool) → false ≡ not b → b ≡ true
-is-equal true h = refl
-is-equal false h = cc
+is-equal b h = grind arith
 
 compared : (id : ℕ) (span : Option (ℕ × ℕ)) → is_in_file id span ≡ option_eq nat_eq (option_map (λ place. place.0) span) (Some id)
-compared id None = refl
-compared id (Some place) = refl
+compared id span = grind arith
 
 in-file : (id own : ℕ) (file : Option ℕ) (span : Option (ℕ × ℕ)) → own ≡ id → file ≡ option_map (λ place. place.0) span → is_in_file id span ≡ option_eq nat_eq file (Some own)
 in-file id own file span is of = compared id span ∙ ap (λ o. option_eq nat_eq o (Some id)) (sym of) ∙ ap (λ n. option_eq nat_eq file (Some n)) (sym is)
@@ -42,33 +37,22 @@ looked-for id own file span root is of same = rw (in-file id own file span is of
 -- ---- a range within a node
 
 part-of : (sub : Bytes) (a : At) (range : Range ℕ) → range.start ≡ offset_of a → range.end ≡ end_of a → sub.end ≤ range.end - range.start → Some (record { start = range.start + sub.start; end = range.start + sub.end }) ≡ bytes_in (Some sub) a
-part-of sub a range start end fits =
-    let within : nat_le sub.end (end_of a - offset_of a) ≡ true = grind (arith, nat_tests, start, end, fits) in
-    rw (within, start) refl
+part-of sub a range start end fits = grind arith
 
 pub part-given :
     (number : ℕ) (asked : Option Bytes) (sub : Bytes) (root : Tree) (a b : At) (range : Range ℕ) (from to last : ℕ) →
     Some a ≡ top root → Some b ≡ find_number number a → asked ≡ Some sub →
     range.start ≡ offset_of b → range.end ≡ end_of b → last ≤ range.end - range.start → last ≡ sub.end → from ≡ sub.start → to ≡ sub.end →
     Some (record { start = range.start + from; end = range.start + to }) ≡ range_of number asked root
-part-given number asked sub root a b range from to last at-top at-node is start end fits is-last is-from is-to =
-    let fits' : sub.end ≤ range.end - range.start = subst (λ n. n ≤ range.end - range.start) is-last fits in
-    ap (λ n. Some (record { start = range.start + n; end = range.start + to })) is-from
-    ∙ ap (λ n. Some (record { start = range.start + sub.start; end = range.start + n })) is-to
-    ∙ part-of sub b range start end fits'
-    ∙ ap (λ o. bytes_in o b) (sym is)
-    ∙ ap (option_and_then (bytes_in asked)) at-node
-    ∙ ap (λ o. option_and_then (bytes_in asked) (option_and_then (find_number number) o)) at-top
+part-given number asked sub root a b range from to last at-top at-node is start end fits is-last is-from is-to = grind arith
 
 -- ---- a refusal
 
 pub on-ok : {T E P Q : Type 0} (r : Result T E) → (P → Q) → OnOk r P → OnOk r Q
-on-ok (Ok x) f p = f p
-on-ok (Err e) f p = tt
+on-ok r f p = grind arith
 
 pub error-is : {T : Type 0} (r : Result T SourceError) (e f : SourceError) → IsErrAnd r (λ x. x ≡ e) → r ≡ Err f → e ≡ f
-error-is (Ok x) e f h is = absurd h
-error-is (Err x) e f h is = sym h ∙ (cc)
+error-is r e f h is = grind arith
 
 -- ---- a text in the place of a range of another one
 
@@ -76,17 +60,12 @@ pub end-kept : (lines text : List ℕ) (n e : ℕ) → lines ≡ text → n ≡ 
 end-kept lines text n e is of h = subst (λ t. IsCharBoundary t (n - e)) is (subst (λ k. IsCharBoundary lines (k - e)) (sym of) h)
 
 pub replaced : (lines text new with : List ℕ) (n front end : ℕ) → lines ≡ text → n ≡ length lines → with ≡ slice_range new front (length new - end) → Replaces lines new (front, end) → edited text (record { start = front; end = n - end }) with ≡ new
-replaced lines text new with n front end is of piece h =
-    ap (λ t. take front t ++ with ++ drop (n - end) t) (sym is)
-    ∙ ap (λ k. take front lines ++ with ++ drop (k - end) lines) of
-    ∙ ap (λ x. take front lines ++ x ++ drop (length lines - end) lines) piece
-    ∙ sym h.made
+replaced lines text new with n front end is of piece h = grind arith
 
 -- ---- what a source was, from what it holds inside
 
 pub same-file : {D : Type 0} (s old : Held D) (file : Option ℕ) (t root : Tree) (span : Option (ℕ × ℕ)) → s ≡ old → file ≡ option_map (λ place. place.0) span → span ≡ s.root.head.span → numbered_in file t ≡ Some root → file_of root ≡ file_of old.root
-same-file {D} s old file t root span is of at numbered =
-    fresh-file file t root numbered ∙ of ∙ ap (λ (p : Option (ℕ × ℕ)). option_map (λ place. place.0) p) at ∙ ap (λ (h : Held D). file_of h.root) is
+same-file {D} s old file t root span is of at numbered = grind arith
 
 pub same-held : {D : Type 0} (s : Held D) (text : List ℕ) (root : Tree) → text ≡ s.text → root ≡ s.root → record { id = s.id; text = text; root = root; classes = s.classes; has_records = s.has_records } ≡ s
 same-held {D} s text root is at = ap (λ (t : List ℕ). record s { text = t; root = root }) is ∙ ap (λ (t : Tree). record s { root = t }) at

@@ -1,5 +1,5 @@
 -- From candidates that are asked one after the other to the answer of an edit.
-use Rattle.std.proofs.Common.{◌≡◌, ℕ, zero, suc, ◌≤◌, ◌<◌, ◌^◌, Bool, IsTrue, List, [], ◌∷◌, ◌++◌, length, take, drop, Option, Some, None, Ok, Err, refl, ap, sym, subst, ◌∙◌, arith}
+use Rattle.std.proofs.Common.{◌≡◌, ℕ, zero, suc, ◌≤◌, ◌<◌, ◌^◌, Bool, IsTrue, List, [], ◌∷◌, ◌++◌, length, take, drop, Option, Some, None, Ok, refl, ap, sym, subst, ◌∙◌, arith}
 use Rattle.std.proofs.lemmas.Option.{same_Some}
 use Rattle.std.specs.List.{slice_get}
 use Rattle.std.specs.Prelude.{IfOk, IfSome, Result}
@@ -11,7 +11,6 @@ use Rattle.typst_tokens.specs.Sight.{width}
 use Rattle.typst_tree.specs.Tree.{Tree, bare, text_of}
 use Rattle.typst_tree.specs.Replace.{At, Reaches, kids_of, replaced_at}
 use Rattle.typst_tree.proofs.Numbering.{joined_bare}
-use Rattle.typst_candidates.specs.declared.entry.Entry.{Entry}
 use Rattle.typst_candidates.specs.Candidates as candidate
 use Rattle.typst_candidates.specs.Candidates.{Candidate}
 use Rattle.typst_candidates.specs.Entries.{Units, end_of, spliced}
@@ -68,8 +67,7 @@ reaches-from [] from other to t h = ((λ l. (h.0, l, h.2)), h.1)
 reaches-from (i ∷ path) from other to t h = by-kid (slice_get (kids_of t) i) (reaches-from path from other to) h
   where
     by-kid : (o : Option Tree) → ((k : Tree) → Reaches path from to k → (other ≤ to → Reaches path other to k) × (from ≤ to)) → At (Reaches path from to) o → (other ≤ to → At (Reaches path other to) o) × (from ≤ to)
-    by-kid None on h = absurd h
-    by-kid (Some k) on h = on k h
+    by-kid o on h = grind arith
 
 -- ---- the old text
 
@@ -90,11 +88,7 @@ module _ (k : CharClasses) (c : TextReplacement) (root : Tree) (units : Units) (
   entries-are = ap (λ (u : Units). u.entries) h.units_are
 
   pub places-fit : (new : List ℕ) (e : Replacement) → Makes c new e → end_of 0 units.entries < 2 ^ 64
-  places-fit new e m =
-      let w = entries-end k (text_before c) in
-      let f = m.fits in
-      let s = ap (λ (xs : List Entry). end_of 0 xs) entries-are in
-      omega (arith, w, f, s)
+  places-fit new e m = grind (arith, entries-end, entries-are)
 
   pub root-inner : IsTrue root.head.is_inner
   root-inner = subst (λ (b : Bool). IsTrue b) (sym (ap (λ (t : Tree). t.head.is_inner) h.tree_is)) (tree-inner k (text_before c))
@@ -117,9 +111,7 @@ module _ (k : CharClasses) (c : TextReplacement) (root : Tree) (units : Units) (
 
   -- the candidates of the replaced bytes are those of the edit
   pub candidates-are : (new : List ℕ) (e : Replacement) → Makes c new e → candidate.candidates (listed (log k (text_before c)).notes) e.start e.old_end root ≡ candidates k c root
-  candidates-are new e m =
-      ap (λ n. candidate.candidates (listed (log k (text_before c)).notes) n e.old_end root) m.start
-      ∙ ap (λ n. candidate.candidates (listed (log k (text_before c)).notes) (width c.front) n root) m.old_end
+  candidates-are new e m = grind arith
 
   -- ---- one candidate
 
@@ -165,9 +157,7 @@ module _ (k : CharClasses) (c : TextReplacement) (root : Tree) (units : Units) (
 
   -- what was taken of it is taken of the tree before
   pub taken-before : (now : Tree) (units_now : Units) (n : ℕ) (o : Result (Option Reread) AllocError) → IfOk o (λ x. TakesFirst k c r now units_now n x) → IfOk o (λ x. IfSome x (λ read. Takes k c root now units_now read.range))
-  taken-before now units_now n (Ok None) h = tt
-  taken-before now units_now n (Ok (Some read)) h = subst (λ x. Takes k c x now units_now read.range) r_is h
-  taken-before now units_now n (Err e) h = tt
+  taken-before now units_now n o h = grind arith
 
   -- where nothing was taken of it, there is none among so many
   pub none-of : (now : Tree) (units_now : Units) (n : ℕ) (o : Result (Option Reread) AllocError) → o ≡ Ok None → IfOk o (λ x. TakesFirst k c r now units_now n x) → NonePassesOf k c r n

@@ -95,9 +95,7 @@ module _ {C : Type 0} (k : CharClasses) (ch : TextReplacement) (q : Asked C) (ro
           read-few =
               let z = moved f.at (text_with ch.front ch.new ch.rest) in
               let e = here.end in
-              let w = position-within (block_alone k f.levels f.block f.mode z).taken z in
-              let few = now-few k ch q root units ready f.at d.start f.start_now in
-              omega (arith, e, w, few)
+              grind (arith, position-within, now-few)
 
           pub end-no : (p.end + q.edit.old_end ≡ d.end + q.edit.new_end → ⊥) → Fails k ch d
           end-no = block-end-fails k ch d from f q.front q.rear ready.front ready.rear to to-is q.new.now q.edit ready.makes (place_at q.new.now d.start) place p there

@@ -1,5 +1,5 @@
 -- Blocks that are read by themselves.
-use Rattle.std.proofs.Common.{◌≡◌, ℕ, suc, ◌+◌, ◌-◌, ◌≤◌, ◌<◌, true, List, [], ◌∷◌, ◌++◌, length, drop, Some, None, ap, sym, subst, ◌∙◌, arith}
+use Rattle.std.proofs.Common.{◌≡◌, ℕ, suc, ◌+◌, ◌-◌, ◌≤◌, ◌<◌, true, List, length, drop, Some, None, ap, sym, subst, ◌∙◌, arith}
 use Rattle.std.proofs.lemmas.Option.{slice_get_within}
 use Rattle.typst_kinds.specs.declared.mode.SyntaxMode.{SyntaxMode}
 use Rattle.typst_lines.specs.Classes.{CharClasses}
@@ -8,19 +8,17 @@ use Rattle.typst_tokens.specs.Sight.{position, width}
 use Rattle.typst_tree.specs.Tree.{Tree}
 use Rattle.typst_tree.specs.Replace.{replaced_at}
 use Rattle.typst_edits.specs.Block.{Block}
-use Rattle.typst_edits.specs.Log.{Log}
 use Rattle.typst_candidates.specs.declared.entry.Entry.{Entry}
 use Rattle.typst_candidates.specs.Candidates.{Candidate}
 use Rattle.typst_candidates.specs.Cursors.{closing_of}
-use Rattle.typst_candidates.specs.Entries.{Units, block_end, entries_by, last_start, spliced, units_of}
+use Rattle.typst_candidates.specs.Entries.{Units, spliced, units_of}
 use Rattle.typst_candidates.specs.Records.{opening_of}
 use Rattle.typst_edits.specs.ReadPart.{ReadPart}
 use Rattle.typst_edits.specs.Grammar.{log}
-use Rattle.typst_edits.specs.Part.{IsBlock, block_alone}
+use Rattle.typst_edits.specs.Part.{IsBlock}
 use Rattle.typst_edits.specs.BlockTest.{FoundBlock, PassesAlone, SaysBlock, entries_alone, entries_in, front_in, rear_in}
 use Rattle.typst_edits.specs.Edit.{Among, text_with}
 use Rattle.typst_edits.specs.Frame.{Gives}
-use Rattle.typst_edits.specs.PieceNotes.{listed}
 use Rattle.typst_edits.proofs.BlockTest.{block-test-law}
 use Rattle.typst_parser.specs.Attempt.{Fails, IsPart}
 use Rattle.typst_parser.specs.TextReplacement.{TextReplacement, Holds, Makes, candidates, text_before}
@@ -33,10 +31,7 @@ use Rattle.typst_parser.proofs.Runs.{shift-in, shift-out, width-take}
 
 -- a block that was read by itself has these entries
 pub alone-entries : (k : CharClasses) (levels : ℕ) (b : Block) (mode : SyntaxMode) (z : Place) (p : ReadPart) (at : ℕ) → IsBlock k levels b mode z p → position z ≡ at → entries_alone k levels b mode z ≡ entries_of at p
-alone-entries k levels b mode z p at read here =
-    sym (ap (λ (h : Log). entries_by (position z) (listed h.notes) ++ block_end (last_start (position z) (listed h.notes)) (position (moved (block_alone k levels b mode z).taken z)) h.reach h.least ∷ []) read.log)
-    ∙ ap (λ n. entries_by (position z) p.notes.items ++ block_end (last_start (position z) p.notes.items) n p.hull.reach p.hull.least ∷ []) (sym read.end)
-    ∙ ap (λ n. entries_of n p) here
+alone-entries k levels b mode z p at read here = grind arith
 
 says-in : (es fs : List Entry) (from to levels : ℕ) (b : Block) (mode : SyntaxMode) → es ≡ fs → SaysBlock fs from to levels b mode → SaysBlock es from to levels b mode
 says-in es fs from to levels b mode e s = subst (λ xs. SaysBlock xs from to levels b mode) (sym e) s
@@ -50,9 +45,7 @@ says-within es from to levels b read_as s = slice_get_within es from s.entry s.i
 
 -- the number after the one where a block begins
 pub says-closes : (es : List Entry) (first to levels : ℕ) (b : Block) (mode : SyntaxMode) → 0 < first → SaysBlock es (first - 1) to levels b mode → closing_of 0 first (drop first es) ≡ Some to
-says-closes es first to levels b read_as some s =
-    let e : suc (first - 1) ≡ first = omega (arith, some) in
-    subst (λ n. closing_of 0 n (drop n es) ≡ Some to) e s.closes
+says-closes es first to levels b read_as some s = grind arith
 
 -- ---- a candidate
 

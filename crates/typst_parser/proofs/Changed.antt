@@ -1,5 +1,5 @@
 -- An edit in bytes and in characters.
-use Rattle.std.proofs.Common.{◌≡◌, ℕ, ◌+◌, ◌-◌, ◌<◌, ◌≤◌, ◌^◌, List, [], ◌∷◌, ◌++◌, length, take, drop, length-append, length-take-le, length-drop, append_assoc, refl, ap, sym, subst, ◌∙◌, arith}
+use Rattle.std.proofs.Common.{◌≡◌, ℕ, ◌+◌, ◌-◌, ◌<◌, ◌≤◌, ◌^◌, List, ◌++◌, length, take, drop, length-append, length-take-le, length-drop, append_assoc, ap, sym, subst, ◌∙◌, arith}
 use Rattle.std.specs.Str.{chars, IsCharBoundary, IsUtf8}
 use Rattle.std.specs.declared.ops.Range.{Range}
 use Rattle.std.proofs.lemmas.List.{drop-take}
@@ -15,8 +15,7 @@ use Rattle.typst_parser.specs.Tried.{change_by}
 
 bytes-width : (cs : List ℕ) → width cs ≡ bytes cs
 unfolding width
-bytes-width [] = refl
-bytes-width (c ∷ cs) = let e = bytes-width cs in omega (arith, e)
+bytes-width cs = grind arith
 
 -- a text's bytes are those of its characters
 pub width-chars : (s : List ℕ) → IsUtf8 s → width (chars s) ≡ length s
@@ -44,10 +43,7 @@ module _ (was now : List ℕ) (e : Replacement) (h : IsEdited was now e) where
 
   -- the characters up to the stretch's end
   up-to : chars (take e.old_end was) ≡ c.front ++ c.old
-  up-to =
-      let more : e.start + (e.old_end - e.start) ≡ e.old_end = omega (arith, h.ordered) in
-      let between : drop e.start (take e.old_end was) ≡ take (e.old_end - e.start) (drop e.start was) = ap (λ n. drop e.start (take n was)) (sym more) ∙ drop-take e.start (e.old_end - e.start) was in
-      chars-range was h.utf8_old e.start e.old_end h.ordered h.start h.end ∙ ap (λ s. chars (take e.start was) ++ chars s) (sym between)
+  up-to = let more : e.start + (e.old_end - e.start) ≡ e.old_end = omega (arith, h.ordered) in grind (arith, drop-take, chars-range)
 
   pub before : text_before c ≡ chars was
   before = sym (append_assoc c.front c.old c.rest) ∙ ap (λ s. s ++ c.rest) (sym up-to) ∙ sym (chars-split was h.utf8_old e.old_end h.end)

@@ -1,5 +1,5 @@
 -- Pieces of a content block's run.
-use Rattle.std.proofs.Common.{◌≡◌, ℕ, suc, ◌+◌, ◌-◌, ◌≤◌, ◌<◌, List, length, ap, sym, subst, ◌∙◌, arith}
+use Rattle.std.proofs.Common.{◌≡◌, ℕ, ◌+◌, ◌-◌, ◌≤◌, ◌<◌, List, length, ap, sym, subst, ◌∙◌, arith}
 use Rattle.std.specs.Global.{Vec}
 use Rattle.typst_lines.specs.Classes.{CharClasses}
 use Rattle.typst_lines.specs.Place.{Place, moved}
@@ -27,10 +27,7 @@ use Rattle.typst_parser.proofs.Blocks.{alone-entries, says-after, says-within}
 module _ (k : CharClasses) (c : TextReplacement) (root : Tree) (d : Candidate) (f : FoundInner k c.front c.old c.new c.rest root d) (run : Run) (is : IsRunOf k c root d f run) where
   -- what is found of its run
   pub run-found : FoundRun k c.front c.old c.new c.rest d run.kind run.levels run.first_entry
-  run-found =
-      subst (λ n. FoundRun k c.front c.old c.new c.rest d run.kind run.levels n) (sym is.first)
-      (subst (λ n. FoundRun k c.front c.old c.new c.rest d run.kind n (suc f.opens)) (sym is.levels)
-      (subst (λ w. FoundRun k c.front c.old c.new c.rest d w f.levels (suc f.opens)) (sym is.kind) f.run))
+  run-found = grind arith
 
   pub run-some : 0 < run.levels
   run-some = let s = f.some in let e = is.levels in omega (arith, s, e)
@@ -49,11 +46,7 @@ module _ (k : CharClasses) (c : TextReplacement) (root : Tree) (d : Candidate) (
   inner-says es e = subst (λ xs. SaysBlock xs (run.first_entry - 1) f.to f.levels block.Content f.mode) (sym e) (subst (λ n. SaysBlock (entries_in k (text_before c)) n f.to f.levels block.Content f.mode) (sym opens-is) f.says)
 
   pub inner-first : (es : List Entry) → es ≡ entries_in k (text_before c) → (0 < run.first_entry) × (run.first_entry ≤ length es)
-  inner-first es e =
-      let w = says-within (entries_in k (text_before c)) f.opens f.to f.levels block.Content f.mode f.says in
-      let l = ap (λ (xs : List Entry). length xs) e in
-      let n = is.first in
-      (omega (arith, n), omega (arith, n, w, l))
+  inner-first es e = let w = says-within (entries_in k (text_before c)) f.opens f.to f.levels block.Content f.mode f.says in grind arith
 
   -- its nodes with the whole block's entries take its place
   pub with-block-part : (p : ReadPart) (part : ReparsedPart) (first : ℕ) (ts : List Tree) → Gives k c.front c.old c.new c.rest d ts → replaced_at d.path d.from d.to ts root ≡ replaced_at d.path first d.to p.nodes.items root → first ≤ d.to

@@ -1,8 +1,7 @@
 -- A place between the root's children, before the first that an edit changes, stays one.
-use Rattle.std.proofs.Common.{◌≡◌, ℕ, zero, suc, ◌≤◌, ◌<◌, true, false, List, [], ◌∷◌, ◌++◌, length, map, take, drop, Some, refl, ap, sym, ◌∙◌, arith}
+use Rattle.std.proofs.Common.{◌≡◌, ℕ, suc, ◌≤◌, ◌<◌, true, false, List, [], ◌∷◌, ◌++◌, length, map, take, drop, Some, ap, sym, ◌∙◌, arith}
 use Rattle.std.specs.Prelude.{◌==◌}
 use Rattle.std.proofs.Math.ListN.{set}
-use Rattle.std.proofs.lemmas.Bool.Decides.{nat_tests}
 use Rattle.std.proofs.lemmas.List.{set_split}
 use Rattle.std.proofs.lemmas.Option.{slice_get_within}
 use Rattle.typst_tree.specs.Tree.{Tree, bare, trees}
@@ -29,8 +28,7 @@ root-edge root b is = record { within = is.within; byte = is.bytes ∙ sym (begi
 
 -- the first of them is one of the root's children, or comes after all
 pub changed-within : (was : Tree) (path : List ℕ) (d : code.Candidate) (step : Edge) → StandsIn was (at_path path d) → IsRootEdge was step → first_changed path d step.index ≤ length (trees was.kids)
-changed-within was [] d step stands edge = let r : Reaches [] d.from d.to was = stands.reaches in omega (arith, r.1, r.2)
-changed-within was (i ∷ path) d step stands edge = edge.within
+changed-within was path d step stands edge = grind arith
 
 -- what is before them, at the root itself or below one of its children, is before the others
 pub boundary-kept : (was now : Tree) (path : List ℕ) (d : code.Candidate) (ts : List Tree) (step : ℕ) (b : Boundary) → StandsIn was (at_path path d) → replaced_at path d.from d.to ts was ≡ Some now → LeadsBy step path → b.index ≤ first_changed path d step → IsBoundary was b → IsBoundary now b
@@ -55,15 +53,11 @@ boundary-kept was now (i ∷ path) d ts step b stands put way low is =
 
 -- as much as there is of it still leads to the same child
 pub leads-fewer : (i n : ℕ) (path : List ℕ) → LeadsBy i path → LeadsBy i (take n path)
-leads-fewer i zero path way = tt
-leads-fewer i (suc n) [] way = tt
-leads-fewer i (suc n) (j ∷ path) way = way
+leads-fewer i n path way = grind arith
 
 -- it is empty, or has steps
 pub at-root : (path : List ℕ) (d : code.Candidate) (step : ℕ) → (length path == 0) ≡ true → d.from ≡ first_changed path d step
-at-root [] d step none = refl
-at-root (i ∷ path) d step none = let no : suc (length path) ≡ 0 = grind (arith, nat_tests) in absurd (omega arith)
+at-root path d step h = grind arith
 
 pub below-root : (path : List ℕ) (d : code.Candidate) (step : ℕ) → (length path == 0) ≡ false → step ≡ first_changed path d step
-below-root [] d step some = absurd (cc)
-below-root (i ∷ path) d step some = refl
+below-root path d step some = grind arith

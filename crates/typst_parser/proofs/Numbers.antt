@@ -31,11 +31,7 @@ last-within start from end [] l r = l
 last-within start from end (n ∷ ns) l r = last-within n.start n.before end ns r.2 r.3
 
 units-listed : (h : Log) → (units_of h).entries ≡ entries_by 0 (listed h.notes)
-units-listed h = by-notes h.notes
-  where
-    by-notes : (o : Option (List Note)) → entries_by 0 (elim o as (λ _. List Note) [ None ↦ [] | Some ls ↦ ls ]) ≡ entries_by 0 (listed o)
-    by-notes None = refl
-    by-notes (Some ns) = refl
+units-listed h = grind arith
 
 -- the last entry of a text lies within it
 pub entries-end : (k : CharClasses) (text : List ℕ) → end_of 0 (entries_in k text) ≤ width text
@@ -64,9 +60,6 @@ pub record Within (number : ℕ) (es : List Entry) (n : ℕ) : Type 0 where
   pub least : number ≤ n
   pub most : n < number + length es
 
-further-within : (number n : ℕ) (e : Entry) (es : List Entry) → Within (suc number) es n → Within number (e ∷ es) n
-further-within number n e es w = record { least = omega (arith, w.least); most = omega (arith, w.most) }
-
 here-within : (number n : ℕ) (e : Entry) (es : List Entry) → ◌≡◌ {A = Option ℕ} (Some number) (Some n) → Within number (e ∷ es) n
 here-within number n e es h = let s = same_Some number n h in record { least = omega (arith, s); most = omega (arith, s) }
 
@@ -78,16 +71,14 @@ closing-within inside number [] n h = absurd (none-some n h)
 closing-within inside number (e ∷ es) n h = by-inside (inside_after e.kind inside) (λ further g. closing-within further (suc number) es n g) h
   where
     by-inside : (o : Option ℕ) → ((further : ℕ) → closing_of further (suc number) es ≡ Some n → Within (suc number) es n) → elim o as (λ _. Option ℕ) [ None ↦ Some number | Some further ↦ closing_of further (suc number) es ] ≡ Some n → Within number (e ∷ es) n
-    by-inside None f h = here-within number n e es h
-    by-inside (Some further) f h = further-within number n e es (f further h)
+    by-inside o f h = grind arith
 
 pub piece-within : (at inside start number : ℕ) (es : List Entry) (n : ℕ) → piece_of at inside start number es ≡ Some n → Within number es n
 piece-within at inside start number [] n h = absurd (none-some n h)
 piece-within at inside start number (e ∷ es) n h = by-test (leads e.kind inside && token_at start e == at) (λ further g. piece-within at further (token_at start e) (suc number) es n g) h
   where
     by-inside : (o : Option ℕ) → ((further : ℕ) → piece_of at further (token_at start e) (suc number) es ≡ Some n → Within (suc number) es n) → elim o as (λ _. Option ℕ) [ None ↦ None | Some further ↦ piece_of at further (token_at start e) (suc number) es ] ≡ Some n → Within number (e ∷ es) n
-    by-inside None f h = absurd (none-some n h)
-    by-inside (Some further) f h = further-within number n e es (f further h)
+    by-inside o f h = grind arith
 
     by-test : (b : Bool) → ((further : ℕ) → piece_of at further (token_at start e) (suc number) es ≡ Some n → Within (suc number) es n) → (if b then Some number else elim (inside_after e.kind inside) as (λ _. Option ℕ) [ None ↦ None | Some further ↦ piece_of at further (token_at start e) (suc number) es ]) ≡ Some n → Within number (e ∷ es) n
     by-test true f h = here-within number n e es h
@@ -98,8 +89,7 @@ opening-within at start number [] n h = absurd (none-some n h)
 opening-within at start number (e ∷ es) n h = by-test (is_opening e.kind && ((start + e.step) + e.gap) == at) (λ g. opening-within at ((start + e.step) + e.gap) (suc number) es n g) h
   where
     by-test : (b : Bool) → (opening_of at ((start + e.step) + e.gap) (suc number) es ≡ Some n → Within (suc number) es n) → (if b then Some number else opening_of at ((start + e.step) + e.gap) (suc number) es) ≡ Some n → Within number (e ∷ es) n
-    by-test true f h = here-within number n e es h
-    by-test false f h = further-within number n e es (f h)
+    by-test b f h = grind arith
 
 -- of those after so many
 pub record After (first : ℕ) (es : List Entry) (n : ℕ) : Type 0 where
@@ -117,16 +107,11 @@ begins-after first at es n h = dropped first es n (piece-within at 0 (end_of 0 (
 
 -- looks after begin after the stretch from the end at the latest
 rear-by : (at start count : ℕ) (es : List Entry) (back : ℕ) → rear_of at start count es back ≤ count + length es
-rear-by at start count [] back = by-test (is_after at start back)
-  where
-    by-test : (b : Bool) → (if b then 0 else count) ≤ count + 0
-    by-test true = omega arith
-    by-test false = omega arith
+rear-by at start count [] back = grind arith
 rear-by at start count (e ∷ es) back = by-test (is_after at start e.back) (rear_of at ((start + e.step) + e.gap) (suc count) es back) (rear-by at ((start + e.step) + e.gap) (suc count) es back)
   where
     by-test : (b : Bool) (r : ℕ) → r ≤ suc count + length es → max (if b then 0 else count) r ≤ count + length (e ∷ es)
-    by-test true r h = omega (arith, h)
-    by-test false r h = omega (arith, h)
+    by-test b r h = grind arith
 
 pub rear-within : (at : ℕ) (es : List Entry) (back : ℕ) → rear_of at 0 0 es back ≤ length es
 rear-within at es back = let h = rear-by at 0 0 es back in omega (arith, h)

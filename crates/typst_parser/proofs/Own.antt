@@ -1,5 +1,5 @@
 -- In a tree whose numbers are in order, a span and a number find their own node.
-use Rattle.std.proofs.Common.{◌≡◌, ℕ, zero, suc, ◌+◌, ◌-◌, ◌^◌, ◌≤◌, Bool, true, false, IsTrue, List, [], ◌∷◌, length, Option, Some, None, refl, sym, ap, subst, ◌∙◌, arith, eq-eqb, zero-add}
+use Rattle.std.proofs.Common.{◌≡◌, ℕ, zero, suc, ◌+◌, ◌-◌, ◌^◌, ◌≤◌, Bool, true, false, IsTrue, List, [], ◌∷◌, length, Option, Some, refl, sym, ap, subst, ◌∙◌, arith, eq-eqb, zero-add}
 use Rattle.std.specs.Prelude.{nat_lt, slice_get, option_map}
 use Rattle.std.proofs.lemmas.Bool.Decides.{nat_tests}
 use Rattle.std.proofs.lemmas.Option.{none-some, same_Some}
@@ -13,7 +13,7 @@ use Rattle.typst_tree.specs.Walks.{first_at, has_span, has_number, is_numbered, 
 use Rattle.typst_tree.proofs.SingleNodes.{place_self, place_same}
 use Rattle.typst_tree.proofs.RisingNumbers.{Rising, rising_from}
 use Rattle.typst_parser.specs.Headline.{IsNumberedIn, AreNumbered, file_of}
-use Rattle.typst_parser.specs.Find.{top, found, is_in_file, bytes_in, range_of, FindsOwn, GivesOwn}
+use Rattle.typst_parser.specs.Find.{top, found, range_of, FindsOwn, GivesOwn}
 use Rattle.typst_parser.proofs.Replaced.{all-at}
 
 abbrev number : Tree → ℕ
@@ -27,15 +27,11 @@ least-at a (x ∷ xs) zero t h g = omega (arith, h.0, ap number (same_Some x t g
 least-at a (x ∷ xs) (suc i) t h g = omega (arith, h.0, least-at (number x + 1) xs i t h.1 g)
 
 never : (b : Bool) → (b ≡ true → ⊥) → b ≡ false
-never true f = absurd (f refl)
-never false f = refl
+never b f = grind arith
 
 found-at : (p : ℕ → ℕ → Tree → Bool) (m n b a : ℕ) (xs : List Tree) (i : ℕ) (t : Tree) → IsKey p m → Rising a xs → slice_get xs i ≡ Some t → number t ≡ m → ((k c : ℕ) → p k c t ≡ true) → first_at p n b xs ≡ Some (n + i)
 found-at p m n b a [] i t key h g e holds = absurd (none-some t g)
-found-at p m n b a (x ∷ xs) zero t key h g e holds =
-    let here-holds : p n (saturated b) x ≡ true = ap (p n (saturated b)) (same_Some x t g) ∙ holds n (saturated b) in
-    let here : n ≡ n + 0 = omega arith in
-    rw here-holds (ap (λ k. Some k) here)
+found-at p m n b a (x ∷ xs) zero t key h g e holds = grind arith
 found-at p m n b a (x ∷ xs) (suc i) t key h g e holds =
     let later : number x + 1 ≤ number t = least-at (number x + 1) xs i t h.1 g in
     let clash : p n (saturated b) x ≡ true → ⊥ = λ is. omega (arith, later, e, key n (saturated b) x is) in
@@ -46,8 +42,7 @@ span-key : (file m : ℕ) → IsKey (has_span (Some (file, m))) m
 span-key file m n a t h = ap number_of (place_same t.head.span (Some (file, m)) h)
 
 numbered-key : (m : ℕ) (p : Option (ℕ × ℕ)) → IsTrue (is_numbered m p) → number_of p ≡ m
-numbered-key m None h = cc
-numbered-key m (Some p) h = grind (arith, nat_tests, h)
+numbered-key m p h = grind arith
 
 number-key : (m : ℕ) → IsKey (has_number m) m
 number-key m n a t h = numbered-key m t.head.span h
@@ -67,9 +62,7 @@ module _ (file : ℕ) (root : Tree) (h : IsNumberedIn file root) where
   pub finds-own : (span : Option (ℕ × ℕ)) → FindsOwn span root (found file span root)
   finds-own span i t g e =
       let is : Some (file, number t) ≡ span = sym (all-at (λ n. n.head.span ≡ Some (file, number_of n.head.span)) (places root) i t h.spans g) ∙ e in
-      let own : is_in_file file (Some (file, number t)) ≡ true = eq-eqb file file refl in
-      let first : found file (Some (file, number t)) root ≡ Some (at root i) = rw (own, has-top) (by-span i t g) in
-      subst (λ s. found file s root ≡ Some (at root i)) is first
+      grind (arith, eq-eqb, has-top, by-span)
 
   by-number : (i : ℕ) (t : Tree) → slice_get (places root) i ≡ Some t → find_number (number t) (at root 0) ≡ Some (at root i)
   by-number i t g =
@@ -78,9 +71,7 @@ module _ (file : ℕ) (root : Tree) (h : IsNumberedIn file root) where
       ap (option_map (at root)) (found-at (has_number (number t)) (number t) 0 0 0 (places root) i t (number-key (number t)) (rising_from root h.order) g refl (λ _ _. holds) ∙ ap (λ k. Some k) (zero-add i))
 
   pub gives-own : (m : ℕ) (sub : Option Bytes) → GivesOwn m sub root (range_of m sub root)
-  gives-own m sub i t g e =
-      let first : range_of (number t) sub root ≡ bytes_in sub (at root i) = rw (has-top, by-number i t g) refl in
-      subst (λ k. range_of k sub root ≡ bytes_in sub (at root i)) e first
+  gives-own m sub i t g e = grind (arith, has-top, by-number)
 
 -- ---- what a source's tree shows
 

@@ -3,7 +3,7 @@ use Rattle.std.proofs.Common.{◌≡◌, ℕ, zero, suc, ◌+◌, ◌≤◌, ◌
 use Rattle.std.proofs.lemmas.List.{at_drop_more}
 use Rattle.std.proofs.lemmas.Option.{slice_get_read}
 use Rattle.std.specs.List.{slice_get}
-use Rattle.typst_tree.specs.Tree.{Tree, Forest, forest, trees, joined, saturated, text_of}
+use Rattle.typst_tree.specs.Tree.{Tree, forest, trees, joined, saturated, text_of}
 use Rattle.typst_tree.specs.Replace.{At, kids_of}
 use Rattle.typst_tree.specs.Laws.{AtPath, or_none, start_at, start_in}
 use Rattle.typst_tree.proofs.SpansAside.{trees_forest, forest_trees}
@@ -12,42 +12,23 @@ pub children-are : (t : Tree) (xs : List Tree) → forest xs ≡ t.kids → xs �
 children-are t xs e = sym (trees_forest xs) ∙ ap trees e
 
 pub taken-length : (t : Tree) (xs : List Tree) (n : ℕ) → forest xs ≡ t.kids → n ≤ length (kids_of t) → n ≡ length (take n xs)
-taken-length t xs n e l =
-    let s = ap (λ (ys : List Tree). length ys) (children-are t xs e) in
-    sym (length-take-le n xs (omega (arith, s, l)))
+taken-length t xs n e l = grind (arith, children-are, length-take-le)
 
 -- one more of several trees adds its text
 pub joined-next : (xs : List Tree) (i : ℕ) (d : Tree) → i < length xs → length (joined (forest (take (suc i) xs))) ≡ length (joined (forest (take i xs))) + length (text_of (get_or xs i d))
 joined-next [] i d l = absurd (omega (arith, l))
 joined-next (x ∷ xs) zero d l = let a = ap (λ ys. length (x.head.text ++ ys)) (append-nil (joined x.kids)) in omega (arith, a)
-joined-next (x ∷ xs) (suc i) d l =
-    let e = joined-next xs i d (omega (arith, l)) in
-    let a = length-append x.head.text (joined x.kids ++ joined (forest (take (suc i) xs))) in
-    let b = length-append (joined x.kids) (joined (forest (take (suc i) xs))) in
-    let c = length-append x.head.text (joined x.kids ++ joined (forest (take i xs))) in
-    let f = length-append (joined x.kids) (joined (forest (take i xs))) in
-    omega (arith, e, a, b, c, f)
+joined-next (x ∷ xs) (suc i) d l = let e = joined-next xs i d (omega (arith, l)) in grind (arith, length-append)
 
 -- those taken are no more than all
 pub joined-taken : (xs : List Tree) (i : ℕ) → length (joined (forest (take i xs))) ≤ length (joined (forest xs))
 joined-taken xs zero = omega arith
 joined-taken [] (suc i) = omega arith
-joined-taken (x ∷ xs) (suc i) =
-    let e = joined-taken xs i in
-    let a = length-append x.head.text (joined x.kids ++ joined (forest xs)) in
-    let b = length-append (joined x.kids) (joined (forest xs)) in
-    let c = length-append x.head.text (joined x.kids ++ joined (forest (take i xs))) in
-    let f = length-append (joined x.kids) (joined (forest (take i xs))) in
-    omega (arith, e, a, b, c, f)
+joined-taken (x ∷ xs) (suc i) = let e = joined-taken xs i in grind (arith, length-append)
 
 -- where a child ends lies in the node's text
 pub child-ends : (t : Tree) (i : ℕ) (d : Tree) → i < length (kids_of t) → length t.head.text + (length (joined (forest (take i (kids_of t)))) + length (text_of (get_or (kids_of t) i d))) ≤ length (text_of t)
-child-ends t i d l =
-    let e = joined-next (kids_of t) i d l in
-    let a = joined-taken (kids_of t) (suc i) in
-    let f = ap (λ (g : Forest). length (joined g)) (forest_trees t.kids) in
-    let b = length-append t.head.text (joined t.kids) in
-    omega (arith, e, a, f, b)
+child-ends t i d l = grind (arith, joined-next, joined-taken, forest_trees, length-append)
 
 take-get : (xs : List Tree) (n i : ℕ) (d : Tree) → i < n → get_or (take n xs) i d ≡ get_or xs i d
 take-get xs zero i d l = absurd (omega (arith, l))
@@ -66,12 +47,7 @@ pub record Further (t : Tree) (i sum : ℕ) : Type 0 where
 
 pub further : (t : Tree) (i at len : ℕ) (d : Tree) → length (text_of t) < 2 ^ 64 → i < length (kids_of t) → d ≡ get_or (kids_of t) i d → at ≡ length t.head.text + length (joined (forest (take i (kids_of t))))
     → len ≡ saturated (length (text_of d)) → Further t i (at + len)
-further t i at len d few l is here long =
-    let ends = child-ends t i d l in
-    let next = joined-next (kids_of t) i d l in
-    let same = ap (λ (u : Tree). length (text_of u)) is in
-    let whole : len ≡ length (text_of d) = omega (arith, ends, same, few, long) in
-    record { within = omega (arith, ends, same, here, whole); is = omega (arith, next, same, here, whole) }
+further t i at len d few l is here long = grind (arith, child-ends, joined-next)
 
 -- ---- one step down
 
@@ -99,10 +75,7 @@ module _ (node : Tree) (path : List ℕ) (i : ℕ) (further : i < length path) (
 
   module _ (xs : List Tree) (same : forest xs ≡ node.kids) where
     pub child-there : step < length xs
-    child-there =
-        let w = step-within in
-        let s = ap (λ (ys : List Tree). length ys) (children-are node xs same) in
-        omega (arith, w, s)
+    child-there = grind (arith, step-within, children-are)
 
     module _ (child : Tree) (is : child ≡ get_or xs step child) where
       got : slice_get (kids_of node) step ≡ Some child
@@ -112,12 +85,7 @@ module _ (node : Tree) (path : List ℕ) (i : ℕ) (further : i < length path) (
       leads-further = subst (At (AtPath (λ _. Unit {0}) rest)) got leads-on
 
       pub child-within : start_in step node + length (text_of child) ≤ length (text_of node)
-      child-within =
-          let same_kids = children-are node xs same in
-          let w = step-within in
-          let e = child-ends node step child w in
-          let c = ap (λ (t : Tree). length (text_of t)) (is ∙ ap (λ ys. get_or ys step child) same_kids) in
-          omega (arith, e, c)
+      child-within = grind (arith, children-are, step-within, child-ends)
 
       pub start-on : start_in step node + start_at rest 0 child ≡ start_at (drop i path) 0 node
       start-on = ap (λ o. start_in step node + or_none (start_at rest 0) o) (sym got) ∙ sym (at_drop_more (λ (p : List ℕ). start_at p 0 node) path i 0 further)

@@ -1,15 +1,12 @@
 -- Pieces that are read one after the other up to a byte.
-use Rattle.std.proofs.Common.{◌≡◌, ◌⊎◌, inl, inr, ℕ, ◌+◌, ◌≤◌, ◌<◌, Bool, true, List, refl, ap, sym, subst, ◌∙◌, arith}
+use Rattle.std.proofs.Common.{◌≡◌, inl, inr, ℕ, ◌+◌, ◌<◌, Bool, true, List, refl, ap, sym, subst, ◌∙◌, arith}
 use Rattle.std.proofs.lemmas.Bool.{cases_lt}
 use Rattle.typst_lines.specs.Classes.{CharClasses}
-use Rattle.typst_lines.specs.Place.{Place, moved}
-use Rattle.typst_tokens.specs.Sight.{position}
-use Rattle.typst_edits.specs.Point.{Point, gap_of}
 use Rattle.typst_candidates.specs.declared.entry.Entry.{Entry}
 use Rattle.typst_edits.specs.PieceReader.{PieceReader}
-use Rattle.typst_edits.specs.Part.{HasRead, IsOver}
-use Rattle.typst_edits.specs.Pieces.{AllGo, end_on, run_level, stops_of}
-use Rattle.typst_edits.specs.RunTest.{Reading, byte_after, carried_by, read_by}
+use Rattle.typst_edits.specs.Part.{HasRead}
+use Rattle.typst_edits.specs.Pieces.{AllGo}
+use Rattle.typst_edits.specs.RunTest.{Reading, byte_after, read_by}
 use Rattle.typst_edits.specs.Served.{MeetsOn}
 use Rattle.typst_parser.specs.Steps.{Fit, Grows, HasReadSome, HasReadTo}
 use Rattle.typst_parser.proofs.Places.{moved-on}
@@ -17,10 +14,7 @@ use Rattle.typst_parser.proofs.Places.{moved-on}
 module _ (k : CharClasses) (r : Reading) where
   -- a reader stands where the token after its pieces begins
   pub reader-end : (m : ℕ) (p : PieceReader) → HasRead k r.levels r.which r.carried r.place m p → p.end ≡ byte_after k r m
-  reader-end m p h =
-      let e = end_on (run_level k r.levels r.which) (stops_of r.which) r.carried m r.place in
-      h.end ∙ ap (λ (s : Point). position (moved (gap_of s.known) p.parser.place)) h.state ∙ ap (λ (z : Place). position (moved (gap_of e.state.known) z)) h.place
-      ∙ ap position (moved-on (gap_of e.state.known) e.taken r.place)
+  reader-end m p h = grind (arith, moved-on)
 
   pub some-next : (end : ℕ) (any : Bool) (p q : PieceReader) → (h : HasReadSome k r end any p) → p.end < end → HasRead k r.levels r.which r.carried r.place (h.count + 1) q → HasReadSome k r end true q
   some-next end any p q h less read = record {
@@ -41,11 +35,7 @@ module _ (k : CharClasses) (r : Reading) where
     fewer m e l = let b = h.has.before m l in omega (arith, b, e)
 
     more : (m : ℕ) → AllGo (read_by k r m) → byte_after k r m ≡ target → h.has.count < m → ⊥
-    more m go e l = by-stop h.stopped
-      where
-        by-stop : (target ≤ byte_after k r h.has.count) ⊎ IsOver k r.levels r.which r.carried r.place h.has.count → ⊥
-        by-stop (inl past) = let up = grows.rises h.has.count m l go in omega (arith, up, past, e)
-        by-stop (inr over) = let most = grows.over h.has.count m over go in omega (arith, most, l)
+    more m go e l = grind arith
 
     -- only so many may end at the byte
     only : (m : ℕ) → AllGo (read_by k r m) → byte_after k r m ≡ target → m ≡ h.has.count
@@ -60,12 +50,7 @@ module _ (k : CharClasses) (r : Reading) where
 
       -- where they do not end there, or do not meet what is there, none fit
       pub unfit : ((p.end ≡ target) × MeetsOn es r.which to led h.has.count y p.carried → ⊥) → (m : ℕ) → Fit k es r old new end to led y m → ⊥
-      unfit never m f =
-          never (
-            reader-end h.has.count p h.has.read ∙ ap (byte_after k r) (sym (fit-only m f)) ∙ fit-at m f,
-            subst (λ x. MeetsOn es r.which to led h.has.count y x) (sym h.has.read.carried)
-                (subst (λ n. MeetsOn es r.which to led n y (carried_by k r n)) (fit-only m f) f.meets),
-          )
+      unfit never m f = grind (arith, reader-end, fit-only, fit-at)
 
       pub fitting : p.end ≡ target → MeetsOn es r.which to led h.has.count y p.carried → Fit k es r old new end to led y h.has.count
       fitting at meets = record {

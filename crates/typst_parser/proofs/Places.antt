@@ -19,8 +19,7 @@ use Rattle.typst_edits.proofs.Widths.{width-append, width-moved, width-none, wid
 
 pub bytes-width : (cs : List ℕ) → width cs ≡ bytes cs
 unfolding width
-bytes-width [] = refl
-bytes-width (c ∷ cs) = let e = bytes-width cs in omega (arith, e)
+bytes-width cs = grind arith
 
 -- a text's bytes are those of its characters
 pub width-chars : (s : List ℕ) → IsUtf8 s → width (chars s) ≡ length s
@@ -51,8 +50,7 @@ unfolding position
 position-within n z = let e = both-sides n z.before z.ahead in omega (arith, e)
 
 at-end : (m : ℕ) (b : List ℕ) → moved_from m b [] ≡ record { before = b; ahead = [] }
-at-end zero b = refl
-at-end (suc m) b = refl
+at-end m b = grind arith
 
 moved-twice : (m n j : ℕ) (b a : List ℕ) → j ≡ n + m → moved m (moved_from n b a) ≡ moved_from j b a
 moved-twice m zero j b a e = ap (λ i. moved_from i b a) (omega (arith, e))
@@ -92,13 +90,7 @@ sides-of cs n = let e = both-sides n [] cs in omega (arith, e)
 pub place-sides : (s : List ℕ) → IsUtf8 s → (b : ℕ) → IsCharBoundary s b → width (place_at s b).before + width (place_at s b).ahead ≡ length s
 unfolding place_at
 place-sides s u b at =
-    let front = ap width (reverse-onto (chars (take b s))) in
-    let onto_none = width-onto (chars (take b s)) [] in
-    let zero = width-none in
-    let both = width-append (chars (take b s)) (chars (drop b s)) in
-    let whole = ap width (chars-split s u b at) in
-    let all = width-chars s u in
-    omega (arith, front, onto_none, zero, both, whole, all)
+    grind (arith, ap width (reverse-onto (chars (take b s))), width-onto (chars (take b s)) [], width-none, width-append (chars (take b s)) (chars (drop b s)), ap width (chars-split s u b at), width-chars s u)
 
 -- ---- parts
 

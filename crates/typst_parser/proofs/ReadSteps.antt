@@ -64,8 +64,7 @@ leads-front [] (suc m) from to t h = tt
 leads-front (i ∷ path) (suc m) from to t h = by-kid (slice_get (kids_of t) i) (leads-front path m from to) h
   where
     by-kid : (o : Option Tree) → ((k : Tree) → Reaches path from to k → AtPath (λ _. Unit {0}) (take m path) k) → At (Reaches path from to) o → At (AtPath (λ _. Unit {0}) (take m path)) o
-    by-kid None on h = absurd h
-    by-kid (Some k) on h = on k h
+    by-kid o on h = grind arith
 
 module _ {C : Type 0} (k : CharClasses) (a : Attempt C) (ch : TextReplacement) (path : List ℕ) (d : code.Candidate) (ready : IsReady k ch a) (among : Among (at_path path d) (candidates k ch a.root.now))
     (above : List ℕ) (is_above : above ≡ take (length path - 1) path) (some : 0 < length path) where

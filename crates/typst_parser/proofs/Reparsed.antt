@@ -1,14 +1,12 @@
 -- A tree that answers an edit.
-use Rattle.std.proofs.Common.{◌≡◌, ℕ, zero, suc, ◌+◌, ◌-◌, ◌<◌, ◌≤◌, ◌^◌, Bool, true, IsTrue, List, [], ◌∷◌, ◌++◌, length, take, drop, length-append, length-take-le, length-drop, Option, Some, None, refl, ap, sym, subst, ◌∙◌, arith}
-use Rattle.std.specs.Prelude.{IfSome, option_map, slice_get}
+use Rattle.std.proofs.Common.{◌≡◌, ℕ, zero, suc, ◌+◌, ◌-◌, ◌<◌, ◌≤◌, ◌^◌, Bool, true, IsTrue, List, [], ◌∷◌, ◌++◌, length, take, drop, length-append, length-take-le, length-drop, Option, Some, None, ap, sym, subst, ◌∙◌, arith}
+use Rattle.std.specs.Prelude.{IfSome, slice_get}
 use Rattle.std.specs.Str.{chars}
 use Rattle.std.specs.declared.ops.Range.{Range}
 use Rattle.std.proofs.lemmas.Str.{encodes-chars}
-use Rattle.typst_kinds.specs.Span.{number_of}
-use Rattle.typst_kinds.specs.Head.{Head}
 use Rattle.typst_tree.specs.Tree.{Tree, bare, forest, joined, text_of}
 use Rattle.typst_tree.specs.Laws.{start_at, start_in, or_none}
-use Rattle.typst_tree.specs.Order.{AreInOrder, IsNumbered, numbers_of, upper_at}
+use Rattle.typst_tree.specs.Order.{AreInOrder, IsNumbered, numbers_of}
 use Rattle.typst_tree.specs.Replace.{At, Reaches, kids_of, replaced_at}
 use Rattle.typst_tree.proofs.ReplacesChildren.{replaces_text, start_le, text_bare}
 use Rattle.typst_lines.specs.Classes.{CharClasses}
@@ -51,9 +49,7 @@ abbrev pub KeepsNumbers : Tree → Tree → Type 0
 KeepsNumbers was now = IsNumbered was → IsNumbered now × AreInOrder (numbers_of now)
 
 placed-part : (file : Option ℕ) (was now : Tree) → Stays was now → KeepsNumbers was now → IsPlaced file was → IsPlaced file now
-placed-part None was now s order p = tt
-placed-part (Some file) was now s order p =
-    ((order p.0).0, subst (λ (x : Head). 1 ≤ number_of x.span) (sym s.head) p.1, subst (λ (x : Head). upper_at x ≤ 2 ^ 47) (sym s.head) p.2)
+placed-part file was now s order p = grind arith
 
 numbers-part : (file : Option ℕ) (was now : Tree) → Stays was now → KeepsNumbers was now → AreNumbered file was → IsPlaced file was → AreNumbered file now
 numbers-part None was now s order a p = absurd (s.numbered a)
@@ -62,12 +58,10 @@ numbers-part (Some file) was now s order a p =
     record { spans = s.spans file a.spans; order = (order p.0).1; few = few-nodes now placed.0 placed.1 placed.2 }
 
 ordered-whole : (file : Option ℕ) (was now : Tree) → KeepsNumbers was now → IsPlaced file was → AreOrdered file now
-ordered-whole None was now order p = tt
-ordered-whole (Some file) was now order p = (order p.0).1
+ordered-whole file was now order p = grind arith
 
 placed-whole : (file : Option ℕ) (was now : Tree) → KeepsNumbers was now → IsPlaced file was → IsPlacedBy file now
-placed-whole None was now order p = tt
-placed-whole (Some file) was now order p = (order p.0).0
+placed-whole file was now order p = grind arith
 
 -- ---- where a candidate's children stand
 
@@ -83,8 +77,7 @@ start-rises [] i j t r = omega (arith, joined-rises i j (kids_of t) r.1)
 start-rises (n ∷ path) i j t r = below (slice_get (kids_of t) n) r (start-rises path i j)
   where
     below : (o : Option Tree) → At (Reaches path i j) o → ((k : Tree) → Reaches path i j k → start_at path i k ≤ start_at path j k) → start_in n t + or_none (start_at path i) o ≤ start_in n t + or_none (start_at path j) o
-    below None q f = absurd q
-    below (Some k) q f = omega (arith, f k q)
+    below o q f = grind arith
 
 middle-of : {X : Type 0} (P : X → Type 0) (earlier : List X) (x : X) (later : List X) → Every P (earlier ++ x ∷ later) → P x
 middle-of P [] x later h = h.0
@@ -101,28 +94,14 @@ module _ (k : CharClasses) (front old new rest : List ℕ) (was now : Tree) (ran
 
   stands : (earlier : List Candidate) (c : Candidate) (later : List Candidate) → cs ≡ earlier ++ c ∷ later → StandsIn was c
   stands earlier c later split =
-      let all = candidate-places-law (listed (log k (front ++ (old ++ rest))).notes) (width front) (width (front ++ old)) was inner (omega (arith, width-append front old)) in
-      middle-of (StandsIn was) earlier c later (subst (Every (StandsIn was)) split all)
+      grind (arith, candidate-places-law (listed (log k (front ++ (old ++ rest))).notes) (width front) (width (front ++ old)) was inner (omega (arith, width-append front old)), middle-of)
 
   held-part : (path : List ℕ) (from to : ℕ) (ts : List Tree) → Reaches path from to was → replaced_at path from to ts was ≡ Some now → KeepsNumbers was now → AreNumbered (file_of was) was → IsPlaced (file_of was) was → IsHeldAs was now
-  held-part path from to ts reaches put order numbers placed =
-      let s = replaced-stays path from to ts was now reaches put in
-      record {
-        file = ap (λ (x : Head). option_map (λ place. place.0) x.span) s.head;
-        numbers = numbers-part (file_of was) was now s order numbers placed;
-        placed = placed-part (file_of was) was now s order placed;
-      }
+  held-part path from to ts reaches put order numbers placed = grind (arith, replaced-stays, numbers-part, order, placed-part)
 
   held : IsAnswer k front old new rest cs was now range → KeepsNumbers was now → AreNumbered (file_of was) was → IsPlaced (file_of was) was → IsHeldAs was now
   held (part earlier c later ts split refused gives put start end) order numbers placed = held-part c.path c.from c.to ts (stands earlier c later split).reaches put order numbers placed
-  held (whole refused is bytes) order numbers placed =
-      let file = file_of was in
-      let text = front ++ (new ++ rest) in
-      record {
-        file = fresh-file file (tree k text) now is;
-        numbers = fresh-numbers file (tree k text) now is (ordered-whole file was now order placed);
-        placed = placed-new file (tree k text) now is (tree-inner k text) (placed-whole file was now order placed);
-      }
+  held (whole refused is bytes) order numbers placed = grind (arith, fresh-file, fresh-numbers, ordered-whole, order, placed-new, tree-inner, placed-whole)
 
   -- ---- its range
 
@@ -140,10 +119,7 @@ module _ (k : CharClasses) (front old new rest : List ℕ) (was now : Tree) (ran
       let text = ap length (replaces_text c.path c.from c.to ts was now s.reaches put) in
       let sum : length (text_of now) + to ≡ from + length (joined (forest ts)) + length (text_of was) = omega (arith, text, rises, within, length-append (take from (text_of was)) (joined (forest ts) ++ drop to (text_of was)), length-append (joined (forest ts)) (drop to (text_of was)), length-take-le from (text_of was) (omega (arith, rises, within)), length-drop to (text_of was)) in
       let widths : width (front ++ (old ++ rest)) + width new ≡ width (front ++ (new ++ rest)) + width old = omega (arith, width-append front (old ++ rest), width-append old rest, width-append front (new ++ rest), width-append new rest) in
-      record {
-        ordered = omega (arith, start, end, s.start, s.end, sum, widths, long, long_now);
-        within = omega (arith, start, end, s.start, s.end, sum, widths, long, long_now, rises, within);
-      }
+      grind arith
   lies (whole refused is bytes) long long_now = record { ordered = omega (arith, ap (λ (r : Range ℕ). r.start) bytes); within = omega (arith, ap (λ (r : Range ℕ). r.end) bytes) }
 
 -- ---- a source whose text was edited
@@ -202,16 +178,7 @@ module _ {C : Type 0} (k : CharClasses) (old now : Held C) (e : Replacement) (h 
           (ap length leaves-again ∙ sym (long-now old.text now.text e h))
 
       pub edits-again : now.id ≡ old.id → now.classes ≡ old.classes → now.has_records ≡ true → Edits k old now now.text read.range
-      edits-again id classes has = record {
-        text_is = refl;
-        headline = records-again.headline;
-        id = id;
-        classes = classes;
-        file = held-again.file;
-        records = has;
-        ordered = range-again.ordered;
-        within = omega (arith, range-again.within, long-now old.text now.text e h);
-      }
+      edits-again id classes has = grind (arith, records-again, held-again, range-again, long-now)
 
       pub answer-again : IsAnswer k c.front c.old c.new c.rest (candidates k c old.root) old.root now.root read.range
       answer-again = takes.answer
@@ -222,17 +189,11 @@ module _ {C : Type 0} (k : CharClasses) (old now : Held C) (with : List ℕ) (r 
   abbrev Answered : List ℕ → Type 0
   Answered new = let c = change_of old.text r new in IsAnswer k c.front c.old c.new c.rest (candidates k c old.root) old.root now.root range
 
-  -- a part was read
-  pub answers-part : (old.has_records ≡ true) × Answered h.with → Answers k old now r with range
-  answers-part a = record { recorded = λ has. subst Answered same a.1; unrecorded = λ has. absurd (cc) }
-
   is-whole : ReadsWhole k old now lines range → NonePasses k (change_by h) old.root → Answered h.with
   is-whole w none =
       let text = after old.text lines (record { start = r.start; old_end = r.end; new_end = n }) h in
       let long = long-now old.text lines (record { start = r.start; old_end = r.end; new_end = n }) h in
-      whole none
-      (ap (λ s. numbered_in (file_of old.root) (tree k s)) (sym text) ∙ w.root)
-      (w.range_is ∙ ap (λ m. record { start = 0; end = m }) (sym long))
+      grind arith
 
   -- the whole was read
   pub answers-whole : now.text ≡ lines → ReadsWhole k old now lines range → (old.has_records ≡ true → length lines < 2 ^ 64 - 1 → NonePasses k (change_by h) old.root) → Answers k old now r with range

@@ -1,13 +1,13 @@
 -- A tree of which children were replaced: its spans, its head and how many nodes it has.
-use Rattle.std.proofs.Common.{◌≡◌, ℕ, ◌+◌, ◌-◌, ◌*◌, ◌/◌, ◌^◌, ◌<◌, ◌≤◌, Bool, true, false, if◌then◌else◌, List, [], ◌∷◌, ◌++◌, take, drop, Option, Some, None, refl, ap, sym, subst, ◌∙◌, arith}
-use Rattle.std.specs.Prelude.{All, nat_le, option_map, slice_get, slice_range}
+use Rattle.std.proofs.Common.{◌≡◌, ℕ, ◌+◌, ◌-◌, ◌*◌, ◌/◌, ◌^◌, ◌<◌, ◌≤◌, Bool, if◌then◌else◌, List, [], ◌∷◌, ◌++◌, take, drop, Option, Some, None, refl, sym, subst, arith}
+use Rattle.std.specs.Prelude.{All, option_map, slice_get, slice_range}
 use Rattle.std.proofs.Math.ListN.{set}
 use Rattle.std.proofs.lemmas.List.Elements.{All-nil, All-cons, All-head, All-tail, All-append, All-take, All-drop, All-set}
-use Rattle.std.proofs.lemmas.Option.{none-some, slice_get_within, get_or_from_slice_get}
+use Rattle.std.proofs.lemmas.Option.{slice_get_within, get_or_from_slice_get}
 use Rattle.typst_kinds.specs.Span.{number_of}
 use Rattle.typst_kinds.specs.Head.{Head}
 use Rattle.typst_tree.specs.Tree.{Forest, none, more, Tree, forest, trees, places, preorder, count, nodes}
-use Rattle.typst_tree.specs.Numbers.{placed, stride, numbered, numbered_forest, numbered_list, numberized}
+use Rattle.typst_tree.specs.Numbers.{placed, stride, numbered, numbered_forest, numbered_list}
 use Rattle.typst_tree.specs.Order.{upper_at, IsOrdered, IsNumbered}
 use Rattle.typst_tree.specs.Same.{front}
 use Rattle.typst_tree.specs.Replace.{kids_of, with_kids, in_file, swapped, exchanged, middle, back, replaced, replaced_at, Reaches}
@@ -22,8 +22,7 @@ IsOf file n = n.head.span ≡ Some (file, number_of n.head.span)
 
 placed-by : (file m n e : ℕ) (h : Head) (b : Bool) →
     (if b then record h { span = Some (file, m); upper = e } else record h { span = Some (file, n); upper = 0 }).span ≡ Some (file, number_of (if b then record h { span = Some (file, m); upper = e } else record h { span = Some (file, n); upper = 0 }).span)
-placed-by file m n e h true = refl
-placed-by file m n e h false = refl
+placed-by file m n e h b = grind arith
 
 pub placed-span : (file s a e : ℕ) (h : Head) → (placed file s a e h).span ≡ Some (file, number_of (placed file s a e h).span)
 placed-span file s a e h = placed-by file (a + s / 2) ((a + e) / 2) e h h.is_inner
@@ -39,9 +38,7 @@ forest-spans file s a (more h ks r) =
     (All-append (IsOf file) (preorder (numbered_forest file inner (a + inner) ks)) (preorder (numbered_forest file s (a + n * s) r)) (forest-spans file inner (a + inner) ks) (forest-spans file s (a + n * s) r))
 
 pub numbered-spans : (file a p : ℕ) (t : Tree) → All (IsOf file) (places (numbered file a p t))
-numbered-spans file a p t =
-    let s = stride p (nodes t) in
-    All-cons (IsOf file) (numbered file a p t) (preorder (numbered_forest file s (a + s) t.kids)) (placed-span file s a (a + p) t.head) (forest-spans file s (a + s) t.kids)
+numbered-spans file a p t = grind (arith, placed-span, forest-spans)
 
 -- ---- the trees of a list name the file
 
@@ -87,11 +84,7 @@ parts-spans file s a l r xs new all =
 exchanged-spans : (file : ℕ) (h : Head) (xs : List Tree) (from to : ℕ) (ns ys : List Tree) → exchanged file h xs from to ns ≡ Some ys → All (IsAllOf file) xs → All (IsAllOf file) ys
 exchanged-spans file h xs from to [] ys e all =
     subst (All (IsAllOf file)) (exchange_none file h xs from to ys e) (All-append (IsAllOf file) (take from xs) (drop to xs) (All-take (IsAllOf file) from xs all) (All-drop (IsAllOf file) to xs all))
-exchanged-spans file h xs from to (n ∷ ns) ys e all =
-    let x = exchange_some file h xs from to n ns ys e in
-    let w = x.window in
-    subst (All (IsAllOf file)) x.is
-    (parts-spans file w.stride w.start w.left w.right xs (slice_range xs w.left from ++ ((n ∷ ns) ++ slice_range xs to w.right)) all)
+exchanged-spans file h xs from to (n ∷ ns) ys e all = grind (arith, exchange_some, parts-spans)
 
 -- where the children were swapped, each node of the result names the file
 kids-spans : (file from to : ℕ) (new : List Tree) (t u : Tree) (r : Option (List Tree)) →
@@ -108,10 +101,7 @@ kids-spans file from to new t u (Some ys) s e all =
 
 -- a tree whose nodes all name the file stays so
 replaced-spans : (file : ℕ) (from to : ℕ) (new : List Tree) (t u : Tree) → Reaches [] from to t → replaced from to new t ≡ Some u → All (IsOf file) (places t) → All (IsOf file) (places u)
-replaced-spans file from to new t u r e all =
-    let span : t.head.span ≡ Some (file, number_of t.head.span) = All-head (IsOf file) t (preorder t.kids) all in
-    kids-spans file from to new t u (swapped file t.head (kids_of t) from to (slice_range (kids_of t) from to) new) refl
-    (ap (λ sp. option_map (with_kids t) (in_file sp t.head (kids_of t) from to new)) (sym span) ∙ e) all
+replaced-spans file from to new t u r e all = grind (arith, kids-spans)
 
 -- ---- along a path
 
@@ -126,8 +116,7 @@ pub record Stays (t u : Tree) : Type 0 where
 
 -- a node without a file takes no new children
 takes-none : (from to : ℕ) (new : List Tree) (t u : Tree) (span : Option (ℕ × ℕ)) → option_map (with_kids t) (in_file span t.head (kids_of t) from to new) ≡ Some u → span ≡ None → ⊥
-takes-none from to new t u None e n = none-some u e
-takes-none from to new t u (Some p) e n = none-some p (sym n)
+takes-none from to new t u span e n = grind arith
 
 stays : (from to : ℕ) (new : List Tree) (t u : Tree) → Reaches [] from to t → replaced from to new t ≡ Some u → Stays t u
 stays from to new t u r e = record {
@@ -171,16 +160,3 @@ pub few-nodes : (t : Tree) → IsNumbered t → 1 ≤ number_of t.head.span → 
 few-nodes t o low high = omega (arith, low, high, count-within (number_of t.head.span + 1) (upper_at t.head) t.kids o)
 
 -- ---- the root of a tree that was numbered over all numbers
-
-placed-inner : (file s a e : ℕ) (h : Head) → h.is_inner ≡ true → 1 ≤ a → (1 ≤ number_of (placed file s a e h).span) × (upper_at (placed file s a e h) ≤ e)
-placed-inner file s a e h inner low = rw inner (omega arith, omega arith)
-
--- its number and its upper end are within them
-pub numbered-head : (file : ℕ) (t u : Tree) → numberized file 2 (2 ^ 47) t ≡ Some u → t.head.is_inner ≡ true → (1 ≤ number_of u.head.span) × (upper_at u.head ≤ 2 ^ 47)
-numbered-head file t u is inner = by-room (nat_le (nodes t) (2 ^ 47 - 2)) is
-  where
-    by-room : (b : Bool) → (if b then Some (numbered file 2 (2 ^ 47 - 2) t) else None) ≡ Some u → (1 ≤ number_of u.head.span) × (upper_at u.head ≤ 2 ^ 47)
-    by-room true e =
-        let same : numbered file 2 (2 ^ 47 - 2) t ≡ u = cc in
-        subst (λ (v : Tree). (1 ≤ number_of v.head.span) × (upper_at v.head ≤ 2 ^ 47)) same (placed-inner file (stride (2 ^ 47 - 2) (nodes t)) 2 (2 ^ 47) t.head inner (omega arith))
-    by-room false e = absurd (cc)

@@ -51,9 +51,6 @@ pub record Lengths (was now : Tree) (range : Range ℕ) (start end old new : ℕ
   pub ends : range.end + old ≡ end + new
   pub ordered : range.start ≤ range.end
 
-bare_kids : (t : Tree) (ts : List Tree) → t.kids ≡ forest ts → bare_forest t.kids ≡ bare_forest (forest ts)
-bare_kids t ts e = ap bare_forest e
-
 -- the children of the root itself gave way to others
 at_root : (was now : Tree) (from to : ℕ) (ts : List Tree) (range : Range ℕ) (old new : ℕ) → AreMarkup was now → Reaches [] from to was → replaced_at [] from to ts was ≡ Some now
     → Lengths was now range (start_in from was) (start_in to was) old new → IsRootEdit was now range
@@ -95,8 +92,7 @@ one_more : (t : Tree) (back : List Tree) → bytes_of (t ∷ back) ≡ length (t
 one_more t back = omega (arith, length-append t.head.text (joined t.kids ++ joined (forest back)), length-append (joined t.kids) (joined (forest back)), length-append t.head.text (joined t.kids))
 
 row_length : (own : List ℕ) (front : List Tree) (t : Tree) (back : List Tree) → length (own ++ joined (forest (front ++ (t ∷ back)))) ≡ length own + (bytes_of front + (length (text_of t) + bytes_of back))
-row_length own front t back =
-    omega (arith, length-append own (joined (forest (front ++ (t ∷ back)))), ap length (joined-append front (t ∷ back)), length-append (joined (forest front)) (joined (forest (t ∷ back))), one_more t back)
+row_length own front t back = grind (arith, length-append, joined-append)
 
 -- one child of the root was changed
 in_child : (was now : Tree) (i : ℕ) (path : List ℕ) (from to : ℕ) (ts : List Tree) (range : Range ℕ) (old new : ℕ) → AreMarkup was now → Reaches (i ∷ path) from to was → replaced_at (i ∷ path) from to ts was ≡ Some now

@@ -1,6 +1,6 @@
 -- The steps of reading pieces of a run again.
 use Rattle.std.proofs.Common.{◌≡◌, ◌↔◌, ◌⊎◌, ℕ, ◌+◌, ◌-◌, ◌≤◌, ◌<◌, ◌^◌, Bool, true, List, length, Option, Some, None, ap, sym, subst, ◌∙◌, arith}
-use Rattle.std.specs.Prelude.{Result, Ok, Err, IfOk}
+use Rattle.std.specs.Prelude.{Result, IfOk}
 use Rattle.std.specs.Global.{Vec}
 use Rattle.std.specs.Str.{IsCharBoundary}
 use Rattle.typst_lines.specs.Classes.{CharClasses}
@@ -42,8 +42,7 @@ use Rattle.typst_parser.proofs.Runs.{end-fails, ends-here, first-within, found-s
 use Rattle.typst_parser.proofs.Serving.{begun-serves, serves-again, serves-fail, serves-pass, serves-run, serves-some}
 
 pub if-ok : {A E : Type 0} (r : Result A E) (P Q : A → Type 0) → ((a : A) → P a → Q a) → IfOk r P → IfOk r Q
-if-ok (Ok a) P Q f h = f a h
-if-ok (Err e) P Q f h = tt
+if-ok r P Q f h = grind arith
 
 module _ {C : Type 0} (k : CharClasses) (a : Attempt C) (ch : TextReplacement) (path : List ℕ) (d : code.Candidate) (run : Run) (o : Option Serving) (h : Reads k ch a path d run o) where
   is : a.records.now.units.entries ≡ entries_in k (text_before ch)
@@ -70,9 +69,7 @@ module _ {C : Type 0} (k : CharClasses) (a : Attempt C) (ch : TextReplacement) (
     step-boundary = now-boundary k ch a.asked.now a.root.now a.records.now.units h.ready h.found.at d.start (h.found.start_now there.before)
 
     begins-now : (s : Option Serving) → Begins k (reading_on run.kind run.levels h.found.carried (place_at a.asked.now.new.now d.start)) d at.number s → ServesNow k ch a.root.now path d run s
-    begins-now s begins =
-        begun-serves k ch a.root.now path d run h.found h.among h.pieces at there s
-        (subst (λ z. Begins k (reading_on run.kind run.levels h.found.carried z) d at.number s) (now-place k ch a.asked.now a.root.now a.records.now.units h.ready h.found.at d.start (h.found.start_now there.before)) begins)
+    begins-now s begins = grind (arith, begun-serves, now-place)
 
     pub step-begins : {E : Type 0} (r : Result (Option Serving) E)
         → ((x : Bool × ℕ) → SaysPiece at.entries at.number x → IfOk r (λ s. Begins k (reading_on run.kind run.levels x (place_at a.asked.now.new.now d.start)) d at.number s)) → IfOk r (ServesNow k ch a.root.now path d run)
@@ -211,11 +208,7 @@ module _ {C : Type 0} (k : CharClasses) (ch : TextReplacement) (q : Asked C) (ro
 module _ {C : Type 0} (k : CharClasses) (ch : TextReplacement) (q : Asked C) (root : Tree) (units : Units) (ready : Speaks k ch q root units) (path : List ℕ) (d : code.Candidate) (i : FoundInner k ch.front ch.old ch.new ch.rest root (at_path path d)) (run : Run)
     (of_it : IsRunOf k ch root (at_path path d) i run) where
   pub new-few : length q.new.now < 2 ^ 64 - 1
-  new-few =
-      let w = width-chars q.new.now ready.text in
-      let s = ap width ready.makes.is in
-      let f = ready.makes.fits_now in
-      omega (arith, w, s, f)
+  new-few = grind (arith, width-chars)
 
   pub inner-boundary : IsCharBoundary q.new.now run.at
   inner-boundary = now-boundary k ch q root units ready i.at run.at (inner-here k ch root (at_path path d) i run of_it)

@@ -1,5 +1,5 @@
 -- Pieces of a run: from what is found of a candidate to whether it passes.
-use Rattle.std.proofs.Common.{◌≡◌, ◌↔◌, ◌⊎◌, inl, inr, ℕ, suc, ◌+◌, ◌-◌, ◌≤◌, ◌<◌, ◌^◌, Bool, true, List, ◌++◌, length, take, drop, take-append-drop, Option, Some, None, refl, ap, sym, subst, ◌∙◌, arith}
+use Rattle.std.proofs.Common.{◌≡◌, ◌↔◌, ◌⊎◌, inl, inr, ℕ, suc, ◌+◌, ◌-◌, ◌≤◌, ◌<◌, ◌^◌, Bool, true, List, length, take, drop, take-append-drop, Option, Some, None, refl, ap, sym, subst, ◌∙◌, arith}
 use Rattle.std.proofs.lemmas.Option.{same_Some}
 use Rattle.typst_lines.specs.Classes.{CharClasses}
 use Rattle.typst_lines.specs.Place.{Place, moved}
@@ -8,18 +8,15 @@ use Rattle.typst_candidates.specs.declared.entry.Entry.{Entry}
 use Rattle.typst_candidates.specs.Candidates.{Candidate}
 use Rattle.typst_candidates.specs.Cursors as cursors
 use Rattle.typst_candidates.specs.Cursors.{closing_of, piece_of}
-use Rattle.typst_candidates.specs.Entries.{end_of, units_of}
+use Rattle.typst_candidates.specs.Entries.{end_of}
 use Rattle.typst_edits.specs.RunKind.{RunKind}
 use Rattle.typst_edits.specs.RunKind.TheVariants as of
-use Rattle.typst_edits.specs.Grammar.{log}
 use Rattle.typst_edits.specs.Pieces.{end_on, run_level, stops_of}
 use Rattle.typst_edits.specs.Point.{gap_of}
 use Rattle.typst_edits.specs.BlockTest.{entries_in, front_in, rear_in}
 use Rattle.typst_edits.specs.Edit.{text_with}
 use Rattle.typst_edits.specs.RunTest.{BeginsAt, Ends, FoundRun, IsLast, LooksFrom, SaysPiece, byte_after, reading_on}
 use Rattle.typst_edits.specs.Served.{MeetsOn}
-use Rattle.typst_edits.specs.RunTest.Ends.{none, some}
-use Rattle.typst_edits.specs.RunTest.LooksFrom.{closing, nothing, pieces}
 use Rattle.typst_edits.proofs.Widths.{width-append}
 use Rattle.typst_parser.specs.Attempt.{Fails}
 use Rattle.typst_parser.specs.TextReplacement.{TextReplacement, Makes, text_after, text_before}
@@ -33,44 +30,22 @@ use Rattle.typst_parser.proofs.Places.{position-within, sides-of}
 -- ---- the entries
 
 ends-from : (es : List Entry) (first : ℕ) (d : Candidate) (from to : ℕ) → Ends es first d from to → After first es from
-ends-from es first d from to (some a b begins more ends less) = begins-after first d.start es a begins
-ends-from es first d from to (none a begins last) = begins-after first d.start es a begins
-
-ends-order : (es : List Entry) (first : ℕ) (d : Candidate) (from to : ℕ) → Ends es first d from to → from ≤ to
-ends-order es first d from to (some a b begins more ends less) = omega (arith, less)
-ends-order es first d from to (none a begins last) = omega arith
+ends-from es first d from to h = grind (arith, begins-after)
 
 ends-to : (es : List Entry) (first : ℕ) (d : Candidate) (from to : ℕ) → Ends es first d from to → to < length es
-ends-to es first d from to (some a b begins more ends less) = (begins-after a d.end es b ends).most
-ends-to es first d from to (none a begins last) = (begins-after first d.start es a begins).most
+ends-to es first d from to h = grind (arith, begins-after)
 
 -- ---- what the records find
 
 begins-once : (es : List Entry) (first at a b : ℕ) → BeginsAt es first at a → BeginsAt es first at b → a ≡ b
 begins-once es first at a b x y = same_Some a b (sym x ∙ y)
 
-looks-last : (es : List Entry) (which : RunKind) (from to looks : ℕ) → LooksFrom es which from to looks → IsLast es from → (found : ℕ) → (which ≡ of.Text → ◌≡◌ {A = Option ℕ} (Some found) (Some (length es)))
-    → (which ≡ of.Block → Some found ≡ closing_of 0 (suc from) (drop (suc from) es)) → (found ≡ looks) ⊎ ((found ≡ length es) × (length es ≤ looks))
-looks-last es which from to looks (pieces more) last found text block = absurd (more last)
-looks-last es which from to looks (closing number end kind closes) last found text block = inl (same_Some found number (block kind ∙ closes))
-looks-last es which from to looks (nothing number end kind long) last found text block = inr (same_Some found (length es) (text kind), long)
-
 looks-more : (es : List Entry) (which : RunKind) (from to looks : ℕ) → LooksFrom es which from to looks → (IsLast es from → ⊥) → to ≡ looks
-looks-more es which from to looks (pieces more) other = refl
-looks-more es which from to looks (closing number end kind closes) other = absurd (other end)
-looks-more es which from to looks (nothing number end kind long) other = absurd (other end)
+looks-more es which from to looks h other = grind arith
 
 looks-never : (es : List Entry) (which : RunKind) (from to looks : ℕ) → LooksFrom es which from to looks → IsLast es from → (which ≡ of.Text → ◌≡◌ {A = Option ℕ} None (Some (length es)))
     → (which ≡ of.Block → None ≡ closing_of 0 (suc from) (drop (suc from) es)) → ⊥
-looks-never es which from to looks (pieces more) last text block = more last
-looks-never es which from to looks (closing number end kind closes) last text block = never (block kind ∙ closes)
-  where
-    never : ◌≡◌ {A = Option ℕ} None (Some number) → ⊥
-    never e = cc
-looks-never es which from to looks (nothing number end kind long) last text block = never (text kind)
-  where
-    never : ◌≡◌ {A = Option ℕ} None (Some (length es)) → ⊥
-    never e = cc
+looks-never es which from to looks h last text block = grind arith
 
 -- a place before a piece of a run, which begins at a byte and is the first one from an entry on
 abbrev pub IsFound : List Entry → ℕ → ℕ → cursors.EntryPlace → Type 0
@@ -81,32 +56,17 @@ abbrev Found : ℕ → cursors.EntryPlace → Option cursors.EntryPlace
 Found at p = cursors.placed p (piece_of at 0 (cursors.start_at p) p.number (drop p.number p.entries))
 
 placed-at : (p q : cursors.EntryPlace) (o : Option ℕ) → ◌≡◌ {A = Option cursors.EntryPlace} (Some q) (cursors.placed p o) → (o ≡ Some q.number) × (q ≡ place_before p.entries q.number)
-placed-at p q None h = absurd (never h)
-  where
-    never : ◌≡◌ {A = Option cursors.EntryPlace} (Some q) None → ⊥
-    never e = cc
-placed-at p q (Some n) h =
-    let same : q ≡ place_before p.entries n = same_Some q (place_before p.entries n) h in
-    let number : q.number ≡ n = ap (λ (x : cursors.EntryPlace). x.number) same in
-    (ap (λ m. Some m) (sym number), same ∙ ap (place_before p.entries) (sym number))
+placed-at p q o h = grind arith
 
 pub is-found : (es : List Entry) (first at : ℕ) (p q : cursors.EntryPlace) → p ≡ place_before es first → ◌≡◌ {A = Option cursors.EntryPlace} (Some q) (Found at p) → IsFound es first at q
 is-found es first at p q e h = placed-at (place_before es first) q (piece_of at 0 (end_of 0 (take first es)) first (drop first es)) (h ∙ ap (Found at) e)
 
 pub none-found : (es : List Entry) (first at n : ℕ) (p : cursors.EntryPlace) → p ≡ place_before es first → ◌≡◌ {A = Option cursors.EntryPlace} None (Found at p) → BeginsAt es first at n → ⊥
-none-found es first at n p e h begins = never (h ∙ ap (Found at) e ∙ ap (cursors.placed (place_before es first)) begins)
-  where
-    never : ◌≡◌ {A = Option cursors.EntryPlace} None (Some (place_before es n)) → ⊥
-    never q = cc
+none-found es first at n p e h begins = grind arith
 
 -- the same is found from another place of the same entries from which the same piece comes first
 found-same : (es : List Entry) (first at : ℕ) (p : cursors.EntryPlace) → p.entries ≡ es → piece_of at 0 (cursors.start_at p) p.number (drop p.number es) ≡ piece_of at 0 (end_of 0 (take first es)) first (drop first es) → Found at p ≡ Found at (place_before es first)
-found-same es first at p e f =
-    ap (λ us. cursors.placed p (piece_of at 0 (cursors.start_at p) p.number (drop p.number us))) e ∙ ap (cursors.placed p) f ∙ same (piece_of at 0 (end_of 0 (take first es)) first (drop first es))
-  where
-    same : (o : Option ℕ) → cursors.placed p o ≡ cursors.placed (place_before es first) o
-    same None = refl
-    same (Some n) = ap (λ (us : List Entry). Some (place_before us n)) e
+found-same es first at p e f = grind arith
 
 pub found-by : (es : List Entry) (first at : ℕ) (p q : cursors.EntryPlace) → p.entries ≡ es → piece_of at 0 (cursors.start_at p) p.number (drop p.number es) ≡ piece_of at 0 (end_of 0 (take first es)) first (drop first es) → ◌≡◌ {A = Option cursors.EntryPlace} (Some q) (Found at p)
     → IsFound es first at q
@@ -120,16 +80,10 @@ pub found-after : (es : List Entry) (first at : ℕ) (p : cursors.EntryPlace) �
 found-after es first at p found = subst (λ (q : cursors.EntryPlace). q.number < length q.entries) (sym found.1) (begins-after first at es p.number found.0).most
 
 pub ends-begin : (es : List Entry) (first : ℕ) (d : Candidate) (from to : ℕ) → Ends es first d from to → BeginsAt es first d.start from
-ends-begin es first d from to (some a b begins more ends less) = begins
-ends-begin es first d from to (none a begins last) = begins
-
-ends-only : (es : List Entry) (first : ℕ) (d : Candidate) (from to : ℕ) → Ends es first d from to → IsLast es from → from ≡ to
-ends-only es first d from to (some a b begins more ends less) last = absurd (more last)
-ends-only es first d from to (none a begins end) last = refl
+ends-begin es first d from to h = grind arith
 
 ends-other : (es : List Entry) (first : ℕ) (d : Candidate) (from to : ℕ) → Ends es first d from to → (IsLast es from → ⊥) → BeginsAt es from d.end to
-ends-other es first d from to (some a b begins more ends less) other = ends
-ends-other es first d from to (none a begins end) other = absurd (other end)
+ends-other es first d from to h other = grind arith
 
 module _ (es : List Entry) (first : ℕ) (d : Candidate) (from to : ℕ) (ends : Ends es first d from to) (p : cursors.EntryPlace) (found : IsFound es first d.start p) where
   found-from : p.number ≡ from
@@ -148,12 +102,7 @@ module _ (es : List Entry) (first : ℕ) (d : Candidate) (from to : ℕ) (ends :
   pub bounds-last : (which : RunKind) (looks : ℕ) → LooksFrom es which from to looks → IsLast p.entries p.number → (q : cursors.EntryPlace) → q ≡ p → (number : ℕ) → number ≡ p.number → (n : ℕ)
       → (which ≡ of.Text → ◌≡◌ {A = Option ℕ} (Some n) (Some (length es))) → (which ≡ of.Block → Some n ≡ closing_of 0 (suc number) (drop (suc number) es))
       → AreBounds es from to looks (Some (record { from = p; to = q; looks = n }))
-  bounds-last which looks l last q same number number_is n text block =
-      let at = number_is ∙ found-from in (
-        found-there,
-        same ∙ found-there ∙ ap (place_before es) (ends-only es first d from to ends (found-last last)),
-        looks-last es which from to looks l (found-last last) n text (λ kind. block kind ∙ ap (λ m. closing_of 0 (suc m) (drop (suc m) es)) at),
-      )
+  bounds-last which looks l last q same number number_is n text block = grind arith
 
   pub looks-found : (which : RunKind) (looks : ℕ) → LooksFrom es which from to looks → IsLast p.entries p.number → (number : ℕ) → number ≡ p.number → (which ≡ of.Text → ◌≡◌ {A = Option ℕ} None (Some (length es)))
       → (which ≡ of.Block → None ≡ closing_of 0 (suc number) (drop (suc number) es)) → ⊥
@@ -165,44 +114,25 @@ module _ (es : List Entry) (first : ℕ) (d : Candidate) (from to : ℕ) (ends :
 
   pub bounds-more : (which : RunKind) (looks : ℕ) → LooksFrom es which from to looks → (IsLast p.entries p.number → ⊥) → (q : cursors.EntryPlace) → IsFound es p.number d.end q → (n : ℕ) → n ≡ q.number
       → AreBounds es from to looks (Some (record { from = p; to = q; looks = n }))
-  bounds-more which looks l other q after n is =
-      let to_is = begins-once es p.number d.end q.number to after.0 (ends-more other) in
-      (found-there, after.1 ∙ ap (place_before es) to_is, inl (is ∙ to_is ∙ looks-more es which from to looks l (found-other other)))
+  bounds-more which looks l other q after n is = grind arith
 
 -- at a run's end, or before another piece
 pub meets-last : (es : List Entry) (which : RunKind) (to m : ℕ) (was y x : Bool × ℕ) (alike : Bool) → ◌≡◌ {A = Option (Bool × ℕ)} (Some was) (Some y) → IsLast es to → (alike ≡ true ↔ (which ≡ of.Block → x.1 ≡ was.1)) → (led : Type 0) → (alike ≡ true ↔ MeetsOn es which to led m y x)
-meets-last es which to m was y x alike same last test led =
-    let e : was.1 ≡ y.1 = ap (λ (p : Bool × ℕ). p.1) (same_Some was y same) in
-    ((λ h. record { goes_on = λ never. absurd (never last); block_end = λ l kind. test.0 h kind ∙ e }), (λ meets. test.1 (λ kind. meets.block_end last kind ∙ sym e)))
+meets-last es which to m was y x alike same last test led = grind arith
 
 pub meets-more : (es : List Entry) (which : RunKind) (to m : ℕ) (any : Bool) (was y x : Bool × ℕ) (alike : Bool) → ◌≡◌ {A = Option (Bool × ℕ)} (Some was) (Some y) → (IsLast es to → ⊥) → (led : Type 0) → (any ≡ true ↔ (led ⊎ (0 < m)))
     → (alike ≡ true ↔ ((any ≡ true) × (x ≡ was))) → (alike ≡ true ↔ MeetsOn es which to led m y x)
-meets-more es which to m any was y x alike same more led some_is test =
-    let e = same_Some was y same in
-    ((λ h. (let p = test.0 h in record { goes_on = λ never. (some_is.0 p.0, p.1 ∙ e); block_end = λ l kind. absurd (more l) })), (λ meets. (let p = meets.goes_on more in test.1 (some_is.1 p.0, p.1 ∙ sym e))))
+meets-more es which to m any was y x alike same more led some_is test = grind arith
 
 pub width-take : (n : ℕ) (cs : List ℕ) → width (take n cs) ≤ width cs
-width-take n cs =
-    let all = ap width (take-append-drop n cs) in
-    let sum = width-append (take n cs) (drop n cs) in
-    omega (arith, all, sum)
+width-take n cs = let all = ap width (take-append-drop n cs) in grind (arith, width-append)
 
 -- a place by the changed stretch, and by what stands before it with it
 pub shift-out : (c : TextReplacement) (new : List ℕ) (e : Replacement) (x y : ℕ) → Makes c new e → x + width c.old ≡ y + width c.new → x + e.old_end ≡ y + e.new_end
-shift-out c new e x y m h =
-    let a = width-append c.front c.old in
-    let b = width-append c.front c.new in
-    let o = m.old_end in
-    let n = m.new_end in
-    omega (arith, a, b, o, n, h)
+shift-out c new e x y m h = grind (arith, width-append)
 
 pub shift-in : (c : TextReplacement) (new : List ℕ) (e : Replacement) (x y : ℕ) → Makes c new e → x + e.old_end ≡ y + e.new_end → x + width c.old ≡ y + width c.new
-shift-in c new e x y m h =
-    let a = width-append c.front c.old in
-    let b = width-append c.front c.new in
-    let o = m.old_end in
-    let n = m.new_end in
-    omega (arith, a, b, o, n, h)
+shift-in c new e x y m h = grind (arith, width-append)
 
 -- ---- the test
 
@@ -210,9 +140,6 @@ module _ (k : CharClasses) (c : TextReplacement) (d : Candidate) (which : RunKin
   -- where it is read on
   abbrev pub place_now : Place
   place_now = moved f.at (text_with c.front c.new c.rest)
-
-  pub found-order : f.from ≤ f.to
-  found-order = ends-order (entries_in k (text_before c)) first d f.from f.to f.ends
 
   pub found-within : f.to < length (entries_in k (text_before c))
   found-within = ends-to (entries_in k (text_before c)) first d f.from f.to f.ends
@@ -257,18 +184,11 @@ module _ (k : CharClasses) (c : TextReplacement) (d : Candidate) (which : RunKin
 
     module _ (b : Bounds) (bounds : AreBounds es f.from f.to f.looks (Some b)) (front rear : ℕ) (front_is : front ≡ front_in k c.front c.old c.rest) (rear_is : rear ≡ rear_in k c.front c.old c.rest) where
       rear-most : rear ≤ length es
-      rear-most =
-          let w = rear-within (width (c.front ++ c.old)) (entries_in k (text_before c)) (units_of (log k (text_before c))).back in
-          let l = ap (λ (xs : List Entry). length xs) is in
-          omega (arith, w, l, rear_is)
+      rear-most = grind (arith, rear-within)
 
       -- the test of looks by the records is that of the candidate
       pub looks-taken : b.from.number < front → rear ≤ b.looks → (f.from < front_in k c.front c.old c.rest) × (rear_in k c.front c.old c.rest ≤ f.looks)
-      looks-taken before after = (let s = ap (λ (p : cursors.EntryPlace). p.number) bounds.0 in omega (arith, s, front_is, before), by-looks bounds.2)
-        where
-          by-looks : (b.looks ≡ f.looks) ⊎ ((b.looks ≡ length es) × (length es ≤ f.looks)) → rear_in k c.front c.old c.rest ≤ f.looks
-          by-looks (inl e) = omega (arith, e, rear_is, after)
-          by-looks (inr e) = let x = e.1 in let m = rear-most in omega (arith, x, m, rear_is)
+      looks-taken before after = grind arith
 
       pub looks-needed : f.from < front_in k c.front c.old c.rest → rear_in k c.front c.old c.rest ≤ f.looks → (b.from.number < front) × (rear ≤ b.looks)
       looks-needed before after = (let s = ap (λ (p : cursors.EntryPlace). p.number) bounds.0 in omega (arith, s, front_is, before), by-looks bounds.2)

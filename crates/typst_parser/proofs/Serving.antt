@@ -1,10 +1,6 @@
 -- One reading of the new text, from one candidate of a run to the next.
-use Rattle.std.proofs.Common.{◌≡◌, ◌↔◌, ◌⊎◌, ℕ, suc, ◌+◌, ◌-◌, ◌≤◌, ◌<◌, ◌^◌, Bool, true, false, List, take, Option, Some, None, refl, ap, sym, subst, ◌∙◌, arith}
-use Rattle.std.proofs.lemmas.Option.{same_Some}
+use Rattle.std.proofs.Common.{◌≡◌, ◌↔◌, ◌⊎◌, ℕ, ◌+◌, ◌-◌, ◌≤◌, ◌<◌, ◌^◌, Bool, true, false, List, take, Option, Some, None, refl, ap, sym, subst, ◌∙◌, arith}
 use Rattle.std.specs.Prelude.{IfSome}
-use Rattle.typst_kinds.specs.declared.mode.SyntaxMode.{SyntaxMode}
-use Rattle.typst_edits.specs.Block.{Block}
-use Rattle.typst_edits.specs.Block.TheVariants as block
 use Rattle.typst_lines.specs.Classes.{CharClasses}
 use Rattle.typst_lines.specs.Place.{moved}
 use Rattle.typst_tokens.specs.Sight.{width}
@@ -15,11 +11,10 @@ use Rattle.typst_candidates.specs.Cursors as cursors
 use Rattle.typst_edits.specs.RunKind.{RunKind}
 use Rattle.typst_edits.specs.Grammar.{tree}
 use Rattle.typst_edits.specs.Part.{ArePieces}
-use Rattle.typst_edits.specs.BlockTest.{SaysBlock, entries_in, rear_in}
+use Rattle.typst_edits.specs.BlockTest.{entries_in, rear_in}
 use Rattle.typst_edits.specs.Edit.{Among, text_with}
 use Rattle.typst_edits.specs.RunTest.{FoundRun}
 use Rattle.typst_edits.specs.Served.{MeetsOn, PassesOn, RunOf, Served, reading_of}
-use Rattle.typst_edits.specs.Served.RunOf.{inner, own}
 use Rattle.typst_parser.specs.Attempt.{Fails, at_path}
 use Rattle.typst_parser.specs.TextReplacement.{TextReplacement, candidates, text_after, text_before}
 use Rattle.typst_parser.specs.Steps.{Begins, BeginsThere, Fit, GoesOn, Grows, HasReadSome, HasReadTo, IsPassing, Serves, ServesFor, ServesNow, ServesOr, ServesRun, place_before}
@@ -33,9 +28,6 @@ use Rattle.typst_parser.proofs.Runs.{grows-there}
 
 -- ---- the run of a path
 
-says-levels : (es : List Entry) (from to to' l l' : ℕ) (b : Block) (m m' : SyntaxMode) → SaysBlock es from to l b m → SaysBlock es from to' l' b m' → l ≡ l'
-says-levels es from to to' l l' b m m' s s' = sym s.count ∙ ap (λ (e : Entry). e.count) (same_Some s.entry s'.entry (sym s.is ∙ s'.is)) ∙ s'.count
-
 -- so is one read, and so is its first entry
 pub record SameRun (w w' : RunKind) (l l' e e' : ℕ) : Type 0 where
   pub kind : w ≡ w'
@@ -43,18 +35,11 @@ pub record SameRun (w w' : RunKind) (l l' e e' : ℕ) : Type 0 where
   pub entry : e ≡ e'
 
 pub one-run : (es : List Entry) (root : Tree) (path : List ℕ) (w w' : RunKind) (l l' e e' : ℕ) → RunOf es root path w l e → RunOf es root path w' l' e' → SameRun w w' l l' e e'
-one-run es root path w w' l l' e e' (own a) (own b) = record { kind = refl; levels = refl; entry = refl }
-one-run es root path w w' l l' e e' (own a) (inner opens to levels read_as never is says) = absurd (never a)
-one-run es root path w w' l l' e e' (inner opens to levels read_as never is says) (own b) = absurd (never b)
-one-run es root path w w' l l' e e' (inner opens to levels read_as never is says) (inner opens' to' levels' mode' never' is' says') =
-    let same = same_Some opens opens' (sym is ∙ is') in
-    record { kind = refl; levels = says-levels es opens' to to' levels levels' block.Content read_as mode' (subst (λ n. SaysBlock es n to levels block.Content read_as) same says) says'; entry = ap suc same }
+one-run es root path w w' l l' e e' h g = grind arith
 
 module _ (k : CharClasses) (c : TextReplacement) (root : Tree) (path : List ℕ) (depth : ℕ) (s : Serving) where
   same-serves : (w w' : RunKind) (l l' e e' : ℕ) → SameRun w w' l l' e e' → Serves k c root path depth w l e s → Serves k c root path depth w' l' e' s
-  same-serves w w' l l' e e' same sv =
-      subst (λ n. Serves k c root path depth w' l' n s) same.entry
-      (subst (λ n. Serves k c root path depth w' n e s) same.levels (subst (λ v. Serves k c root path depth v l e s) same.kind sv))
+  same-serves w w' l l' e e' same sv = grind arith
 
   -- what serves the run of a path serves this one
   pub serves-here : (w : RunKind) (l e : ℕ) → RunOf (entries_in k (text_before c)) root path w l e → ServesRun k c root path depth s → Serves k c root path depth w l e s
@@ -65,8 +50,7 @@ module _ (k : CharClasses) (c : TextReplacement) (root : Tree) (path : List ℕ)
 
 -- a reading that can go on for a candidate serves its run
 pub for-or : (k : CharClasses) (c : TextReplacement) (root : Tree) (path : List ℕ) (d : code.Candidate) (o : Option Serving) → ServesFor k c root path d o → ServesOr k c root path d.depth o
-for-or k c root path d None h = tt
-for-or k c root path d (Some s) h = h.0
+for-or k c root path d o h = grind arith
 
 -- ---- a reading
 
@@ -110,12 +94,7 @@ module _ (k : CharClasses) (c : TextReplacement) (root : Tree) (path : List ℕ)
   module _ (s : Serving) (sv : Serves k c root path d.depth run.kind run.levels run.first_entry s) (goes : GoesOn d s) (target : ℕ) (shift : target + width c.old ≡ d.end + width c.new) where
     -- it goes on for a candidate
     pub serves-some : HasReadSome k (reading_of sv.found) target s.any s.reader
-    serves-some = record {
-      count = sv.count;
-      read = sv.read;
-      some = sv.some;
-      before = λ j l. (let a = sv.less j l in let b = goes.end in omega (arith, a, b, shift));
-    }
+    serves-some = grind arith
 
     module _ (t : Serving) (h : HasReadTo k (reading_of sv.found) target t.any t.reader) (kept : (t.first_candidate ≡ s.first_candidate) × (t.first_entry ≡ s.first_entry) × (t.last ≡ d.end)) where
       again : Serves k c root path d.depth run.kind run.levels run.first_entry (record { reader = t.reader; any = t.any; first_candidate = s.first_candidate; first_entry = s.first_entry; last = d.end })
@@ -201,11 +180,7 @@ ServesAt k c root path None = Unit {0}
 ServesAt k c root path (Some s) = ServesRun k c root (take s.first_candidate.depth path) s.first_candidate.depth s
 
 pub at-for : (k : CharClasses) (c : TextReplacement) (root : Tree) (path : List ℕ) (d : code.Candidate) (was now : Option Serving) → ServesAt k c root path was → IfSome now (λ s. (was ≡ Some s) × GoesOn d s) → ServesFor k c root (take d.depth path) d now
-at-for k c root path d was None h goes = tt
-at-for k c root path d was (Some s) h goes =
-    let here : ServesAt k c root path (Some s) = subst (ServesAt k c root path) goes.0 h in
-    (subst (λ n. ServesRun k c root (take n path) n s) goes.1.depth here, goes.1)
+at-for k c root path d was now h goes = grind arith
 
 pub or-at : (k : CharClasses) (c : TextReplacement) (root : Tree) (path : List ℕ) (depth : ℕ) (o : Option Serving) → ServesOr k c root (take depth path) depth o → ServesAt k c root path o
-or-at k c root path depth None h = tt
-or-at k c root path depth (Some s) h = subst (λ n. ServesRun k c root (take n path) n s) (sym h.serves.depth_is) h
+or-at k c root path depth o h = grind arith

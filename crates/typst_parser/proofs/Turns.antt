@@ -1,12 +1,11 @@
 -- What is asked of the candidates of an edit, one after the other.
-use Rattle.std.proofs.Common.{◌≡◌, ℕ, zero, suc, ◌<◌, List, [], ◌∷◌, ◌++◌, length, min, take, map, Option, Some, option_map, ap, sym, subst, ◌∙◌, arith}
+use Rattle.std.proofs.Common.{◌≡◌, ℕ, zero, suc, ◌<◌, List, [], ◌∷◌, length, min, take, map, Option, Some, option_map, ap, sym, subst, ◌∙◌, arith}
 use Rattle.std.proofs.lemmas.Option.{same_Some, slice_get-map}
 use Rattle.std.proofs.lemmas.List.{length-map, length-take, take_all, take_min}
 use Rattle.std.specs.List.{slice_get}
 use Rattle.std.specs.Prelude.{IfSome}
 use Rattle.std.specs.Str.{IsUtf8}
 use Rattle.typst_lines.specs.Classes.{CharClasses}
-use Rattle.typst_tokens.specs.Sight.{width}
 use Rattle.typst_tree.specs.Tree.{Tree}
 use Rattle.typst_edits.specs.Note.{Note}
 use Rattle.typst_candidates.specs.declared.candidate.Candidate as code
@@ -15,12 +14,10 @@ use Rattle.typst_candidates.specs.Candidates.{Candidate}
 use Rattle.typst_candidates.specs.Entries.{Units, front_of, rear_of}
 use Rattle.typst_candidates.specs.Nested.{Written}
 use Rattle.typst_candidates.specs.Edges.{spelled}
-use Rattle.typst_edits.specs.Grammar.{log}
 use Rattle.typst_edits.specs.Edit.{Among}
 use Rattle.typst_edits.specs.Edit.Among.{this, that}
-use Rattle.typst_edits.specs.PieceNotes.{listed}
 use Rattle.typst_parser.specs.Attempt.{Speaks, at_path}
-use Rattle.typst_parser.specs.TextReplacement.{TextReplacement, Holds, Makes, candidates, text_before}
+use Rattle.typst_parser.specs.TextReplacement.{TextReplacement, Holds, Makes, candidates}
 use Rattle.typst_parser.specs.Reparse.{CanTake, TakesPlace}
 use Rattle.typst_parser.specs.Steps.{GoesOn, ServesFor, ServesOr}
 use Rattle.typst_parser.specs.declared.attempt.Asked.{Asked}
@@ -37,19 +34,11 @@ among-at (y ∷ ys) (suc i) x h = that y ys (among-at ys i x h)
 module _ {C : Type 0} (k : CharClasses) (c : TextReplacement) (root : Tree) (units : Units) (holds : Holds k c root units) (q : Asked C) (makes : Makes c q.new.now q.edit) where
   -- what is asked speaks of the change
   pub asked-speaks : IsUtf8 q.new.now → q.front ≡ front_of q.edit.start 0 units.entries → q.rear ≡ rear_of q.edit.old_end 0 0 units.entries units.back → Speaks k c q root units
-  asked-speaks text front rear = record {
-    text = text;
-    makes = makes;
-    holds = holds;
-    front = front ∙ ap (λ n. front_of n 0 units.entries) makes.start ∙ ap (front_of (width c.front) 0) (entries-are k c root units holds);
-    rear = rear ∙ ap (λ n. rear_of n 0 0 units.entries units.back) makes.old_end ∙ ap (λ (u : Units). rear_of (width (c.front ++ c.old)) 0 0 u.entries u.back) holds.units_are;
-  }
+  asked-speaks text front rear = grind arith
 
   -- what is found are the first candidates of the edit
   pub found-first : (most : ℕ) (xs : List Candidate) → ((ns : List Note) → Written units.entries ns → xs ≡ take most (candidate.candidates ns q.edit.start q.edit.old_end root)) → xs ≡ take most (candidates k c root)
-  found-first most xs found =
-      found (listed (log k (text_before c)).notes) (subst (λ es. Written es (listed (log k (text_before c)).notes)) (sym (entries-are k c root units holds)) (entries-written k (text_before c)))
-      ∙ ap (take most) (candidates-are k c root units holds q.new.now q.edit makes)
+  found-first most xs found = grind (arith, entries-are, entries-written, candidates-are)
 
 -- ---- so many of a list
 

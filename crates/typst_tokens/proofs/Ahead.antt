@@ -1,12 +1,12 @@
 -- What stands ahead of a cursor, seen or gone past in one piece.
-use Rattle.std.proofs.Common.{◌≡◌, ℕ, zero, suc, ◌+◌, max, List, [], ◌∷◌, length, take, if◌then◌else◌, is_none, refl, sym, ap, ◌∙◌, arith, Option}
+use Rattle.std.proofs.Common.{◌≡◌, ℕ, zero, suc, ◌+◌, max, List, [], ◌∷◌, length, take, if◌then◌else◌, is_none, sym, ap, ◌∙◌, arith, Option}
 use Rattle.std.proofs.lemmas.Str.{encodes-chars}
 use Rattle.std.specs.Prelude.{encode_utf8_all}
 use Rattle.std.specs.Str.{chars, IsUtf8}
 use Rattle.typst_lines.specs.Place.{Place, bytes_ahead, moved, moved_from, scout}
 use Rattle.typst_tokens.specs.Reader.{place}
 use Rattle.typst_tokens.specs.Sight.{position, far, Sight, saw, went}
-use Rattle.typst_tokens.proofs.Sights.{far-none, far-on, same-sight, peeked}
+use Rattle.typst_tokens.proofs.Sights.{far-none, far-on, peeked}
 use Rattle.typst_tokens.proofs.Words.{moved-moved, scout-on}
 
 -- where n characters ahead end, where there are so many
@@ -18,9 +18,7 @@ far-whole (suc n) b (c ∷ a) e = far-on n c b a ∙ far-whole n (c ∷ b) a (om
 -- the characters, which come next, were gone past
 pub skipped : (cs : List ℕ) (z y : Place) (r l m e : ℕ) → take (length cs) z.ahead ≡ cs → y ≡ moved (length cs) z → e ≡ position y → m ≡ max r e
     → ◌≡◌ {A = Sight} (record { place = y; reach = m; least = l }) (went (length cs) (record { place = z; reach = r; least = l }))
-skipped cs z y r l m e t p f g =
-    let end : e ≡ far (length cs) z = f ∙ ap position p ∙ sym (far-whole (length cs) z.before z.ahead (sym (ap length t))) in
-    same-sight _ _ _ _ _ _ p (g ∙ ap (max r) end) refl
+skipped cs z y r l m e t p f g = let end : e ≡ far (length cs) z = f ∙ ap position p ∙ sym (far-whole (length cs) z.before z.ahead (sym (ap length t))) in cc
 
 -- they take as many bytes as the text that they are
 pub bytes-of : (text : List ℕ) (z : Place) → IsUtf8 text → take (length (chars text)) z.ahead ≡ chars text → length text ≡ bytes_ahead (length (chars text)) z

@@ -7,7 +7,7 @@ use Rattle.std.specs.Str.{IsUtf8, IsCharBoundary, chars}
 use Rattle.typst_lines.specs.Classes.{in_line}
 use Rattle.typst_lines.specs.Newline.{is_newline}
 use Rattle.typst_lines.specs.Place.{Place, place_at, moved_back}
-use Rattle.typst_tokens.proofs.Frame.{run-agree, run_look, agree-narrow}
+use Rattle.typst_tokens.proofs.Frame.{run-agree, run_look}
 use Rattle.typst_tokens.proofs.Sights.{near-on, near-none, near-start, position-step}
 use Rattle.typst_tokens.specs.Column.{column_at, column_look}
 use Rattle.typst_tokens.specs.Reader.{place, no_look, Agree}
@@ -19,10 +19,7 @@ same-hull r s l m e f = rw (e, f) refl
 
 pub before-most : (s : List ℕ) (i : ℕ) → IsUtf8 s → IsCharBoundary s i → length (place_at s i).before ≤ i
 unfolding place_at
-before-most s i u b =
-    let cs = chars (take i s) in
-    let whole = ap length (encodes-chars (take i s) (IsUtf8-take s i u b)) in
-    omega (arith, length-reverse cs, length-le-encodes cs, whole, length-take i s, b.0)
+before-most s i u b = grind (arith, chars (take i s), ap length (encodes-chars (take i s) (IsUtf8-take s i u b)), length-reverse, length-le-encodes, length-take)
 
 -- one step back within a line, and its end
 pub line-more : (xs rest : List ℕ) (c : ℕ) → xs ≡ c ∷ rest → is_newline c ≡ false → prefix_len in_line xs ≡ suc (prefix_len in_line rest)
@@ -41,16 +38,14 @@ none-some2 : (x : ℕ) → None ≡ Some x → ⊥
 none-some2 x e = cc
 
 pub some-before : (xs : List ℕ) (c : ℕ) → Some c ≡ slice_get xs 0 → xs ≡ c ∷ drop 1 xs
-some-before [] c e = absurd (none-some c e)
-some-before (x ∷ xs) c e = ap (λ y. y ∷ xs) (some-first x c e)
+some-before xs c e = grind arith
 
 pub none-before : (xs : List ℕ) → None ≡ slice_get xs 0 → xs ≡ []
 none-before [] e = refl
 none-before (x ∷ xs) e = absurd (none-some2 x e)
 
 back-from : (b a : List ℕ) (c : ℕ) → b ≡ c ∷ drop 1 b → (moved_back (record { before = b; ahead = a })).before ≡ drop 1 b
-back-from [] a c e = cc
-back-from (x ∷ b) a c e = refl
+back-from b a c e = cc
 
 pub back-is : (z : Place) (c : ℕ) → Some c ≡ slice_get z.before 0 → (moved_back z).before ≡ drop 1 z.before
 back-is z c e = back-from z.before z.ahead c (some-before z.before c e)
@@ -59,17 +54,11 @@ back-is z c e = back-from z.before z.ahead c (some-before z.before c e)
 
 -- one character back
 pub near-back : (n : ℕ) (z : Place) (c : ℕ) → Some c ≡ slice_get z.before 0 → near (suc n) z ≡ near n (moved_back z)
-near-back n z c e = at z.before z.ahead e
-  where
-    at : (b a : List ℕ) → Some c ≡ slice_get b 0 → near (suc n) (record { before = b; ahead = a }) ≡ near n (moved_back (record { before = b; ahead = a }))
-    at [] a e = absurd (none-some c e)
-    at (d ∷ b) a e = near-on n d b a
+near-back n z c e = grind (arith, none-some, near-on)
 
 pub column-least : (z y : Place) (c : ℕ) → near (suc (column_at z)) z ≡ near (suc (prefix_len in_line y.before)) y → Some c ≡ slice_get y.before 0 → is_newline c ≡ true
     → suc (position (moved_back y)) ≡ near (suc (column_at z)) z
-column-least z y c h e t =
-    let none = line-stop y.before (drop 1 y.before) c (some-before y.before c e) t in
-    sym (h ∙ ap (λ n. near (suc n) y) none ∙ near-back 0 y c e ∙ near-none (moved_back y))
+column-least z y c h e t = grind (arith, line-stop, some-before, near-back, near-none)
 
 pub column-start : (z y : Place) → near (suc (column_at z)) z ≡ near (suc (prefix_len in_line y.before)) y → None ≡ slice_get y.before 0 → 0 ≡ near (suc (column_at z)) z
 column-start z y h e =
@@ -78,10 +67,7 @@ column-start z y h e =
 
 pub column-back : (z y w : Place) (c : ℕ) → near (suc (column_at z)) z ≡ near (suc (prefix_len in_line y.before)) y → Some c ≡ slice_get y.before 0 → is_newline c ≡ false → w ≡ moved_back y
     → near (suc (column_at z)) z ≡ near (suc (prefix_len in_line w.before)) w
-column-back z y w c h e t m =
-    let more = line-more y.before (drop 1 y.before) c (some-before y.before c e) t in
-    let rest = ap (prefix_len in_line) (ap (λ (p : Place). p.before) m ∙ back-is y c e) in
-    h ∙ ap (λ n. near (suc n) y) more ∙ near-back (suc (prefix_len in_line (drop 1 y.before))) y c e ∙ ap (near (suc (prefix_len in_line (drop 1 y.before)))) (sym m) ∙ ap (λ n. near (suc n) w) (sym rest)
+column-back z y w c h e t m = grind (arith, line-more, some-before, back-is, near-back)
 
 pub back-smaller : (z : Place) (c : ℕ) → Some c ≡ slice_get z.before 0 → position (moved_back z) < position z
 back-smaller z c e = at z.before z.ahead e
@@ -95,9 +81,7 @@ back-smaller z c e = at z.before z.ahead e
 -- what stands before, turned so that it stands ahead
 turned : (p q : Place) → Agree (column_look p) p q → Agree (run_look (column_at p) no_look) (place [] p.before) (place [] q.before)
 unfolding column_at
-turned p q g =
-    agree-narrow (run_look (column_at p) no_look) (record { back = 0; front = suc (column_at p) }) (place [] p.before) (place [] q.before) (omega arith) (omega arith)
-    (record { before = refl; ahead = g.before })
+turned p q g = grind arith
 
 pub column-frame : (p q : Place) → Agree (column_look p) p q → column_at p ≡ column_at q
 unfolding column_at

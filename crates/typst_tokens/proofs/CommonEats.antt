@@ -15,10 +15,7 @@ some-ahead c (d ∷ ahead) e = omega arith
 
 pub run-ahead : (test : ℕ → Bool) (c : ℕ) (ahead : List ℕ) → slice_get ahead 0 ≡ Some c → test c ≡ true → 1 ≤ prefix_len test ahead
 run-ahead test c [] e t = absurd (cc)
-run-ahead test c (d ∷ ahead) e t =
-    let same : d ≡ c = cc in
-    let t' : test d ≡ true = ap test same ∙ t in
-    rw t' (omega arith)
+run-ahead test c (d ∷ ahead) e t = grind arith
 
 pub line-eats : (test : ℕ → Bool) (c d : ℕ) (p : Place) → scout 0 p ≡ Some c → (c == d) ≡ true → test d ≡ true → 1 ≤ prefix_len test p.ahead
 line-eats test c d p e t h = let same : c ≡ d = grind (arith, nat_tests) in run-ahead test c p.ahead e (ap test same ∙ h)

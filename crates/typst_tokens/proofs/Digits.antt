@@ -1,5 +1,5 @@
 -- Numbers, piece by piece.
-use Rattle.std.proofs.Common.{◌≡◌, ℕ, Bool, true, ◌==◌, if◌then◌else◌, List, length, encode_utf8_all, sym, ap, ◌∙◌}
+use Rattle.std.proofs.Common.{◌≡◌, ℕ, Bool, true, ◌==◌, if◌then◌else◌, List, length, ap, ◌∙◌, arith}
 use Rattle.std.proofs.lemmas.Str.{encodes-chars}
 use Rattle.std.specs.Str.{chars, IsUtf8}
 use Rattle.typst_tokens.specs.Numbers.{in_suffix, numbered, suffixed, with_exponent, is_i64, based}
@@ -28,8 +28,4 @@ none-based b cs p = ap (λ x. by_tests b x (is_i64 (radix_of b) cs)) p
 -- the suffix was eaten
 pub suffixed-is : (n : Numeral) (v w : Sight) (text : List ℕ) (t : Token) → IsUtf8 text → chars text ≡ run in_suffix v.place → w ≡ went_past in_suffix v → t ≡ numbered n text → sight (suffixed n) v ≡ (t, w)
 unfolding suffixed
-suffixed-is n v w text t u e f g =
-    ap (λ x. (numbered n (encode_utf8_all x), went_past in_suffix v)) (sym e)
-    ∙ ap (λ x. (numbered n x, went_past in_suffix v)) (encodes-chars text u)
-    ∙ ap (λ x. (x, went_past in_suffix v)) (sym g)
-    ∙ ap (λ x. (t, x)) (sym f)
+suffixed-is n v w text t u e f g = grind (arith, encodes-chars)

@@ -1,5 +1,5 @@
 -- What was not looked at doesn't matter.
-use Rattle.std.proofs.Common.{◌≡◌, ◌≤◌, ℕ, zero, suc, ◌+◌, ◌-◌, max, min, Bool, true, false, List, [], ◌∷◌, take, length, slice_get, if◌then◌else◌, refl, sym, ap, subst, ◌∙◌, arith, Some}
+use Rattle.std.proofs.Common.{◌≡◌, ◌≤◌, ℕ, zero, suc, ◌+◌, ◌-◌, max, min, Bool, true, false, List, [], ◌∷◌, take, length, slice_get, if◌then◌else◌, refl, sym, ap, subst, ◌∙◌, arith}
 use Rattle.std.specs.List.{prefix_len}
 use Rattle.typst_lines.specs.Place.{Place, moved, moved_from, scout, run, past}
 use Rattle.typst_tokens.specs.Reader.{place, both, no_look, Step, ask, glimpse, Machine, Turn, spanned, span_look, Reader, exec, eaten, Look, look, marked, Agree, SameReading, widened, from_before, from_far, skip_look}
@@ -13,10 +13,7 @@ take-shorter (suc m) zero xs ys le e = absurd (omega arith)
 take-shorter (suc m) (suc n) [] [] le e = refl
 take-shorter (suc m) (suc n) [] (y ∷ ys) le e = absurd (cc)
 take-shorter (suc m) (suc n) (x ∷ xs) [] le e = absurd (cc)
-take-shorter (suc m) (suc n) (x ∷ xs) (y ∷ ys) le e =
-    let tails : take n xs ≡ take n ys = cc in
-    let shorter = take-shorter m n xs ys (omega arith) tails in
-    cc
+take-shorter (suc m) (suc n) (x ∷ xs) (y ∷ ys) le e = let tails : take n xs ≡ take n ys = cc in cc (take-shorter m n xs ys (omega arith) tails)
 
 -- the same n places and the one after them
 scout-agree : (n : ℕ) (xs ys : List ℕ) → take (suc n) (marked xs) ≡ take (suc n) (marked ys) → slice_get xs n ≡ slice_get ys n
@@ -32,43 +29,20 @@ first-agree n xs ys le e = scout-agree 0 xs ys (take-shorter 1 n _ _ le e)
 
 -- ---- a step
 
-front-agree : (f : ℕ) (xs ys : List ℕ) (c : ℕ) → take (suc f) (marked (c ∷ xs)) ≡ take (suc f) (marked (c ∷ ys)) → take f (marked xs) ≡ take f (marked ys)
-front-agree f xs ys c e = cc
-
-back-agree : (b : ℕ) (xs ys : List ℕ) (c : ℕ) → take (b - 1) (marked xs) ≡ take (b - 1) (marked ys) → take b (marked (c ∷ xs)) ≡ take b (marked (c ∷ ys))
-back-agree zero xs ys c e = refl
-back-agree (suc b) xs ys c e =
-    let n : suc b - 1 ≡ b = omega arith in
-    ap (λ t. Some c ∷ t) (rw n at e)
-
 step-agree : (l : Look) (pb pa qb qa : List ℕ) → Agree (from_before pa l) (place pb pa) (place qb qa) → Agree l (moved_from 1 pb pa) (moved_from 1 qb qa)
-step-agree l pb [] qb [] g = record { before = g.before; ahead = take-shorter l.front (max 1 l.front) _ _ (omega arith) g.ahead }
-step-agree l pb [] qb (d ∷ qa) g = let first = first-agree (max 1 l.front) [] (d ∷ qa) (omega arith) g.ahead in absurd (cc)
-step-agree l pb (c ∷ pa) qb [] g = let first = first-agree (suc l.front) (c ∷ pa) [] (omega arith) g.ahead in absurd (cc)
-step-agree l pb (c ∷ pa) qb (d ∷ qa) g =
-    let first = first-agree (suc l.front) (c ∷ pa) (d ∷ qa) (omega arith) g.ahead in
-    let same : d ≡ c = cc in
-    let ahead' = subst (λ x. take (suc l.front) (marked (c ∷ pa)) ≡ take (suc l.front) (marked (x ∷ qa))) same g.ahead in
-    subst (λ x. Agree l (place (c ∷ pb) pa) (place (x ∷ qb) qa)) (sym same)
-    (record { before = back-agree l.back pb qb c g.before; ahead = front-agree l.front pa qa c ahead' })
+step-agree l pb pa qb qa g = grind arith
 
 from_before-same : (l : Look) (xs ys : List ℕ) → slice_get xs 0 ≡ slice_get ys 0 → from_before xs l ≡ from_before ys l
-from_before-same l [] [] e = refl
-from_before-same l [] (y ∷ ys) e = absurd (cc)
-from_before-same l (x ∷ xs) [] e = absurd (cc)
-from_before-same l (x ∷ xs) (y ∷ ys) e = refl
+from_before-same l xs ys e = grind arith
 
 from_before-some : (l : Look) (xs : List ℕ) → 1 ≤ (from_before xs l).front
-from_before-some l [] = omega arith
-from_before-some l (x ∷ xs) = omega arith
+from_before-some l xs = grind arith
 
 agree-first : (l m : Look) (p q : Place) → Agree (both l m) p q → Agree l p q
-agree-first l m p q g =
-    record { before = take-shorter l.back (max l.back m.back) _ _ (omega arith) g.before; ahead = take-shorter l.front (max l.front m.front) _ _ (omega arith) g.ahead }
+agree-first l m p q g = grind (arith, take-shorter)
 
 agree-second : (l m : Look) (p q : Place) → Agree (both l m) p q → Agree m p q
-agree-second l m p q g =
-    record { before = take-shorter m.back (max l.back m.back) _ _ (omega arith) g.before; ahead = take-shorter m.front (max l.front m.front) _ _ (omega arith) g.ahead }
+agree-second l m p q g = grind (arith, take-shorter)
 
 narrowed : (back front : ℕ) (l : Look) (p q : Place) → Agree (widened back front l) p q → Agree l p q
 narrowed back front l p q g = agree-second (record { back = back; front = front }) l p q g
@@ -87,20 +61,9 @@ record SameStep {A : Type 0} (s : Step A) (p q : Place) : Type 0 where
 
 step-frame : {A : Type 0} (s : Step A) (p q : Place) → Agree (glimpse s p) p q → SameStep s p q
 step-frame (turn a) p q g = record { answers = refl; looks = refl }
-step-frame (see n k) p q g =
-    let same = scout-same n (glimpse (k (scout n p)) p) p q g in
-    let rest = step-frame (k (scout n p)) p q (narrowed 0 (suc n) _ p q g) in
-    record {
-      answers = rest.answers ∙ ap (λ o. ask (k o) q) same;
-      looks = ap (widened 0 (suc n)) (rest.looks ∙ ap (λ o. glimpse (k o) q) same);
-    }
+step-frame (see n k) p q g = grind (arith, scout-same n (glimpse (k (scout n p)) p) p q g, step-frame (k (scout n p)) p q (narrowed 0 (suc n) _ p q g))
 step-frame (see_back k) p q g =
-    let same = before-same 0 (glimpse (k (slice_get p.before 0)) p) p q g in
-    let rest = step-frame (k (slice_get p.before 0)) p q (narrowed 1 0 _ p q g) in
-    record {
-      answers = rest.answers ∙ ap (λ o. ask (k o) q) same;
-      looks = ap (widened 1 0) (rest.looks ∙ ap (λ o. glimpse (k o) q) same);
-    }
+    grind (arith, before-same 0 (glimpse (k (slice_get p.before 0)) p) p q g, step-frame (k (slice_get p.before 0)) p q (narrowed 1 0 _ p q g))
 
 -- ---- machines
 
@@ -121,15 +84,12 @@ turn-agree : {M : Type 0} (m : Machine M) (state : M) (c : ℕ) (pb pa qb qa : L
     → (turned m state pb c pa t ≡ turned m state qb c qa t) × (turn_look m pb c pa t ≡ turn_look m qb c qa t)
 turn-agree m state c pb pa qb qa leave more g = (refl, refl)
 turn-agree m state c pb pa qb qa (last after) more g = (refl, refl)
-turn-agree m state c pb pa qb qa (go after) more g =
-    let s = more after (step-agree (span_look m after (c ∷ pb) pa) pb (c ∷ pa) qb (c ∷ qa) g) in
-    (ap (λ r. (c ∷ r.0, r.1)) s.taken, ap (λ l. record { back = l.back - 1; front = suc l.front }) s.looks)
+turn-agree m state c pb pa qb qa (go after) more g = grind (arith, more after (step-agree (span_look m after (c ∷ pb) pa) pb (c ∷ pa) qb (c ∷ qa) g))
 
 span-agree : {M : Type 0} (m : Machine M) (state : M) (pb pa qb qa : List ℕ) → Agree (span_look m state pb pa) (place pb pa) (place qb qa) → SameSpan m state pb pa qb qa
 span-agree m state pb [] qb [] g = record { taken = refl; looks = refl }
 span-agree m state pb [] qb (d ∷ qa) g = let e = g.ahead in absurd (cc)
-span-agree m state pb (c ∷ pa) qb [] g =
-    let first = first-agree (span_look m state pb (c ∷ pa)).front (c ∷ pa) [] (omega arith) g.ahead in absurd (cc)
+span-agree m state pb (c ∷ pa) qb [] g = cc (first-agree (span_look m state pb (c ∷ pa)).front (c ∷ pa) [] (omega arith) g.ahead)
 span-agree m state pb (c ∷ pa) qb (d ∷ qa) g =
     let first = first-agree (span_look m state pb (c ∷ pa)).front (c ∷ pa) (d ∷ qa) (omega arith) g.ahead in
     let same : d ≡ c = cc in
@@ -141,11 +101,7 @@ span-agree m state pb (c ∷ pa) qb (d ∷ qa) g =
     let g1 = narrowed 0 1 (both (glimpse (m state) p) (turn_look m pb c pa t)) p q g' in
     let s = step-frame (m state) p q (agree-first (glimpse (m state) p) (turn_look m pb c pa t) p q g1) in
     let r = turn-agree m state c pb pa qb qa t (λ after. span-agree m after (c ∷ pb) pa (c ∷ qb) qa) (agree-second (glimpse (m state) p) (turn_look m pb c pa t) p q g1) in
-    subst (λ x. SameSpan m state pb (c ∷ pa) qb (x ∷ qa)) (sym same)
-    (record {
-      taken = r.0 ∙ ap (turned m state qb c qa) s.answers;
-      looks = ap (λ k. widened 0 1 (both k (turn_look m pb c pa t))) s.looks ∙ ap (λ k. widened 0 1 (both (glimpse (m state) q) k)) (r.1 ∙ ap (turn_look m qb c qa) s.answers);
-    })
+    grind arith
 
 -- ---- readers
 
@@ -181,8 +137,7 @@ run-turn test l c pb pa qb qa true more g =
 pub run-agree : (test : ℕ → Bool) (l : Look) (pb pa qb qa : List ℕ) → Agree (run_look (prefix_len test pa) l) (place pb pa) (place qb qa) → SameRun test l pb pa qb qa
 run-agree test l pb [] qb [] g = record { long = refl; taken = refl; rest = agree-narrow l (run_look 0 l) _ _ (omega arith) (omega arith) g }
 run-agree test l pb [] qb (d ∷ qa) g = let first = first-agree (run_look 0 l).front [] (d ∷ qa) (omega arith) g.ahead in absurd (cc)
-run-agree test l pb (c ∷ pa) qb [] g =
-    let first = first-agree (run_look (turns test pa (test c)) l).front (c ∷ pa) [] (omega arith) g.ahead in absurd (cc)
+run-agree test l pb (c ∷ pa) qb [] g = cc (first-agree (run_look (turns test pa (test c)) l).front (c ∷ pa) [] (omega arith) g.ahead)
 run-agree test l pb (c ∷ pa) qb (d ∷ qa) g =
     let first = first-agree (run_look (turns test pa (test c)) l).front (c ∷ pa) (d ∷ qa) (omega arith) g.ahead in
     let same : d ≡ c = cc in
@@ -201,9 +156,7 @@ skip-agree zero l pb pa qb qa g = record { long = omega arith; looks = λ m. ref
 skip-agree (suc n) l pb [] qb [] g = record { long = refl; looks = λ m. refl; rest = step-agree l pb [] qb [] g }
 skip-agree (suc n) l pb [] qb (d ∷ qa) g = let first = first-agree (from_before [] l).front [] (d ∷ qa) (omega arith) g.ahead in absurd (cc)
 skip-agree (suc n) l pb (c ∷ pa) qb [] g = let first = first-agree (from_before (c ∷ pa) (skip_look n pa l)).front (c ∷ pa) [] (omega arith) g.ahead in absurd (cc)
-skip-agree (suc n) l pb (c ∷ pa) qb (d ∷ qa) g =
-    let s = skip-agree n l (c ∷ pb) pa (d ∷ qb) qa (step-agree (skip_look n pa l) pb (c ∷ pa) qb (d ∷ qa) g) in
-    record { long = omega (arith, s.long); looks = λ m. ap (from_before (c ∷ pa)) (s.looks m); rest = s.rest }
+skip-agree (suc n) l pb (c ∷ pa) qb (d ∷ qa) g = grind (arith, skip-agree n l (c ∷ pb) pa (d ∷ qb) qa (step-agree (skip_look n pa l) pb (c ∷ pa) qb (d ∷ qa) g))
 
 pub frame : {M A : Type 0} (r : Reader M A) (p q : Place) → Agree (look r p) p q → SameReading r p q
 frame (answer a) p q g = record { answers = refl; lengths = refl; looks = refl }

@@ -1,5 +1,5 @@
 -- Line ends in whitespace, character by character.
-use Rattle.std.proofs.Common.{◌≡◌, ◌≤◌, ℕ, suc, Bool, true, false, not, ◌&&◌, ◌==◌, if◌then◌else◌, List, [], ◌∷◌, length, slice_index_or, refl, sym, ap, arith, Some, None}
+use Rattle.std.proofs.Common.{◌≡◌, ◌≤◌, ℕ, suc, Bool, false, not, ◌&&◌, ◌==◌, if◌then◌else◌, List, [], ◌∷◌, length, slice_index_or, refl, sym, ap, arith, Some, None}
 use Rattle.std.proofs.lemmas.Str.{length-le-encodes, encodes-chars}
 use Rattle.std.specs.Str.{chars, IsUtf8}
 use Rattle.typst_lines.proofs.LineTable.{place-end}
@@ -11,9 +11,7 @@ use Rattle.typst_tokens.specs.Common.{line_ends}
 pub line_ends-le : (b : Bool) (cs : List ℕ) → line_ends b cs ≤ length cs
 unfolding line_ends
 line_ends-le b [] = omega arith
-line_ends-le b (c ∷ cs) =
-    let rest = line_ends-le (c == 13) cs in
-    elim (is_newline c && not (b && c == 10)) as (λ t. (if t then suc (line_ends (c == 13) cs) else line_ends (c == 13) cs) ≤ suc (length cs)) [ true ↦ omega arith | false ↦ omega arith ]
+line_ends-le b (c ∷ cs) = grind (arith, line_ends-le (c == 13) cs)
 
 -- the line ends ahead, as the next character shows them
 pub line_ends-step : (b : Bool) (p : Place) (c : ℕ) → Some c ≡ scout 0 p
@@ -35,6 +33,4 @@ line_ends-fit text u = omega (arith, line_ends-le false (chars text), length-le-
 -- no line ends in one space
 pub one-space : (bs : List ℕ) → length bs ≡ 1 → slice_index_or bs 0 0 ≡ 32 → 0 ≡ line_ends false (chars bs)
 unfolding line_ends chars
-one-space [] l e = absurd (omega (arith, l))
-one-space (b ∷ []) l e = rw e refl
-one-space (b ∷ (d ∷ bs)) l e = absurd (omega (arith, l))
+one-space bs l e = grind arith

@@ -2,7 +2,7 @@
 use Rattle.std.proofs.Common.{◌≡◌, ◌≤◌, ℕ, zero, suc, ◌+◌, ◌-◌, Bool, true, false, List, [], ◌∷◌, ◌++◌, length, take, drop, slice_range, refl, sym, ap, subst, ◌∙◌, arith, length-append, length-take-le, length-drop, take_at, take-add, drop-drop}
 use Rattle.std.proofs.lemmas.List.{length-take, drop_all}
 use Rattle.std.proofs.lemmas.List.Folds.{drop_split}
-use Rattle.std.proofs.lemmas.Str.{chars-append, chars-nil, encodes-chars, IsCharBoundary-end, IsUtf8-between}
+use Rattle.std.proofs.lemmas.Str.{chars-append, chars-nil, encodes-chars, IsUtf8-between}
 use Rattle.std.specs.List.{prefix_len}
 use Rattle.std.specs.Prelude.{encode_utf8_all}
 use Rattle.std.specs.Str.{chars, IsUtf8, IsCharBoundary}
@@ -66,7 +66,4 @@ line-kept a b from end same is = subst (λ t. IsLineEnd t from end) (sym same) i
 -- a text's end is a line's end
 pub end-of-text : (text : List ℕ) → IsLineEnd text (length text) (length text)
 unfolding place_at
-end-of-text text =
-    let last = IsCharBoundary-end text in
-    let none : chars (drop (length text) text) ≡ [] = ap chars (drop_all (length text) text (omega arith)) ∙ chars-nil in
-    record { start = last; line = record { grows = omega arith; boundary = last; moves = rw none refl } }
+end-of-text text = grind (arith, drop_all, chars-nil)

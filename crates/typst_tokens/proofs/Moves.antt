@@ -6,8 +6,7 @@ use Rattle.typst_tokens.specs.Reader.{place, spanned, Reader, exec, eaten}
 use Rattle.typst_tokens.specs.Reader.Reader.{answer, peek, glance, span, eat, see_run, skip, eat_run}
 
 moved-end : (n : ℕ) (xs : List ℕ) → moved_from n xs [] ≡ place xs []
-moved-end zero xs = refl
-moved-end (suc n) xs = refl
+moved-end n xs = grind arith
 
 pub moved-more : (m n : ℕ) (xs ys : List ℕ) → moved n (moved_from m xs ys) ≡ moved_from (m + n) xs ys
 moved-more zero n xs ys = let e : 0 + n ≡ n = omega arith in rw e refl

@@ -1,5 +1,5 @@
 -- Names, in one piece.
-use Rattle.std.proofs.Common.{◌≡◌, ℕ, suc, List, ◌∷◌, length, encode_utf8_all, sym, ap, ◌∙◌, Option, Some, None}
+use Rattle.std.proofs.Common.{◌≡◌, ℕ, suc, List, ◌∷◌, length, sym, ap, ◌∙◌, Option, Some, None, rules}
 use Rattle.std.proofs.lemmas.Str.{encodes-chars}
 use Rattle.std.specs.List.{prefix_len}
 use Rattle.std.specs.Str.{chars, IsUtf8}
@@ -22,12 +22,7 @@ named_by c rest bytes found w = sight (elim found as (λ _. Reader Memory Token)
 ident-is : (k : CharClasses) (c : ℕ) (v u w : Sight) (text : List ℕ) → IsUtf8 text → u ≡ went 1 v → chars text ≡ run (is_id_continue k) u.place → w ≡ saw (suc (prefix_len (is_id_continue k) u.place.ahead)) u
     → sight (ident k c) v ≡ named_by c (chars text) text (keyword (c ∷ text)) w
 unfolding ident
-ident-is k c v u w text good e f g =
-    let test = is_id_continue k in
-    ap (λ (y : Sight). let rest = run test y.place in named_by c rest (encode_utf8_all rest) (keyword (c ∷ encode_utf8_all rest)) (saw (suc (prefix_len test y.place.ahead)) y)) (sym e)
-    ∙ ap (λ rest. named_by c rest (encode_utf8_all rest) (keyword (c ∷ encode_utf8_all rest)) (saw (suc (prefix_len test u.place.ahead)) u)) (sym f)
-    ∙ ap (λ bytes. named_by c (chars text) bytes (keyword (c ∷ bytes)) (saw (suc (prefix_len test u.place.ahead)) u)) (encodes-chars text good)
-    ∙ ap (named_by c (chars text) text (keyword (c ∷ text))) (sym g)
+ident-is k c v u w text good e f g = search (rules, encodes-chars)
 
 pub ident-keyword : (k : CharClasses) (c : ℕ) (v u w x : Sight) (text : List ℕ) (found : SyntaxKind) (t : Token) → IsUtf8 text → u ≡ went 1 v → chars text ≡ run (is_id_continue k) u.place
     → w ≡ saw (suc (prefix_len (is_id_continue k) u.place.ahead)) u → keyword (c ∷ text) ≡ Some found → sight (keyword_or_name (chars text) found) w ≡ (t, x) → sight (ident k c) v ≡ (t, x)

@@ -1,5 +1,5 @@
 -- Two bytes of ASCII that pass, by bits.
-use Rattle.std.proofs.Common.{◌≡◌, ◌<◌, ℕ, ◌+◌, Bool, true, false, not, ◌&&◌, ◌||◌, ◌==◌, nat_eq, if◌then◌else◌, slice_index_or, bit_and, refl, sym, ap, ◌∙◌, arith}
+use Rattle.std.proofs.Common.{◌≡◌, ◌<◌, ℕ, ◌+◌, Bool, true, false, not, ◌&&◌, ◌||◌, ◌==◌, nat_eq, if◌then◌else◌, slice_index_or, bit_and, refl, sym, ap, ◌∙◌, arith, rules}
 use Rattle.std.specs.Char.{is_ascii, is_ascii_alphanumeric}
 use Rattle.typst_tokens.specs.Pairs.{bytes_pass}
 use Rattle.typst_tokens.specs.Flow.{flows_in_ascii}
@@ -84,10 +84,7 @@ in-ascii false y p s h a t = none-left y a t
 
 -- what the tables say of two bytes
 pub tables-tell : (c d : ℕ) → c < 256 → d < 256 → meet (slice_index_or (tabulate role 0 256) c 0) (slice_index_or (tabulate follow 0 256) d 0) ≡ bytes_pass flows_in_ascii c d
-tables-tell c d l m =
-    ap (λ n. meet n (slice_index_or (tabulate follow 0 256) d 0)) (tabulated-from_zero 0 role 256 c l)
-    ∙ ap (meet (role c)) (tabulated-from_zero 0 follow 256 d m)
-    ∙ in-ascii (is_ascii c) (is_ascii d) (not (may_stop c)) (c == 32) (c == 104) (is_ascii_alphanumeric d) (d == 116)
+tables-tell c d l m = search (rules, tabulated-from_zero, in-ascii)
 
 first-bit : (p s h : Bool) → meet (role_bits p s h) 1 ≡ p
 first-bit true true true = refl

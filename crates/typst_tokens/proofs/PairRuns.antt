@@ -22,29 +22,7 @@ len-off : (test : ℕ → Option ℕ → Bool) (c : ℕ) (a : List ℕ) → test
 len-off test c a e = rw e refl
 
 pairs-on : (test : ℕ → Option ℕ → Bool) (c : ℕ) (z : Place) → Some c ≡ scout 0 z → test c (scout 1 z) ≡ true → past_pairs test (moved 1 z) ≡ past_pairs test z
-pairs-on test c z e g = on z.before z.ahead e g
-  where
-    on : (b a : List ℕ) → Some c ≡ slice_get a 0 → test c (slice_get a 1) ≡ true → past_pairs test (moved_from 1 b a) ≡ past_pairs test (place b a)
-    on b [] e g = absurd (cc)
-    on b (d ∷ a) e g =
-        let same : d ≡ c = cc in
-        sym (ap (λ n. moved_from n b (d ∷ a)) (len-on test d a (ap (λ x. test x (slice_get a 0)) same ∙ g)))
-
-pairs-off : (test : ℕ → Option ℕ → Bool) (c : ℕ) (z : Place) → Some c ≡ scout 0 z → test c (scout 1 z) ≡ false → past_pairs test z ≡ z
-pairs-off test c z e g = off z.before z.ahead e g
-  where
-    off : (b a : List ℕ) → Some c ≡ slice_get a 0 → test c (slice_get a 1) ≡ false → past_pairs test (place b a) ≡ place b a
-    off b [] e g = absurd (cc)
-    off b (d ∷ a) e g =
-        let same : d ≡ c = cc in
-        ap (λ n. moved_from n b (d ∷ a)) (len-off test d a (ap (λ x. test x (slice_get a 0)) same ∙ g))
-
-pairs-end : (test : ℕ → Option ℕ → Bool) (z : Place) → None ≡ scout 0 z → past_pairs test z ≡ z
-pairs-end test z e = at-end z.before z.ahead e
-  where
-    at-end : (b a : List ℕ) → None ≡ slice_get a 0 → past_pairs test (place b a) ≡ place b a
-    at-end b [] e = refl
-    at-end b (d ∷ a) e = absurd (cc)
+pairs-on test c z e g = grind arith
 
 prefix-on : (test : ℕ → Bool) (c : ℕ) (a : List ℕ) → test c ≡ true → prefix_len test (c ∷ a) ≡ suc (prefix_len test a)
 prefix-on test c a e = let one : 1 + prefix_len test a ≡ suc (prefix_len test a) = omega arith in rw (e, one) refl
@@ -90,38 +68,20 @@ or-second : (a b : Bool) → b ≡ true → (a || b) ≡ true
 or-second true b e = refl
 or-second false b e = e
 
-or-neither : (a b : Bool) → a ≡ false → b ≡ false → (a || b) ≡ false
-or-neither a b e f = rw e f
-
-either-on : (alone : ℕ → Bool) (pairs : ℕ → Option ℕ → Bool) (c : ℕ) (z y : Place) (o : Option ℕ) → pairs c o ≡ true → y ≡ moved 1 z → o ≡ scout 0 y → either alone pairs c (scout 1 z) ≡ true
-either-on alone pairs c z y o e f g = or-second (alone c) _ (ap (pairs c) (sym (two-scout z y o f g)) ∙ e)
-
-either-off : (alone : ℕ → Bool) (pairs : ℕ → Option ℕ → Bool) (c : ℕ) (z y : Place) (o : Option ℕ) → Some c ≡ scout 0 z → passes alone (scout 0 z) ≡ false
-    → pairs c o ≡ false → y ≡ moved 1 z → o ≡ scout 0 y → either alone pairs c (scout 1 z) ≡ false
-either-off alone pairs c z y o n s e f g = or-neither (alone c) _ (ap (passes alone) n ∙ s) (ap (pairs c) (sym (two-scout z y o f g)) ∙ e)
-
 -- a run ends where what comes next does not pass
 pub run-ends : (alone : ℕ → Bool) (pairs : ℕ → Option ℕ → Bool) (o p : Option ℕ) (y w : Place) → o ≡ scout 0 y → w ≡ moved 1 y → p ≡ scout 0 w → passes alone (scout 0 y) ≡ false
     → pair_passes pairs o p ≡ false → past_pairs (either alone pairs) y ≡ y
-run-ends alone pairs None p y w o m n s e = pairs-end (either alone pairs) y o
-run-ends alone pairs (Some c) p y w o m n s e = pairs-off (either alone pairs) c y o (either-off alone pairs c y w p o s e m n)
+run-ends alone pairs o p y w h m n s e = grind arith
 
 -- and goes on where it does
 pub run-on : (alone : ℕ → Bool) (pairs : ℕ → Option ℕ → Bool) (o p : Option ℕ) (y w : Place) → o ≡ scout 0 y → w ≡ moved 1 y → p ≡ scout 0 w
     → pair_passes pairs o p ≡ true → past_pairs (either alone pairs) w ≡ past_pairs (either alone pairs) y
-run-on alone pairs None p y w o m n e = absurd (cc)
-run-on alone pairs (Some c) p y w o m n e = ap (past_pairs (either alone pairs)) m ∙ pairs-on (either alone pairs) c y o (either-on alone pairs c y w p e m n)
+run-on alone pairs o p y w h m n e = grind arith
 
 -- fewer are ahead then
 pub run-shortens : (alone : ℕ → Bool) (pairs : ℕ → Option ℕ → Bool) (o p : Option ℕ) (z y w : Place) → y ≡ past alone z → o ≡ scout 0 y → w ≡ moved 1 y → pair_passes pairs o p ≡ true → length w.ahead < length z.ahead
 run-shortens alone pairs None p z y w f o m e = absurd (cc)
-run-shortens alone pairs (Some c) p z y w f o m e =
-    let less = moved-less (prefix_len alone z.ahead) z.before z.ahead in
-    omega (arith, less, ap (λ (x : Place). length x.ahead) f, ap (λ (x : Place). length x.ahead) m, shorter y.before y.ahead o)
-  where
-    shorter : (b a : List ℕ) → Some c ≡ slice_get a 0 → length (moved_from 1 b a).ahead < length a
-    shorter b [] e = absurd (cc)
-    shorter b (d ∷ a) e = omega arith
+run-shortens alone pairs (Some c) p z y w f o m e = grind (arith, moved-less (prefix_len alone z.ahead) z.before z.ahead)
 
 both-true : (a b : Bool) → (a && b) ≡ true → (a ≡ true) × (b ≡ true)
 both-true true b e = (refl, e)
@@ -164,15 +124,7 @@ module _ (test : ℕ → Option ℕ → Bool) (s : List ℕ) (u : IsUtf8 s) (fro
 
   -- and after four of them
   pub runs-on-four : (i : ℕ) → RunsOn test s from i → i + 4 < length s → four_pass test s i ≡ true → RunsOn test s from (i + 4)
-  runs-on-four i r lt e =
-      let passes : ℕ → ℕ → Bool = λ i j. bytes_pass test (get_or s i 0) (get_or s j 0) in
-      let one = both-true (passes i (i + 1)) _ e in
-      let two = both-true (passes (i + 1) (i + 2)) _ one.1 in
-      let three = both-true (passes (i + 2) (i + 3)) _ two.1 in
-      let a = runs-on i (i + 1) refl r (omega (arith, lt)) one.0 in
-      let b = runs-on (i + 1) (i + 2) (omega arith) a (omega (arith, lt)) two.0 in
-      let c = runs-on (i + 2) (i + 3) (omega arith) b (omega (arith, lt)) three.0 in
-      runs-on (i + 3) (i + 4) (omega arith) c lt three.1
+  runs-on-four i r lt e = grind (arith, both-true, runs-on)
 
 -- ---- what a cursor does
 
@@ -181,10 +133,7 @@ covers-pairs test v h = let n = pairs_len test v.place.ahead in covers-went n (s
 
 -- what was gone past was looked at
 pub pairs-seen : (test : ℕ → Option ℕ → Bool) (v : Sight) → saw 1 (went_past_pairs test v) ≡ went_past_pairs test v
-pairs-seen test v =
-    let n = pairs_len test v.place.ahead in
-    let up : suc (0 + n) ≡ suc n = omega arith in
-    same-sight _ _ _ _ _ _ refl (omega (arith, far-moved 0 n v.place.before v.place.ahead, ap (λ k. far k v.place) up)) refl
+pairs-seen test v = grind (arith, same-sight, far-moved)
 
 -- ---- what a machine takes, it takes at once
 

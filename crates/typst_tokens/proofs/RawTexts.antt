@@ -71,7 +71,4 @@ raw-two n v w e f m = ap (λ (x : ℕ). by_count x (x == 2) (went_past (λ c. c 
 
 pub raw-more : (n : ℕ) (v w : Sight) → n ≡ length (run (λ c. c == 96) v.place) → ¬ (n ≡ 2) → w ≡ went_past (λ c. c == 96) v → sight (rest n 0) w ≡ sight raw v
 unfolding raw
-raw-more n v w e f m =
-    ap (sight (rest n 0)) m
-    ∙ ap (λ (b : Bool). by_count n b (went_past (λ c. c == 96) v)) (sym (ne_eqb n 2 f))
-    ∙ ap (λ (x : ℕ). by_count x (x == 2) (went_past (λ c. c == 96) v)) e
+raw-more n v w e f m = grind arith

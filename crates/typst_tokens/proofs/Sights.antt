@@ -103,11 +103,7 @@ position-grows (suc n) b (c ∷ a) = omega (arith, position-on c b a, position-g
 
 pub position-step : (c : ℕ) (z : Place) → Some c ≡ scout 0 z → position z < position (moved 1 z)
 unfolding char_width
-position-step c z e = step z.before z.ahead e
-  where
-    step : (b a : List ℕ) → Some c ≡ slice_get a 0 → position (place b a) < position (moved_from 1 b a)
-    step b [] e = absurd (cc)
-    step b (d ∷ a) e = let bounds = len_utf8_bounds d in omega (arith, position-on d b a)
+position-step c z e = grind (arith, len_utf8_bounds, position-on)
 
 -- a look that read this character last ends after it, or after the mark
 end-from : (n : ℕ) (b a : List ℕ) → position (moved_from (suc n) b a) + (if is_none (slice_get a n) then 1 else 0) ≡ far (suc n) (place b a)
@@ -123,16 +119,11 @@ pub near-some : (z : Place) (c : ℕ) → Some c ≡ slice_get z.before 0 → su
 near-some z c e = some z.before z.ahead e
   where
     some : (b a : List ℕ) → Some c ≡ slice_get b 0 → suc (position (back_from b a)) ≡ near 1 (place b a)
-    some [] a e = absurd (cc)
-    some (d ∷ b) a e = sym (near-on 0 d b a ∙ near-none (place b (d ∷ a)))
+    some b a e = grind (arith, near-on, near-none)
 
 pub near-start : (z : Place) → None ≡ slice_get z.before 0 → 0 ≡ near 1 z
 unfolding near stretch position width
-near-start z e = none z.before z.ahead e
-  where
-    none : (b a : List ℕ) → None ≡ slice_get b 0 → 0 ≡ near 1 (place b a)
-    none [] a e = refl
-    none (d ∷ b) a e = absurd (cc)
+near-start z e = grind arith
 
 -- ---- sights
 
@@ -149,10 +140,7 @@ pub covers-saw_by : (l : Look) (v : Sight) → Covers v → Covers (saw_by l v)
 covers-saw_by l v h = record { reach = omega (arith, h.reach); least = omega (arith, h.least) }
 
 pub covers-went : (n : ℕ) (v : Sight) → Covers v → Covers (went n v)
-covers-went n v h = record {
-  reach = omega (arith, position-moved n v.place.before v.place.ahead);
-  least = omega (arith, h.least, position-grows n v.place.before v.place.ahead);
-}
+covers-went n v h = grind (arith, position-moved, position-grows)
 
 pub covers-past : (test : ℕ → Bool) (v : Sight) → Covers v → Covers (went_past test v)
 covers-past test v h = let n = prefix_len test v.place.ahead in covers-went n (saw (suc n) v) (covers-saw (suc n) v h)
@@ -190,25 +178,18 @@ back-on (suc k) c m b a h = let e : suc k - 1 ≡ k = omega arith in rw e (omega
 
 pub saw-before : (l : Look) (r m : ℕ) (b a : List ℕ) → Covers (record { place = place b a; reach = r; least = m })
     → as_place (moved_from 1 b a) (saw_by (from_before a l) (record { place = place b a; reach = r; least = m })) ≡ saw_by l (went 1 (record { place = place b a; reach = r; least = m }))
-saw-before l r m b [] h = same-sight _ _ _ _ _ _ refl (front l.front) refl
-  where
-    front : (f : ℕ) → max r (far (max 1 f) (place b [])) ≡ max (max r (far 1 (place b []))) (far f (place b []))
-    front f = omega (arith, far-max 1 f (place b []))
-saw-before l r m b (c ∷ a) h =
-    same-sight _ _ _ _ _ _ refl (omega (arith, far-on l.front c b a, far-on 0 c b a, far-none (place (c ∷ b) a), far-le l.front (place (c ∷ b) a))) (back-on l.back c m b a h.least)
+saw-before l r m b a h = grind (arith, same-sight, far-max, far-on, far-none, far-le, back-on)
 
 went-twice : (n r m : ℕ) (b a : List ℕ) → went n (went 1 (record { place = place b a; reach = r; least = m })) ≡ went (suc n) (record { place = place b a; reach = r; least = m })
 went-twice n r m b [] = same-sight _ _ _ _ _ _ (still n) (front n) refl
   where
     still : (n : ℕ) → moved_from n b [] ≡ place b []
-    still zero = refl
-    still (suc n) = refl
+    still n = grind arith
 
     front : (n : ℕ) → max (max r (far 1 (place b []))) (far n (place b [])) ≡ max r (far (suc n) (place b []))
     front zero = omega (arith, far-none (place b []), far-le 1 (place b []))
     front (suc n) = omega (arith, far-end 0 b, far-end n b, far-end (suc n) b)
-went-twice n r m b (c ∷ a) =
-    same-sight _ _ _ _ _ _ refl (omega (arith, far-on n c b a, far-on 0 c b a, far-none (place (c ∷ b) a), far-le n (place (c ∷ b) a))) refl
+went-twice n r m b (c ∷ a) = grind (arith, same-sight, far-on, far-none, far-le)
 
 pub saw-skipped : (n : ℕ) (l : Look) (r m : ℕ) (b a : List ℕ) → Covers (record { place = place b a; reach = r; least = m })
     → as_place (moved_from n b a) (saw_by (skip_look n a l) (record { place = place b a; reach = r; least = m })) ≡ saw_by l (went n (record { place = place b a; reach = r; least = m }))
@@ -336,32 +317,22 @@ pub ran : (n : ℕ) (z y w : Place) (o : Option ℕ) (r l m e : ℕ) → m ≡ m
     → ◌≡◌ {A = Sight} (record { place = y; reach = m; least = l }) (went n (saw (suc n) (record { place = z; reach = r; least = l })))
 ran n z y w o r l m e g f p h q =
     let up : suc (0 + n) ≡ suc n = omega arith in
-    let one = far-read 0 y w o e f p h ∙ ap (far 1) q ∙ far-moved 0 n z.before z.ahead ∙ ap (λ k. far k z) up in
-    same-sight _ _ _ _ _ _ q (omega (arith, g, one, far-next n z)) refl
+    grind (arith, far-read 0 y w o e f p h ∙ ap (far 1) q ∙ far-moved 0 n z.before z.ahead ∙ ap (λ k. far k z) up, same-sight, far-next)
 
 pub two-moved : (z y x : Place) → y ≡ moved 1 z → x ≡ moved 1 y → x ≡ moved 2 z
 two-moved z y x e f = f ∙ ap (moved 1) e ∙ moved-more 1 1 z.before z.ahead
 
 pub two-scout : (z y : Place) (o : Option ℕ) → y ≡ moved 1 z → o ≡ scout 0 y → o ≡ scout 1 z
-two-scout z y o e f = f ∙ ap (scout 0) e ∙ second z.before z.ahead
-  where
-    second : (b a : List ℕ) → scout 0 (moved_from 1 b a) ≡ slice_get a 1
-    second b [] = refl
-    second b (c ∷ a) = refl
+two-scout z y o e f = grind arith
 
 -- where a look begins that read a character last
 pub start-is : (z y : Place) (o : Option ℕ) (e : ℕ) → e ≡ (if is_none o then 0 else position y + 1) → y ≡ moved_back z → o ≡ slice_get z.before 0 → e ≡ near 1 z
-start-is z y None e f g h = f ∙ near-start z h
-start-is z y (Some c) e f g h = let one : position y + 1 ≡ suc (position y) = omega arith in f ∙ one ∙ ap (λ w. suc (position w)) g ∙ near-some z c h
+start-is z y o e f g h = grind (arith, near-start, near-some)
 
 -- and further back
 back-on-one : (n : ℕ) (z y : Place) → y ≡ moved_back z → (slice_get y.before n ≡ slice_get z.before (suc n)) × (near (suc n) y ≡ near (suc (suc n)) z)
 unfolding near stretch position width
-back-on-one n z y e = rw e (by z.before z.ahead)
-  where
-    by : (b a : List ℕ) → (slice_get (back_from b a).before n ≡ slice_get b (suc n)) × (near (suc n) (back_from b a) ≡ near (suc (suc n)) (place b a))
-    by [] a = (refl, refl)
-    by (c ∷ b) a = (refl, omega arith)
+back-on-one n z y e = grind arith
 
 pub second-start-is : (z y x : Place) (o : Option ℕ) (e : ℕ) → e ≡ (if is_none o then 0 else position x + 1) → y ≡ moved_back z → x ≡ moved_back y → o ≡ slice_get y.before 0
     → (o ≡ slice_get z.before 1) × (e ≡ near 2 z)

@@ -67,9 +67,7 @@ sight-end m state k b r l h =
 -- the first place ahead may as well be looked at before
 pub sight-first : {A M : Type 0} (m : Machine M) (state : M) (k : M → Reader M A) (b a : List ℕ) (r l : ℕ) → Covers (record { place = place b a; reach = r; least = l })
     → sight (eat_span m state k) (saw 1 (record { place = place b a; reach = r; least = l })) ≡ sight (eat_span m state k) (record { place = place b a; reach = r; least = l })
-sight-first m state k b [] r l h =
-    let v : Sight = record { place = place b []; reach = r; least = l } in
-    sight-end m state k b (max r (far 1 (place b []))) l (covers-saw 1 v h) ∙ ap (sight (k state)) (saw-twice v) ∙ sym (sight-end m state k b r l h)
+sight-first m state k b [] r l h = grind arith
 sight-first m state k b (c ∷ a) r l h =
     let v : Sight = record { place = place b (c ∷ a); reach = r; least = l } in
     let t = ask (m state) (place b (c ∷ a)) in
@@ -81,5 +79,4 @@ sight-first m state k b (c ∷ a) r l h =
 
 pub went-on : (n r l c : ℕ) (b a : List ℕ)
     → went n (saw (suc n) (went 1 (saw 1 (record { place = place b (c ∷ a); reach = r; least = l })))) ≡ went (suc n) (saw (suc (suc n)) (record { place = place b (c ∷ a); reach = r; least = l }))
-went-on n r l c b a =
-    same-sight _ _ _ _ _ _ refl (omega (arith, far-on (suc n) c b a, far-on n c b a, far-on 0 c b a, far-none (place (c ∷ b) a), far-le n (place (c ∷ b) a))) refl
+went-on n r l c b a = grind (arith, same-sight, far-on, far-none, far-le)

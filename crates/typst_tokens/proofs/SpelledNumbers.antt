@@ -1,5 +1,5 @@
 -- Facts on the numbers that digits write.
-use Rattle.std.proofs.Common.{◌≡◌, ◌≤◌, ◌<◌, ℕ, ◌+◌, ◌*◌, ◌^◌, Bool, true, false, ◌&&◌, if◌then◌else◌, nat_lt, List, [], ◌∷◌, refl, sym, ap, ◌∙◌, arith, Option, Some, None, mul_comm, length}
+use Rattle.std.proofs.Common.{◌≡◌, ◌≤◌, ◌<◌, ℕ, ◌+◌, ◌*◌, ◌^◌, Bool, true, false, ◌&&◌, if◌then◌else◌, nat_lt, List, [], ◌∷◌, refl, sym, ap, ◌∙◌, arith, Option, Some, None, length}
 use Rattle.std.proofs.lemmas.Bool.Decides.{nat_tests}
 use Rattle.std.specs.Char.{digit_value}
 use Rattle.std.specs.Option.{SomeIff}
@@ -39,9 +39,7 @@ not-below m n k le e = grind (arith, nat_tests)
 pub number_from-step : (base n c : ℕ) (cs : List ℕ) → 1 ≤ base
     → number_from base n (c ∷ cs) ≡ (if is_digit base c && nat_lt (base * n + digit_value c) (2 ^ 64) then number_from base (base * n + digit_value c) cs else None)
 unfolding number_after
-number_from-step base n c cs h =
-    picked (is_digit base c) (nat_lt (base * n + digit_value c) (2 ^ 64)) (list_all (is_digit base) cs) (nat_lt (number_after base (base * n + digit_value c) cs) (2 ^ 64)) _
-    (not-below (base * n + digit_value c) (number_after base (base * n + digit_value c) cs) (2 ^ 64) (number_after-le base (base * n + digit_value c) cs h))
+number_from-step base n c cs h = grind (arith, not-below, number_after-le)
 
 pub number_from-ahead : (base n c : ℕ) (p : Place) → 1 ≤ base → Some c ≡ scout 0 p
     → number_from base n p.ahead ≡ (if is_digit base c && nat_lt (base * n + digit_value c) (2 ^ 64) then number_from base (base * n + digit_value c) (moved 1 p).ahead else None)
@@ -60,13 +58,7 @@ over base n d false h = refl
 over base n d true h = let e : nat_lt (base * n + d) (2 ^ 64) ≡ false = grind (arith, nat_tests) in rw e refl
 
 pub with_digit-sum : (base n c : ℕ) (r : Option ℕ) → digit_value c < base → SomeIff r (n * base + digit_value c < 2 ^ 64) (n * base + digit_value c) → r ≡ with_digit base n c
-with_digit-sum base n c None l h = sym (over base n (digit_value c) (is_digit base c) (λ m. h (omega (arith, mul_comm base n))))
-with_digit-sum base n c (Some m) l h =
-    let first : nat_lt (digit_value c) base ≡ true = grind (arith, nat_tests) in
-    let small : base * n + digit_value c < 2 ^ 64 = omega (arith, h.0, mul_comm base n) in
-    let second : nat_lt (base * n + digit_value c) (2 ^ 64) ≡ true = grind (arith, nat_tests) in
-    let same : m ≡ base * n + digit_value c = omega (arith, h.1, mul_comm base n) in
-    rw (first, second) (ap Some same)
+with_digit-sum base n c r l h = grind arith
 
 chosen : (b : Bool) (x m : ℕ) (f : ℕ → Option ℕ) → Some m ≡ (if b then Some x else None) → (if b then f x else None) ≡ f m
 chosen true x m f e = let same : x ≡ m = cc in ap f same
@@ -85,9 +77,7 @@ number_from-none base n c p h e w = number_from-ahead base n c p h e ∙ refused
 
 fits-of : (a : Bool) (x m : ℕ) → Some m ≡ (if a && nat_lt x (2 ^ 64) then Some x else None) → m < 2 ^ 64
 fits-of false x m e = absurd (cc)
-fits-of true x m e =
-    elim (nat_lt x (2 ^ 64)) as (λ t. nat_lt x (2 ^ 64) ≡ t → Some m ≡ (if t then Some x else None) → m < 2 ^ 64)
-    [ true ↦ λ l e. (let same : m ≡ x = cc in grind (arith, nat_tests)) | false ↦ λ l e. absurd (cc) ] refl e
+fits-of true x m e = grind arith
 
 pub with_digit-fits : (base n m c : ℕ) → Some m ≡ with_digit base n c → m < 2 ^ 64
 with_digit-fits base n m c e = fits-of (is_digit base c) (base * n + digit_value c) m e
@@ -102,5 +92,4 @@ some-chars text u some = some-of (chars text) text (encodes-chars text u) some
 
 pub no-chars : (text : List ℕ) → length text ≡ 0 → length (chars text) ≡ 0
 unfolding chars
-no-chars [] e = refl
-no-chars (b ∷ text) e = absurd (omega arith)
+no-chars text e = grind arith

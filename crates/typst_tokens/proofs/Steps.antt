@@ -45,11 +45,7 @@ module _ {A M : Type 0} (step : M → ℕ → Turn M) (state : M) (k : M → Rea
 
 -- who reaches the end by eating looked at it
 pub end-seen : (v : Sight) → None ≡ scout 0 v.place → saw 1 v ≡ went 1 v
-end-seen v e = at-end v.place.before v.place.ahead v.reach v.least e
-  where
-    at-end : (b a : List ℕ) (r l : ℕ) → None ≡ slice_get a 0 → ◌≡◌ {A = Sight} (saw 1 (record { place = place b a; reach = r; least = l })) (went 1 (record { place = place b a; reach = r; least = l }))
-    at-end b [] r l e = refl
-    at-end b (d ∷ a) r l e = absurd (cc)
+end-seen v e = grind arith
 
 -- a step takes a byte at least
 pub step-grows : (c : ℕ) (v w : Sight) → Some c ≡ scout 0 v.place → w ≡ went 1 v → position v.place < position w.place

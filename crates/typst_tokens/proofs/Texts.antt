@@ -24,22 +24,11 @@ abbrev pub rest : CharClasses → Reader Memory Token
 rest k = eat_span (in_text k) blank (λ _. answer (plain kind.Text))
 
 other : (c d : ℕ) → may_stop d ≡ true → not (may_stop c) ≡ true → (c == d) ≡ false
-other c d stops goes =
-    elim (c == d) as (λ t. (c == d) ≡ t → t ≡ false) [
-      | true ↦ λ e. absurd (let same : c ≡ d = grind (arith, nat_tests) in let also : may_stop c ≡ true = ap may_stop same ∙ stops in let none : false ≡ true = ap not (sym also) ∙ goes in cc)
-      | false ↦ λ _. refl
-    ] refl
-
-last-of : {A : Type 0} (b₁ b₂ b₃ b₄ b₅ b₆ : Bool) (x₁ x₂ x₃ x₄ x₅ x₆ y : A) → b₁ ≡ false → b₂ ≡ false → b₃ ≡ false → b₄ ≡ false → b₅ ≡ false → b₆ ≡ false
-    → (if b₁ then x₁ else (if b₂ then x₂ else (if b₃ then x₃ else (if b₄ then x₄ else (if b₅ then x₅ else (if b₆ then x₆ else y)))))) ≡ y
-last-of b₁ b₂ b₃ b₄ b₅ b₆ x₁ x₂ x₃ x₄ x₅ x₆ y h₁ h₂ h₃ h₄ h₅ h₆ = rw (h₁, h₂, h₃, h₄, h₅, h₆) refl
+other c d stops goes = grind (arith, nat_tests)
 
 -- a character that stops no text
 plain-is : (k : CharClasses) (c : ℕ) → not (may_stop c) ≡ true → text_step k c ≡ on true
-plain-is k c h =
-    last-of (c == 32) (c == 47) (c == 45) (c == 46) (c == 104) (c == 64) _ _ _ _ _ _ (on (not (may_stop c)))
-    (other c 32 refl h) (other c 47 refl h) (other c 45 refl h) (other c 46 refl h) (other c 104 refl h) (other c 64 refl h)
-    ∙ ap on h
+plain-is k c h = grind arith
 
 -- ---- what flows on
 
@@ -99,11 +88,7 @@ module _ (k : CharClasses) (c : ℕ) (v w : Sight) (h : Covers v) (s : saw 1 v �
   both-are = sym (regard-is (text_step k c) v h) ∙ g
 
   turned-is : saw_by (widened 0 1 (glimpse (text_step k c) v.place)) (saw 1 v) ≡ w
-  turned-is =
-      let l = glimpse (text_step k c) v.place in
-      saw-both (record { back = 0; front = 1 }) l (saw 1 v)
-      ∙ ap (saw_by l) (saw-ahead 1 (saw 1 v) (covers-saw 1 v h) ∙ saw-twice v ∙ s)
-      ∙ ap (λ p. p.1) both-are
+  turned-is = grind (arith, saw-both, saw-ahead, covers-saw, saw-twice, both-are)
 
 step-at : (k : CharClasses) (c : ℕ) (b a : List ℕ) (r l : ℕ) (w : Sight) (t : Turn Memory)
     → Covers (record { place = place b a; reach = r; least = l })
@@ -162,11 +147,4 @@ stopped false y = refl
 
 pub two-words : (first second : List ℕ) (v u x : Sight) (b : Bool) → word_at 1 first v.place ≡ false → u ≡ saw_word 1 first v → b ≡ word_at 1 second u.place → x ≡ saw_word 1 second u
     → regard (see_word 1 first (on false) (see_word 1 second (on false) (on true))) v ≡ (if not b then go blank else leave, x)
-two-words first second v u x b f e g h =
-    regard-see_word 1 first (on false) (see_word 1 second (on false) (on true)) v
-    ∙ ap (λ t. if t then regard (on false) (saw_word 1 first v) else regard (see_word 1 second (on false) (on true)) (saw_word 1 first v)) f
-    ∙ ap (regard (see_word 1 second (on false) (on true))) (sym e)
-    ∙ regard-see_word 1 second (on false) (on true) u
-    ∙ ap (λ t. if t then (leave, saw_word 1 second u) else (go blank, saw_word 1 second u)) (sym g)
-    ∙ ap (λ y. if b then (leave, y) else (go blank, y)) (sym h)
-    ∙ stopped b x
+two-words first second v u x b f e g h = grind (arith, regard-see_word)

@@ -7,11 +7,7 @@ use Rattle.typst_tokens.specs.Sight.{Sight, Covers, far, regard, saw_word, went,
 use Rattle.typst_tokens.proofs.Sights.{far-moved, far-none, same-sight}
 
 pub scout-moved : (n : ℕ) (p : Place) → scout n (moved 1 p) ≡ scout (suc n) p
-scout-moved n p = scout-from n p.before p.ahead
-  where
-    scout-from : (n : ℕ) (before ahead : List ℕ) → slice_get (moved_from 1 before ahead).ahead n ≡ slice_get ahead (suc n)
-    scout-from n before [] = refl
-    scout-from n before (c ∷ ahead) = refl
+scout-moved n p = grind arith
 
 -- a word after the next character
 pub word_at-moved : (n : ℕ) (word : List ℕ) (p : Place) → word_at n word (moved 1 p) ≡ word_at (suc n) word p
@@ -57,10 +53,7 @@ word-reaches n (c ∷ word) z r t h =
 
 pub word-eaten : (word : List ℕ) (z y : Place) (r l m : ℕ) → word_at 0 word z ≡ true → y ≡ moved (length word) z → m ≡ word_reach 0 word z r → Covers (record { place = z; reach = r; least = l })
     → ◌≡◌ {A = Sight} (record { place = y; reach = m; least = l }) (went (length word) (saw_word 0 word (record { place = z; reach = r; least = l })))
-word-eaten word z y r l m t e f h =
-    let s : far (0 + length word) z ≤ word_reach 0 word z r = word-reaches 0 word z r t (omega (arith, far-none z, h.reach)) in
-    let q : 0 + length word ≡ length word = omega arith in
-    same-sight _ _ _ _ _ _ e (omega (arith, f, s, ap (λ k. far k z) q)) refl
+word-eaten word z y r l m t e f h = grind (arith, word-reaches, far-none, same-sight)
 
 -- ---- a word, character by character
 
@@ -100,14 +93,7 @@ module _ (word : List ℕ) (z : Place) (first n : ℕ) (at next : Place) (r : �
       ∙ ap (λ f. if passes (λ d. d == get_or word n 0) o then word_reach (suc n) (drop (suc n) word) z (max r f) else max r f) (sym far-here)
 
   pub looking-on : passes (λ d. d == get_or word n 0) o ≡ true → Looking word z first (n + 1) next (max r (far 1 at))
-  looking-on t =
-      let q : n + 1 ≡ suc n = omega arith in
-      rw q
-      (record {
-        found = found-is ∙ rw t refl;
-        place = m ∙ ap (moved 1) h.place ∙ moved-moved n z.before z.ahead;
-        reach = reach-is ∙ rw t refl;
-      })
+  looking-on t = let q : n + 1 ≡ suc n = omega arith in grind (arith, found-is, moved-moved, reach-is)
 
   pub looking-off : passes (λ d. d == get_or word n 0) o ≡ false → (word_at 0 word z ≡ false) × (word_reach 0 word z first ≡ max r (far 1 at))
   looking-off t = (found-is ∙ rw t refl, reach-is ∙ rw t refl)

@@ -1,7 +1,7 @@
 -- Places between the children of a tree's root.
-use Rattle.std.proofs.Common.{◌≡◌, ℕ, ◌+◌, ◌-◌, ◌^◌, ◌<◌, ◌≤◌, List, [], ◌++◌, length, length-append, length-take-le, map, take, drop, get_or, ap, sym, ◌∙◌, arith}
+use Rattle.std.proofs.Common.{◌≡◌, ℕ, ◌+◌, ◌-◌, ◌^◌, ◌<◌, ◌≤◌, List, ◌++◌, length, length-append, length-take-le, map, take, drop, get_or, ap, sym, ◌∙◌, arith, []}
 use Rattle.std.proofs.lemmas.List.{take-append-le, take-map, take-take, take_all}
-use Rattle.typst_tree.specs.Tree.{Forest, Tree, forest, trees, count, nodes, places, preorder, joined, text_of, saturated, bare, bare_forest}
+use Rattle.typst_tree.specs.Tree.{Tree, forest, trees, count, nodes, places, preorder, joined, text_of, saturated, bare, bare_forest}
 use Rattle.typst_tree.specs.Boundaries.{AreCounted, IsBoundary}
 use Rattle.typst_tree.specs.Steps.{at, children}
 use Rattle.typst_tree.specs.Walks.{Stands, numbers}
@@ -20,14 +20,7 @@ kids_are root xs e = sym (trees_forest xs) ∙ ap trees e
 -- ---- the ends
 
 pub rear : (root : Tree) (xs : List Tree) (n len : ℕ) → AreCounted root → forest xs ≡ root.kids → n ≡ saturated (nodes root) → len ≡ saturated (length (text_of root)) → IsBoundary root (record { index = length xs; nodes = n - 1; bytes = len })
-rear root xs n len counted e n_is len_is =
-    let same : length (trees root.kids) ≡ length xs = length_row xs root.kids e in
-    let all : forest (take (length xs) (trees root.kids)) ≡ root.kids = ap forest (take_all (length xs) (trees root.kids) (omega (arith, same))) ∙ forest_trees root.kids in
-    record {
-      within = omega (arith, same);
-      nodes = omega (arith, n_is, counted.0, ap count all);
-      bytes = omega (arith, len_is, counted.1, ap (λ (f : Forest). length (joined f)) all, length-append root.head.text (joined root.kids));
-    }
+rear root xs n len counted e n_is len_is = grind (arith, length_row, take_all, forest_trees, length-append)
 
 -- ---- steps
 
@@ -42,16 +35,9 @@ pub record Onward (root : Tree) (b : Boundary) (x : Tree) : Type 0 where
 pub onward : (root : Tree) (b : Boundary) (xs : List Tree) (x : Tree) → AreCounted root → IsBoundary root b → b.index < length (trees root.kids) → forest xs ≡ root.kids → x ≡ get_or xs b.index x → Onward root b x
 onward root b xs x fits is more e here =
     let got : x ≡ get_or (trees root.kids) b.index x = here ∙ ap (λ (us : List Tree). get_or us b.index x) (kids_are root xs e) in
-    let w = tree_at (trees root.kids) b.index x got more in
     let all : count (forest (trees root.kids)) ≡ count root.kids = ap count (forest_trees root.kids) in
     let most : length root.head.text + length (joined (forest (take (b.index + 1) (trees root.kids)))) ≤ length (text_of root) = start_le [] (b.index + 1) root in
-    record {
-      counts = omega (arith, is.nodes, w.counted);
-      lengths = omega (arith, is.bytes, w.long);
-      indexed = omega (arith, index_counted root.kids (b.index + 1) (omega (arith, more)), fits.0);
-      counted = omega (arith, is.nodes, w.counted, w.all, all, fits.0);
-      measured = omega (arith, is.bytes, w.long, most, fits.1);
-    }
+    grind (arith, tree_at (trees root.kids) b.index x got more, index_counted)
 
 -- what is before the place before the last child before it
 pub record Backward (root : Tree) (b : Boundary) (x : Tree) : Type 0 where
@@ -63,15 +49,9 @@ pub record Backward (root : Tree) (b : Boundary) (x : Tree) : Type 0 where
 pub backward : (root : Tree) (b : Boundary) (xs : List Tree) (x : Tree) → AreCounted root → IsBoundary root b → 0 < b.index → forest xs ≡ root.kids → x ≡ get_or xs (b.index - 1) x → Backward root b x
 backward root b xs x fits is some e here =
     let got : x ≡ get_or (trees root.kids) (b.index - 1) x = here ∙ ap (λ (us : List Tree). get_or us (b.index - 1) x) (kids_are root xs e) in
-    let w = prior (trees root.kids) b.index x some is.within got in
     let all : count (forest (trees root.kids)) ≡ count root.kids = ap count (forest_trees root.kids) in
     let most : length root.head.text + length (joined (forest (take b.index (trees root.kids)))) ≤ length (text_of root) = start_le [] b.index root in
-    record {
-      counts = omega (arith, is.nodes, w.counts);
-      lengths = omega (arith, is.bytes, w.longs);
-      counted = omega (arith, w.counts, count_take (trees root.kids) b.index, all, fits.0);
-      measured = omega (arith, w.longs, most, fits.1);
-    }
+    grind (arith, prior (trees root.kids) b.index x some is.within got, count_take)
 
 -- ---- the children after a place
 
@@ -86,13 +66,7 @@ stands_behind root b xs ys e rest fits is =
     rw (number, offset, rest) (row_stands root root 0 0 b.index xs e (stands_whole root))
 
 pub left_behind : (root : Tree) (b : Boundary) (xs ys : List Tree) → forest xs ≡ root.kids → ys ≡ drop b.index xs → IsBoundary root b → map (at root) (numbers (b.nodes + 1) (forest ys)) ≡ drop b.index (children (at root 0))
-left_behind root b xs ys e rest is =
-    let same : trees root.kids ≡ xs = sym (kids_are root xs e) in
-    let number : b.nodes + 1 ≡ 0 + 1 + count (forest (take b.index xs)) = omega (arith, is.nodes, ap (λ (us : List Tree). count (forest (take b.index us))) same) in
-    ap (λ (us : List Tree). map (at root) (numbers (b.nodes + 1) (forest us))) rest
-    ∙ (ap (λ (m : ℕ). map (at root) (numbers m (forest (drop b.index xs)))) number
-    ∙ (sym (drop_numbers root (0 + 1) b.index xs)
-    ∙ ap (λ (f : Forest). drop b.index (map (at root) (numbers (0 + 1) f))) (e ∙ ap (λ (t : Tree). t.kids) (sym (node_here root 0 0 root (stands_whole root))))))
+left_behind root b xs ys e rest is = grind (arith, kids_are, drop_numbers, node_here, stands_whole)
 
 -- ---- trees that begin alike
 
@@ -108,12 +82,4 @@ shared was now m rest b own within same low is =
     ∙ ap (λ (ts : List Tree). map bare ts) (take-append-le b.index (take m (trees was.kids)) rest (omega (arith, front, low)) ∙ take-take b.index m (trees was.kids) low))) in
     let alike : bare_forest (forest (take b.index (trees now.kids))) ≡ bare_forest (forest (take b.index (trees was.kids))) =
     sym (forest_bare (take b.index (trees now.kids))) ∙ (ap (λ (ts : List Tree). forest ts) first ∙ forest_bare (take b.index (trees was.kids))) in
-    let counts : count (forest (take b.index (trees now.kids))) ≡ count (forest (take b.index (trees was.kids))) =
-    sym (count_bare (forest (take b.index (trees now.kids)))) ∙ (ap (λ (f : Forest). count f) alike ∙ count_bare (forest (take b.index (trees was.kids)))) in
-    let texts : joined (forest (take b.index (trees now.kids))) ≡ joined (forest (take b.index (trees was.kids))) =
-    sym (joined_bare (forest (take b.index (trees now.kids)))) ∙ (ap (λ (f : Forest). joined f) alike ∙ joined_bare (forest (take b.index (trees was.kids)))) in
-    record {
-      within = omega (arith, long, length-append (take m (trees was.kids)) rest, front, low);
-      nodes = is.nodes ∙ sym counts;
-      bytes = omega (arith, is.bytes, own, ap length texts);
-    }
+    grind (arith, count_bare, joined_bare, length-append)

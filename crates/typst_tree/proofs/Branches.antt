@@ -1,17 +1,17 @@
 -- Steps up from a node.
-use Rattle.std.proofs.Common.{◌≡◌, ℕ, zero, suc, ◌+◌, ◌-◌, ◌^◌, ◌<◌, ◌≤◌, List, [], ◌∷◌, ◌++◌, true, false, length, take, drop, Option, Some, None, refl, ap, sym, subst, ◌∙◌, arith, append_assoc, length-append, get_or}
+use Rattle.std.proofs.lemmas.Grind.{common_steps}
+use Rattle.std.proofs.Common.{◌≡◌, ℕ, zero, suc, ◌+◌, ◌-◌, ◌^◌, ◌<◌, ◌≤◌, List, ◌∷◌, ◌++◌, true, false, length, take, drop, Option, Some, None, refl, ap, sym, subst, ◌∙◌, arith, append_assoc, length-append, get_or, rules, []}
 use Rattle.std.proofs.lemmas.List.{drop-append-le, length-drop}
-use Rattle.typst_tree.proofs.LastLeaf.{last_append, last_none, last_alone, preorder_split}
+use Rattle.typst_tree.proofs.LastLeaf.{last_append, last_none, preorder_split}
 use Rattle.std.proofs.Math.Seq.{drop-append_seam, drop-append-add}
-use Rattle.std.specs.Prelude.{slice_get, nat_le, nat_lt, find}
+use Rattle.std.specs.Prelude.{nat_le, nat_lt, find}
 use Rattle.typst_tree.proofs.SpansAside.{forest_trees}
 use Rattle.typst_tree.proofs.Siblings.{find_behind}
 use Rattle.std.proofs.lemmas.Bool.Decides.{nat_tests}
 use Rattle.std.specs.Option.{option_map, option_or}
-use Rattle.std.proofs.lemmas.Option.{none-some}
-use Rattle.typst_tree.specs.Tree.{Forest, none, more, Tree, trees, nodes, places, forest, count, preorder}
+use Rattle.typst_tree.specs.Tree.{Tree, trees, nodes, places, forest, count, preorder}
 use Rattle.typst_tree.proofs.Rows.{Beside, beside, Over, here_in, over_at}
-use Rattle.typst_tree.specs.Walks.{first_at, last_leaf, is_leaf, is_leaf_from, is_childless, if_none, Stands}
+use Rattle.typst_tree.specs.Walks.{first_at, last_leaf, is_leaf_from, if_none, Stands}
 use Rattle.typst_tree.specs.Rows.{IsChild, IsFork}
 use Rattle.typst_tree.specs.Branches.{IsAbove, leaf_after, leaf_until}
 use Rattle.typst_tree.specs.Follows.{reach_of, index_of}
@@ -26,9 +26,7 @@ use Rattle.typst_tree.proofs.NodesOfStretch.{node_here, same_node, standing, sta
 use Rattle.typst_tree.proofs.Parents.{parent_is, none_from}
 
 pub above_is : (a : LinkedNode) (b : Above) → IsAbove a b → Some (linked b.parent) ≡ parent (linked a)
-above_is a b w =
-    let up = parent_is b.parent.root.now b.parent.node.now b.parent.number b.parent.offset a.node.now a.number b.index b.parent.stands w.child in
-    sym up ∙ ap (λ r. parent (at r a.number)) w.root
+above_is a b w = cc (parent_is b.parent.root.now b.parent.node.now b.parent.number b.parent.offset a.node.now a.number b.index b.parent.stands w.child)
 
 pub no_parent : (a : LinkedNode) → a.number ≡ 0 → None ≡ parent (linked a)
 no_parent a e = ap (option_map (at a.root.now)) (sym (none_from a.number 0 0 (places a.root.now) (omega (arith, e))))
@@ -39,8 +37,7 @@ stands_in a e = subst (λ r. Stands (places r) a.number a.offset (places a.node.
 
 -- the tree of the first long row that a node is or is below, where its place is known
 pub tops_of : (a o : LinkedNode) (xs : List Tree) (x : Tree) → o.root.now ≡ a.root.now → reach_of a.known ≡ reach.Placed → IsFork a.root.now a.number o.node.now o.number → forest xs ≡ o.node.now.kids → x ≡ get_or xs (index_of a.known) x → a.offset < 2 ^ 64 - 1 → Tops a.root.now o.node.now o.number a.number a.offset (nodes a.node.now) a.known x
-tops_of a o xs x root e f g at small =
-    tops a.root.now a.number a.offset (nodes a.node.now) a.known o.node.now o.number o.offset xs x a.holds e f (stands_in o root) g at small
+tops_of a o xs x root e f g at small = search (rules, tops, stands_in)
 
 -- the first leaf from a number on, where some trees begin there
 leaf_free : (n a b : ℕ) (k j : ℕ) (xs : List Tree) → k ≤ n → j ≤ n → first_at (is_leaf_from k) n a xs ≡ first_at (is_leaf_from j) n b xs
@@ -52,26 +49,20 @@ leaf_free n a b k j (x ∷ xs) h l =
 
 -- leaves are looked for from the number k on: what stands before it doesn't count
 pub leaf_drop : (k n a m : ℕ) (xs : List Tree) → k ≡ n + m → m ≤ length xs → first_at (is_leaf_from k) n a xs ≡ first_at (is_leaf_from 0) k 0 (drop m xs)
-leaf_drop k n a zero xs e h =
-    let same : n ≡ k = omega (arith, e) in
-    leaf_free n a 0 k 0 xs (omega (arith, e)) (omega arith) ∙ ap (λ j. first_at (is_leaf_from 0) j 0 xs) same
+leaf_drop k n a zero xs e h = let same : n ≡ k = omega (arith, e) in grind (arith, leaf_free)
 leaf_drop k n a (suc m) [] e h = absurd (omega (arith, h))
 leaf_drop k n a (suc m) (x ∷ xs) e h =
     let fails : nat_le k n ≡ false = grind (arith, nat_tests, e) in
     rw fails (leaf_drop k (n + 1) (a + length x.head.text) m xs (omega (arith, e)) (omega (arith, h)))
 
 pub leaf_split : (k : ℕ) (xs ys zs : List Tree) → xs ≡ ys ++ zs → first_at (is_leaf_from 0) k 0 xs ≡ if_none (first_at (is_leaf_from 0) k 0 ys) (first_at (is_leaf_from 0) (k + length ys) 0 zs)
-leaf_split k xs ys zs e =
-    ap (first_at (is_leaf_from 0) k 0) e ∙ (first_append (is_leaf_from 0) k 0 ys zs ∙ ap (if_none (first_at (is_leaf_from 0) k 0 ys)) (leaf_free (k + length ys) _ 0 0 0 zs (omega arith) (omega arith)))
+leaf_split k xs ys zs e = grind (arith, first_append, leaf_free)
 
 -- the nodes from a number on that is within some trees' nodes
 cut_within : (xs : List Tree) (k b d m : ℕ) (ys : List Tree) → Stands xs k b ys → d ≤ length ys → m ≡ k + length ys → drop (k + d) xs ≡ drop d ys ++ drop m xs
 cut_within xs k b d m ys s l e =
     let w = standing xs k b ys s in
-    let front : length w.front + d ≡ k + d = omega (arith, w.number) in
-    let both : length (w.front ++ ys) ≡ m = omega (arith, w.number, e, length-append w.front ys) in
-    let behind : drop m xs ≡ w.back = ap (λ j. drop j xs) (sym both) ∙ (ap (drop (length (w.front ++ ys))) (w.whole ∙ sym (append_assoc w.front ys w.back)) ∙ drop-append_seam (w.front ++ ys) w.back) in
-    ap (λ j. drop j xs) (sym front) ∙ (ap (drop (length w.front + d)) w.whole ∙ (drop-append-add w.front (ys ++ w.back) d ∙ (drop-append-le d ys w.back l ∙ ap (λ zs. drop d ys ++ zs) (sym behind))))
+    grind (arith, common_steps, length-append, append_assoc, drop-append_seam, drop-append-add, drop-append-le)
 
 -- of the leaves from a number on, those below a node come before those behind it
 pub leaf_within : (b : LinkedNode) (k m : ℕ) → b.number ≤ k → k ≤ b.number + nodes b.node.now → m ≡ b.number + nodes b.node.now → leaf_after b.root.now k ≡ option_map (at b.root.now) (if_none (first_at (is_leaf_from k) b.number (start_of (linked b)) (places b.node.now)) (first_at (is_leaf_from 0) m 0 (drop m (places b.root.now))))
@@ -122,12 +113,10 @@ over_above a b xs w e =
     (record { within = omega (arith, s.within); number = s.number; offset = omega (arith, s.start, a.stands.begins) })
 
 map_some : (f : ℕ → At) (x y : Option ℕ) (a : At) → Some a ≡ option_map f x → option_map f (if_none x y) ≡ Some a
-map_some f None y a e = cc
-map_some f (Some n) y a e = sym e
+map_some f x y a e = grind arith
 
 map_none : (f : ℕ → At) (x y : Option ℕ) → None ≡ option_map f x → option_map f (if_none x y) ≡ option_map f y
-map_none f None y e = refl
-map_none f (Some n) y e = cc
+map_none f x y e = grind arith
 
 leaf_here : (b : LinkedNode) (k : ℕ) → first_below (is_leaf_from k) (linked b) ≡ option_map (at b.root.now) (first_at (is_leaf_from k) b.number (start_of (linked b)) (places b.node.now))
 leaf_here b k =
@@ -157,21 +146,10 @@ if_none_right x y z e f = ap (λ o. if_none o y) e ∙ f
 
 -- the leaves before a number within a row come after those before the row
 pub until_within : (xs : List Tree) (k b m : ℕ) (ys : List Tree) → Stands xs k b ys → k ≤ m → m ≤ k + length ys → last_leaf m 0 xs ≡ if_none (last_leaf m k ys) (last_leaf k 0 xs)
-until_within xs k b m ys s l h =
-    let w = standing xs k b ys s in
-    let front : 0 + length w.front ≡ k = omega (arith, w.number) in
-    let whole : last_leaf m 0 xs ≡ if_none (last_leaf m k (ys ++ w.back)) (last_leaf m 0 w.front) =
-    ap (last_leaf m 0) w.whole ∙ (last_append m 0 w.front (ys ++ w.back) ∙ ap (λ j. if_none (last_leaf m j (ys ++ w.back)) (last_leaf m 0 w.front)) front) in
-    let here : last_leaf m k (ys ++ w.back) ≡ last_leaf m k ys =
-    last_append m k ys w.back ∙ if_none_right (last_leaf m (k + length ys) w.back) (last_leaf m k ys) (last_leaf m k ys) (last_none m (k + length ys) w.back h) refl in
-    let before : last_leaf k 0 xs ≡ last_leaf k 0 w.front =
-    ap (last_leaf k 0) w.whole ∙ (last_append k 0 w.front (ys ++ w.back) ∙ if_none_right (last_leaf k (0 + length w.front) (ys ++ w.back)) (last_leaf k 0 w.front) (last_leaf k 0 w.front) (last_none k (0 + length w.front) (ys ++ w.back) (omega (arith, front))) refl) in
-    let same : last_leaf m 0 w.front ≡ last_leaf k 0 w.front = unbounded m k 0 w.front (omega (arith, front, l)) (omega (arith, front)) in
-    whole ∙ (ap (λ o. if_none o (last_leaf m 0 w.front)) here ∙ ap (if_none (last_leaf m k ys)) (same ∙ sym before))
+until_within xs k b m ys s l h = let w = standing xs k b ys s in grind (arith, last_append, if_none_right, last_none, unbounded)
 
 map_or : (f : ℕ → At) (x y : Option ℕ) → option_map f (if_none x y) ≡ option_or (option_map f x) (option_map f y)
-map_or f None y = refl
-map_or f (Some n) y = refl
+map_or f x y = grind arith
 
 pub until_here : (b : LinkedNode) (m : ℕ) (o : Option ℕ) → b.number ≤ m → m ≤ b.number + nodes b.node.now → o ≡ last_leaf m b.number (places b.node.now) → leaf_until b.root.now m ≡ option_or (option_map (at b.root.now) o) (leaf_until b.root.now b.number)
 until_here b m o l h e =
@@ -179,37 +157,23 @@ until_here b m o l h e =
     ∙ map_or (at b.root.now) o (last_leaf b.number 0 (places b.root.now))
 
 or_nothing : (x y : Option At) → y ≡ None → option_or x y ≡ x
-or_nothing None y e = e
-or_nothing (Some a) y e = refl
+or_nothing x y e = grind arith
 
 -- before the root there is no leaf
 pub until_top : (r : Option LinkedNode) (root t : Tree) (n z : ℕ) → t ≡ root → z ≡ 0 → leaf_until t n ≡ option_or (option_map linked r) (leaf_until t z) → option_map linked r ≡ leaf_until root n
-until_top r root t n z e f w =
-    sym (ap (λ x. leaf_until x n) (sym e) ∙ (w ∙ or_nothing (option_map linked r) (leaf_until t z) (ap (leaf_until t) f ∙ ap (option_map (at t)) (last_none 0 0 (places t) (omega arith)))))
+until_top r root t n z e f w = grind (arith, or_nothing, last_none)
 
 -- a loop over the children before one begins with those before it
 pub until_row : (o : Tree) (n m i : ℕ) (xs : List Tree) → forest xs ≡ o.kids → m ≡ n + 1 + count (forest (take i xs)) → last_leaf m n (places o) ≡ last_leaf m n (o ∷ preorder (forest (take i xs)))
 until_row o n m i xs e h =
     let rows : places o ≡ (o ∷ preorder (forest (take i xs))) ++ preorder (forest (drop i xs)) = ap (λ f. o ∷ preorder f) (sym e) ∙ ap (λ ys. o ∷ ys) (preorder_split i xs) in
-    let past : m ≤ n + length (o ∷ preorder (forest (take i xs))) = omega (arith, h, length_preorder (forest (take i xs))) in
-    ap (last_leaf m n) rows ∙ (last_append m n (o ∷ preorder (forest (take i xs))) (preorder (forest (drop i xs)))
-    ∙ if_none_right _ (last_leaf m n (o ∷ preorder (forest (take i xs)))) _ (last_none m _ (preorder (forest (drop i xs))) past) refl)
-
-childless_not : (f : Forest) (i : ℕ) (t : Tree) → slice_get (trees f) i ≡ Some t → is_childless f ≡ false
-childless_not none i t g = absurd (none-some t g)
-childless_not (more h ks r) i t g = refl
-
--- a node with a child is no leaf
-pub not_leaf : (o : Tree) (n m i : ℕ) (t : Tree) → IsChild o n t m i → is_leaf o ≡ false
-not_leaf o n m i t c = rw (childless_not o.kids i t c.here) refl
+    grind (arith, length_preorder, last_append, if_none_right, last_none)
 
 pub none_alone : (o : Tree) (n m j : ℕ) (t : Tree) (k : ℕ) (xs : List Tree) {i : ℕ} → IsChild o n t m i → n < k → j ≡ 0 → last_leaf k n (o ∷ preorder (forest (take j xs))) ≡ None
-none_alone o n m j t k xs {i} c l e =
-    last_alone k n o xs j l e ∙ rw (not_leaf o n m i t c) refl
+none_alone o n m j t k xs {i} c l e = grind arith
 
 -- the siblings up to a node aren't behind it
 pub behind_above : (a : LinkedNode) (b : Above) → IsAbove a b → find (is_sibling_after (linked a)) (children (linked b.parent)) ≡ find (is_sibling_after (linked a)) (drop b.index (children (linked b.parent)))
 behind_above a b w =
     let here : (node_of (linked b.parent)).kids ≡ forest (trees b.parent.node.now.kids) = ap (λ t. t.kids) (node_here b.parent.root.now b.parent.number b.parent.offset b.parent.node.now b.parent.stands) ∙ sym (forest_trees b.parent.node.now.kids) in
-    let s = beside_of a b (trees b.parent.node.now.kids) w (forest_trees b.parent.node.now.kids) in
-    rw here (find_behind (linked a) b.parent.root.now (b.parent.number + 1) b.index (trees b.parent.node.now.kids) (omega (arith, s.number)))
+    grind (arith, beside_of, forest_trees, find_behind)

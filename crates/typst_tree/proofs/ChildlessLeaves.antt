@@ -1,14 +1,12 @@
 -- Leaves without children.
-use Rattle.std.proofs.Common.{◌≡◌, ℕ, zero, suc, ◌+◌, ◌<◌, true, false, List, [], ◌∷◌, ◌++◌, length, take, get_or, refl, ap, sym, ◌∙◌, subst, arith, add-one, if◌then◌else◌}
+use Rattle.std.proofs.Common.{◌≡◌, ℕ, zero, suc, ◌+◌, ◌<◌, List, ◌∷◌, ◌++◌, length, take, get_or, refl, ap, sym, ◌∙◌, subst, arith, add-one, rules, []}
 use Rattle.typst_kinds.specs.declared.kind.SyntaxKind.{SyntaxKind}
-use Rattle.typst_kinds.specs.Kinds.{is_error}
 use Rattle.typst_kinds.specs.Span.{SpanValue}
 use Rattle.typst_kinds.specs.Head.{bare_head, spanned}
 use Rattle.typst_tree.specs.Tree.{Forest, none, more, Tree, forest, bare, bare_forest, with_each, synthesized, with_kind, at_tree}
 use Rattle.typst_tree.specs.Numbers.{numbered_list}
 use Rattle.typst_tree.specs.Order.{IsWholeForest, IsWhole}
 use Rattle.typst_tree.proofs.Numbering.{forest_numbered, numbered_forest_bare}
-use Rattle.typst_tree.proofs.Forests.{kids_kind}
 
 none_bare : (f : Forest) → bare_forest f ≡ none → f ≡ none
 none_bare none e = refl
@@ -27,10 +25,7 @@ whole_same (more h ks r) (more h' ks' r') e w =
 
 -- the same of trees
 pub whole_same_tree : (t u : Tree) → bare t ≡ bare u → IsWhole u → IsWhole t
-whole_same_tree t u e w =
-    let inner : t.head.is_inner ≡ u.head.is_inner = ap (λ v. v.head.is_inner) e in
-    let kids : bare_forest t.kids ≡ bare_forest u.kids = ap (λ v. v.kids) e in
-    (λ q. none_bare t.kids (kids ∙ ap bare_forest (w.0 (sym inner ∙ q))), whole_same t.kids u.kids kids w.1)
+whole_same_tree t u e w = grind (arith, none_bare, whole_same)
 
 pub whole_left : (xs ys : List Tree) → IsWholeForest (forest (xs ++ ys)) → IsWholeForest (forest xs)
 whole_left [] ys w = tt
@@ -61,14 +56,9 @@ with_each_bare sp none = refl
 with_each_bare sp (more h ks r) = λ i. more (bare_head h) (with_each_bare sp ks i) (with_each_bare sp r i)
 
 pub whole_synthesized : (sp : SpanValue) (t : Tree) → IsWhole t → IsWhole (synthesized sp t)
-whole_synthesized sp t w =
-    whole_same_tree (synthesized sp t) t (λ i. record { head = bare_head t.head; kids = with_each_bare sp t.kids i }) w
-
-inner_kind : (k : SyntaxKind) (t : Tree) → (with_kind k t).head.is_inner ≡ t.head.is_inner
-inner_kind k t = elim (is_error t.head.kind) as (λ b. (if b then t else record { head = record t.head { kind = k }; kids = t.kids }).head.is_inner ≡ t.head.is_inner) [ true ↦ refl | false ↦ refl ]
+whole_synthesized sp t w = search (rules, whole_same_tree, with_each_bare)
 
 pub whole_kind : (k : SyntaxKind) (i : ℕ) (f : Forest) → IsWholeForest f → IsWholeForest (at_tree (with_kind k) i f)
 whole_kind k i none w = tt
-whole_kind k zero (more h ks r) w =
-    (λ q. kids_kind k (record { head = h; kids = ks }) ∙ w.0 (sym (inner_kind k (record { head = h; kids = ks })) ∙ q), subst (λ (g : Forest). IsWholeForest g) (sym (kids_kind k (record { head = h; kids = ks }))) w.1, w.2)
+whole_kind k zero (more h ks r) w = grind arith
 whole_kind k (suc i) (more h ks r) w = (w.0, w.1, whole_kind k i r w.2)

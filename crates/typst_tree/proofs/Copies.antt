@@ -1,5 +1,6 @@
 -- A copy of a tree, made upwards from one of its nodes.
-use Rattle.std.proofs.Common.{◌≡◌, ◌≢◌, ℕ, zero, suc, ◌+◌, ◌<◌, ◌≤◌, List, [], ◌∷◌, ◌++◌, length, take, get_or, refl, ap, sym, subst, ◌∙◌, arith}
+use Rattle.std.proofs.lemmas.Grind.{common_steps}
+use Rattle.std.proofs.Common.{◌≡◌, ◌≢◌, ℕ, zero, suc, ◌+◌, ◌<◌, ◌≤◌, List, ◌∷◌, ◌++◌, length, take, get_or, refl, ap, sym, subst, ◌∙◌, arith, []}
 use Rattle.std.specs.Prelude.{insert, remove}
 use Rattle.std.proofs.lemmas.List.{take_all, get_or_default}
 use Rattle.typst_tree.specs.declared.node.Ancestor.{Ancestor}
@@ -24,16 +25,13 @@ pub record Upper (top : Tree) (above : List Ancestor) (p : Ancestor) (t : Tree) 
 
 above_end : (top : Tree) (above : List Ancestor) (p : Ancestor) (t : Tree) → IsWay top (above ++ p ∷ []) t → Upper top above p t
 above_end top [] p t w = record { way = w.0; within = w.1; child = w.2 }
-above_end top (q ∷ above) p t w =
-    let u = above_end (get_or (trees q.node.now.kids) q.last q.node.now) above p t w.2 in
-    record { way = (w.0, w.1, u.way); within = u.within; child = u.child }
+above_end top (q ∷ above) p t w = grind (arith, above_end (get_or (trees q.node.now.kids) q.last q.node.now) above p t w.2)
 
 pub way_up : (top : Tree) (above rest : List Ancestor) (p : Ancestor) (t : Tree) → above ≡ rest ++ p ∷ [] → IsWay top above t → Upper top rest p t
 way_up top above rest p t e w = above_end top rest p t (subst (λ (ps : List Ancestor). IsWay top ps t) e w)
 
 pub way_done : (top : Tree) (above : List Ancestor) (t : Tree) → length above ≡ 0 → IsWay top above t → t ≡ top
-way_done top [] t h w = w
-way_done top (p ∷ above) t h w = absurd (omega (arith, h))
+way_done top above t h w = grind (arith, common_steps)
 
 child_nodes : (f : Forest) (i : ℕ) (d : Tree) → i < length (trees f) → nodes (get_or (trees f) i d) ≤ count f
 child_nodes none i d h = absurd (omega (arith, h))
@@ -86,8 +84,7 @@ without_more (y ∷ xs) (suc last) (suc i) x h ne e =
     ap (λ zs. y ∷ zs) (without_more xs last i x (omega (arith, h)) (λ p. ne (ap suc p)) e)
 
 no_more : {X : Type 0} (i : ℕ) → take {A = X} (suc i) [] ≡ take i []
-no_more zero = refl
-no_more (suc i) = refl
+no_more i = grind arith
 
 without_here : {X : Type 0} (xs : List X) (i : ℕ) → without i (take (suc i) xs) ≡ without i (take i xs)
 without_here {X = X} [] i = ap (λ (ys : List X). without i ys) (no_more {X = X} i)
@@ -96,24 +93,17 @@ without_here (x ∷ xs) (suc i) = ap (λ zs. x ∷ zs) (without_here xs i)
 
 -- copies of the children but one, one child more
 pub without_push : {X : Type 0} (xs ys : List X) (last i : ℕ) (x y : X) → ys ≡ without last (take i xs) → i < length xs → i ≢ last → x ≡ get_or xs i x → y ≡ x → ys ++ y ∷ [] ≡ without last (take (i + 1) xs)
-without_push xs ys last i x y e h ne is same =
-    let next : suc i ≡ i + 1 = omega arith in
-    ap (λ zs. zs ++ y ∷ []) e
-    ∙ (ap (λ z. without last (take i xs) ++ z ∷ []) same
-    ∙ (sym (without_more xs last i x h ne is) ∙ ap (λ n. without last (take n xs)) next))
+without_push xs ys last i x y e h ne is same = grind (arith, without_more)
 
 pub without_skip : {X : Type 0} (xs ys : List X) (last i : ℕ) → ys ≡ without last (take i xs) → i ≡ last → ys ≡ without last (take (i + 1) xs)
-without_skip xs ys last i e q =
-    let next : suc i ≡ i + 1 = omega arith in
-    e ∙ (ap (λ k. without k (take i xs)) (sym q) ∙ (sym (without_here xs i) ∙ (ap (λ k. without k (take (suc i) xs)) q ∙ ap (λ n. without last (take n xs)) next)))
+without_skip xs ys last i e q = grind (arith, without_here)
 
 -- a tree's children as a list
 pub kids_are : (t : Tree) (xs : List Tree) → t.kids ≡ forest xs → trees t.kids ≡ xs
 kids_are t xs e = ap trees e ∙ trees_forest xs
 
 pub without_all : (t : Tree) (xs ys : List Tree) (last i : ℕ) → t.kids ≡ forest xs → ys ≡ without last (take i xs) → length xs ≤ i → ys ≡ remove (trees t.kids) last
-without_all t xs ys last i e w h =
-    w ∙ (ap (λ zs. without last zs) (take_all i xs h ∙ sym (kids_are t xs e)) ∙ sym (remove_is (trees t.kids) last))
+without_all t xs ys last i e w h = grind (arith, take_all, kids_are, remove_is)
 
 -- the child with which the way goes on
 pub record Child (t : Tree) (last : ℕ) (x : Tree) : Type 0 where
@@ -121,22 +111,15 @@ pub record Child (t : Tree) (last : ℕ) (x : Tree) : Type 0 where
   pub is : x ≡ get_or (trees t.kids) last t
 
 pub child_at : (t : Tree) (xs : List Tree) (last : ℕ) (x : Tree) → t.kids ≡ forest xs → last < length xs → x ≡ get_or xs last x → Child t last x
-child_at t xs last x e h is =
-    let r = kids_are t xs e in
-    record { within = omega (arith, ap length r, h); is = is ∙ (get_or_default xs last x t h ∙ ap (λ ys. get_or ys last t) (sym r)) }
+child_at t xs last x e h is = grind (arith, kids_are, get_or_default)
 
 -- where no child is left out, the copies are the children
 pub copied : (t : Tree) (xs ys : List Tree) (last : ℕ) → t.kids ≡ forest xs → length xs ≤ last → ys ≡ remove (trees t.kids) last → forest ys ≡ t.kids
-copied t xs ys last e h w =
-    let past : length (trees t.kids) ≤ last = omega (arith, ap length (kids_are t xs e), h) in
-    ap forest (w ∙ (remove_is (trees t.kids) last ∙ without_past last (trees t.kids) past)) ∙ forest_trees t.kids
+copied t xs ys last e h w = grind (arith, kids_are, remove_is, without_past, forest_trees)
 
 -- where one is, they are with its copy
 pub copied_back : (t : Tree) (ys zs : List Tree) (last : ℕ) (x : Tree) → last < length (trees t.kids) → x ≡ get_or (trees t.kids) last t → ys ≡ remove (trees t.kids) last → zs ≡ insert ys last x → forest zs ≡ t.kids
-copied_back t ys zs last x h is w e =
-    let xs = trees t.kids in
-    ap forest (e ∙ (ap (λ us. insert us last x) (w ∙ remove_is xs last) ∙ put_back xs last x h (is ∙ get_or_default xs last t x h))) ∙ forest_trees t.kids
+copied_back t ys zs last x h is w e = grind (arith, common_steps, remove_is, get_or_default, forest_trees)
 
 pub room_for : (t : Tree) (ys : List Tree) (last : ℕ) → last < length (trees t.kids) → ys ≡ remove (trees t.kids) last → last ≤ length ys
-room_for t ys last h w =
-    omega (arith, ap length (w ∙ remove_is (trees t.kids) last), length_without last (trees t.kids) h)
+room_for t ys last h w = grind (arith, remove_is, length_without)

@@ -1,12 +1,12 @@
 -- A span finds its own node.
-use Rattle.std.proofs.Common.{◌≡◌, ℕ, zero, suc, ◌+◌, List, [], ◌∷◌, length, Bool, true, false, Option, Some, refl, ap, sym, ◌∙◌, arith, ◌⊎◌, inl, inr}
+use Rattle.std.proofs.Common.{◌≡◌, ℕ, zero, suc, ◌+◌, List, ◌∷◌, length, Bool, true, false, Option, Some, refl, ap, sym, ◌∙◌, arith, ◌⊎◌, inl, inr, []}
 use Rattle.std.specs.Prelude.{slice_get}
 use Rattle.std.specs.Option.{option_map}
-use Rattle.std.proofs.lemmas.Option.{none-some, same_Some}
+use Rattle.std.proofs.lemmas.Option.{none-some}
 use Rattle.typst_tree.specs.Tree.{Tree, places}
 use Rattle.typst_tree.specs.Walks.{first_at, has_span, same_place}
 use Rattle.typst_tree.specs.Steps.{At, at, node_of, start_of, find_span, SpansDiffer, FindsOwn}
-use Rattle.typst_tree.proofs.SingleNodes.{place_self, place_same}
+use Rattle.typst_tree.proofs.SingleNodes.{place_same}
 
 bool_cases : (b : Bool) → (b ≡ true) ⊎ (b ≡ false)
 bool_cases true = inl refl
@@ -14,11 +14,7 @@ bool_cases false = inr refl
 
 first_own : (span : Option (ℕ × ℕ)) (n a : ℕ) (xs : List Tree) (i : ℕ) (t : Tree) → SpansDiffer xs → slice_get xs i ≡ Some t → t.head.span ≡ span → first_at (has_span span) n a xs ≡ Some (n + i)
 first_own span n a [] i t d g e = absurd (none-some t g)
-first_own span n a (x ∷ xs) zero t d g e =
-    let same : x ≡ t = same_Some x t g in
-    let holds : same_place x.head.span span ≡ true = ap (λ p. same_place p span) (ap (λ u. u.head.span) same ∙ e) ∙ place_self span in
-    let number : n ≡ n + 0 = omega arith in
-    rw holds (ap (λ m. Some m) number)
+first_own span n a (x ∷ xs) zero t d g e = grind arith
 first_own span n a (x ∷ xs) (suc i) t d g e =
     let clash : same_place x.head.span span ≡ true → ⊥ = λ holds. (let same : zero ≡ suc i = d zero (suc i) x t refl g (place_same x.head.span span holds ∙ sym e) in omega (arith, same)) in
     let number : n + 1 + i ≡ n + suc i = omega arith in

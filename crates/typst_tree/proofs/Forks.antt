@@ -1,5 +1,5 @@
 -- The first long row on a way, and what is known of places in it.
-use Rattle.std.proofs.Common.{◌≡◌, Bool, true, false, ℕ, zero, suc, ◌+◌, ◌-◌, ◌^◌, ◌<◌, ◌≤◌, List, [], ◌∷◌, ◌++◌, length, take, drop, Some, refl, ap, sym, subst, ◌∙◌, arith, inl, inr, length-append, get_or}
+use Rattle.std.proofs.Common.{◌≡◌, Bool, true, false, ℕ, zero, suc, ◌+◌, ◌-◌, ◌^◌, ◌<◌, ◌≤◌, List, ◌∷◌, ◌++◌, length, take, drop, Some, refl, ap, sym, subst, ◌∙◌, arith, inl, inr, length-append, get_or, []}
 use Rattle.std.specs.Prelude.{slice_get, nat_lt}
 use Rattle.std.proofs.lemmas.Bool.Decides.{nat_tests}
 use Rattle.std.proofs.lemmas.Bool.{cases_lt, cases_eq}
@@ -31,10 +31,7 @@ ends_before root o n b t m i k x s c l h g =
     let step : k - n ≡ suc (k - n - 1) = omega (arith, l) in
     let below : slice_get (preorder o.kids) (k - n - 1) ≡ Some x = ap (slice_get (places o)) (sym step) ∙ own in
     let split : preorder o.kids ≡ preorder (forest (take i (trees o.kids))) ++ preorder (forest (drop i (trees o.kids))) = ap preorder (sym (forest_trees o.kids)) ∙ preorder_split i (trees o.kids) in
-    let short : k - n - 1 < length (preorder (forest (take i (trees o.kids)))) = omega (arith, l, h, c.number, length_preorder (forest (take i (trees o.kids)))) in
-    let front : slice_get (preorder (forest (take i (trees o.kids)))) (k - n - 1) ≡ Some x =
-    sym (get_left (preorder (forest (take i (trees o.kids)))) (preorder (forest (drop i (trees o.kids)))) (k - n - 1) short) ∙ (ap (λ ys. slice_get ys (k - n - 1)) (sym split) ∙ below) in
-    omega (arith, l, c.number, inside_forest (forest (take i (trees o.kids))) (k - n - 1) x front)
+    grind (arith, length_preorder, get_left, inside_forest)
 
 -- below a node with a short row, what is above a child is short too
 pub open_child : (root o : Tree) (n b : ℕ) (t : Tree) (m i : ℕ) → Stands (places root) n b (places o) → IsChild o n t m i → IsOpen root n → length (trees o.kids) ≤ long → IsOpen root m
@@ -50,15 +47,10 @@ open_child root o n b t m i s c up short k x g l h =
 
 -- there is but one first node with a long row on a way
 pub fork_same : (root : Tree) (n : ℕ) (o : Tree) (m : ℕ) (p : Tree) (k : ℕ) → IsFork root n o m → IsFork root n p k → m ≡ k
-fork_same root n o m p k v w =
-    elim (cases_lt m k) [
-      | inl l ↦ absurd (omega (arith, v.many, w.first m o v.here l (omega (arith, w.from, v.to))))
-      | inr l ↦ (elim (cases_eq m k) [ inl same ↦ same | inr other ↦ absurd (omega (arith, w.many, v.first k p w.here (omega (arith, l, other)) (omega (arith, v.from, w.to)))) ])
-    ]
+fork_same root n o m p k v w = grind arith
 
 pub fork_node : (root : Tree) (n : ℕ) (o : Tree) (m : ℕ) (p : Tree) (k : ℕ) → IsFork root n o m → IsFork root n p k → o ≡ p
-fork_node root n o m p k v w =
-    same_Some o p (sym v.here ∙ (ap (slice_get (places root)) (fork_same root n o m p k v w) ∙ w.here))
+fork_node root n o m p k v w = grind arith
 
 -- where the way to a node is open down to one that ends by a number, the first long row's owner ends by it
 pub ends_by : (root : Tree) (n k : ℕ) (o : Tree) (m b : ℕ) → Stands (places root) m b (places o) → IsOpen root m → m ≤ n → n < m + nodes o → m + nodes o ≤ k → EndsBy root n k
@@ -86,31 +78,10 @@ later xs n b m c ys zs s r l = omega (arith, s.begins, r.begins, begins_later xs
 
 -- what is known of a tree's way is known, with the numbers and bytes between, of each tree within it
 pub placed_behind : (root : Tree) (n b size i d e m p less far : ℕ) → IsPlaced root n b size i d e → n ≤ m → m + less ≤ n + size → 0 < less → p ≡ saturated (b + far) → IsPlaced root m p less i (d + (m - n)) (e + far)
-placed_behind root n b size i d e m p less far w l h some from =
-    let bounds = child_bounds w.owner w.above w.tree (n - d) i w.child in
-    let same : n - d ≡ m - (d + (m - n)) = omega (arith, w.after, l) in
-    record {
-      owner = w.owner;
-      above = w.above;
-      tree = w.tree;
-      start = w.start;
-      fork = record {
-        here = w.fork.here;
-        first = w.fork.first;
-        many = w.fork.many;
-        from = omega (arith, w.fork.from, l);
-        to = omega (arith, bounds.to, w.within, w.after, h, some, l);
-      };
-      after = omega (arith, w.after, l);
-      child = subst (λ k. IsChild w.owner w.above w.tree k i) same w.child;
-      within = omega (arith, w.within, l, h);
-      stands = subst (λ k. Stands (places root) k w.start (places w.tree)) same w.stands;
-      begins = omega (arith, w.begins, from);
-    }
+placed_behind root n b size i d e m p less far w l h some from = let bounds = child_bounds w.owner w.above w.tree (n - d) i w.child in grind arith
 
 placed_as : (root : Tree) (n b size i d e : ℕ) (k : Known) → IsPlaced root n b size i d e → (index_of k ≡ i) × ((k.below ≡ d) × (k.begins ≡ e)) → IsPlaced root n b size (index_of k) k.below k.begins
-placed_as root n b size i d e k w same =
-    subst (λ j. IsPlaced root n b size j k.below k.begins) (sym same.0) (subst (λ j. IsPlaced root n b size i j k.begins) (sym same.1.0) (subst (λ j. IsPlaced root n b size i d j) (sym same.1.1) w))
+placed_as root n b size i d e k w same = grind arith
 
 pub holds_behind : (root : Tree) (n b size m p less far : ℕ) (k j : Known) → Holds root n b size k → n ≤ m → m + less ≤ n + size → 0 < less → p ≡ saturated (b + far) → (reach_of j ≡ reach.Open → (reach_of k ≡ reach.Open) × (m - n ≡ 0)) → (reach_of j ≡ reach.Placed → (reach_of k ≡ reach.Placed) × ((index_of j ≡ index_of k) × ((j.below ≡ k.below + (m - n)) × (j.begins ≡ k.begins + far)))) → Holds root m p less j
 holds_behind root n b size m p less far k j w l h some from opens placed =
@@ -149,17 +120,7 @@ pub record InRow (root o : Tree) (m n b size i d e : ℕ) : Type 0 where
   pub begins : b ≡ saturated (saturated (length (texts (take (n - d) (places root)))) + e)
 
 in_row_of : (root : Tree) (n b size i d e : ℕ) (o : Tree) (m : ℕ) → IsFork root n o m → IsPlaced root n b size i d e → InRow root o m n b size i d e
-in_row_of root n b size i d e o m f w =
-    let number : w.above ≡ m = fork_same root n w.owner w.above o m w.fork f in
-    let node : w.owner ≡ o = fork_node root n w.owner w.above o m w.fork f in
-    let child : IsChild o m w.tree (n - d) i = subst (λ k. IsChild o k w.tree (n - d) i) number (subst (λ p. IsChild p w.above w.tree (n - d) i) node w.child) in
-    record {
-      after = w.after;
-      within = (first_of_row (trees o.kids) i w.tree _ (row_from (trees o.kids) i w.tree child.here)).within;
-      number = child.number;
-      fits = λ t g. (let same : w.tree ≡ t = same_Some w.tree t (sym child.here ∙ g) in omega (arith, w.within, ap nodes same));
-      begins = omega (arith, w.begins, w.stands.begins);
-    }
+in_row_of root n b size i d e o m f w = grind (arith, fork_same, fork_node, first_of_row, row_from, same_Some)
 
 pub in_row : (root : Tree) (n b size : ℕ) (k : Known) (o : Tree) (m : ℕ) → Holds root n b size k → reach_of k ≡ reach.Placed → IsFork root n o m → InRow root o m n b size (index_of k) k.below k.begins
 in_row root n b size k o m w e f = ∥∥₁_elim (w.at_placed e) (Prim.hlevel props) (in_row_of root n b size (index_of k) k.below k.begins o m f)
@@ -181,14 +142,7 @@ tops root n b size k o m c xs x w e f s g at small =
     let r = in_row root n b size k o m w e f in
     let here : slice_get (trees o.kids) (index_of k) ≡ Some x = rw (← g, trees_forest) (slice_get_read xs (length xs) (index_of k) x refl (index_within root n b size k o m xs w e f g) at) in
     let kid = kid_of root o m c (index_of k) (trees o.kids) x (n - k.below) (saturated (c + length o.head.text + length (joined (forest (take (index_of k) (trees o.kids)))))) (forest_trees o.kids) s here r.number refl in
-    let start : saturated (c + length o.head.text + length (joined (forest (take (index_of k) (trees o.kids))))) ≡ b - k.begins = omega (arith, kid.stands.begins, r.begins, small) in
-    record {
-      after = r.after;
-      far = omega (arith, r.begins, small);
-      child = record { here = here; number = r.number };
-      fits = r.fits x here;
-      stands = subst (λ j. Stands (places root) (n - k.below) j (places x)) start kid.stands;
-    }
+    grind arith
 
 -- what follows from what is known of the parent holds of a child
 holds_at : (r : reach.the_data) (root o : Tree) (n b : ℕ) (a : Known) (is_long : Bool) (t : Tree) (m c i : ℕ) (k : Known) → reach_of a ≡ r → is_long ≡ nat_lt long (length (trees o.kids)) → Stands (places root) n b (places o) → Stands (places root) m c (places t) → IsChild o n t m i → Holds root n b (nodes o) a → Follows a is_long i (m - n) (c - b) k → reach_of k ≡ reach.Placed → ∥ IsPlaced root m c (nodes t) (index_of k) k.below k.begins ∥₁
@@ -214,8 +168,7 @@ holds_child root o n b a is_long t m c i k l s r w h f =
 
 -- what is known of two ways that are joined
 joined_at : (r : reach.the_data) (root : Tree) (n b size m p less far : ℕ) (a w k : Known) → reach_of a ≡ r → Holds root n b size a → (IsOpen root n → Holds root m p less w) → n ≤ m → m + less ≤ n + size → 0 < less → p ≡ saturated (b + far) → Joins a w (m - n) far k → reach_of k ≡ reach.Placed → ∥ IsPlaced root m p less (index_of k) k.below k.begins ∥₁
-joined_at reach.Open root n b size m p less far a w k e h way l within some from j f =
-    (subst (Holds root m p less) (sym (j.free e)) (way (h.at_open e))).at_placed f
+joined_at reach.Open root n b size m p less far a w k e h way l within some from j f = grind arith
 joined_at reach.Placed root n b size m p less far a w k e h way l within some from j f =
     ∥∥₁_map (h.at_placed e) (λ q. placed_as root m p less (index_of a) (a.below + (m - n)) (a.begins + far) k (placed_behind root n b size (index_of a) a.below a.begins m p less far q l within some from) (j.further f e))
 joined_at reach.Lost root n b size m p less far a w k e h way l within some from j f = absurd (j.kept f e)

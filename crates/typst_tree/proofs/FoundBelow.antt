@@ -1,12 +1,11 @@
 -- What a walk back found, seen from a node and from the node above it.
-use Rattle.std.proofs.Common.{◌≡◌, Bool, ℕ, ◌+◌, ◌-◌, ◌<◌, ◌≤◌, ◌++◌, List, length, get_or, take, refl, ap, subst, sym, ◌∙◌, arith, length-append}
-use Rattle.std.specs.Prelude.{nat_lt, slice_get}
+use Rattle.std.proofs.Common.{◌≡◌, Bool, ℕ, ◌+◌, ◌-◌, ◌<◌, ◌≤◌, ◌++◌, List, length, get_or, take, refl, ap, ◌∙◌, arith, length-append}
+use Rattle.std.specs.Prelude.{nat_lt}
 use Rattle.std.proofs.lemmas.Option.{slice_get_read}
 use Rattle.typst_tree.specs.Tree.{Tree, count, forest, nodes, places, saturated, trees}
 use Rattle.typst_tree.specs.Found.{IsBelow, IsBelowChild}
 use Rattle.typst_tree.specs.Follows.{Follows, Joins, reach_of, in_order_of}
 use Rattle.typst_tree.specs.Passed.{IsPassed}
-use Rattle.typst_tree.specs.Replace.{At}
 use Rattle.typst_tree.specs.Rows.{IsChild, IsOpen, Holds, long}
 use Rattle.typst_tree.specs.Walks.{Stands, Within}
 use Rattle.typst_tree.specs.declared.back.Found.{Found}
@@ -21,8 +20,7 @@ use Rattle.typst_tree.proofs.WalksInPreorder.{length_places, within_in, within_s
 
 -- offsets counted from another begin
 pub within_from : (n a : ℕ) (xs : List Tree) (k b : ℕ) (ys : List Tree) → Within n 0 xs k b ys → Within n a xs k (saturated (a + b)) ys
-within_from n a xs k b ys w =
-    record { front = w.front; back = w.back; whole = w.whole; number = w.number; offset = omega (arith, w.offset) }
+within_from n a xs k b ys w = grind arith
 
 pub record Inside (n : ℕ) (t : Tree) (k : ℕ) (u : Tree) : Type 0 where
   pub from : n ≤ k
@@ -39,17 +37,11 @@ holds_open : (root : Tree) (n b size : ℕ) (k : Known) → reach_of k ≡ reach
 holds_open root n b size k e up = record { at_open = λ _. up; at_placed = λ f. absurd (cc) }
 
 pub itself : (t : Tree) (n : ℕ) (in_order : Bool) (f : Found) → f.node.now ≡ t → f.number ≡ n → f.begins ≡ 0 → reach_of f.known ≡ reach.Open → in_order_of f.known ≡ in_order → IsBelow t n in_order f
-itself t n in_order f e g h o q =
-    record {
-      within = rw (e, g, h) (within_self n 0 (places t) (omega arith));
-      order = q;
-      holds = λ root b s up. holds_open root f.number (saturated (b + f.begins)) (nodes f.node.now) f.known o (rw g up);
-    }
+itself t n in_order f e g h o q = grind (arith, within_self, holds_open)
 
 -- of a node above which all is open, the numbers and bytes to its children don't count
 follows_open : (a : Known) (is_long : Bool) (i x y z u : ℕ) (k : Known) → reach_of a ≡ reach.Open → Follows a is_long i x y k → Follows a is_long i z u k
-follows_open a is_long i x y z u k e w =
-    record { at_open = w.at_open; first = w.first; further = λ f g. absurd (cc); kept = w.kept }
+follows_open a is_long i x y z u k e w = grind arith
 
 pub above : (o : Tree) (n : ℕ) (t : Tree) (m c i : ℕ) (a way : Known) (is_long : Bool) (f g : Found) → IsChild o n t m i → Within n 0 (places o) m c (places t) → IsBelow t m (in_order_of f.known) f → is_long ≡ nat_lt long (length (trees o.kids)) → reach_of a ≡ reach.Open → Follows a is_long i 0 0 way → Joins way f.known (f.number - m) f.begins g.known → in_order_of g.known ≡ in_order_of f.known → g.node.now ≡ f.node.now → g.number ≡ f.number → g.begins ≡ saturated (c + f.begins) → IsBelow o n (in_order_of f.known) g
 above o n t m c i a way is_long f g child w below l free follows joins order node number begins =
@@ -86,15 +78,7 @@ pub record Seen (o : Tree) (n i m c : ℕ) (in_order : Bool) (f : Found) : Type 
   pub from : m ≤ f.number
 
 pub seen : (o : Tree) (n i m c : ℕ) (in_order : Bool) (f : Found) (row : List Tree) → forest row ≡ o.kids → IsBelowChild o n i in_order f → IsPassed row (n + 1) (saturated (0 + length o.head.text)) i m c → Seen o n i m c in_order f
-seen o n i m c in_order f row e there passed =
-    let same : trees o.kids ≡ row = sym (ap trees e) ∙ trees_forest row in
-    let r = at_slice_get _ (trees o.kids) i there in
-    let w = over_at o n 0 row i m c (get_or (trees o.kids) i o) e (ap (λ ys. slice_get ys i) (sym same) ∙ slice_get_is (trees o.kids) i o r.0) passed in
-    let below : IsBelow (get_or (trees o.kids) i o) m in_order f = subst (λ k. IsBelow (get_or (trees o.kids) i o) k in_order f) (sym w.child.number) (r.1 o) in
-    record { kid = get_or (trees o.kids) i o; child = w.child; within = w.inside; below = below; from = (inside m 0 (get_or (trees o.kids) i o) f.number f.begins f.node.now below.within).from }
+seen o n i m c in_order f row e there passed = grind (arith, trees_forest, at_slice_get, over_at, slice_get_is)
 
 pub under : (o : Tree) (n i m : ℕ) (in_order : Bool) (f : Found) (row : List Tree) (x : Tree) → forest row ≡ o.kids → x ≡ get_or row i x → i < length row → m ≡ n + 1 + count (forest (take i row)) → IsBelow x m in_order f → IsBelowChild o n i (in_order_of f.known) f
-under o n i m in_order f row x e g h number below =
-    let child = child_in o n x m i row e (slice_get_read row (length row) i x refl h g) number in
-    let own : IsBelow x m (in_order_of f.known) f = subst (λ o. IsBelow x m o f) (sym below.order) below in
-    subst (At (λ t. IsBelow t (n + 1 + count (forest (take i (trees o.kids)))) (in_order_of f.known) f)) (sym child.here) (subst (λ k. IsBelow x k (in_order_of f.known) f) child.number own)
+under o n i m in_order f row x e g h number below = let child = child_in o n x m i row e (slice_get_read row (length row) i x refl h g) number in grind arith

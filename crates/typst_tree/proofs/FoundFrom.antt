@@ -1,7 +1,7 @@
 -- What a search finds first, by a number that what it finds isn't below.
-use Rattle.std.proofs.Common.{◌≡◌, ℕ, ◌+◌, ◌<◌, ◌≤◌, Bool, true, false, cond, max, List, [], ◌∷◌, ◌++◌, length, Option, Some, None, refl, ap, sym, subst, ◌∙◌, arith, length-append}
+use Rattle.std.proofs.Common.{◌≡◌, ℕ, ◌+◌, ◌<◌, ◌≤◌, Bool, true, false, cond, max, List, ◌∷◌, ◌++◌, length, Option, Some, None, ap, sym, subst, ◌∙◌, arith, length-append, []}
 use Rattle.std.specs.Prelude.{IfSome, option_map}
-use Rattle.typst_tree.specs.Tree.{Tree, nodes, places, preorder, saturated}
+use Rattle.typst_tree.specs.Tree.{Tree, nodes, places, saturated}
 use Rattle.typst_tree.specs.Walks.{texts, first_at, if_none, Within}
 use Rattle.typst_tree.specs.Looked.{first_of, IsIn, FoundFrom, Finds, Looks}
 use Rattle.typst_tree.specs.declared.search.Look.{Look}
@@ -46,27 +46,16 @@ parts p n a xs k b ys w =
     }
 
 part_from : (f x b : Option ℕ) (m k : ℕ) → IfSome f (λ j. j < k) → IfSome x (λ j. k ≤ j) → IfSome (if_none f (if_none x b)) (λ j. m ≤ j) → IfSome x (λ j. m ≤ j)
-part_from f None b m k u v h = tt
-part_from None (Some x) b m k u v h = h
-part_from (Some f) (Some x) b m k u v h = omega (arith, u, v, h)
-
-part_found : (f b : Option ℕ) (k j : ℕ) → IfSome f (λ i. i < k) → IfSome (if_none f (if_none (Some j) b)) (λ i. k ≤ i) → if_none f (if_none (Some j) b) ≡ Some j
-part_found None b k j u h = refl
-part_found (Some f) b k j u h = absurd (omega (arith, u, h))
+part_from f x b m k u v h = grind arith
 
 part_on : (f x b : Option ℕ) (k m e : ℕ) → IfSome f (λ j. j < k) → IfSome b (λ j. e ≤ j) → IfSome (if_none f (if_none x b)) (λ j. k ≤ j) → IfSome x (λ j. m ≤ j) → m ≤ e → IfSome (if_none f (if_none x b)) (λ j. m ≤ j)
-part_on (Some f) x b k m e u v h g l = absurd (omega (arith, u, h))
-part_on None (Some x) b k m e u v h g l = g
-part_on None None None k m e u v h g l = tt
-part_on None None (Some b) k m e u v h g l = omega (arith, v, l)
+part_on f x b k m e u v h g l = grind arith
 
 nothing_left : (o : Option ℕ) (m : ℕ) → IfSome o (λ j. m ≤ j) → IfSome o (λ j. j < m) → o ≡ None
-nothing_left None m h g = refl
-nothing_left (Some j) m h g = absurd (omega (arith, h, g))
+nothing_left o m h g = grind arith
 
 either : (o : Option ℕ) (m l r : ℕ) → r ≤ max m l → IfSome o (λ j. m ≤ j) → IfSome o (λ j. l ≤ j) → IfSome o (λ j. r ≤ j)
-either None m l r e h g = tt
-either (Some j) m l r e h g = omega (arith, e, h, g)
+either o m l r e h g = grind arith
 
 pub from_less : (p : ℕ → ℕ → Tree → Bool) (m l : ℕ) (o : Spot) → l ≤ m → FoundFrom p m o → FoundFrom p l o
 from_less p m l o h = if_some (first_of p o) (λ j. m ≤ j) (λ j. l ≤ j) (λ j g. omega (arith, h, g))
@@ -82,27 +71,19 @@ from_none p m o e = subst (λ x. IfSome x (λ j. m ≤ j)) (sym e) tt
 
 -- a node that doesn't pass the test itself
 pub from_next : (p : ℕ → ℕ → Tree → Bool) (o : Spot) → ((a : ℕ) → false ≡ p o.number a o.node.now) → FoundFrom p (o.number + 1) o
-from_next p o fails =
-    subst (λ b. IfSome (cond b (Some o.number) (first_at p (o.number + 1) (o.offset + length o.node.now.head.text) (preorder o.node.now.kids))) (λ j. o.number + 1 ≤ j)) (fails (saturated o.offset)) (not_below p (o.number + 1) (o.offset + length o.node.now.head.text) (preorder o.node.now.kids))
+from_next p o fails = grind (arith, cond, not_below)
 
 -- what is known of a node is known of each below it
 pub from_below : (p : ℕ → ℕ → Tree → Bool) (m : ℕ) (o s : Spot) → IsIn o s → FoundFrom p m o → FoundFrom p m s
-from_below p m o s w h =
-    let q = parts p o.number o.offset (places o.node.now) s.number s.offset (places s.node.now) w in
-    part_from q.front (first_of p s) q.back m s.number q.before (from_own p s) (subst (λ x. IfSome x (λ j. m ≤ j)) q.whole h)
+from_below p m o s w h = grind (arith, parts p o.number o.offset (places o.node.now) s.number s.offset (places s.node.now) w, part_from, from_own)
 
 -- what is found in a node below is found in all, where nothing is before that node
 pub found_in : (p : ℕ → ℕ → Tree → Bool) (j : ℕ) (o s : Spot) → IsIn o s → FoundFrom p s.number o → first_of p s ≡ Some j → first_of p o ≡ Some j
-found_in p j o s w h e =
-    let q = parts p o.number o.offset (places o.node.now) s.number s.offset (places s.node.now) w in
-    let whole : first_of p o ≡ if_none q.front (if_none (Some j) q.back) = q.whole ∙ ap (λ x. if_none q.front (if_none x q.back)) e in
-    whole ∙ part_found q.front q.back s.number j q.before (subst (λ x. IfSome x (λ i. s.number ≤ i)) whole h)
+found_in p j o s w h e = let q = parts p o.number o.offset (places o.node.now) s.number s.offset (places s.node.now) w in grind arith
 
 -- what becomes known of a node below becomes known of all, where nothing is before that node
 pub from_on : (p : ℕ → ℕ → Tree → Bool) (m : ℕ) (o s : Spot) → IsIn o s → FoundFrom p s.number o → FoundFrom p m s → m ≤ s.number + nodes s.node.now → FoundFrom p m o
-from_on p m o s w h g l =
-    let q = parts p o.number o.offset (places o.node.now) s.number s.offset (places s.node.now) w in
-    subst (λ x. IfSome x (λ j. m ≤ j)) (sym q.whole) (part_on q.front (first_of p s) q.back s.number m (s.number + length (places s.node.now)) q.before q.behind (subst (λ x. IfSome x (λ j. s.number ≤ j)) q.whole h) g (omega (arith, l, length_places s.node.now)))
+from_on p m o s w h g l = grind (arith, parts p o.number o.offset (places o.node.now) s.number s.offset (places s.node.now) w, part_on, length_places)
 
 -- a node below that doesn't pass the test itself
 pub from_past_own : (p : ℕ → ℕ → Tree → Bool) (m r : ℕ) (o s : Spot) → IsIn o s → s.number ≤ m → FoundFrom p m o → ((a : ℕ) → false ≡ p s.number a s.node.now) → r ≤ max m (s.number + 1) → FoundFrom p r o
@@ -120,15 +101,11 @@ among o s w =
     (omega (arith, w.number), omega (arith, w.number, ap length w.whole, length_places s.node.now, length_places o.node.now, length-append w.front (places s.node.now ++ w.back), length-append (places s.node.now) w.back))
 
 pub finds_number : (p : ℕ → ℕ → Tree → Bool) (o : Spot) (r : Option Spot) → Finds p o r → option_map (λ s. s.number) r ≡ first_of p o
-finds_number p o None h = sym h
-finds_number p o (Some s) h = sym h.0
+finds_number p o r h = grind arith
 
 pub finds_below : (p : ℕ → ℕ → Tree → Bool) (o : Spot) (r : Option Spot) → Finds p o r → IfSome r (λ s. IsIn o s)
-finds_below p o None h = tt
-finds_below p o (Some s) h = h.1
+finds_below p o r h = grind arith
 
 -- a look that leaves no child
 pub looks_all : (p : ℕ → ℕ → Tree → Bool) (heavy : ℕ) (o : Spot) (r : Look) → nodes o.node.now ≤ heavy → ((s : Spot) → r ≡ look.Found s → ⊥) → Looks p heavy o r → first_of p o ≡ None
-looks_all p heavy o (look.Found s) l n h = absurd (n s refl)
-looks_all p heavy o (look.Heavy s) l n h = absurd (omega (arith, l, h.2, h.3))
-looks_all p heavy o look.Nothing l n h = h
+looks_all p heavy o r l n h = grind arith

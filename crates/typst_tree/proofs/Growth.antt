@@ -1,6 +1,5 @@
 -- One try of `growth`.
-use Rattle.std.proofs.Common.{◌≡◌, ℕ, suc, ◌+◌, ◌-◌, ◌*◌, ◌<◌, ◌≤◌, Bool, true, false, ◌&&◌, nat_le, max, List, length, Some, None, refl, arith, ◌⊎◌, inl, inr}
-use Rattle.std.proofs.lemmas.Bool.Decides.{nat_tests}
+use Rattle.std.proofs.Common.{◌≡◌, ℕ, suc, ◌+◌, ◌-◌, ◌*◌, ◌<◌, Bool, true, false, ◌&&◌, max, List, Some, None, refl, arith, ◌⊎◌, inl, inr}
 use Rattle.typst_kinds.specs.Head.{Head}
 use Rattle.typst_tree.specs.Tree.{Tree}
 use Rattle.typst_tree.specs.Replace.{growth, has_room, is_all}
@@ -21,10 +20,3 @@ module _ (h : Head) (xs : List Tree) (from to n tries c k : ℕ) (lt : c < tries
 split : (a b : Bool) → (a && b) ≡ false → (a ≡ false) ⊎ (b ≡ false)
 split true b e = inr e
 split false b e = inl refl
-
-pub below_length : (xs : List Tree) (from to k : ℕ) → from ≤ length xs → is_all xs from to k ≡ false → k < length xs
-below_length xs from to k h e = elim_⊎ (split (nat_le from k) (nat_le (length xs) (to + k)) e)
-  where
-    elim_⊎ : (nat_le from k ≡ false) ⊎ (nat_le (length xs) (to + k) ≡ false) → k < length xs
-    elim_⊎ (inl f) = let l : k < from = grind (arith, nat_tests) in omega arith
-    elim_⊎ (inr f) = let l : to + k < length xs = grind (arith, nat_tests) in omega arith

@@ -1,15 +1,15 @@
 -- Replacing keeps numbers in order.
-use Rattle.std.proofs.Common.{◌≡◌, ℕ, zero, suc, ◌+◌, ◌-◌, ◌*◌, ◌<◌, ◌≤◌, ◌==◌, max, false, IsTrue, List, [], ◌∷◌, ◌++◌, length, take, drop, Some, refl, ap, sym, ◌∙◌, subst, arith, if◌then◌else◌}
+use Rattle.std.proofs.Common.{◌≡◌, ℕ, zero, suc, ◌+◌, ◌-◌, ◌*◌, ◌<◌, ◌≤◌, ◌==◌, max, false, IsTrue, List, ◌∷◌, ◌++◌, length, take, drop, Some, refl, ap, sym, ◌∙◌, subst, arith, if◌then◌else◌, rules, []}
 use Rattle.std.specs.Prelude.{slice_get, slice_range}
 use Rattle.std.proofs.Math.ListN.{set}
 use Rattle.std.proofs.lemmas.Bool.Decides.{nat_tests}
 use Rattle.typst_kinds.specs.Span.{number_of}
 use Rattle.typst_kinds.specs.Head.{Head}
 use Rattle.typst_tree.specs.Tree.{Tree, forest, count}
-use Rattle.typst_tree.specs.Numbers.{stride, numbered_list, numbered_forest}
+use Rattle.typst_tree.specs.Numbers.{stride, numbered_list}
 use Rattle.typst_tree.specs.Same.{front}
 use Rattle.typst_tree.specs.Order.{IsWholeForest, IsWhole, upper_at, IsOrdered, IsNumbered, numbers_of, AreInOrder}
-use Rattle.typst_tree.specs.Replace.{kids_of, with_kids, upper_of, upper_or, number_or, start_of, end_of, left_of, right_of, wanted, room, stretch, middle, back, exchanged, renumbered, replaced, replaced_at, Reaches}
+use Rattle.typst_tree.specs.Replace.{kids_of, with_kids, upper_of, upper_or, number_or, start_of, end_of, left_of, right_of, wanted, room, stretch, back, exchanged, renumbered, replaced, replaced_at, Reaches}
 use Rattle.typst_tree.specs.Laws.{Along}
 use Rattle.typst_tree.proofs.SpansAside.{forest_trees}
 use Rattle.typst_tree.proofs.Numbering.{forest_numbered, some_nodes}
@@ -36,8 +36,7 @@ begin_is a d (x ∷ xs) (suc zero) h = refl
 begin_is a d (x ∷ xs) (suc (suc l)) h =
     let one : suc (suc l) - 1 ≡ suc l = omega arith in
     let two : suc l - 1 ≡ l = omega arith in
-    let ih = begin_is (upper_of x) d xs (suc l) (omega arith) in
-    rw (positive (suc l)) (ap (λ i. upper_or d (slice_get (x ∷ xs) i)) one ∙ (ap (λ i. upper_or d (slice_get xs i)) (sym two) ∙ rw (positive l) at ih))
+    grind (arith, begin_is (upper_of x) d xs (suc l) (omega arith), positive)
 
 -- trees in order, cut before l
 ordered_take : (a e : ℕ) (xs : List Tree) (l : ℕ) → IsOrdered a (forest xs) e → IsOrdered a (forest (take l xs)) (begin a xs l)
@@ -69,10 +68,9 @@ ordered-append a b e (x ∷ xs) ys o p = (o.0, o.1, ordered-append (upper_at x.h
 
 -- a list numbered in a stretch that holds it
 list_ordered : (file s a e : ℕ) (ts : List Tree) → 0 < s → IsWholeForest (forest ts) → a + count (forest ts) * s ≤ e → IsOrdered a (forest (numbered_list file s a ts)) e
-list_ordered file s a e ts pos w h =
-    rw (forest_numbered file s a ts) (ordered_to a (a + count (forest ts) * s) e (numbered_forest file s a (forest ts)) (numbered_ordered file s a (forest ts) pos w) h)
+list_ordered file s a e ts pos w h = search (rules, forest_numbered, ordered_to, numbered_ordered)
 
--- the children of an inner node, some of which are numbered anew
+-- the children of an inner node, some of which are renumbered
 renumbered_ordered : (file : ℕ) (h : Head) (xs : List Tree) (from to by : ℕ) (ns : List Tree) → 0 < length ns → from ≤ to → to ≤ length xs → wanted xs from to (count (forest ns)) by ≤ room h xs from to by →
     IsWholeForest (forest (renumbered file xs from to ns (stretch h xs from to (count (forest ns)) by))) → IsOrdered (number_of h.span + 1) (forest xs) h.upper → IsOrdered (number_of h.span + 1) (forest (renumbered file xs from to ns (stretch h xs from to (count (forest ns)) by))) h.upper
 renumbered_ordered file h xs from to by ns some order within fits w o =
@@ -90,15 +88,12 @@ renumbered_ordered file h xs from to by ns some order within fits w o =
     let whole : IsWholeForest (forest (slice_range xs (left_of from by) from ++ (ns ++ slice_range xs to (right_of xs to by)))) =
     whole_numbered file (stride (room h xs from to by) (wanted xs from to (count (forest ns)) by)) (start_of h xs (left_of from by)) (slice_range xs (left_of from by) from ++ (ns ++ slice_range xs to (right_of xs to by))) (whole_left (numbered_list file (stride (room h xs from to by) (wanted xs from to (count (forest ns)) by)) (start_of h xs (left_of from by)) (slice_range xs (left_of from by) from ++ (ns ++ slice_range xs to (right_of xs to by)))) (drop (right_of xs to by) xs) (whole_right (take (left_of from by) xs) ((numbered_list file (stride (room h xs from to by) (wanted xs from to (count (forest ns)) by)) (start_of h xs (left_of from by)) (slice_range xs (left_of from by) from ++ (ns ++ slice_range xs to (right_of xs to by)))) ++ drop (right_of xs to by) xs) w)) in
     let second = list_ordered file (stride (room h xs from to by) (wanted xs from to (count (forest ns)) by)) (start_of h xs (left_of from by)) (end_of h xs (right_of xs to by)) (slice_range xs (left_of from by) from ++ (ns ++ slice_range xs to (right_of xs to by))) step whole (rw counted (omega (arith, share, high))) in
-    let third = ordered_drop (number_of h.span + 1) h.upper xs (right_of xs to by) o in
-    ordered-append (number_of h.span + 1) (start_of h xs (left_of from by)) h.upper (take (left_of from by) xs) (numbered_list file (stride (room h xs from to by) (wanted xs from to (count (forest ns)) by)) (start_of h xs (left_of from by)) (slice_range xs (left_of from by) from ++ (ns ++ slice_range xs to (right_of xs to by))) ++ drop (right_of xs to by) xs) first
-    (ordered-append (start_of h xs (left_of from by)) (end_of h xs (right_of xs to by)) h.upper (numbered_list file (stride (room h xs from to by) (wanted xs from to (count (forest ns)) by)) (start_of h xs (left_of from by)) (slice_range xs (left_of from by) from ++ (ns ++ slice_range xs to (right_of xs to by)))) (drop (right_of xs to by) xs) second third)
+    grind (arith, ordered_drop, ordered-append)
 
 exchanged_ordered : (file : ℕ) (h : Head) (xs : List Tree) (from to : ℕ) (ns ys : List Tree) → from ≤ to → to ≤ length xs → IsWholeForest (forest ys) → exchanged file h xs from to ns ≡ Some ys → IsOrdered (number_of h.span + 1) (forest xs) h.upper → IsOrdered (number_of h.span + 1) (forest ys) h.upper
 exchanged_ordered file h xs from to [] ys order within w e o =
     let first = ordered_to (number_of h.span + 1) (begin (number_of h.span + 1) xs from) (number_or h.upper (slice_get xs to)) (forest (take from xs)) (ordered_take (number_of h.span + 1) h.upper xs from o) (begin_le (number_of h.span + 1) h.upper xs from to order o) in
-    let all = ordered-append (number_of h.span + 1) (number_or h.upper (slice_get xs to)) h.upper (take from xs) (drop to xs) first (ordered_drop (number_of h.span + 1) h.upper xs to o) in
-    subst (λ (zs : List Tree). IsOrdered (number_of h.span + 1) (forest zs) h.upper) (exchange_none file h xs from to ys e) all
+    grind (arith, ordered-append, ordered_drop, exchange_none)
 exchanged_ordered file h xs from to (n ∷ ns) ys order within w e o =
     let x = exchange_some file h xs from to n ns ys e in
     let g = grown h xs from to (count (forest (n ∷ ns))) x.window x.fits in
@@ -122,15 +117,7 @@ replaced_numbered from to new t u r e =
     let a = front (slice_range (kids_of t) from to) new in
     let b = back a (slice_range (kids_of t) from to) new in
     let s = aside (kids_of t) new from to a b r.1 r.2 refl refl in
-    let is : forest (kids_of t) ≡ t.kids = forest_trees t.kids in
-    let up : upper_at t.head ≡ t.head.upper = inner_upper t.head r.0 in
-    let stays : IsWhole (with_kids t i.kids) → IsNumbered t → IsNumbered (with_kids t i.kids) =
-    λ w o.
-    rw up (exchanged_ordered i.file t.head (kids_of t) (from + a) (to - b) (middle a b new) i.kids s.order s.within w.1 i.swaps (rw is (rw up at o))) in
-    record {
-      head = ap (λ v. v.head) (sym i.is);
-      numbers = λ w o. subst (λ (v : Tree). IsNumbered v) i.is (stays (subst (λ (v : Tree). IsWhole v) (sym i.is) w) o);
-    }
+    grind (arith, forest_trees, inner_upper, exchanged_ordered)
 
 whole_set : (xs : List Tree) (i : ℕ) (k k' : Tree) → slice_get xs i ≡ Some k → IsWholeForest (forest (set xs i k')) → IsWhole k'
 whole_set [] i k k' e w = absurd (cc)
@@ -140,11 +127,7 @@ whole_set (x ∷ xs) (suc i) k k' e w = whole_set xs i k k' e w.2
 -- one of several trees in order, of which the numbers below it change
 ordered_set : (a e : ℕ) (xs : List Tree) (i : ℕ) (k k' : Tree) → slice_get xs i ≡ Some k → k'.head ≡ k.head → (IsNumbered k → IsNumbered k') → IsOrdered a (forest xs) e → IsOrdered a (forest (set xs i k')) e
 ordered_set a e [] i k k' s h f o = absurd (cc)
-ordered_set a e (x ∷ xs) zero k k' s h f o =
-    let same : x ≡ k = cc in
-    let here : IsNumbered k' = f (subst (λ (v : Tree). IsNumbered v) same o.1) in
-    let head : k'.head ≡ x.head = h ∙ ap (λ v. v.head) (sym same) in
-    (rw head (o.0), here, rw head (o.2))
+ordered_set a e (x ∷ xs) zero k k' s h f o = grind arith
 ordered_set a e (x ∷ xs) (suc i) k k' s h f o = (o.0, o.1, ordered_set (upper_at x.head) e xs i k k' s h f o.2)
 
 -- along the path too
@@ -155,10 +138,7 @@ stays_along (i ∷ path) t u l =
     let is : forest (kids_of t) ≡ t.kids = forest_trees t.kids in
     let stays : IsWhole (with_kids t (set (kids_of t) i l.1)) → IsNumbered t → IsNumbered (with_kids t (set (kids_of t) i l.1)) =
     λ w o. ordered_set (number_of t.head.span + 1) (upper_at t.head) (kids_of t) i l.0 l.1 l.2 below.head (below.numbers (whole_set (kids_of t) i l.0 l.1 l.2 w.1)) (rw is o) in
-    record {
-      head = ap (λ v. v.head) l.3;
-      numbers = λ w o. subst (λ (v : Tree). IsNumbered v) (sym l.3) (stays (subst (λ (v : Tree). IsWhole v) l.3 w) o);
-    }
+    grind arith
 
 pub keeps_order : (path : List ℕ) (from to : ℕ) (new : List Tree) (t u : Tree) → IsWhole u → Reaches path from to t → replaced_at path from to new t ≡ Some u → IsNumbered t → IsNumbered u × AreInOrder (numbers_of u)
 keeps_order path from to new t u w r e o =

@@ -1,12 +1,12 @@
--- Replacing keeps the children that are neither taken out nor numbered anew.
-use Rattle.std.proofs.Common.{◌≡◌, ℕ, ◌+◌, ◌-◌, ◌≤◌, List, [], ◌∷◌, ◌++◌, length, take, drop, Option, Some, None, refl, ap, sym, ◌∙◌, subst, arith, append_assoc, length-append}
+-- Replacing keeps the children that are neither taken out nor renumbered.
+use Rattle.std.proofs.Common.{◌≡◌, ℕ, ◌+◌, ◌-◌, ◌≤◌, List, ◌∷◌, ◌++◌, length, take, drop, Option, Some, None, refl, ap, sym, ◌∙◌, arith, append_assoc, length-append, []}
 use Rattle.std.specs.Prelude.{slice_range}
 use Rattle.std.proofs.lemmas.List.{take_at, drop_at, length-take-le, length-drop}
 use Rattle.typst_kinds.specs.Head.{Head}
 use Rattle.typst_tree.specs.Tree.{Tree}
 use Rattle.typst_tree.specs.Numbers.{numbered_list}
 use Rattle.typst_tree.specs.Same.{front}
-use Rattle.typst_tree.specs.Replace.{kids_of, with_kids, middle, back, exchanged, replaced, Reaches}
+use Rattle.typst_tree.specs.Replace.{kids_of, with_kids, back, exchanged, replaced, Reaches}
 use Rattle.typst_tree.specs.Laws.{touched, touched_by, Keeps}
 use Rattle.typst_tree.proofs.SpansAside.{trees_forest}
 use Rattle.typst_tree.proofs.SetAside.{aside}
@@ -22,10 +22,7 @@ ends xs ys m l r lx rx e =
     let long : length (take l xs) ≡ l = length-take-le l xs lx in
     let all : length ys ≡ length (take l xs ++ m) + length (drop r xs) =
     ap length (e ∙ sym (append_assoc (take l xs) m (drop r xs))) ∙ length-append (take l xs ++ m) (drop r xs) in
-    record {
-      before = ap (take l) e ∙ take_at (take l xs) (m ++ drop r xs) l long;
-      behind = ap (drop (length ys - (length xs - r))) (e ∙ sym (append_assoc (take l xs) m (drop r xs))) ∙ drop_at (take l xs ++ m) (drop r xs) (length ys - (length xs - r)) (omega (arith, all, length-drop r xs));
-    }
+    grind (arith, take_at, append_assoc, drop_at, length-drop)
 
 unfoldable pub EndsAt : Option (ℕ × ℕ) → List Tree → List Tree → Type 0
 EndsAt None xs ys = ⊥
@@ -43,8 +40,7 @@ exchanged_ends file h xs from to (n ∷ ns) ys o w e =
 
 kept_at : (p : Option (ℕ × ℕ)) (t : Tree) (ys : List Tree) → EndsAt p (kids_of t) ys → Keeps p t (with_kids t ys)
 unfolding EndsAt
-kept_at None t ys e = absurd e
-kept_at (Some p) t ys e = rw (trees_forest ys) (refl, e.before, e.behind)
+kept_at p t ys e = grind (arith, trees_forest)
 
 pub replaced_keeps : (from to : ℕ) (new : List Tree) (t u : Tree) → Reaches [] from to t → replaced from to new t ≡ Some u → Keeps (touched from to new t) t u
 replaced_keeps from to new t u r e =
@@ -52,5 +48,4 @@ replaced_keeps from to new t u r e =
     let a = front (slice_range (kids_of t) from to) new in
     let b = back a (slice_range (kids_of t) from to) new in
     let s = aside (kids_of t) new from to a b r.1 r.2 refl refl in
-    let k = kept_at (touched from to new t) t i.kids (exchanged_ends i.file t.head (kids_of t) (from + a) (to - b) (middle a b new) i.kids s.order s.within i.swaps) in
-    subst (λ (v : Tree). Keeps (touched from to new t) t v) i.is k
+    grind (arith, kept_at, exchanged_ends)

@@ -1,5 +1,6 @@
 -- A loop that changes each element of a list but one, which is changed behind the loop.
-use Rattle.std.proofs.Common.{◌≡◌, ◌≢◌, ℕ, zero, suc, ◌+◌, ◌*◌, ◌<◌, ◌≤◌, List, [], ◌∷◌, ◌++◌, length, map, take, drop, get_or, get_or-set_other, get_or-set_same, refl, ap, sym, ◌∙◌, arith, inl, inr, append-nil, length-append, length-drop}
+use Rattle.std.proofs.lemmas.Grind.{common_steps}
+use Rattle.std.proofs.Common.{◌≡◌, ◌≢◌, ℕ, zero, suc, ◌+◌, ◌*◌, ◌<◌, ◌≤◌, List, ◌∷◌, ◌++◌, length, map, take, drop, get_or, get_or-set_other, get_or-set_same, refl, ap, sym, ◌∙◌, arith, inl, inr, append-nil, length-append, length-drop, rules, []}
 use Rattle.std.proofs.Math.ListN.{set, get_or-map}
 use Rattle.std.proofs.lemmas.Bool.{cases_eq}
 use Rattle.std.proofs.lemmas.List.{set_comm, set-set, set-get_or, set_past, get_or_default, take_all, drop_all, length-map, length-take-le}
@@ -9,27 +10,21 @@ use Rattle.typst_tree.specs.Numbers.{numbered, numbered_list}
 use Rattle.typst_tree.proofs.Forests.{map_over_all}
 use Rattle.typst_tree.proofs.Numbering.{numbered_more, length_numbered}
 
--- ys is ws but for the element at last, which is the one of xs
+-- ys is ws except the element at last, which is the one of xs
 pub record ButLast {X : Type 0} (ys ws xs : List X) (last : ℕ) : Type 0 where
   pub same : (d : X) → ys ≡ set ws last (get_or xs last d)
 
-pub but_none : {X : Type 0} (xs : List X) (last : ℕ) → ButLast xs xs xs last
-but_none xs last = record { same = λ d. sym (set-get_or xs last d) }
-
 -- one more element is changed
 but_more : {X : Type 0} (ys ws vs xs : List X) (last i : ℕ) (y : X) → set ws i y ≡ vs → i ≢ last → ButLast ys ws xs last → ButLast (set ys i y) vs xs last
-but_more ys ws vs xs last i y e ne h =
-    record { same = λ d. ap (λ zs. set zs i y) (h.same d) ∙ (set_comm ws last i (get_or xs last d) y (λ q. ne (sym q)) ∙ ap (λ zs. set zs last (get_or xs last d)) e) }
+but_more ys ws vs xs last i y e ne h = grind (arith, set_comm)
 
 -- the one at last is not
 but_here : {X : Type 0} (ys ws vs xs : List X) (last i : ℕ) (y : X) → set ws i y ≡ vs → i ≡ last → ButLast ys ws xs last → ButLast ys vs xs last
-but_here ys ws vs xs last i y e q h =
-    record { same = λ d. h.same d ∙ (sym (set-set ws last y (get_or xs last d)) ∙ ap (λ zs. set zs last (get_or xs last d)) (ap (λ k. set ws k y) (sym q) ∙ e)) }
+but_here ys ws vs xs last i y e q h = grind (arith, set-set)
 
 -- an element that is written as it was
 pub but_kept : {X : Type 0} (ys ws xs : List X) (last i : ℕ) (x : X) → x ≡ get_or ys i x → ButLast ys ws xs last → ButLast (set ys i x) ws xs last
-but_kept ys ws xs last i x e h =
-    record { same = λ d. ap (λ z. set ys i z) e ∙ (set-get_or ys i x ∙ h.same d) }
+but_kept ys ws xs last i x e h = grind (arith, set-get_or)
 
 -- where the element at last is changed as the others were, all are
 but_end : {X : Type 0} (ys ws xs : List X) (last : ℕ) (y : X) → ButLast ys ws xs last → get_or ws last y ≡ y → set ys last y ≡ ws
@@ -48,17 +43,11 @@ pub but_same : {X : Type 0} (ys ws xs : List X) (last : ℕ) (x : X) → ButLast
 but_same ys ws xs last x h lt e = e ∙ (ap (λ zs. get_or zs last x) (h.same x) ∙ get_or-set_same ws last (get_or xs last x) x lt)
 
 past : {X : Type 0} (ys : List X) (i : ℕ) (d : X) → length ys ≡ i → get_or (ys ++ []) i d ≡ d
-past [] i d e = refl
-past (y ∷ ys) zero d e = absurd (omega (arith, e))
-past (y ∷ ys) (suc i) d e = past ys i d (omega (arith, e))
+past ys i d e = grind (arith, common_steps)
 
 -- what stands behind the first elements of a list in another's place
 behind : {X : Type 0} (ys xs : List X) (i : ℕ) (d : X) → length ys ≡ i → get_or (ys ++ drop i xs) i d ≡ get_or xs i d
-behind [] xs zero d e = refl
-behind [] xs (suc i) d e = absurd (omega (arith, e))
-behind (y ∷ ys) xs zero d e = absurd (omega (arith, e))
-behind (y ∷ ys) [] (suc i) d e = past ys i d (omega (arith, e))
-behind (y ∷ ys) (x ∷ xs) (suc i) d e = behind ys xs i d (omega (arith, e))
+behind ys xs i d e = grind (arith, common_steps)
 
 -- what a loop has not come to is as it was
 pub but_still : {X : Type 0} (ys front xs : List X) (last i : ℕ) (x : X) → ButLast ys (front ++ drop i xs) xs last → length front ≡ i → i < length xs → x ≡ get_or ys i x → x ≡ get_or xs i x
@@ -78,12 +67,10 @@ length_mapped : {X : Type 0} (f : X → X) (i : ℕ) (xs : List X) → i ≤ len
 length_mapped f i xs h = length-map (take i xs) f ∙ length-take-le i xs h
 
 pub mapped_still : {X : Type 0} (f : X → X) (ys xs : List X) (last i : ℕ) (x : X) → ButLast ys (mapped f i xs) xs last → i < length xs → x ≡ get_or ys i x → x ≡ get_or xs i x
-mapped_still f ys xs last i x h lt e =
-    but_still ys (map f (take i xs)) xs last i x h (length_mapped f i xs (omega (arith, lt))) lt e
+mapped_still f ys xs last i x h lt e = grind (arith, but_still, length_mapped)
 
 next_mapped : {X : Type 0} (f : X → X) (xs : List X) (i : ℕ) (x : X) → i < length xs → x ≡ get_or xs i x → set (mapped f i xs) i (f x) ≡ mapped f (i + 1) xs
-next_mapped f xs i x lt is =
-    map_over_more f xs (mapped f i xs) i x lt refl (is ∙ sym (behind (map f (take i xs)) xs i x (length_mapped f i xs (omega (arith, lt)))))
+next_mapped f xs i x lt is = grind (arith, common_steps, map_over_more, length_mapped)
 
 pub mapped_more : {X : Type 0} (f : X → X) (ys xs : List X) (last i : ℕ) (x : X) → ButLast ys (mapped f i xs) xs last → i < length xs → i ≢ last → x ≡ get_or ys i x → ButLast (set ys i (f x)) (mapped f (i + 1) xs) xs last
 mapped_more f ys xs last i x h lt ne e =
@@ -95,19 +82,13 @@ mapped_here f ys xs last i d h lt q =
     but_here ys (mapped f i xs) (mapped f (i + 1) xs) xs last i (f x) (next_mapped f xs i x lt (get_or_default xs i d x lt)) q h
 
 pub mapped_same : {X : Type 0} (f : X → X) (ys xs : List X) (last i : ℕ) (x : X) → ButLast ys (mapped f i xs) xs last → length xs ≤ i → last < length xs → x ≡ get_or ys last x → x ≡ get_or xs last x
-mapped_same f ys xs last i x h le lt e =
-    but_same ys (mapped f i xs) xs last x h (omega (arith, ap length (map_over_all f xs (mapped f i xs) i refl le), length-map xs f, lt)) e
+mapped_same f ys xs last i x h le lt e = grind (arith, common_steps, but_same, map_over_all, length-map)
 
 pub mapped_all : {X : Type 0} (f : X → X) (ys xs : List X) (last i : ℕ) (x : X) → ButLast ys (mapped f i xs) xs last → length xs ≤ i → last < length xs → x ≡ get_or ys last x → set ys last (f x) ≡ map f xs
-mapped_all f ys xs last i x h le lt e =
-    let all : mapped f i xs ≡ map f xs = map_over_all f xs (mapped f i xs) i refl le in
-    let is = mapped_same f ys xs last i x h le lt e in
-    but_end ys (mapped f i xs) xs last (f x) h (ap (λ zs. get_or zs last (f x)) all ∙ (get_or-map f xs last x ∙ ap f (sym is))) ∙ all
+mapped_all f ys xs last i x h le lt e = grind (arith, common_steps, map_over_all, mapped_same, but_end, get_or-map)
 
 pub mapped_none : {X : Type 0} (f : X → X) (ys xs : List X) (last i : ℕ) (d : X) → ButLast ys (mapped f i xs) xs last → length xs ≤ i → length xs ≤ last → ys ≡ map f xs
-mapped_none f ys xs last i d h le past =
-    let all : mapped f i xs ≡ map f xs = map_over_all f xs (mapped f i xs) i refl le in
-    but_past ys (mapped f i xs) xs last d h (omega (arith, ap length all, length-map xs f)) ∙ all
+mapped_none f ys xs last i d h le past = grind (arith, common_steps, map_over_all, but_past, length-map)
 
 -- the first i trees numbered, and the others
 abbrev pub counted : ℕ → ℕ → ℕ → ℕ → List Tree → List Tree
@@ -117,16 +98,13 @@ length_counted : (file s a i : ℕ) (xs : List Tree) → i ≤ length xs → len
 length_counted file s a i xs h = length_numbered file s a (take i xs) ∙ length-take-le i xs h
 
 pub counted_still : (file s a : ℕ) (ys xs : List Tree) (last i : ℕ) (x : Tree) → ButLast ys (counted file s a i xs) xs last → i < length xs → x ≡ get_or ys i x → x ≡ get_or xs i x
-counted_still file s a ys xs last i x h lt e =
-    but_still ys (numbered_list file s a (take i xs)) xs last i x h (length_counted file s a i xs (omega (arith, lt))) lt e
+counted_still file s a ys xs last i x h lt e = grind (arith, but_still, length_counted)
 
 next_counted : (file s a b : ℕ) (xs : List Tree) (i : ℕ) (x : Tree) → i < length xs → x ≡ get_or xs i x → b ≡ a + count (forest (take i xs)) * s → set (counted file s a i xs) i (numbered file b (nodes x * s) x) ≡ counted file s a (i + 1) xs
-next_counted file s a b xs i x lt is p =
-    numbered_more file s a b xs (counted file s a i xs) i x lt refl (is ∙ sym (behind (numbered_list file s a (take i xs)) xs i x (length_counted file s a i xs (omega (arith, lt))))) p
+next_counted file s a b xs i x lt is p = grind (arith, common_steps, numbered_more, length_counted)
 
 pub counted_more : (file s a b : ℕ) (ys xs : List Tree) (last i : ℕ) (x : Tree) → ButLast ys (counted file s a i xs) xs last → i < length xs → i ≢ last → x ≡ get_or ys i x → b ≡ a + count (forest (take i xs)) * s → ButLast (set ys i (numbered file b (nodes x * s) x)) (counted file s a (i + 1) xs) xs last
-counted_more file s a b ys xs last i x h lt ne e p =
-    but_more ys (counted file s a i xs) (counted file s a (i + 1) xs) xs last i (numbered file b (nodes x * s) x) (next_counted file s a b xs i x lt (counted_still file s a ys xs last i x h lt e) p) ne h
+counted_more file s a b ys xs last i x h lt ne e p = search (rules, but_more, next_counted, counted_still)
 
 pub counted_here : (file s a : ℕ) (ys xs : List Tree) (last i : ℕ) (d : Tree) → ButLast ys (counted file s a i xs) xs last → i < length xs → i ≡ last → ButLast ys (counted file s a (i + 1) xs) xs last
 counted_here file s a ys xs last i d h lt q =
@@ -140,25 +118,16 @@ all_counted file s a i xs h = rw (take_all i xs h, drop_all i xs h, append-nil) 
 -- a tree's stretch begins behind those of the trees before it
 numbered_at : (file s a i : ℕ) (xs : List Tree) (x d : Tree) → i < length xs → x ≡ get_or xs i x → get_or (numbered_list file s a xs) i d ≡ numbered file (a + count (forest (take i xs)) * s) (nodes x * s) x
 numbered_at file s a i [] x d h e = absurd (omega (arith, h))
-numbered_at file s a zero (y ∷ xs) x d h e =
-    let first : a + count (forest (take zero (y ∷ xs))) * s ≡ a = omega arith in
-    ap (λ t. numbered file a (nodes t * s) t) (sym e) ∙ ap (λ b. numbered file b (nodes x * s) x) (sym first)
+numbered_at file s a zero (y ∷ xs) x d h e = grind arith
 numbered_at file s a (suc i) (y ∷ xs) x d h e =
     let start : a + nodes y * s + count (forest (take i xs)) * s ≡ a + count (forest (take (suc i) (y ∷ xs))) * s = omega arith in
     numbered_at file s (a + nodes y * s) i xs x d (omega (arith, h)) e ∙ ap (λ b. numbered file b (nodes x * s) x) start
 
 pub counted_same : (file s a : ℕ) (ys xs : List Tree) (last i : ℕ) (x : Tree) → ButLast ys (counted file s a i xs) xs last → length xs ≤ i → last < length xs → x ≡ get_or ys last x → x ≡ get_or xs last x
-counted_same file s a ys xs last i x h le lt e =
-    but_same ys (counted file s a i xs) xs last x h (omega (arith, ap length (all_counted file s a i xs le), length_numbered file s a xs, lt)) e
+counted_same file s a ys xs last i x h le lt e = grind (arith, but_same, all_counted, length_numbered)
 
 pub counted_all : (file s a b : ℕ) (ys xs : List Tree) (last i : ℕ) (x : Tree) → ButLast ys (counted file s a i xs) xs last → length xs ≤ i → last < length xs → x ≡ get_or ys last x → b ≡ a + count (forest (take last xs)) * s → set ys last (numbered file b (nodes x * s) x) ≡ numbered_list file s a xs
-counted_all file s a b ys xs last i x h le lt e p =
-    let all = all_counted file s a i xs le in
-    let y = numbered file b (nodes x * s) x in
-    let here = numbered_at file s a last xs x y lt (counted_same file s a ys xs last i x h le lt e) in
-    but_end ys (counted file s a i xs) xs last y h (ap (λ zs. get_or zs last y) all ∙ (here ∙ ap (λ k. numbered file k (nodes x * s) x) (sym p))) ∙ all
+counted_all file s a b ys xs last i x h le lt e p = grind (arith, all_counted, numbered_at, counted_same, but_end)
 
 pub counted_none : (file s a : ℕ) (ys xs : List Tree) (last i : ℕ) (d : Tree) → ButLast ys (counted file s a i xs) xs last → length xs ≤ i → length xs ≤ last → ys ≡ numbered_list file s a xs
-counted_none file s a ys xs last i d h le past =
-    let all = all_counted file s a i xs le in
-    but_past ys (counted file s a i xs) xs last d h (omega (arith, ap length all, length_numbered file s a xs)) ∙ all
+counted_none file s a ys xs last i d h le past = grind (arith, all_counted, but_past, length_numbered)

@@ -1,5 +1,5 @@
 -- The last leaf below a number, in a node and in what is below it.
-use Rattle.std.proofs.Common.{◌≡◌, ℕ, zero, suc, ◌+◌, ◌<◌, ◌≤◌, true, min, inl, inr, List, [], ◌∷◌, ◌++◌, length, take, drop, Option, Some, None, refl, ap, sym, ◌∙◌, arith}
+use Rattle.std.proofs.Common.{◌≡◌, ℕ, ◌+◌, ◌<◌, ◌≤◌, true, min, List, ◌∷◌, ◌++◌, length, take, drop, Option, Some, None, refl, ap, sym, ◌∙◌, arith, []}
 use Rattle.std.specs.Prelude.{nat_lt, IfSome, option_map}
 use Rattle.std.proofs.lemmas.Bool.{cases_lt}
 use Rattle.std.proofs.lemmas.Bool.Decides.{nat_tests}
@@ -21,15 +21,11 @@ last_all m l n (x ∷ xs) h g =
     rw (low, high, last_all m l (n + 1) xs (omega (arith, h)) (omega (arith, g))) refl
 
 last_min : (m l n : ℕ) (xs : List Tree) → n + length xs ≤ l → last_leaf m n xs ≡ last_leaf (min m l) n xs
-last_min m l n xs h = elim (cases_lt l m) [
-  | inl p ↦ last_all m (min m l) n xs (omega (arith, h, p)) (omega (arith, h, p))
-  | inr q ↦ (let same : m ≡ min m l = omega (arith, q) in ap (λ k. last_leaf k n xs) same)
-]
+last_min m l n xs h = grind (arith, cases_lt, last_all)
 
 -- a list that has another one in it, by what is found before it, in it and behind it
 split : (m n a : ℕ) (xs : List Tree) (k b : ℕ) (ys : List Tree) → (w : Within n a xs k b ys) → last_leaf m n xs ≡ if_none (if_none (last_leaf m (k + length ys) w.back) (last_leaf m k ys)) (last_leaf m n w.front)
-split m n a xs k b ys w =
-    ap (last_leaf m n) w.whole ∙ (last_append m n w.front (ys ++ w.back) ∙ ap (λ o. if_none o (last_leaf m n w.front)) (ap (λ j. last_leaf m j (ys ++ w.back)) (sym w.number) ∙ last_append m k ys w.back))
+split m n a xs k b ys w = grind (arith, last_append)
 
 -- what is found in a node below is found in all, where nothing is behind that node
 found_in : (m n a : ℕ) (t : Tree) (k b : ℕ) (u : Tree) (j : ℕ) → Within n a (places t) k b (places u) → m ≤ k + nodes u → last_leaf m k (places u) ≡ Some j → last_leaf m n (places t) ≡ Some j
@@ -67,30 +63,22 @@ last_heavy m n e k t row view end same =
     let front = t ∷ preorder (forest (take k row)) in
     let rest = preorder (forest (drop k row)) in
     let all : places t ≡ front ++ rest = ap (λ ys. t ∷ ys) (ap preorder (sym view) ∙ preorder_split k row) in
-    let ends : n + length front ≡ e = omega (arith, end, length_preorder (forest (take k row))) in
-    let none : last_leaf (min m e) (n + length front) rest ≡ None = last_none (min m e) (n + length front) rest (omega (arith, ends)) in
-    same ∙ (last_min m e n front (omega (arith, ends)) ∙ sym (ap (last_leaf (min m e) n) all ∙ (last_append (min m e) n front rest ∙ ap (λ o. if_none o (last_leaf (min m e) n front)) none)))
+    grind (arith, length_preorder, last_none, last_min, last_append)
 
 -- a bound that says the same
 pub finds_same : (m l : ℕ) (o : Found) (r : Option Found) → last_of m o ≡ last_of l o → FindsLast o l r → FindsLast o m r
-finds_same m l o None e h = e ∙ h
-finds_same m l o (Some f) e h = (e ∙ h.0, h.1)
+finds_same m l o r e h = grind arith
 
 -- a look that leaves no child
 pub looks_all : (m heavy : ℕ) (o : Found) (r : Seen) → nodes o.node.now ≤ heavy → ((f : Found) → r ≡ seen.Leaf f → ⊥) → LooksBack m heavy o r → last_of m o ≡ None
-looks_all m heavy o (seen.Leaf f) l n h = absurd (n f refl)
-looks_all m heavy o (seen.Heavy f) l n h = absurd (omega (arith, l, h.3, h.4))
-looks_all m heavy o seen.Nothing l n h = h
+looks_all m heavy o r l n h = grind arith
 
 pub finds_number : (m : ℕ) (o : Found) (r : Option Found) → FindsLast o m r → option_map (λ f. f.number) r ≡ last_of m o
-finds_number m o None h = sym h
-finds_number m o (Some f) h = sym h.0
+finds_number m o r h = grind arith
 
 pub finds_below : (m : ℕ) (o : Found) (r : Option Found) → FindsLast o m r → IfSome r (λ f. IsUnder o f)
-finds_below m o None h = tt
-finds_below m o (Some f) h = h.1
+finds_below m o r h = grind arith
 
 -- some of the children are left, where the number that is looked for stands among them
 pub some_left : (k n e w : ℕ) (row : List Tree) → e ≡ n + 1 + count (forest (take k row)) → n < w → w < e → 0 < k
-some_left zero n e w row h l g = absurd (omega (arith, h, l, g))
-some_left (suc k) n e w row h l g = omega arith
+some_left k n e w row h l g = grind arith

@@ -1,5 +1,6 @@
 -- The laws of the last leaf.
-use Rattle.std.proofs.Common.{◌≡◌, ℕ, suc, ◌+◌, ◌-◌, ◌^◌, ◌<◌, ◌≤◌, List, [], ◌∷◌, ◌++◌, length, take, drop, Option, Some, None, refl, ap, sym, ◌∙◌, arith, get_or, append_assoc, append-nil, length-append, true, false, ◌&&◌}
+use Rattle.std.proofs.lemmas.Grind.{common_steps}
+use Rattle.std.proofs.Common.{◌≡◌, ℕ, suc, ◌+◌, ◌-◌, ◌^◌, ◌<◌, ◌≤◌, List, ◌∷◌, ◌++◌, length, take, drop, Option, Some, None, refl, ap, sym, ◌∙◌, arith, get_or, append_assoc, append-nil, length-append, false, ◌&&◌, []}
 use Rattle.std.specs.Prelude.{nat_lt, if◌then◌else◌}
 use Rattle.std.proofs.lemmas.List.{take_more, take-append-drop}
 use Rattle.std.proofs.lemmas.Bool.Decides.{nat_tests}
@@ -9,12 +10,10 @@ use Rattle.typst_tree.specs.Walks.{last_leaf, if_none, is_leaf}
 use Rattle.typst_tree.proofs.WalksInPreorder.{length_preorder}
 
 if_none_assoc : (x y z : Option ℕ) → if_none (if_none x y) z ≡ if_none x (if_none y z)
-if_none_assoc None y z = refl
-if_none_assoc (Some n) y z = refl
+if_none_assoc x y z = grind arith
 
 pub if_none_nothing : (x : Option ℕ) → if_none x None ≡ x
-if_none_nothing None = refl
-if_none_nothing (Some n) = refl
+if_none_nothing x = grind arith
 
 pub last_append : (b n : ℕ) (xs ys : List Tree) → last_leaf b n (xs ++ ys) ≡ if_none (last_leaf b (n + length xs) ys) (last_leaf b n xs)
 last_append b n [] ys = simp unary_clauses (sym (if_none_nothing (last_leaf b n ys)))
@@ -49,15 +48,7 @@ back b n t xs k e d x low high g end many small =
     let front = preorder (forest (take (k - 1) xs)) in
     let all : preorder (forest (take k xs)) ≡ preorder (forest (take (k - 1) xs)) ++ places x = ap (λ ys. preorder (forest ys)) more ∙ (preorder_append (take (k - 1) xs) (x ∷ []) ∙ ap (λ zs. front ++ zs) (append-nil (places x))) in
     let counted : count (forest (take k xs)) ≡ count (forest (take (k - 1) xs)) + nodes x = omega (arith, ap length all, length_preorder (forest (take k xs)), length_preorder (forest (take (k - 1) xs)), length_preorder x.kids, length-append front (places x)) in
-    let number : n + length (t ∷ preorder (forest (take (k - 1) xs))) ≡ e - d = omega (arith, length_preorder (forest (take (k - 1) xs)), counted, end, many, small) in
-    record {
-      fits = omega (arith, counted, end, many);
-      number = omega (arith, counted, end, many, small);
-      counted = counted;
-      last = ap (λ zs. last_leaf b n (t ∷ zs)) all ∙ (last_append b n (t ∷ front) (places x) ∙ ap (λ m. if_none (last_leaf b m (places x)) (last_leaf b n (t ∷ front))) number);
-    }
+    grind (arith, common_steps, length_preorder, last_append)
 
 pub last_alone : (b n : ℕ) (t : Tree) (xs : List Tree) (i : ℕ) → n < b → i ≡ 0 → last_leaf b n (t ∷ preorder (forest (take i xs))) ≡ (if is_leaf t then Some n else None)
-last_alone b n t xs i h e =
-    let below : nat_lt n b ≡ true = grind (arith, nat_tests, h) in
-    rw (e, below) refl
+last_alone b n t xs i h e = grind arith

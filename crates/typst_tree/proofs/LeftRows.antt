@@ -1,5 +1,6 @@
 -- What is left of a walk in preorder, row by row.
-use Rattle.std.proofs.Common.{◌≡◌, ℕ, ◌+◌, ◌<◌, Option, Some, None, Result, Ok, Err, IfOk, Bool, cond, true, false, ◌||◌, List, [], ◌∷◌, ◌++◌, length, map, refl, ap, sym, subst, ◌∙◌, arith, append_assoc, append-nil, length-append}
+use Rattle.std.proofs.lemmas.Grind.{common_steps}
+use Rattle.std.proofs.Common.{◌≡◌, ℕ, ◌+◌, Option, Result, IfOk, Bool, cond, true, false, ◌||◌, List, ◌∷◌, ◌++◌, length, map, refl, ap, sym, subst, ◌∙◌, arith, append_assoc, append-nil, []}
 use Rattle.std.specs.Iterator.{YieldsFirstBy}
 use Rattle.std.proofs.lemmas.Bool.{or_parts}
 use Rattle.std.proofs.lemmas.List.{map-append}
@@ -25,8 +26,7 @@ pub nodes_of_walk : (o : ℕ) (t : Tree) → map (λ (v : Visited). v.node) (wal
 nodes_of_walk o t = nodes_of_row o 0 (more t.head t.kids none) ∙ ap (λ ts. t ∷ ts) (append-nil (preorder t.kids))
 
 row_of_none : (o d : ℕ) (ts : List Tree) → length ts ≡ 0 → row o d (forest ts) ≡ []
-row_of_none o d [] e = refl
-row_of_none o d (t ∷ ts) e = absurd (omega (arith, e))
+row_of_none o d ts e = grind (arith, common_steps)
 
 -- nothing is left of a row that is passed
 passed : (r : Row) → length r.trees.now ≡ 0 → left r ≡ []
@@ -58,18 +58,7 @@ none_marked o d (more h ks r) e =
 
 -- an unmarked tree is passed
 pub passed_unmarked : (v : Visited) (here behind above : List Visited) → here ≡ v ∷ (below v ++ behind) → is_marked v ≡ false → marked (here ++ above) ≡ marked (behind ++ above)
-passed_unmarked v here behind above h e =
-    let p = or_parts (has_any v.node.head.diagnostics) (have_diagnostics v.node.kids) e in
-    let rest = below v ++ (behind ++ above) in
-    ap (λ vs. marked (vs ++ above)) h ∙ ap (λ vs. marked (v ∷ vs)) (append_assoc (below v) behind above)
-    ∙ ap (λ b. cond b (v ∷ marked rest) (marked rest)) e
-    ∙ filter-append is_marked (below v) (behind ++ above)
-    ∙ ap (λ vs. vs ++ marked (behind ++ above)) (none_marked (saturated (v.offset + length v.node.head.text)) (saturated (v.depth + 1)) v.node.kids p.1)
-
--- and fewer nodes are left
-pub passed_fewer : (v : Visited) (here behind above : List Visited) → here ≡ v ∷ (below v ++ behind) → length (behind ++ above) < length (here ++ above)
-passed_fewer v here behind above h =
-    omega (arith, ap length h, length-append (below v) behind, length-append behind above, length-append here above)
+passed_unmarked v here behind above h e = grind (arith, or_parts, append_assoc, cond, filter-append, none_marked)
 
 -- a marked node is the next one
 pub at_marked : (v : Visited) (here later above : List Visited) → here ≡ v ∷ later → is_marked v ≡ true → IsAtMarked (here ++ above)
@@ -77,34 +66,19 @@ at_marked v here later above h m = subst (λ vs. IsAtMarked (vs ++ above)) (sym 
 
 -- none is left where the row of the next node is passed
 pub at_end : (here : Row) (above : List Row) → IsReady here above → length here.trees.now ≡ 0 → IsAtMarked (left here ++ left_above above)
-at_end here [] r e = subst IsAtMarked (sym (ap (λ (vs : List Visited). vs ++ []) (passed here e))) tt
-at_end here (x ∷ xs) r e = absurd (omega (arith, r.ends e))
-
-yields_marked : (old mid new : List Visited) (o : Option Visit) → marked mid ≡ marked old → IsAtMarked mid → YieldsFirstBy visited (λ (vs : List Visited). vs) mid o new → YieldsFirstBy visited marked old o new
-yields_marked old mid new None k m y = (sym k ∙ ap marked y.0, ap marked y.1)
-yields_marked old mid new (Some v) k m y =
-    let is : is_marked (visited v) ≡ true = subst IsAtMarked y m in
-    sym k ∙ ap marked y ∙ ap (λ b. cond b (visited v ∷ marked new) (marked new)) is
+at_end here above r e = grind (arith, common_steps)
 
 -- a step after unmarked nodes were passed
 pub ok_marked : {E : Type 0} (old mid new : List Visited) (r : Result (Option Visit) E) → marked mid ≡ marked old → IsAtMarked mid → IfOk r (λ o. YieldsFirstBy visited (λ (vs : List Visited). vs) mid o new) → IfOk r (λ o. YieldsFirstBy visited marked old o new)
-ok_marked old mid new (Ok o) k m y = yields_marked old mid new o k m y
-ok_marked old mid new (Err e) k m y = y
+ok_marked old mid new r k m y = grind arith
 
 past_clean : (v : Visited) (vs : List Visited) → has_any v.node.head.diagnostics ≡ false → diagnosed (v ∷ vs) ≡ diagnosed vs
 past_clean v vs e = ap (λ b. cond b (v ∷ diagnosed vs) (diagnosed vs)) e
 
 with_one : (v : Visited) (vs : List Visited) (a b : Bool) → has_any v.node.head.diagnostics ≡ a → have_diagnostics v.node.kids ≡ b → diagnosed (marked vs) ≡ diagnosed vs → diagnosed (marked (v ∷ vs)) ≡ diagnosed (v ∷ vs)
-with_one v vs true b own kids later =
-    let is : is_marked v ≡ true = ap (λ c. c || have_diagnostics v.node.kids) own in
-    ap (λ c. diagnosed (cond c (v ∷ marked vs) (marked vs))) is
-    ∙ ap (λ ws. cond (has_any v.node.head.diagnostics) (v ∷ ws) ws) later
-with_one v vs false true own kids later =
-    let is : is_marked v ≡ true = λ i. own i || kids i in
-    ap (λ c. diagnosed (cond c (v ∷ marked vs) (marked vs))) is ∙ past_clean v (marked vs) own ∙ later ∙ sym (past_clean v vs own)
-with_one v vs false false own kids later =
-    let is : is_marked v ≡ false = λ i. own i || kids i in
-    ap (λ c. diagnosed (cond c (v ∷ marked vs) (marked vs))) is ∙ later ∙ sym (past_clean v vs own)
+with_one v vs true b own kids later = cc
+with_one v vs false true own kids later = cc
+with_one v vs false false own kids later = cc
 
 -- a node that has a diagnostic itself is marked
 diagnosed_marked : (vs : List Visited) → diagnosed (marked vs) ≡ diagnosed vs

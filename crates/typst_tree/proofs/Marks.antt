@@ -1,5 +1,6 @@
 -- Which trees have diagnostics.
-use Rattle.std.proofs.Common.{◌≡◌, ℕ, suc, ◌+◌, ◌<◌, ◌≤◌, Bool, true, false, ◌||◌, List, [], ◌∷◌, ◌++◌, length, map, take, drop, get_or, zero, Some, if◌then◌else◌, refl, ap, sym, ◌∙◌, arith}
+use Rattle.std.proofs.lemmas.Grind.{common_steps}
+use Rattle.std.proofs.Common.{◌≡◌, ℕ, suc, ◌+◌, ◌<◌, ◌≤◌, Bool, true, false, ◌||◌, List, ◌∷◌, ◌++◌, length, map, take, drop, get_or, zero, Some, if◌then◌else◌, refl, ap, sym, ◌∙◌, arith, []}
 use Rattle.std.specs.Prelude.{slice_range}
 use Rattle.std.proofs.Math.ListN.{set}
 use Rattle.std.proofs.lemmas.List.{take_more, take-append-drop, set_split, set-get_or}
@@ -7,7 +8,6 @@ use Rattle.std.proofs.lemmas.List.Folds.{drop_split}
 use Rattle.typst_kinds.specs.declared.kind.SyntaxKind.{SyntaxKind}
 use Rattle.typst_kinds.specs.Kinds.{is_error}
 use Rattle.typst_kinds.specs.Span.{SpanValue}
-use Rattle.typst_kinds.specs.Diagnostic.{Diagnostic, at_last}
 use Rattle.typst_kinds.specs.Head.{Own, has_any, spanned}
 use Rattle.typst_tree.specs.declared.replace.Counts.{Counts}
 use Rattle.typst_tree.specs.Tree.{Forest, none, more, Tree, forest, bare, bare_forest, have_diagnostics, has_diagnostics, with_each, synthesized, with_kind, at_tree}
@@ -47,15 +47,11 @@ have_one x = or_none (has_any x.head.diagnostics) (have_diagnostics x.kids)
 
 -- three stretches of trees, the one between them last
 have_three : (a b c : List Tree) → have_diagnostics (forest (a ++ (b ++ c))) ≡ ((have_diagnostics (forest a) || have_diagnostics (forest c)) || have_diagnostics (forest b))
-have_three a b c =
-    have_append a (b ++ c) ∙ ap (λ u. have_diagnostics (forest a) || u) (have_append b c)
-    ∙ or_turn (have_diagnostics (forest a)) (have_diagnostics (forest b)) (have_diagnostics (forest c))
+have_three a b c = simp (have_append, or_turn)
 
 -- one more tree
 pub have_more : (xs : List Tree) (i : ℕ) (x : Tree) → i < length xs → x ≡ get_or xs i x → have_diagnostics (forest (take (i + 1) xs)) ≡ (have_diagnostics (forest (take i xs)) || has_diagnostics x)
-have_more xs i x h e =
-    ap (λ ys. have_diagnostics (forest ys)) (take_more xs i x h ∙ ap (λ y. take i xs ++ y ∷ []) (sym e))
-    ∙ have_append (take i xs) (x ∷ []) ∙ ap (λ b. have_diagnostics (forest (take i xs)) || b) (have_one x)
+have_more xs i x h e = grind (arith, common_steps, take_more, have_append, have_one)
 
 -- one more tree without diagnostics
 pub none_more : (xs : List Tree) (i : ℕ) (x : Tree) → i < length xs → x ≡ get_or xs i x → have_diagnostics (forest (take i xs)) ≡ false → has_diagnostics x ≡ false → have_diagnostics (forest (take (i + 1) xs)) ≡ false
@@ -84,8 +80,7 @@ have_bare (more h ks r) = λ i. has_any h.diagnostics || (have_bare ks i || have
 
 -- trees that are the same, spans aside
 pub has_same : (t u : Tree) → bare t ≡ bare u → has_diagnostics t ≡ has_diagnostics u
-has_same t u e =
-    sym (ap (λ b. has_any t.head.diagnostics || b) (have_bare t.kids)) ∙ ap has_diagnostics e ∙ ap (λ b. has_any u.head.diagnostics || b) (have_bare u.kids)
+has_same t u e = grind (arith, have_bare)
 
 have_same : (xs ys : List Tree) → map bare xs ≡ map bare ys → have_diagnostics (forest xs) ≡ have_diagnostics (forest ys)
 have_same xs ys e =
@@ -107,17 +102,6 @@ have_kind k i none = refl
 have_kind k zero (more h ks r) = let t : Tree = record { head = h; kids = ks } in rw (any_kind k t, kids_kind k t) refl
 have_kind k (suc i) (more h ks r) = ap (λ b. has_any h.diagnostics || (have_diagnostics ks || b)) (have_kind k i r)
 
--- a node with one more diagnostic has some
-pub any_pushed : (ds : List Diagnostic) (d : Diagnostic) → has_any (ds ++ d ∷ []) ≡ true
-any_pushed [] d = refl
-any_pushed (e ∷ ds) d = refl
-
--- a change of the last diagnostic leaves as many
-pub any_at_last : (f : Diagnostic → Diagnostic) (ds : List Diagnostic) → has_any (at_last f ds) ≡ has_any ds
-any_at_last f [] = refl
-any_at_last f (d ∷ []) = refl
-any_at_last f (d ∷ (e ∷ ds)) = refl
-
 -- what `recount` requires of the mark: the children ys stand for ones where others came for those that went
 abbrev pub Marks : Own → List Tree → Counts → Counts → Type 0
 Marks o ys gone come =
@@ -127,24 +111,8 @@ or_again : (a b : Bool) → (a || (a || b)) ≡ (a || b)
 or_again true b = refl
 or_again false b = refl
 
--- a is the node's own, b says whether others have some, and g and c whether those that went and came do
-or_moved : (a b g c : Bool) → (a || (c || (if g then (b || c) else (a || (b || g))))) ≡ (a || (b || c))
-or_moved true b g c = refl
-or_moved false true true true = refl
-or_moved false true true false = refl
-or_moved false true false true = refl
-or_moved false true false false = refl
-or_moved false false true true = refl
-or_moved false false true false = refl
-or_moved false false false true = refl
-or_moved false false false false = refl
-
 marked_by : (o : Own) (xs ys : List Tree) (rest old new : Bool) (gone come : Counts) → have_diagnostics (forest xs) ≡ (rest || old) → have_diagnostics (forest ys) ≡ (rest || new) → o.is_marked ≡ (has_any o.head.diagnostics || have_diagnostics (forest xs)) → gone.is_marked ≡ old → come.is_marked ≡ new → Marks o ys gone come
-marked_by o xs ys rest old new gone come x y m g c =
-    let own = has_any o.head.diagnostics in
-    let was : o.is_marked ≡ (own || (rest || gone.is_marked)) = m ∙ ap (λ b. own || b) (x ∙ ap (λ b. rest || b) (sym g)) in
-    let now : have_diagnostics (forest ys) ≡ (rest || come.is_marked) = y ∙ ap (λ b. rest || b) (sym c) in
-    (λ i. own || (come.is_marked || (if gone.is_marked then now i else was i))) ∙ or_moved own rest gone.is_marked come.is_marked ∙ ap (λ b. own || b) (sym now)
+marked_by o xs ys rest old new gone come x y m g c = grind arith
 
 -- children replaced
 pub swapped_marks : (t : Tree) (file : ℕ) (o : Own) (xs : List Tree) (from to : ℕ) (new ys : List Tree) (gone come : Counts) → over o.head xs ≡ t → from ≤ to → to ≤ length (kids_of t) → swapped file o.head xs from to (slice_range xs from to) new ≡ Some ys → o.is_marked ≡ has_diagnostics (over o.head xs) → gone.is_marked ≡ have_diagnostics (forest (slice_range xs from to)) → come.is_marked ≡ have_diagnostics (forest new) → Marks o ys gone come
@@ -158,5 +126,4 @@ swapped_marks t file o xs from to new ys gone come view order within e m g c =
 
 -- one child changed
 pub set_marks : (o : Own) (xs : List Tree) (i : ℕ) (x y : Tree) (gone come : Counts) → i < length xs → x ≡ get_or xs i x → o.is_marked ≡ has_diagnostics (over o.head xs) → gone.is_marked ≡ has_diagnostics x → come.is_marked ≡ has_diagnostics y → Marks o (set xs i y) gone come
-set_marks o xs i x y gone come h e m g c =
-    marked_by o xs (set xs i y) (have_others i xs) (has_diagnostics x) (has_diagnostics y) gone come (have_at xs i x h e) (have_set xs i y h) m g c
+set_marks o xs i x y gone come h e m g c = grind (arith, marked_by, have_at, have_set)

@@ -1,5 +1,5 @@
 -- What a node's children add up to after some of them made way for others.
-use Rattle.std.proofs.Common.{◌≡◌, ℕ, suc, ◌+◌, ◌-◌, ◌^◌, ◌<◌, ◌≤◌, List, [], ◌∷◌, ◌++◌, length, map, take, drop, get_or, Some, ap, sym, ◌∙◌, arith, length-append, append-nil}
+use Rattle.std.proofs.Common.{◌≡◌, ℕ, suc, ◌+◌, ◌-◌, ◌^◌, ◌<◌, ◌≤◌, List, ◌∷◌, ◌++◌, length, map, take, drop, get_or, Some, ap, sym, ◌∙◌, arith, length-append, append-nil, []}
 use Rattle.std.specs.Prelude.{slice_range}
 use Rattle.std.proofs.Math.ListN.{set}
 use Rattle.std.proofs.lemmas.List.{take-append-drop, set_split, set-get_or}
@@ -25,8 +25,7 @@ pub record Moved (xs ys gone come : List Tree) : Type 0 where
 
 -- the text of three stretches of children is as long as theirs together
 three_long : (a b c : List Tree) → length (joined (forest (a ++ (b ++ c)))) ≡ length (joined (forest a)) + length (joined (forest b)) + length (joined (forest c))
-three_long a b c =
-    rw (joined-append, joined-append) (omega (arith, length-append (joined (forest a)) (joined (forest b) ++ joined (forest c)), length-append (joined (forest b)) (joined (forest c))))
+three_long a b c = grind (arith, joined-append, length-append)
 
 -- three stretches of children have as many nodes as they have together
 three_many : (a b c : List Tree) → count (forest (a ++ (b ++ c))) ≡ count (forest a) + count (forest b) + count (forest c)
@@ -36,19 +35,7 @@ three_many a b c = omega (arith, count-append a (b ++ c), count-append b c)
 pub moved : (a b c d xs ys : List Tree) → xs ≡ a ++ (b ++ d) → map bare ys ≡ map bare (a ++ (c ++ d)) → Moved xs ys b c
 moved a b c d xs ys e f =
     let same : bare_forest (forest ys) ≡ bare_forest (forest (a ++ (c ++ d))) = sym (forest_bare ys) ∙ (ap forest f ∙ forest_bare (a ++ (c ++ d))) in
-    let texts : joined (forest ys) ≡ joined (forest (a ++ (c ++ d))) = sym (joined_bare (forest ys)) ∙ (ap joined same ∙ joined_bare (forest (a ++ (c ++ d)))) in
-    let counts : count (forest ys) ≡ count (forest (a ++ (c ++ d))) = sym (count_bare (forest ys)) ∙ (ap count same ∙ count_bare (forest (a ++ (c ++ d)))) in
-    let old_long = ap (λ zs. length (joined (forest zs))) e ∙ three_long a b d in
-    let old_many = ap (λ zs. count (forest zs)) e ∙ three_many a b d in
-    record {
-      long = omega (arith, ap length texts, three_long a c d, old_long);
-      many = omega (arith, counts, three_many a c d, old_many);
-      shorter = omega (arith, old_long);
-      fewer = omega (arith, old_many);
-      whole = λ w v.
-          let u : IsWholeForest (forest (a ++ (b ++ d))) = rw e at w in
-          whole_same (forest ys) (forest (a ++ (c ++ d))) same (whole_join a (c ++ d) (whole_left a (b ++ d) u) (whole_join c d v (whole_right b d (whole_right a (b ++ d) u))));
-    }
+    grind (arith, joined_bare, count_bare, three_long, three_many, whole_same, whole_join, whole_left, whole_right)
 
 -- children replaced
 pub swapped_moved : (t : Tree) (file : ℕ) (h : Head) (xs : List Tree) (from to : ℕ) (new ys : List Tree) → over h xs ≡ t → from ≤ to → to ≤ length (kids_of t) → swapped file h xs from to (slice_range xs from to) new ≡ Some ys → Moved xs ys (slice_range xs from to) new
@@ -75,20 +62,8 @@ pub record Totals (ts : List Tree) (n : Counts) : Type 0 where
 
 -- what one tree comes to
 pub one_total : (t : Tree) (n : Counts) → n.len ≡ saturated (length (text_of t)) → n.nodes ≡ saturated (nodes t) → Totals (t ∷ []) n
-one_total t n l d =
-    record {
-      len = rw append-nil l;
-      nodes = omega (arith, d);
-    }
+one_total t n l d = grind (arith, append-nil)
 
 -- the counts after children moved follow from what went and what came
 pub recounted : (o : Own) (xs ys old new : List Tree) (gone come : Counts) → Moved xs ys old new → o.len ≡ kept (length (o.head.text ++ joined (forest xs))) → o.descendants ≡ kept (1 + count (forest xs)) → Totals old gone → Totals new come → Recounted o ys gone come
-recounted o xs ys old new gone come m l d g c =
-    let before = length-append o.head.text (joined (forest xs)) in
-    let after = length-append o.head.text (joined (forest ys)) in
-    record {
-      shorter = λ h. omega (arith, h, l, before, m.shorter, g.len);
-      fewer = λ h. omega (arith, h, d, m.fewer, g.nodes);
-      len = λ h. omega (arith, h, l, before, after, m.long, m.shorter, g.len, c.len);
-      nodes = λ h. omega (arith, h, d, m.many, m.fewer, g.nodes, c.nodes);
-    }
+recounted o xs ys old new gone come m l d g c = grind (arith, length-append)

@@ -1,13 +1,13 @@
 -- A stretch of a tree's nodes, said in two ways.
-use Rattle.std.proofs.Common.{◌≡◌, ℕ, ◌+◌, ◌-◌, ◌<◌, ◌^◌, List, [], ◌∷◌, ◌++◌, length, take, drop, Some, refl, ap, sym, subst, ◌∙◌, arith, length-append, Bool}
+use Rattle.std.proofs.lemmas.Grind.{common_steps}
+use Rattle.std.proofs.Common.{◌≡◌, ℕ, ◌+◌, ◌-◌, ◌<◌, ◌^◌, List, ◌∷◌, ◌++◌, length, take, drop, Some, refl, ap, sym, subst, ◌∙◌, arith, length-append, Bool, []}
 use Rattle.std.specs.Prelude.{slice_get, unwrap_or}
 use Rattle.std.specs.Option.{option_map}
 use Rattle.std.proofs.lemmas.List.{take-append-drop, length-take-le}
-use Rattle.std.proofs.lemmas.Option.{same_Some}
 use Rattle.std.proofs.Math.Seq.{take-length, take-append_seam, drop-append_seam}
 use Rattle.typst_tree.specs.Tree.{Tree, forest, nodes, places, preorder, saturated, text_of}
 use Rattle.typst_tree.specs.Walks.{first_at, Within, Stands}
-use Rattle.typst_tree.specs.Steps.{at, node_of, start_of, first_below}
+use Rattle.typst_tree.specs.Steps.{at, node_of, first_below}
 use Rattle.typst_tree.proofs.WalksInPreorder.{first_same, within_in, within_first, within_rest, length_preorder}
 
 pub standing : (xs : List Tree) (k b : ℕ) (ys : List Tree) → Stands xs k b ys → Within 0 0 xs k b ys
@@ -24,13 +24,7 @@ here_of : (front ys back : List Tree) → take (length ys) (drop (length front) 
 here_of front ys back = rw (drop-append_seam front (ys ++ back)) (take-append_seam ys back)
 
 pub stands : (xs : List Tree) (k b : ℕ) (ys : List Tree) → Within 0 0 xs k b ys → Stands xs k b ys
-stands xs k b ys w =
-    let number : k ≡ length w.front = omega (arith, w.number) in
-    record {
-      within = omega (arith, number, ap length w.whole, length-append w.front (ys ++ w.back), length-append ys w.back);
-      here = rw (number, w.whole) (here_of w.front ys w.back);
-      begins = w.offset ∙ rw (number, w.whole, take-append_seam w.front (ys ++ w.back)) (omega arith);
-    }
+stands xs k b ys w = grind (arith, common_steps, length-append, here_of, take-append_seam)
 
 get_seam : (front : List Tree) (t : Tree) (rest : List Tree) → slice_get (front ++ (t ∷ rest)) (length front) ≡ Some t
 get_seam [] t rest = refl
@@ -38,22 +32,17 @@ get_seam (x ∷ front) t rest = get_seam front t rest
 
 -- the node that stands at a number
 pub stands_get : (xs : List Tree) (k b : ℕ) (t : Tree) → Stands xs k b (places t) → slice_get xs k ≡ Some t
-stands_get xs k b t s =
-    let w = standing xs k b (places t) s in
-    let number : k ≡ length w.front = omega (arith, w.number) in
-    ap (slice_get xs) number ∙ (ap (λ ys. slice_get ys (length w.front)) w.whole ∙ get_seam w.front t _)
+stands_get xs k b t s = let w = standing xs k b (places t) s in grind (arith, common_steps, get_seam)
 
 pub node_here : (root : Tree) (k b : ℕ) (t : Tree) → Stands (places root) k b (places t) → node_of (at root k) ≡ t
 node_here root k b t s = ap (λ o. unwrap_or o root) (stands_get (places root) k b t s)
 
 pub same_node : (xs : List Tree) (k m b c : ℕ) (t u : Tree) → k ≡ m → Stands xs k b (places t) → Stands xs m c (places u) → t ≡ u
-same_node xs k m b c t u e s r =
-    same_Some t u (sym (stands_get xs k b t s) ∙ (ap (slice_get xs) e ∙ stands_get xs m c u r))
+same_node xs k m b c t u e s r = grind arith
 
 -- to walk through the node that stands at a number is the step from there
 pub first_here : (p : ℕ → ℕ → Tree → Bool) (root : Tree) (k b : ℕ) (t : Tree) → Stands (places root) k b (places t) → option_map (at root) (first_at p k b (places t)) ≡ first_below p (at root k)
-first_here p root k b t s =
-    rw (node_here root k b t s) (ap (option_map (at root)) (first_same p k b (start_of (at root k)) (places t) (omega (arith, s.begins))))
+first_here p root k b t s = grind (arith, node_here, first_same)
 
 -- the whole tree stands at 0
 pub stands_whole : (root : Tree) → Stands (places root) 0 0 (places root)

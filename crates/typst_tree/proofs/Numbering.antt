@@ -1,5 +1,6 @@
 -- The equations of numbered forests.
-use Rattle.std.proofs.Common.{◌≡◌, ◌≢◌, get_or-set_other, ℕ, zero, suc, ◌+◌, ◌*◌, ◌<◌, ◌≤◌, true, false, List, [], ◌∷◌, ◌++◌, length, take, drop, get_or, refl, ap, ◌∙◌, arith, append-nil, add-one, ◌/◌, ◌^◌, if◌then◌else◌, Some}
+use Rattle.std.proofs.lemmas.Grind.{common_steps}
+use Rattle.std.proofs.Common.{◌≡◌, ◌≢◌, get_or-set_other, ℕ, zero, suc, ◌+◌, ◌*◌, ◌<◌, ◌≤◌, List, ◌∷◌, ◌++◌, length, take, drop, get_or, refl, ap, ◌∙◌, arith, append-nil, add-one, ◌^◌, []}
 use Rattle.std.proofs.Math.ListN.{set}
 use Rattle.std.proofs.Math.Nat.{mul-le-mul_left, mul-le-mul_right}
 use Rattle.std.proofs.lemmas.List.{take_all, drop_all, with_items_is, get_or_default}
@@ -18,8 +19,7 @@ joined_bare none = refl
 joined_bare (more h ks r) = simp (joined_bare ks, joined_bare r)
 
 pub placed_bare : (file s a e : ℕ) (h : Head) → bare_head (placed file s a e h) ≡ bare_head h
-placed_bare file s a e h =
-    elim h.is_inner as (λ b. bare_head (if b then record h { span = Some (file, a + s / 2); upper = e } else record h { span = Some (file, (a + e) / 2); upper = 0 }) ≡ bare_head h) [ true ↦ refl | false ↦ refl ]
+placed_bare file s a e h = grind arith
 
 pub numbered_forest_bare : (file s a : ℕ) (f : Forest) → bare_forest (numbered_forest file s a f) ≡ bare_forest f
 numbered_forest_bare file s a none = refl
@@ -30,16 +30,14 @@ numbered_forest_bare file s a (more h ks r) =
     more (placed_bare file inner a (a + n * s) h i) (numbered_forest_bare file inner (a + inner) ks i) (numbered_forest_bare file s (a + n * s) r i)
 
 pub numbered_bare : (file a p : ℕ) (t : Tree) → bare (numbered file a p t) ≡ bare t
-numbered_bare file a p t =
-    let s = stride p (nodes t) in λ i. record { head = placed_bare file s a (a + p) t.head i; kids = numbered_forest_bare file s (a + s) t.kids i }
+numbered_bare file a p t = simp (placed_bare, numbered_forest_bare)
 
 pub nodes_numbered : (file a p : ℕ) (t : Tree) → nodes (numbered file a p t) ≡ nodes t
 nodes_numbered file a p t =
     omega (arith, ap (λ u. nodes u) (numbered_bare file a p t), count_bare t.kids, count_bare (numbered file a p t).kids)
 
 pub text_numbered : (file a p : ℕ) (t : Tree) → text_of (numbered file a p t) ≡ text_of t
-text_numbered file a p t =
-    let q : text_of (bare (numbered file a p t)) ≡ text_of (bare t) = ap text_of (numbered_bare file a p t) in simp joined_bare at q
+text_numbered file a p t = grind (arith, numbered_bare, joined_bare)
 
 pub forest_numbered : (file s a : ℕ) (ts : List Tree) → forest (numbered_list file s a ts) ≡ numbered_forest file s a (forest ts)
 forest_numbered file s a [] = refl
@@ -63,9 +61,7 @@ nodes_at (y ∷ xs) zero d h = omega arith
 nodes_at (y ∷ xs) (suc i) d h = omega (arith, nodes_at xs i d (omega arith))
 
 pub stretch_fits : (s a e i : ℕ) (xs : List Tree) (x : Tree) → i < length xs → x ≡ get_or xs i x → a + count (forest xs) * s ≤ e → a + count (forest (take i xs)) * s + nodes x * s ≤ e
-stretch_fits s a e i xs x h p r =
-    let n : count (forest (take i xs)) + nodes x ≤ count (forest xs) = omega (arith, count_more xs i x h p, count_take xs (i + 1)) in
-    omega (arith, mul-le-mul_right s n)
+stretch_fits s a e i xs x h p r = grind (arith, common_steps, count_more, count_take, mul-le-mul_right)
 
 pub saturated_fits : (s n : ℕ) → 0 < s → n * s ≤ 2 ^ 47 → saturated n ≡ n
 saturated_fits s n h k = let m : n * 1 ≤ n * s = mul-le-mul_left n h in omega (arith, m)
@@ -79,17 +75,7 @@ pub record Next (s e at n i : ℕ) (xs : List Tree) (x : Tree) : Type 0 where
   pub fits : at + nodes x * s ≤ e
 
 pub next_at : (s a e at n i : ℕ) (xs : List Tree) (x : Tree) → 0 < s → i < length xs → x ≡ get_or xs i x → at ≡ a + count (forest (take i xs)) * s → a + count (forest xs) * s ≤ e → e ≤ 2 ^ 47 → n ≡ saturated (nodes x) → Next s e at n i xs x
-next_at s a e at n i xs x pos h is p room f d =
-    let m = stretch_fits s a e i xs x h is room in
-    let all : at + nodes x * s ≤ e = omega (arith, m, p) in
-    let one : nodes x * 1 ≤ nodes x * s = mul-le-mul_left (nodes x) pos in
-    record {
-      more_by = count_more xs i x h is;
-      counted = d ∙ saturated_fits s (nodes x) pos (omega arith);
-      below = omega (arith, nodes_at xs i x h, ap nodes is);
-      enough = omega (arith, one);
-      fits = all;
-    }
+next_at s a e at n i xs x pos h is p room f d = let m = stretch_fits s a e i xs x h is room in grind (arith, mul-le-mul_left, count_more, saturated_fits, nodes_at)
 
 pub next_fits : (s a e at n i : ℕ) (xs ys : List Tree) (x : Tree) → 0 < s → i < length xs → ((k : ℕ) (d : Tree) → i ≤ k → get_or ys k d ≡ get_or xs k d) → at ≡ a + count (forest (take i xs)) * s → a + count (forest xs) * s ≤ e → e ≤ 2 ^ 47 → n ≡ saturated (nodes (get_or ys i x)) → Next s e at n i xs (get_or ys i x)
 next_fits s a e at n i xs ys x pos h same p room f d =
@@ -98,22 +84,16 @@ next_fits s a e at n i xs ys x pos h same p room f d =
 
 pub numbered_more : (file s a b : ℕ) (xs ys : List Tree) (i : ℕ) (x : Tree) → i < length xs → ys ≡ numbered_list file s a (take i xs) ++ drop i xs → x ≡ get_or ys i x → b ≡ a + count (forest (take i xs)) * s → set ys i (numbered file b (nodes x * s) x) ≡ numbered_list file s a (take (i + 1) xs) ++ drop (i + 1) xs
 numbered_more file s a b [] ys i x h e p q = absurd (omega arith)
-numbered_more file s a b (y ∷ xs) ys zero x h e p q =
-    let is : x ≡ y = p ∙ ap (λ l. get_or l 0 x) e in
-    let b_is : b ≡ a = omega (arith, q) in
-    rw (e, b_is, is) refl
+numbered_more file s a b (y ∷ xs) ys zero x h e p q = grind arith
 numbered_more file s a b (y ∷ xs) ys (suc i) x h e p q =
-    let next = numbered_more file s (a + nodes y * s) b xs (numbered_list file s (a + nodes y * s) (take i xs) ++ drop i xs) i x (omega arith) refl (p ∙ ap (λ l. get_or l (suc i) x) e) (omega (arith, q)) in
-    rw (e, add-one) (ap (λ l. numbered file a (nodes y * s) y ∷ l) (rw add-one at next))
+    grind (arith, numbered_more file s (a + nodes y * s) b xs (numbered_list file s (a + nodes y * s) (take i xs) ++ drop i xs) i x (omega arith) refl (p ∙ ap (λ l. get_or l (suc i) x) e) (omega (arith, q)))
 
 pub length_numbered : (file s a : ℕ) (ts : List Tree) → length (numbered_list file s a ts) ≡ length ts
 length_numbered file s a [] = refl
 length_numbered file s a (t ∷ ts) = omega (arith, length_numbered file s (a + nodes t * s) ts)
 
 pub numbered_vec : (file s a : ℕ) (v : Vec Tree) (xs ys : List Tree) (i : ℕ) → xs ≡ v.items → ys ≡ numbered_list file s a (take i xs) ++ drop i xs → length xs ≤ i → (with_items v ys).items ≡ numbered_list file s a v.items
-numbered_vec file s a v xs ys i e w h =
-    let is : ys ≡ numbered_list file s a v.items = rw (← e) (rw (take_all i xs h, drop_all i xs h, append-nil) at w) in
-    with_items_is v ys (omega (arith, ap length is, length_numbered file s a v.items, v.ok.0)) ∙ is
+numbered_vec file s a v xs ys i e w h = grind (arith, take_all, drop_all, append-nil, with_items_is, length_numbered)
 
 pub some_nodes : (ts : List Tree) → 0 < length ts → 0 < count (forest ts)
 some_nodes [] h = absurd (omega arith)

@@ -1,8 +1,7 @@
 -- Numbers that stand in order.
-use Rattle.std.proofs.Common.{◌≡◌, ℕ, ◌+◌, ◌*◌, ◌/◌, ◌<◌, ◌≤◌, ◌==◌, Bool, true, false, List, [], ◌∷◌, ◌++◌, refl, ap, arith, rules, if◌then◌else◌}
+use Rattle.std.proofs.Common.{◌≡◌, ℕ, ◌+◌, ◌*◌, ◌/◌, ◌<◌, ◌≤◌, Bool, true, false, List, ◌∷◌, ◌++◌, refl, ap, arith, []}
 use Rattle.std.specs.Prelude.{All}
 use Rattle.std.proofs.Math.Nat.{mul-le-mul_left}
-use Rattle.std.proofs.lemmas.Bool.Decides.{nat_tests}
 use Rattle.std.proofs.lemmas.List.Elements.{All-cons}
 use Rattle.std.proofs.lemmas.List.Kept.{AllPairs-cons}
 use Rattle.typst_kinds.specs.Span.{number_of}
@@ -13,18 +12,10 @@ use Rattle.typst_tree.specs.Order.{IsWholeForest, IsWhole, numbers, numbers_of, 
 
 -- a stride gives each node a number
 pub stride_step : (p n : ℕ) → 0 < n → n ≤ p → 0 < stride p n
-stride_step p n pos le = at_half (p / (2 * n) == 0) refl
-  where
-    at_half : (b : Bool) → (p / (2 * n) == 0) ≡ b → 0 < (if b then p / n else p / (2 * n))
-    at_half true e = search rules
-    at_half false e = grind (arith, nat_tests)
+stride_step p n pos le = grind arith
 
 pub stride_within : (p n : ℕ) → 0 < n → n * stride p n ≤ p
-stride_within p n pos = at_half (p / (2 * n) == 0)
-  where
-    at_half : (b : Bool) → n * (if b then p / n else p / (2 * n)) ≤ p
-    at_half true = omega arith
-    at_half false = let two : 0 < 2 * n = omega arith in omega arith
+stride_within p n pos = grind arith
 
 pub ordered_le : (a e : ℕ) (f : Forest) → IsOrdered a f e → a ≤ e
 ordered_le a e none o = o

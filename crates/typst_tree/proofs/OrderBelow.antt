@@ -1,7 +1,6 @@
 -- Numbers that are in order below an end, node by node.
-use Rattle.std.proofs.Common.{◌≡◌, ℕ, zero, suc, ◌+◌, ◌<◌, ◌≤◌, List, [], ◌∷◌, ◌++◌, length, get_or, Option, Some, None, inl, inr, ap, sym, subst, arith, append_assoc}
+use Rattle.std.proofs.Common.{◌≡◌, ℕ, zero, suc, ◌+◌, ◌<◌, ◌≤◌, List, ◌∷◌, ◌++◌, length, get_or, Option, ap, sym, subst, arith, append_assoc, []}
 use Rattle.std.specs.Prelude.{All, IfSome, option_to_list}
-use Rattle.std.proofs.lemmas.Bool.{cases_eq}
 use Rattle.std.proofs.lemmas.List.Elements.{All-cons}
 use Rattle.std.proofs.lemmas.List.Kept.{AllPairs-cons}
 use Rattle.typst_kinds.specs.Span.{number_of}
@@ -52,8 +51,7 @@ first_up a end (x ∷ xs) h = (h.0, tt)
 
 each_up : (end : Option ℕ) (xs : List Tree) (k : ℕ) (d : Tree) → k < length xs → Up 0 (numbers (forest xs) ++ option_to_list end) → Up 0 (numbers_of (get_or xs k d) ++ option_to_list (number_at xs (suc k) end))
 each_up end [] k d l h = absurd (omega (arith, l))
-each_up end (x ∷ xs) zero d l h =
-    (omega arith, up_swap (number_of x.head.span + 1) (numbers x.kids) (numbers (forest xs) ++ option_to_list end) (option_to_list (number_at xs 0 end)) (λ b. first_up b end xs) (rw (append_assoc (numbers x.kids) (numbers (forest xs)) (option_to_list end)) at h.1))
+each_up end (x ∷ xs) zero d l h = grind (arith, up_swap, first_up, append_assoc)
 each_up end (x ∷ xs) (suc k) d l h =
     each_up end xs k d (omega (arith, l)) (up_back (number_of x.head.span + 1) (numbers x.kids) (numbers (forest xs) ++ option_to_list end) (rw (append_assoc (numbers x.kids) (numbers (forest xs)) (option_to_list end)) at h.1))
 
@@ -63,12 +61,10 @@ row_up a end (x ∷ xs) f g =
     (f.0, rw (append_assoc (numbers x.kids) (numbers (forest xs)) (option_to_list end)) (up_swap (number_of x.head.span + 1) (numbers x.kids) (option_to_list (number_at xs 0 end)) (numbers (forest xs) ++ option_to_list end) (λ b h. row_up b end xs h (λ k d l. g (suc k) d (omega (arith, l)))) (g 0 x (omega arith)).1))
 
 before_up : (n : ℕ) (o : Option ℕ) → IfSome o (λ m. n < m) → Up (n + 1) (option_to_list o)
-before_up n None h = tt
-before_up n (Some m) h = (omega (arith, h), tt)
+before_up n o h = grind arith
 
 up_before : (n : ℕ) (o : Option ℕ) → Up (n + 1) (option_to_list o) → IfSome o (λ m. n < m)
-up_before n None h = tt
-up_before n (Some m) h = omega (arith, h.0)
+up_before n o h = grind arith
 
 below_node : (t : Tree) (xs : List Tree) (end : Option ℕ) → forest xs ≡ t.kids → AreInOrder (numbers_of t ++ option_to_list end) → Up (number_of t.head.span + 1) (numbers (forest xs) ++ option_to_list end)
 below_node t xs end e h =
@@ -76,8 +72,7 @@ below_node t xs end e h =
 
 -- a node's own number is below the first child's, or below the end
 pub order_own : (t : Tree) (xs : List Tree) (end : Option ℕ) → forest xs ≡ t.kids → AreInOrder (numbers_of t ++ option_to_list end) → IfSome (number_at xs 0 end) (λ m. number_of t.head.span < m)
-order_own t xs end e h =
-    up_before (number_of t.head.span) (number_at xs 0 end) (first_up (number_of t.head.span + 1) end xs (below_node t xs end e h))
+order_own t xs end e h = grind (arith, up_before, first_up, below_node)
 
 at_any : (xs : List Tree) (i : ℕ) (x d : Tree) → x ≡ get_or xs i x → i < length xs → x ≡ get_or xs i d
 at_any [] i x d e l = absurd (omega (arith, l))
@@ -94,8 +89,7 @@ order_child t xs end next i x e p l n h =
 
 -- and the same said of the row
 pub order_at : (xs : List Tree) (end next : Option ℕ) (i : ℕ) (x d : Tree) → x ≡ get_or xs i x → i < length xs → next ≡ number_at xs (i + 1) end → AreInOrder (numbers_of x ++ option_to_list next) → AreInOrder (numbers_of (get_or xs i d) ++ option_to_list (number_at xs (i + 1) end))
-order_at xs end next i x d p l n h =
-    subst (λ y. AreInOrder (numbers_of y ++ option_to_list (number_at xs (i + 1) end))) (at_any xs i x d p l) (subst (λ o. AreInOrder (numbers_of x ++ option_to_list o)) n h)
+order_at xs end next i x d p l n h = grind (arith, at_any)
 
 -- a node is in order where its own number is below the next, and each child is in order below the next one
 pub order_node : (t : Tree) (xs : List Tree) (end : Option ℕ) → forest xs ≡ t.kids → IfSome (number_at xs 0 end) (λ m. number_of t.head.span < m) → ((k : ℕ) (d : Tree) → k < length xs → AreInOrder (numbers_of (get_or xs k d) ++ option_to_list (number_at xs (k + 1) end))) → AreInOrder (numbers_of t ++ option_to_list end)
@@ -110,10 +104,7 @@ order_node_but t xs end last e own others here =
     order_node t xs end e own each
   where
     each : (k : ℕ) (d : Tree) → k < length xs → AreInOrder (numbers_of (get_or xs k d) ++ option_to_list (number_at xs (k + 1) end))
-    each k d l = elim (cases_eq k last) [
-      | inl p ↦ subst (λ j. AreInOrder (numbers_of (get_or xs j d) ++ option_to_list (number_at xs (j + 1) end))) (sym p) (here d (omega (arith, p, l)))
-      | inr q ↦ others k d l q
-    ]
+    each k d l = grind arith
 
 -- a tree of a row has no more nodes than the row
 pub nodes_within : (xs : List Tree) (i : ℕ) (x : Tree) → x ≡ get_or xs i x → i < length xs → nodes x ≤ count (forest xs)

@@ -1,7 +1,6 @@
 -- Where a node's parent is found.
-use Rattle.std.proofs.Common.{◌≡◌, ℕ, zero, suc, ◌+◌, ◌-◌, ◌<◌, ◌≤◌, ◌==◌, true, false, List, [], ◌∷◌, ◌++◌, length, take, Option, Some, None, refl, ap, sym, ◌∙◌, arith, inl, inr, eq-eqb, append-nil}
+use Rattle.std.proofs.Common.{◌≡◌, ℕ, zero, suc, ◌+◌, ◌-◌, ◌<◌, ◌≤◌, ◌==◌, true, false, List, ◌∷◌, ◌++◌, length, take, Option, Some, None, refl, ap, sym, ◌∙◌, arith, inl, inr, append-nil, []}
 use Rattle.std.specs.Prelude.{slice_get}
-use Rattle.std.specs.Option.{option_map}
 use Rattle.std.specs.List.{list_any}
 use Rattle.std.proofs.lemmas.Bool.{cases_lt}
 use Rattle.std.proofs.lemmas.Bool.Decides.{nat_tests}
@@ -27,16 +26,12 @@ get_right (x ∷ xs) ys j =
     ap (slice_get (x ∷ (xs ++ ys))) same ∙ get_right xs ys j
 
 get_past : (xs ys : List Tree) (j : ℕ) → length xs ≤ j → slice_get (xs ++ ys) j ≡ slice_get ys (j - length xs)
-get_past xs ys j h =
-    let same : j ≡ length xs + (j - length xs) = omega (arith, h) in
-    ap (slice_get (xs ++ ys)) same ∙ get_right xs ys (j - length xs)
+get_past xs ys j h = grind (arith, get_right)
 
 -- a node of some trees has all that is below it among their nodes
 pub inside_forest : (f : Forest) (j : ℕ) (t : Tree) → slice_get (preorder f) j ≡ Some t → j + nodes t ≤ count f
 inside_forest none j t g = absurd (none-some t g)
-inside_forest (more h ks r) zero t g =
-    let same : record { head = h; kids = ks } ≡ t = same_Some (record { head = h; kids = ks }) t g in
-    omega (arith, ap nodes same)
+inside_forest (more h ks r) zero t g = grind arith
 inside_forest (more h ks r) (suc j) t g =
     elim (cases_lt j (count ks)) [
       | inl l ↦ (let at : slice_get (preorder ks) j ≡ Some t = sym (get_left (preorder ks) (preorder r) j (omega (arith, l, length_preorder ks))) ∙ g in
@@ -49,8 +44,7 @@ pub row_places : (t : Tree) → preorder (forest (t ∷ [])) ≡ places t
 row_places t = ap (λ ys. t ∷ ys) (append-nil (preorder t.kids))
 
 pub inside_tree : (u : Tree) (j : ℕ) (t : Tree) → slice_get (places u) j ≡ Some t → j + nodes t ≤ nodes u
-inside_tree u j t g =
-    omega (arith, inside_forest (forest (u ∷ [])) j t (ap (λ xs. slice_get xs j) (row_places u) ∙ g))
+inside_tree u j t g = grind (arith, inside_forest, row_places)
 
 -- where a child is looked for, offsets don't matter
 free : (k n a b : ℕ) (xs : List Tree) → first_at (has_child k) n a xs ≡ first_at (has_child k) n b xs
@@ -58,16 +52,12 @@ free k n a b [] = refl
 free k n a b (x ∷ xs) = rw (free k (n + 1) (a + length x.head.text) (b + length x.head.text) xs) refl
 
 pub none_from : (k n a : ℕ) (xs : List Tree) → k ≤ n → first_at (has_child k) n a xs ≡ None
-none_from k n a xs h =
-    none_between (has_child k) n a xs (λ m b u l e. no_number_below k (m + 1) u.kids (omega (arith, h, l)))
+none_from k n a xs h = grind (arith, none_between, no_number_below)
 
 -- the number of a node below one of some trees is none of those of the trees
 apart : (k n j : ℕ) (f : Forest) (t : Tree) → slice_get (preorder f) j ≡ Some t → n + j < k → k < n + j + nodes t → list_any (λ m. m == k) (numbers n f) ≡ false
 apart k n j none t g l h = absurd (none-some t g)
-apart k n zero (more g ks r) t e l h =
-    let same : record { head = g; kids = ks } ≡ t = same_Some (record { head = g; kids = ks }) t e in
-    let fails : (n == k) ≡ false = grind (arith, nat_tests, l) in
-    rw (fails, no_number_below k (n + 1 + count ks) r (omega (arith, h, ap nodes same))) refl
+apart k n zero (more g ks r) t e l h = grind (arith, same_Some, nat_tests, no_number_below)
 apart k n (suc j) (more g ks r) t e l h =
     let fails : (n == k) ≡ false = grind (arith, nat_tests, l) in
     let behind : list_any (λ m. m == k) (numbers (n + 1 + count ks) r) ≡ false =
@@ -121,9 +111,7 @@ parent_within root k n b t g l h =
 -- the trees before one of them and this one are some of them
 pub count_split : (f : Forest) (i : ℕ) (t : Tree) → slice_get (trees f) i ≡ Some t → count (forest (take i (trees f))) + nodes t ≤ count f
 count_split none i t g = absurd (none-some t g)
-count_split (more h ks r) zero t g =
-    let same : record { head = h; kids = ks } ≡ t = same_Some (record { head = h; kids = ks }) t g in
-    omega (arith, ap nodes same)
+count_split (more h ks r) zero t g = grind arith
 count_split (more h ks r) (suc i) t g = omega (arith, count_split r i t g)
 
 pub record Bounds (o : Tree) (n : ℕ) (t : Tree) (m : ℕ) : Type 0 where
@@ -131,15 +119,11 @@ pub record Bounds (o : Tree) (n : ℕ) (t : Tree) (m : ℕ) : Type 0 where
   pub to : m + nodes t ≤ n + nodes o
 
 pub child_bounds : (o : Tree) (n : ℕ) (t : Tree) (m i : ℕ) → IsChild o n t m i → Bounds o n t m
-child_bounds o n t m i c =
-    let fits = count_split o.kids i t c.here in
-    record { from = omega (arith, c.number); to = omega (arith, c.number, fits) }
+child_bounds o n t m i c = grind (arith, count_split)
 
 has_number : (f : Forest) (n i : ℕ) (t : Tree) (k : ℕ) → slice_get (trees f) i ≡ Some t → k ≡ n + count (forest (take i (trees f))) → list_any (λ m. m == k) (numbers n f) ≡ true
 has_number none n i t k g e = absurd (none-some t g)
-has_number (more h ks r) n zero t k g e =
-    let holds : (n == k) ≡ true = eq-eqb n k (omega (arith, e)) in
-    rw holds refl
+has_number (more h ks r) n zero t k g e = grind arith
 has_number (more h ks r) n (suc i) t k g e =
     let fails : (n == k) ≡ false = grind (arith, nat_tests, e) in
     rw (fails, has_number r (n + 1 + count ks) i t k g (omega (arith, e))) refl
@@ -147,18 +131,16 @@ has_number (more h ks r) n (suc i) t k g e =
 -- a node has the parent whose child it is
 pub parent_is : (root o : Tree) (n b : ℕ) (t : Tree) (m i : ℕ) → Stands (places root) n b (places o) → IsChild o n t m i → parent (at root m) ≡ Some (at root n)
 parent_is root o n b t m i s c =
-    let bounds = child_bounds o n t m i c in
     let holds : list_any (λ j. j == m) (numbers (n + 1) o.kids) ≡ true = has_number o.kids (n + 1) i t m c.here (omega (arith, c.number)) in
     let here : first_at (has_child m) n b (places o) ≡ Some n = rw holds refl in
-    ap (option_map (at root)) (parent_within root m n b o (stands_get (places root) n b o s) bounds.from (omega (arith, bounds.to)) ∙ here)
+    grind (arith, child_bounds o n t m i c, parent_within, stands_get)
 
 -- a node below one that stands in a tree is one of its nodes
 pub get_inside : (xs : List Tree) (n b m : ℕ) (t : Tree) → Stands xs n b (places t) → n ≤ m → m < n + nodes t → slice_get (places t) (m - n) ≡ slice_get xs m
 get_inside xs n b m t s l h =
     let w = standing xs n b (places t) s in
     let at : length w.front + (m - n) ≡ m = omega (arith, w.number, l) in
-    let short : m - n < length (places t) = omega (arith, l, h, length_places t) in
-    sym (get_left (places t) w.back (m - n) short) ∙ (sym (get_right w.front (places t ++ w.back) (m - n)) ∙ (ap (slice_get (w.front ++ (places t ++ w.back))) at ∙ ap (λ ys. slice_get ys m) (sym w.whole)))
+    grind (arith, length_places, get_left, get_right)
 
 -- a node whose number is one of those of another node lies within it
 pub nested : (xs : List Tree) (n b m c : ℕ) (t u : Tree) → Stands xs n b (places t) → Stands xs m c (places u) → n ≤ m → m < n + nodes t → m + nodes u ≤ n + nodes t

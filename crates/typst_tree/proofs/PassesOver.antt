@@ -1,5 +1,6 @@
 -- Where a walk finds nothing for sure.
-use Rattle.std.proofs.Common.{◌≡◌, ℕ, ◌+◌, ◌<◌, ◌≤◌, ◌==◌, Bool, true, false, ◌&&◌, List, [], ◌∷◌, ◌++◌, length, ◌^◌, None, Some, refl, ap, sym, ◌∙◌, arith, length-append}
+use Rattle.std.proofs.lemmas.Grind.{common_steps}
+use Rattle.std.proofs.Common.{◌≡◌, ℕ, ◌+◌, ◌<◌, ◌≤◌, ◌==◌, Bool, true, false, ◌&&◌, List, ◌∷◌, ◌++◌, length, ◌^◌, None, Some, refl, ap, ◌∙◌, arith, length-append, []}
 use Rattle.std.specs.Prelude.{nat_le, nat_lt, if◌then◌else◌}
 use Rattle.std.specs.List.{list_any}
 use Rattle.std.proofs.lemmas.Bool.Decides.{nat_tests}
@@ -9,11 +10,7 @@ use Rattle.typst_tree.proofs.LastLeaf.{if_none_nothing}
 use Rattle.typst_tree.proofs.WalksInPreorder.{length_preorder, length_places, texts_preorder, first_append, first_of_more, first_same, found_next, none_between, usize_saturated}
 
 pub no_leaf : (k n a : ℕ) (t : Tree) → n + nodes t ≤ k → first_at (is_leaf_from k) n a (places t) ≡ None
-no_leaf k n a t h =
-    none_between (is_leaf_from k) n a (places t) (λ m b u l e.
-    let below : m < k = omega (arith, h, e, length_places t) in
-    let fails : nat_le k m ≡ false = grind (arith, nat_tests, below) in
-    rw fails refl)
+no_leaf k n a t h = grind (arith, none_between, length_places, nat_tests)
 
 pub no_number_below : (k n : ℕ) (f : Forest) → k < n → list_any (λ m. m == k) (numbers n f) ≡ false
 no_number_below k n none h = refl
@@ -29,8 +26,7 @@ no_number_above k n (more g ks r) h =
     rw (fails, no_number_above k (n + 1 + count ks) r (omega (arith, h))) refl
 
 pub no_child_before : (k n a : ℕ) (t : Tree) → k ≤ n → first_at (has_child k) n a (places t) ≡ None
-no_child_before k n a t h =
-    none_between (has_child k) n a (places t) (λ m b u l e. no_number_below k (m + 1) u.kids (omega (arith, h, l)))
+no_child_before k n a t h = grind (arith, none_between, no_number_below)
 
 pub no_child_above : (k n a : ℕ) (f : Forest) → n + count f ≤ k → first_at (has_child k) n a (preorder f) ≡ None
 no_child_above k n a none h = refl
@@ -41,9 +37,7 @@ no_child_above k n a (more g ks r) h =
     (no_child_above k (n + 1 + length (preorder ks)) (a + length g.text + length (texts (preorder ks))) r (omega (arith, h, length_preorder ks)))
 
 pub no_child_after : (k n a : ℕ) (t : Tree) → n + nodes t ≤ k → first_at (has_child k) n a (places t) ≡ None
-no_child_after k n a t h =
-    let here : list_any (λ m. m == k) (numbers (n + 1) t.kids) ≡ false = no_number_above k (n + 1) t.kids (omega (arith, h)) in
-    rw here (no_child_above k (n + 1) (a + length t.head.text) t.kids (omega (arith, h)))
+no_child_after k n a t h = grind (arith, no_number_above, no_child_above)
 
 never : (x : Bool) → (x && false) ≡ false
 never true = refl
@@ -74,9 +68,7 @@ no_byte_above b n a (more g ks r) h =
     (no_byte_above b (n + 1 + length (preorder ks)) (a + length g.text + length (texts (preorder ks))) r (omega (arith, h, whole, ap length (texts_preorder ks))))
 
 pub no_byte_after : (b n a : ℕ) (t : Tree) → saturated (a + length (text_of t)) ≤ b → first_at (holds_byte b) n a (places t) ≡ None
-no_byte_after b n a t h =
-    let own : length (t.head.text ++ joined t.kids) ≡ length t.head.text + length (joined t.kids) = length-append t.head.text (joined t.kids) in
-    rw (ended b n a t h) (no_byte_above b (n + 1) (a + length t.head.text) t.kids (omega (arith, h, own)))
+no_byte_after b n a t h = grind (arith, length-append, no_byte_above)
 
 -- of a first tree and those behind it, only the first can hold a byte before its end
 pub byte_first : (b n a c : ℕ) (x : Tree) (rest : List Tree) → c ≡ saturated (a + length (text_of x)) → b < c → first_at (holds_byte b) n a (preorder (forest (x ∷ rest))) ≡ first_at (holds_byte b) n a (places x)
@@ -92,17 +84,8 @@ byte_next b n a m c x rest e f h =
 -- a node with children doesn't hold it itself
 pub byte_below : (b n a : ℕ) (t : Tree) (xs : List Tree) → forest xs ≡ t.kids → 0 < length xs → first_at (holds_byte b) n a (places t) ≡ first_at (holds_byte b) (n + 1) (saturated (a + length t.head.text)) (preorder (forest xs))
 byte_below b n a t [] e h = absurd (omega (arith, h))
-byte_below b n a t (x ∷ xs) e h =
-    let fails : is_childless t.kids ≡ false = ap is_childless (sym e) in
-    let own : first_at (holds_byte b) n a (places t) ≡ first_at (holds_byte b) (n + 1) (a + length t.head.text) (preorder t.kids) = rw fails refl in
-    own ∙ (first_same (holds_byte b) (n + 1) (a + length t.head.text) (saturated (a + length t.head.text)) (preorder t.kids) (omega arith)
-    ∙ ap (λ f. first_at (holds_byte b) (n + 1) (saturated (a + length t.head.text)) (preorder f)) (sym e))
+byte_below b n a t (x ∷ xs) e h = grind (arith, first_same)
 
 -- where its children don't hold it, it is the one that may
 pub byte_none : (b n a : ℕ) (t : Tree) (xs : List Tree) → forest xs ≡ t.kids → a < 2 ^ 64 → first_at (holds_byte b) (n + 1) (saturated (a + length t.head.text)) (preorder (forest xs)) ≡ None → first_at (holds_byte b) n a (places t) ≡ if holds_byte b 0 a t then Some n else None
-byte_none b n a t [] e h nothing =
-    let same : saturated a ≡ a = usize_saturated a h in
-    rw (same, sym e) refl
-byte_none b n a t (x ∷ xs) e h nothing =
-    let fails : is_childless t.kids ≡ false = ap is_childless (sym e) in
-    byte_below b n a t (x ∷ xs) e (omega arith) ∙ (nothing ∙ rw fails refl)
+byte_none b n a t xs e h nothing = grind (arith, common_steps, usize_saturated, byte_below)

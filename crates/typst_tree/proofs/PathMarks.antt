@@ -1,6 +1,5 @@
 -- Which nodes on a path have diagnostics, at them or below them.
-use Rattle.std.proofs.Common.{◌≡◌, ℕ, zero, suc, ◌+◌, ◌-◌, ◌<◌, ◌≤◌, Bool, true, false, ◌||◌, nat_lt, List, [], ◌∷◌, length, drop, get_or, Some, if◌then◌else◌, slice_get, slice_set, refl, ap, sym, ◌∙◌, arith}
-use Rattle.std.proofs.lemmas.Bool.{lt-ltb}
+use Rattle.std.proofs.Common.{◌≡◌, ℕ, zero, suc, ◌+◌, ◌-◌, ◌<◌, ◌≤◌, Bool, true, false, ◌||◌, nat_lt, List, ◌∷◌, length, drop, get_or, Some, if◌then◌else◌, slice_get, slice_set, refl, ap, sym, ◌∙◌, arith, []}
 use Rattle.std.proofs.lemmas.List.{drop_more}
 use Rattle.typst_kinds.specs.Head.{Head, has_any}
 use Rattle.typst_tree.specs.Tree.{Tree, forest, have_diagnostics, has_diagnostics}
@@ -14,9 +13,6 @@ or_false : (b : Bool) → (b || false) ≡ b
 or_false true = refl
 or_false false = refl
 
-some_level : (n : ℕ) → nat_lt 0 (suc n) ≡ true
-some_level n = lt-ltb 0 (suc n) (omega arith)
-
 or_true : (a o z : Bool) → (a || (o || (z || true))) ≡ (z || true)
 or_true true o true = refl
 or_true true o false = refl
@@ -24,19 +20,6 @@ or_true false true true = refl
 or_true false true false = refl
 or_true false false true = refl
 or_true false false false = refl
-
-or_first : (a o z : Bool) → (a || (o || (z || false))) ≡ (z || nat_lt 0 (if (a || o) then 1 else 0))
-or_first true o true = refl
-or_first true o false = refl
-or_first false true true = refl
-or_first false true false = refl
-or_first false false true = refl
-or_first false false false = refl
-
-or_levels : (a o z : Bool) (m : ℕ) → (a || (o || (z || nat_lt 0 m))) ≡ (z || nat_lt 0 (levels_above (a || o) m))
-or_levels a o z zero = or_first a o z
-or_levels a o z (suc m) =
-    ap (λ b. a || (o || (z || b))) (some_level m) ∙ or_true a o z ∙ ap (λ b. z || b) (sym (some_level (suc m)))
 
 -- a tree has diagnostics in the node at a path's end or elsewhere
 pub put_marked : (path : List ℕ) (z t u : Tree) → put_at path z t ≡ Some u → has_diagnostics u ≡ (has_diagnostics z || nat_lt 0 (marked_levels path t))
@@ -50,8 +33,7 @@ put_marked (i ∷ path) z t u e =
     let levels : marked_levels (i ∷ path) t ≡ levels_above (own || others) (marked_levels path s.kid) = rw found refl in
     let kids : have_diagnostics (forest (slice_set (kids_of t) i s.new)) ≡ (others || (has_diagnostics z || nat_lt 0 (marked_levels path s.kid))) =
     have_set (kids_of t) i s.new got.0 ∙ ap (λ b. others || b) (put_marked path z s.kid s.new s.puts) in
-    ap has_diagnostics s.is ∙ ap (λ b. own || b) kids ∙ or_levels own others (has_diagnostics z) (marked_levels path s.kid)
-    ∙ ap (λ n. has_diagnostics z || nat_lt 0 n) (sym levels)
+    grind arith
 
 or_again : (a b : Bool) → (a || (a || b)) ≡ (a || b)
 or_again true b = refl
@@ -63,13 +45,7 @@ swapped_mark path x z t u levels gone come was e p g c w l =
     let elsewhere = nat_lt 0 (marked_levels path t) in
     let before : has_diagnostics t ≡ (has_diagnostics x || elsewhere) = put_marked path x t t (put_same path x t e) in
     let here = put_marked path z t u p in
-    let stays : (if gone then nat_lt 0 levels else was) ≡ elsewhere = by gone refl in
-    let all : (come || (if gone then nat_lt 0 levels else was)) ≡ has_diagnostics u = (λ i. c i || stays i) ∙ sym here in
-    ap (λ b. has_any u.head.diagnostics || b) all ∙ or_again (has_any u.head.diagnostics) (have_diagnostics u.kids)
-  where
-    by : (b : Bool) → gone ≡ b → (if b then nat_lt 0 levels else was) ≡ nat_lt 0 (marked_levels path t)
-    by true q = ap (nat_lt 0) (l q)
-    by false q = w ∙ put_marked path x t t (put_same path x t e) ∙ ap (λ b. b || nat_lt 0 (marked_levels path t)) (sym g ∙ q)
+    grind arith
 
 less_above : (b : Bool) (m : ℕ) → levels_above b m - 1 ≡ m
 less_above true zero = refl
@@ -78,10 +54,7 @@ less_above b (suc m) = let e : suc (suc m) - 1 ≡ suc m = omega arith in e
 
 -- one level less from the second node on
 pub levels_on : (path rest : List ℕ) (i : ℕ) (t k : Tree) (h : Head) (xs : List Tree) → over h xs ≡ t → path ≡ i ∷ rest → i < length xs → k ≡ get_or xs i k → marked_levels path t - 1 ≡ marked_levels rest k
-levels_on path rest i t k h xs e p n q =
-    let got : slice_get xs i ≡ Some k = slice_get_is xs i k n ∙ ap Some (sym q) in
-    let is : marked_levels path t ≡ levels_above (has_any h.diagnostics || have_others i xs) (marked_levels rest k) = rw (p, ← e, trees_forest, got) refl in
-    ap (λ n. n - 1) is ∙ less_above (has_any h.diagnostics || have_others i xs) (marked_levels rest k)
+levels_on path rest i t k h xs e p n q = grind (arith, slice_get_is, trees_forest, less_above)
 
 -- how many levels there are where the first `depth` have `levels`, and m follow
 abbrev pub all_levels : ℕ → ℕ → ℕ → ℕ
@@ -95,11 +68,7 @@ level_done b depth levels (suc m) = let e : depth + suc (suc m) ≡ depth + 1 + 
 
 -- one step along a path
 pub level_on : (path : List ℕ) (j : ℕ) (t k : Tree) (h : Head) (xs : List Tree) (levels : ℕ) (b : Bool) → j < length path → over h xs ≡ t → slice_get xs (get_or path j 0) ≡ Some k → b ≡ (has_any t.head.diagnostics || have_others (get_or path j 0) (kids_of t)) → all_levels j levels (marked_levels (drop j path) t) ≡ all_levels (j + 1) (if b then j + 1 else levels) (marked_levels (drop (j + 1) path) k)
-level_on path j t k h xs levels b l e got is =
-    let kid : slice_get (kids_of t) (get_or path j 0) ≡ Some k = rw (← e, trees_forest) got in
-    let some = has_any t.head.diagnostics || have_others (get_or path j 0) (kids_of t) in
-    let turn : marked_levels (drop j path) t ≡ levels_above some (marked_levels (drop (j + 1) path) k) = rw (drop_more path j 0 l, kid) refl in
-    ap (all_levels j levels) (turn ∙ ap (λ c. levels_above c (marked_levels (drop (j + 1) path) k)) (sym is)) ∙ level_done b j levels (marked_levels (drop (j + 1) path) k)
+level_on path j t k h xs levels b l e got is = grind (arith, trees_forest, drop_more, level_done)
 
 -- a step that leads nowhere
 pub level_off : (path : List ℕ) (j : ℕ) (t : Tree) (h : Head) (xs : List Tree) → j < length path → over h xs ≡ t → length xs ≤ get_or path j 0 → marked_levels (drop j path) t ≡ 0

@@ -1,10 +1,10 @@
 -- The node at a path's end, exchanged for another one.
-use Rattle.std.proofs.Common.{◌≡◌, ℕ, zero, suc, ◌+◌, ◌<◌, ◌≤◌, List, [], ◌∷◌, length, drop, get_or, Option, Some, None, refl, ap, sym, subst, ◌∙◌, arith, append-nil, length-append}
+use Rattle.std.proofs.Common.{◌≡◌, ℕ, zero, suc, ◌+◌, ◌<◌, ◌≤◌, List, ◌∷◌, length, drop, get_or, Option, Some, None, refl, ap, sym, subst, ◌∙◌, arith, append-nil, length-append, rules, []}
 use Rattle.std.specs.Prelude.{option_map, option_and_then, slice_get, slice_set}
 use Rattle.std.proofs.Math.ListN.{set}
 use Rattle.std.proofs.lemmas.List.{drop_more}
 use Rattle.typst_kinds.specs.Head.{Head}
-use Rattle.typst_tree.specs.Tree.{Tree, forest, trees, joined, count, nodes, text_of}
+use Rattle.typst_tree.specs.Tree.{Tree, forest, trees, joined, nodes, text_of}
 use Rattle.typst_tree.specs.Order.{IsWholeForest}
 use Rattle.typst_tree.specs.Replace.{kids_of, with_kids, At, node_at, put_at, Reaches, replaced, replaced_at}
 use Rattle.typst_tree.proofs.SpansAside.{over, trees_forest, forest_trees}
@@ -34,28 +34,20 @@ set_twice (x ∷ xs) zero k l = refl
 set_twice (x ∷ xs) (suc i) k l = ap (λ ys. x ∷ ys) (set_twice xs i k l)
 
 map_same : (f g : Tree → Tree) → ((k : Tree) → f k ≡ g k) → (o : Option Tree) → option_map f o ≡ option_map g o
-map_same f g e None = refl
-map_same f g e (Some k) = ap (λ t. Some t) (e k)
-
-map_then : (f : Tree → Tree) (g : Tree → Option Tree) (o : Option Tree) → option_map f (option_and_then g o) ≡ option_and_then (λ y. option_map f (g y)) o
-map_then f g None = refl
-map_then f g (Some y) = refl
+map_same f g e o = grind arith
 
 then_some : (o : Option Tree) → o ≡ option_and_then (λ y. Some y) o
-then_some None = refl
-then_some (Some y) = refl
+then_some o = grind arith
 
 with_own_kids : (t : Tree) → with_kids t (kids_of t) ≡ t
 with_own_kids t = ap (λ f. record { head = t.head; kids = f }) (forest_trees t.kids)
 
 at_then : (P : Tree → Type 0) (f : Tree → Option Tree) (o : Option Tree) → At P (option_and_then f o) → At (λ k. At P (f k)) o
-at_then P f None h = h
-at_then P f (Some k) h = h
+at_then P f o h = grind arith
 
 -- the value that is there
 pub at_some : (P : Tree → Type 0) (o : Option Tree) → At P o → (t : Tree) × (o ≡ Some t) × P t
-at_some P None h = absurd h
-at_some P (Some t) h = (t, refl, h)
+at_some P o h = grind arith
 
 -- what holds where a path leads holds from the first step on
 pub leads : (P : Tree → Type 0) (path rest : List ℕ) (i : ℕ) (t : Tree) (h : Head) (xs : List Tree) → over h xs ≡ t → path ≡ i ∷ rest → At P (node_at path t) → (i < length xs) × ((d : Tree) → At P (node_at rest (get_or xs i d)))
@@ -65,14 +57,10 @@ leads P path rest i t h xs e p a =
     at_slice_get (λ k. At P (node_at rest k)) xs i (at_then P (node_at rest) (slice_get xs i) r)
 
 pub node_on : (path rest : List ℕ) (i : ℕ) (t k : Tree) (h : Head) (xs : List Tree) → over h xs ≡ t → path ≡ i ∷ rest → i < length xs → k ≡ get_or xs i k → node_at path t ≡ node_at rest k
-node_on path rest i t k h xs e p n q =
-    let got : slice_get xs i ≡ Some k = slice_get_is xs i k n ∙ ap Some (sym q) in
-    rw (p, ← e, trees_forest, got) refl
+node_on path rest i t k h xs e p n q = grind (arith, slice_get_is, trees_forest)
 
 pub put_on : (path rest : List ℕ) (i : ℕ) (z t k l : Tree) (h : Head) (xs : List Tree) → over h xs ≡ t → path ≡ i ∷ rest → i < length xs → k ≡ get_or xs i k → put_at rest z k ≡ Some l → put_at path z t ≡ Some (over h (set xs i l))
-put_on path rest i z t k l h xs e p n q r =
-    let got : slice_get xs i ≡ Some k = slice_get_is xs i k n ∙ ap Some (sym q) in
-    rw (p, ← e, trees_forest, got, r) refl
+put_on path rest i z t k l h xs e p n q r = grind (arith, slice_get_is, trees_forest)
 
 -- the step down to child i
 pub record Step (path : List ℕ) (i : ℕ) (z t u : Tree) : Type 0 where
@@ -83,17 +71,7 @@ pub record Step (path : List ℕ) (i : ℕ) (z t u : Tree) : Type 0 where
   pub is : u ≡ with_kids t (slice_set (kids_of t) i new)
 
 pub step : (path : List ℕ) (i : ℕ) (z t u : Tree) → put_at (i ∷ path) z t ≡ Some u → Step path i z t u
-step path i z t u e = by_kid (slice_get (kids_of t) i) refl e
-  where
-    by_new : (k : Tree) (o : Option Tree) → slice_get (kids_of t) i ≡ Some k → put_at path z k ≡ o → option_map (λ l. with_kids t (slice_set (kids_of t) i l)) o ≡ Some u → Step path i z t u
-    by_new k None f s e = absurd (cc)
-    by_new k (Some l) f s e =
-        let same : with_kids t (slice_set (kids_of t) i l) ≡ u = cc in
-        record { kid = k; new = l; found = f; puts = s; is = sym same }
-
-    by_kid : (o : Option Tree) → slice_get (kids_of t) i ≡ o → option_map (λ l. with_kids t (slice_set (kids_of t) i l)) (option_and_then (put_at path z) o) ≡ Some u → Step path i z t u
-    by_kid None f e = absurd (cc)
-    by_kid (Some k) f e = by_new k (put_at path z k) f refl e
+step path i z t u e = grind arith
 
 whole_get : (xs : List Tree) (i : ℕ) (k : Tree) → i < length xs → k ≡ get_or xs i k → IsWholeForest (forest xs) → IsWholeForest (forest (k ∷ []))
 whole_get [] i k n q w = absurd (omega (arith, n))
@@ -101,45 +79,20 @@ whole_get (x ∷ xs) zero k n q w = subst (λ y. IsWholeForest (forest (y ∷ []
 whole_get (x ∷ xs) (suc i) k n q w = whole_get xs i k (omega (arith, n)) q w.2
 
 moved_through : (xs ys old new gone come : List Tree) → (IsWholeForest (forest xs) → IsWholeForest (forest old)) → Moved xs ys old new → Moved old new gone come → Moved xs ys gone come
-moved_through xs ys old new gone come whole m w = record {
-  long = omega (arith, m.long, w.long);
-  many = omega (arith, m.many, w.many);
-  shorter = omega (arith, m.shorter, w.shorter);
-  fewer = omega (arith, m.fewer, w.fewer);
-  whole = λ a b. m.whole a (w.whole (whole a) b);
-}
-
-moved_one : (t u : Tree) → Moved (t ∷ []) (u ∷ []) (t ∷ []) (u ∷ [])
-moved_one t u = record {
-  long = omega arith;
-  many = omega arith;
-  shorter = omega arith;
-  fewer = omega arith;
-  whole = λ a b. b;
-}
+moved_through xs ys old new gone come whole m w = grind arith
 
 one_long : (h : Head) (xs : List Tree) → length (joined (forest (over h xs ∷ []))) ≡ length h.text + length (joined (forest xs))
 one_long h xs = rw append-nil (length-append h.text (joined (forest xs)))
 
 moved_over : (h : Head) (xs ys gone come : List Tree) → 0 < length xs → Moved xs ys gone come → Moved (over h xs ∷ []) (over h ys ∷ []) gone come
-moved_over h xs ys gone come some m = record {
-  long = omega (arith, one_long h xs, one_long h ys, m.long);
-  many = omega (arith, m.many);
-  shorter = omega (arith, one_long h xs, m.shorter);
-  fewer = omega (arith, m.fewer);
-  whole = λ a b. ((λ q. absurd (omega (arith, ap count (a.0 q), some_nodes xs some))), m.whole a.1 b, tt);
-}
+moved_over h xs ys gone come some m = grind (arith, one_long, some_nodes)
 
 through_kid : (xs : List Tree) (i : ℕ) (k l x z : Tree) → i < length xs → k ≡ get_or xs i k → Moved (k ∷ []) (l ∷ []) (x ∷ []) (z ∷ []) → Moved xs (set xs i l) (x ∷ []) (z ∷ [])
-through_kid xs i k l x z n q m =
-    moved_through xs (set xs i l) (k ∷ []) (l ∷ []) (x ∷ []) (z ∷ []) (whole_get xs i k n q) (set_moved xs i k l n q) m
+through_kid xs i k l x z n q m = search (rules, moved_through, whole_get, set_moved)
 
 -- what a tree comes to where the node at the end of a path was exchanged
 pub moved_in : (path : List ℕ) (x z t u : Tree) → node_at path t ≡ Some x → put_at path z t ≡ Some u → Moved (t ∷ []) (u ∷ []) (x ∷ []) (z ∷ [])
-moved_in [] x z t u e p =
-    let same : t ≡ x = cc in
-    let new : z ≡ u = cc in
-    subst (λ y. Moved (t ∷ []) (u ∷ []) (y ∷ []) (z ∷ [])) same (subst (λ y. Moved (t ∷ []) (y ∷ []) (t ∷ []) (z ∷ [])) new (moved_one t z))
+moved_in [] x z t u e p = grind arith
 moved_in (i ∷ path) x z t u e p =
     let s = step path i z t u p in
     let found = s.found in
@@ -167,15 +120,11 @@ one_text t = rw append-nil refl
 
 -- a node that a path leads to is no larger than the tree
 pub smaller : (path : List ℕ) (x t : Tree) → node_at path t ≡ Some x → (length (text_of x) ≤ length (text_of t)) × (nodes x ≤ nodes t)
-smaller path x t e =
-    let m = moved_in path x x t t e (put_same path x t e) in
-    (omega (arith, m.shorter, one_text x, one_text t), omega (arith, m.fewer))
+smaller path x t e = grind (arith, moved_in path x x t t e (put_same path x t e), one_text)
 
 -- what the tree comes to with another node there, against what it came to
 pub changed_by : (path : List ℕ) (x z t u : Tree) → node_at path t ≡ Some x → put_at path z t ≡ Some u → (length (text_of u) + length (text_of x) ≡ length (text_of t) + length (text_of z)) × (nodes u + nodes x ≡ nodes t + nodes z)
-changed_by path x z t u e p =
-    let m = moved_in path x z t u e p in
-    (omega (arith, m.long, one_text x, one_text t, one_text u, one_text z), omega (arith, m.many))
+changed_by path x z t u e p = grind (arith, moved_in path x z t u e p, one_text)
 
 -- what was put there stands there
 pub put_there : (path : List ℕ) (z t u : Tree) → put_at path z t ≡ Some u → node_at path u ≡ Some z
@@ -197,14 +146,11 @@ put_again (i ∷ path) y z t u e =
 
 -- children replaced at the path's end, by what becomes of the node there
 pub replaced_there : (path : List ℕ) (a b : ℕ) (ns : List Tree) (t x : Tree) → node_at path t ≡ Some x → replaced_at path a b ns t ≡ option_and_then (λ y. put_at path y t) (replaced a b ns x)
-replaced_there [] a b ns t x e =
-    let same : t ≡ x = cc in ap (replaced a b ns) same ∙ then_some (replaced a b ns x)
+replaced_there [] a b ns t x e = grind arith
 replaced_there (i ∷ path) a b ns t x e = by_kid (slice_get (kids_of t) i) e (λ k f. replaced_there path a b ns k x f)
   where
     by_kid : (o : Option Tree) → option_and_then (node_at path) o ≡ Some x → ((k : Tree) → node_at path k ≡ Some x → replaced_at path a b ns k ≡ option_and_then (λ y. put_at path y k) (replaced a b ns x)) → option_map (λ k. with_kids t (slice_set (kids_of t) i k)) (option_and_then (replaced_at path a b ns) o) ≡ option_and_then (λ y. option_map (λ k. with_kids t (slice_set (kids_of t) i k)) (option_and_then (put_at path y) o)) (replaced a b ns x)
-    by_kid None e g = absurd (cc)
-    by_kid (Some k) e g =
-        rw (g k e) (map_then (λ k. with_kids t (slice_set (kids_of t) i k)) (λ y. put_at path y k) (replaced a b ns x))
+    by_kid o e g = grind arith
 
 -- the path leads to a node that has the children a..b
 pub reaches_there : (path : List ℕ) (a b : ℕ) (t : Tree) → Reaches path a b t → At (Reaches [] a b) (node_at path t)
@@ -212,8 +158,7 @@ reaches_there [] a b t h = h
 reaches_there (i ∷ path) a b t h = by_kid (slice_get (kids_of t) i) h (λ k r. reaches_there path a b k r)
   where
     by_kid : (o : Option Tree) → At (Reaches path a b) o → ((k : Tree) → Reaches path a b k → At (Reaches [] a b) (node_at path k)) → At (Reaches [] a b) (option_and_then (node_at path) o)
-    by_kid None h g = h
-    by_kid (Some k) h g = g k h
+    by_kid o h g = grind arith
 
 -- and back
 pub reaches_from : (path : List ℕ) (a b : ℕ) (t : Tree) → At (Reaches [] a b) (node_at path t) → Reaches path a b t
@@ -221,8 +166,7 @@ reaches_from [] a b t h = h
 reaches_from (i ∷ path) a b t h = by_kid (slice_get (kids_of t) i) h (λ k r. reaches_from path a b k r)
   where
     by_kid : (o : Option Tree) → At (Reaches [] a b) (option_and_then (node_at path) o) → ((k : Tree) → At (Reaches [] a b) (node_at path k) → Reaches path a b k) → At (Reaches path a b) o
-    by_kid None h g = h
-    by_kid (Some k) h g = g k h
+    by_kid o h g = grind arith
 
 -- one step of a walk along a path
 pub walk_on : (path : List ℕ) (j : ℕ) (t k : Tree) (h : Head) (xs : List Tree) → j < length path → over h xs ≡ t → slice_get xs (get_or path j 0) ≡ Some k → node_at (drop j path) t ≡ node_at (drop (j + 1) path) k
@@ -246,5 +190,4 @@ refused_there path a b ns t x e f = replaced_there path a b ns t x e ∙ ap (opt
 
 -- a node that was taken out and put back as it was
 pub put_back : (path : List ℕ) (t x y z s u : Tree) → node_at path t ≡ Some x → put_at path z t ≡ Some s → put_at path y s ≡ Some u → y ≡ x → u ≡ t
-put_back path t x y z s u e p q same =
-    let whole : Some u ≡ Some t = sym q ∙ (put_again path y z t s p ∙ (ap (λ v. put_at path v t) same ∙ put_same path x t e)) in cc
+put_back path t x y z s u e p q same = let whole : Some u ≡ Some t = sym q ∙ (put_again path y z t s p ∙ (ap (λ v. put_at path v t) same ∙ put_same path x t e)) in cc

@@ -1,5 +1,5 @@
 -- Where replacing is refused.
-use Rattle.std.proofs.Common.{◌≡◌, ℕ, zero, suc, ◌+◌, ◌-◌, ◌*◌, ◌<◌, ◌≤◌, ◌&&◌, inl, inr, max, Bool, true, false, List, [], ◌∷◌, ◌++◌, length, take, drop, map, Option, Some, None, refl, ap, sym, ◌∙◌, arith, if◌then◌else◌}
+use Rattle.std.proofs.Common.{◌≡◌, ℕ, zero, suc, ◌+◌, ◌-◌, ◌*◌, ◌<◌, ◌≤◌, ◌&&◌, inl, inr, max, Bool, true, false, List, ◌∷◌, ◌++◌, length, take, drop, map, Option, Some, None, refl, ap, sym, ◌∙◌, arith, if◌then◌else◌, []}
 use Rattle.std.specs.Prelude.{slice_range, nat_le, option_map}
 use Rattle.std.proofs.lemmas.Bool.Decides.{nat_tests}
 use Rattle.std.proofs.lemmas.List.{take_rest}
@@ -9,7 +9,7 @@ use Rattle.typst_kinds.specs.Span.{SpanValue, number_of}
 use Rattle.typst_kinds.specs.Head.{Head}
 use Rattle.typst_tree.specs.Tree.{Tree, forest, count, bare, bare_forest}
 use Rattle.typst_tree.specs.Same.{front}
-use Rattle.typst_tree.specs.Replace.{kids_of, with_kids, left_of, right_of, wanted, room, has_room, is_all, growth, stretch, fit, middle, back, in_file, swapped, exchanged, renumbered, replaced, Reaches}
+use Rattle.typst_tree.specs.Replace.{kids_of, with_kids, has_room, is_all, growth, stretch, fit, middle, back, in_file, swapped, exchanged, renumbered, replaced, Reaches}
 use Rattle.typst_tree.specs.Laws.{IsFull}
 use Rattle.typst_tree.proofs.SpansAside.{forest_bare}
 use Rattle.typst_tree.proofs.Numbering.{count_bare}
@@ -24,8 +24,7 @@ all_is from len to k e = (grind (arith, nat_tests), grind (arith, nat_tests))
 
 -- a stretch that has all children has as much room as any other such
 pub all_room : (h : Head) (xs : List Tree) (from to n j k : ℕ) → from ≤ j → length xs ≤ to + j → from ≤ k → length xs ≤ to + k → has_room h xs from to n j ≡ has_room h xs from to n k
-all_room h xs from to n j k p q r s =
-    let l : left_of from j ≡ left_of from k = omega arith in let m : right_of xs to j ≡ right_of xs to k = omega arith in rw (l, m) refl
+all_room h xs from to n j k p q r s = grind arith
 
 -- one try of a growth that fails, whose next tries come to g
 fails_once : (h : Head) (xs : List Tree) (from to n k : ℕ) (g : Option ℕ) → from ≤ length xs → (if has_room h xs from to n k then Some k else (if is_all xs from to k then None else g)) ≡ None →
@@ -43,8 +42,7 @@ fails_once h xs from to n k g w e more = by_room (has_room h xs from to n k) ref
 
 -- growing ends only where all children have too little room
 growth_fails : (h : Head) (xs : List Tree) (from to n tries k : ℕ) → from ≤ length xs → length xs ≤ tries + k → growth h xs from to n (suc tries) k ≡ None → has_room h xs from to n (length xs) ≡ false
-growth_fails h xs from to n zero k w more e =
-    fails_once h xs from to n k (growth h xs from to n zero (max 1 (2 * k))) w e (λ a g. let b = all_from from (length xs) to k (omega arith) (omega arith) in absurd (cc))
+growth_fails h xs from to n zero k w more e = grind arith
 growth_fails h xs from to n (suc tries) k w more e =
     fails_once h xs from to n k (growth h xs from to n (suc tries) (max 1 (2 * k))) w e (λ a g. growth_fails h xs from to n tries (max 1 (2 * k)) w (omega arith) g)
 
@@ -54,23 +52,14 @@ fit_fails h xs from to n w e =
     growth_fails h xs from to n (length xs) 0 w (omega arith) (ap (λ t. growth h xs from to n t 0) one ∙ by_growth (growth h xs from to n (length xs + 1) 0) e)
   where
     by_growth : (g : Option ℕ) → option_map (stretch h xs from to n) g ≡ None → g ≡ None
-    by_growth None e = refl
-    by_growth (Some k) e = absurd (cc)
+    by_growth g e = grind arith
 
 not_le : (a b : ℕ) → nat_le a b ≡ false → b < a
 not_le a b e = grind (arith, nat_tests)
 
 -- all children have too little room
 full : (h : Head) (xs : List Tree) (from to : ℕ) (ns : List Tree) → from ≤ to → to ≤ length xs → has_room h xs from to (count (forest ns)) (length xs) ≡ false → h.upper - max 2 (number_of h.span + 1) < count (forest (take from xs ++ (ns ++ drop to xs)))
-full h xs from to ns order within e =
-    let short : room h xs from to (length xs) < wanted xs from to (count (forest ns)) (length xs) = not_le _ _ e in
-    let l : left_of from (length xs) ≡ 0 = omega arith in
-    let r : right_of xs to (length xs) ≡ length xs = omega arith in
-    let z : from - 0 ≡ from = omega arith in
-    let first : slice_range xs (left_of from (length xs)) from ≡ take from xs = rw l (ap (λ k. take k xs) z) in
-    let second : slice_range xs to (right_of xs to (length xs)) ≡ drop to xs = rw r (take_rest xs to) in
-    let has : room h xs from to (length xs) ≡ h.upper - max 2 (number_of h.span + 1) = rw (l, r, slice_get_past xs (length xs) (omega arith)) refl in
-    omega (arith, short, has, ap (λ zs. count (forest zs)) first, ap (λ zs. count (forest zs)) second, count-append (take from xs) (ns ++ drop to xs), count-append ns (drop to xs))
+full h xs from to ns order within e = grind (arith, not_le, take_rest, slice_get_past, count-append)
 
 exchange_fails : (file : ℕ) (h : Head) (xs : List Tree) (from to : ℕ) (ns : List Tree) → from ≤ to → to ≤ length xs → exchanged file h xs from to ns ≡ None → h.upper - max 2 (number_of h.span + 1) < count (forest (take from xs ++ (ns ++ drop to xs)))
 exchange_fails file h xs from to [] order within e = absurd (cc)
@@ -78,8 +67,7 @@ exchange_fails file h xs from to (n ∷ ns) order within e =
     full h xs from to (n ∷ ns) order within (fit_fails h xs from to (count (forest (n ∷ ns))) (omega arith) (by_fit (fit h xs from to (count (forest (n ∷ ns)))) e))
   where
     by_fit : (f : Option Stretch) → option_map (renumbered file xs from to (n ∷ ns)) f ≡ None → f ≡ None
-    by_fit None e = refl
-    by_fit (Some w) e = absurd (cc)
+    by_fit f e = grind arith
 
 count_same : (xs ys : List Tree) → map bare xs ≡ map bare ys → count (forest xs) ≡ count (forest ys)
 count_same xs ys e =
@@ -89,8 +77,7 @@ pub replaced_full : (from to : ℕ) (new : List Tree) (t : Tree) → Reaches [] 
 replaced_full from to new t r e = by_file t.head.span refl e
   where
     by_kids : (o : Option (List Tree)) → option_map (with_kids t) o ≡ None → o ≡ None
-    by_kids None e = refl
-    by_kids (Some ys) e = absurd (cc)
+    by_kids o e = grind arith
 
     by_file : (sp : SpanValue) → t.head.span ≡ sp → option_map (with_kids t) (in_file sp t.head (kids_of t) from to new) ≡ None → IsFull from to new t
     by_file None q e = inl q

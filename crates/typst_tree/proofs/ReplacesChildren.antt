@@ -1,5 +1,5 @@
 -- Replacing puts the new children in place of the old ones, spans aside.
-use Rattle.std.proofs.Common.{◌≡◌, ℕ, suc, ◌+◌, ◌-◌, ◌*◌, ◌<◌, ◌≤◌, List, [], ◌∷◌, ◌++◌, length, take, drop, map, get_or, Option, Some, None, refl, ap, sym, ◌∙◌, arith, append_assoc, length-append}
+use Rattle.std.proofs.Common.{◌≡◌, ℕ, suc, ◌+◌, ◌-◌, ◌*◌, ◌<◌, ◌≤◌, List, ◌∷◌, ◌++◌, length, take, drop, map, get_or, Option, Some, None, refl, ap, sym, ◌∙◌, arith, append_assoc, length-append, []}
 use Rattle.std.specs.Prelude.{slice_get, slice_range}
 use Rattle.std.proofs.Math.ListN.{set}
 use Rattle.std.proofs.Math.Seq.{take-append-add, drop-append-add}
@@ -8,7 +8,7 @@ use Rattle.std.proofs.lemmas.List.Folds.{drop_split}
 use Rattle.std.proofs.lemmas.Option.{slice_get_within, get_or_from_slice_get}
 use Rattle.typst_tree.specs.declared.replace.Stretch.{Stretch}
 use Rattle.typst_kinds.specs.Head.{Head, bare_head}
-use Rattle.typst_tree.specs.Tree.{Tree, forest, joined, text_of, nodes, bare, at_tree, at_child}
+use Rattle.typst_tree.specs.Tree.{Tree, forest, joined, text_of, nodes, bare, at_child}
 use Rattle.typst_tree.specs.Numbers.{numbered_list}
 use Rattle.typst_tree.specs.Same.{front}
 use Rattle.typst_tree.specs.Replace.{kids_of, with_kids, middle, back, swapped, exchanged, renumbered, replaced, replaced_at, At, Reaches}
@@ -27,10 +27,8 @@ list_bare file s a (t ∷ ts) =
 
 pub renumbered_bare : (file : ℕ) (xs : List Tree) (from to : ℕ) (ns : List Tree) (w : Stretch) → w.left ≤ from → to ≤ w.right → map bare (renumbered file xs from to ns w) ≡ map bare (take from xs ++ (ns ++ drop to xs))
 renumbered_bare file xs from to ns w l r =
-    let p = take_split xs w.left from l in
-    let q = drop_split xs to w.right r in
     let parts : map bare (renumbered file xs from to ns w) ≡ map bare ((take w.left xs ++ slice_range xs w.left from) ++ (ns ++ (slice_range xs to w.right ++ drop w.right xs))) = simp (map-append, append_assoc, list_bare) in
-    parts ∙ ap (map bare) (λ i. sym p i ++ (ns ++ sym q i))
+    cc (take_split xs w.left from l, drop_split xs to w.right r)
 
 pub exchanged_bare : (file : ℕ) (h : Head) (xs : List Tree) (from to : ℕ) (ns ys : List Tree) → to ≤ length xs → exchanged file h xs from to ns ≡ Some ys → map bare ys ≡ map bare (take from xs ++ (ns ++ drop to xs))
 exchanged_bare file h xs from to [] ys w e = ap (map bare) (sym (exchange_none file h xs from to ys e))
@@ -60,10 +58,7 @@ replaced_bare from to new t u r e =
 
 -- a child is changed where its element of the list is
 pub changed_kid : (f : Tree → Tree) (i : ℕ) (t k : Tree) → slice_get (kids_of t) i ≡ Some k → at_child f i t ≡ with_kids t (set (kids_of t) i (f k))
-changed_kid f i t k e =
-    let n : i < length (kids_of t) = slice_get_within (kids_of t) i k e in
-    let is : k ≡ get_or (kids_of t) i k = sym (get_or_from_slice_get (kids_of t) i k k e) in
-    ap (λ g. record { head = t.head; kids = g }) (ap (at_tree f i) (sym (forest_trees t.kids)) ∙ sym (forest_set f (kids_of t) i k n is))
+changed_kid f i t k e = grind (arith, slice_get_within, get_or_from_slice_get, forest_trees, forest_set)
 
 pub replaces_children : (path : List ℕ) (from to : ℕ) (new : List Tree) (t u : Tree) → Reaches path from to t → replaced_at path from to new t ≡ Some u → bare u ≡ bare (put_at path from to new t)
 replaces_children [] from to new t u r e = replaced_bare from to new t u r e
@@ -105,8 +100,7 @@ text_put from to new t =
 
 -- the text of a node with child i among it
 text_around : (i : ℕ) (t k : Tree) → i < length (kids_of t) → text_of (with_kids t (set (kids_of t) i k)) ≡ (t.head.text ++ joined (forest (take i (kids_of t)))) ++ (text_of k ++ joined (forest (drop (suc i) (kids_of t))))
-text_around i t k h =
-    ap (λ xs. t.head.text ++ joined (forest xs)) (set_split (kids_of t) i k h) ∙ simp (joined-append, append_assoc)
+text_around i t k h = grind (arith, set_split, joined-append, append_assoc)
 
 text_at : (i : ℕ) (t k : Tree) → slice_get (kids_of t) i ≡ Some k → text_of t ≡ (t.head.text ++ joined (forest (take i (kids_of t)))) ++ (text_of k ++ joined (forest (drop (suc i) (kids_of t))))
 text_at i t k e =
@@ -127,10 +121,7 @@ start_le (j ∷ path) i t = by_kid (slice_get (kids_of t) j) refl (start_le path
 
 -- a stretch of the middle of a text replaced
 middle_put : (a x b n y : List ℕ) (s e p q : ℕ) → s ≤ length x → e ≤ length x → p ≡ length a + s → q ≡ length a + e → y ≡ take s x ++ (n ++ drop e x) → a ++ (y ++ b) ≡ take p (a ++ (x ++ b)) ++ (n ++ drop q (a ++ (x ++ b)))
-middle_put a x b n y s e p q hs he ip iq is =
-    let l : take p (a ++ (x ++ b)) ≡ a ++ take s x = rw ip (take-append-add a (x ++ b) s ∙ ap (λ z. a ++ z) (take-append-le s x b hs)) in
-    let r : drop q (a ++ (x ++ b)) ≡ drop e x ++ b = rw iq (drop-append-add a (x ++ b) e ∙ drop-append-le e x b he) in
-    rw (l, r, is) (simp append_assoc)
+middle_put a x b n y s e p q hs he ip iq is = grind (arith, take-append-add, take-append-le, drop-append-add, drop-append-le, append_assoc)
 
 pub text_put_at : (path : List ℕ) (from to : ℕ) (new : List Tree) (t : Tree) → Reaches path from to t → text_of (put_at path from to new t) ≡ take (start_at path from t) (text_of t) ++ (joined (forest new) ++ drop (start_at path to t) (text_of t))
 text_put_at [] from to new t r = text_put from to new t

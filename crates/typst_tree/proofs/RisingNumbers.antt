@@ -1,12 +1,12 @@
 -- Numbers that rise, and searches for one of them.
-use Rattle.std.proofs.Common.{◌≡◌, ℕ, zero, suc, take, drop, ◌+◌, ◌<◌, ◌≤◌, Bool, true, false, IsTrue, List, [], ◌∷◌, ◌++◌, length, get_or, map, Option, Some, None, refl, ap, sym, subst, ◌∙◌, arith}
+use Rattle.std.proofs.Common.{◌≡◌, ℕ, zero, suc, take, drop, ◌+◌, ◌<◌, ◌≤◌, Bool, true, false, IsTrue, List, ◌∷◌, ◌++◌, length, get_or, map, Option, None, refl, ap, sym, subst, ◌∙◌, arith, rules, []}
 use Rattle.std.specs.Prelude.{All, AllPairs, IfSome}
 use Rattle.std.proofs.lemmas.List.{map-append}
 use Rattle.std.proofs.lemmas.List.Elements.{All-cons}
 use Rattle.std.proofs.lemmas.List.Kept.{AllPairs-cons}
 use Rattle.std.proofs.lemmas.Bool.Decides.{nat_tests}
 use Rattle.typst_kinds.specs.Span.{number_of}
-use Rattle.typst_tree.specs.Tree.{Forest, none, more, Tree, forest, places, preorder, nodes, text_of, saturated, count, joined}
+use Rattle.typst_tree.specs.Tree.{Forest, none, more, Tree, forest, places, preorder, saturated, count, joined}
 use Rattle.typst_tree.specs.Order.{numbers, numbers_of, AreInOrder}
 use Rattle.typst_tree.specs.Walks.{first_at, Stands}
 use Rattle.typst_tree.specs.Ordered.{begins_past, IsKey}
@@ -104,14 +104,11 @@ none_past p m n a t key l h =
 
 none_behind : (p : ℕ → ℕ → Tree → Bool) (m k b : ℕ) (ts : List Tree) → IsKey p m → true ≡ begins_past m (forest ts) → Rising 0 (preorder (forest ts)) → first_at p k b (preorder (forest ts)) ≡ None
 none_behind p m k b [] key e h = refl
-none_behind p m k b (y ∷ ts) key e h =
-    let later : m < number y = grind (arith, nat_tests, e) in
-    none_above p m k b (number y) (preorder (forest (y ∷ ts))) key later (omega arith, h.1)
+none_behind p m k b (y ∷ ts) key e h = let later : m < number y = grind (arith, nat_tests, e) in search (rules, none_above)
 
 -- of a row of trees, only the first can have something where the next begins above the key
 pub found_only : (p : ℕ → ℕ → Tree → Bool) (m k b : ℕ) (x : Tree) (ts : List Tree) → IsKey p m → true ≡ begins_past m (forest ts) → Rising 0 (preorder (forest (x ∷ ts))) → first_at p k b (preorder (forest (x ∷ ts))) ≡ first_at p k b (places x)
-found_only p m k b x ts key e h =
-    first_of_more p k b x ts ∙ rw (none_behind p m (k + nodes x) (b + length (text_of x)) ts key e (rising_back 0 (places x) (preorder (forest ts)) h)) (if_none_nothing (first_at p k b (places x)))
+found_only p m k b x ts key e h = grind (arith, first_of_more, none_behind, rising_back, if_none_nothing)
 
 pub in_order_first : (x : Tree) (ts : List Tree) → Rising 0 (preorder (forest (x ∷ ts))) → AreInOrder (numbers_of x)
 in_order_first x ts h = in_order_from 0 x (rising_front 0 (places x) (preorder (forest ts)) h)
@@ -121,8 +118,7 @@ rising_below t ts e h =
     subst (λ f. Rising 0 (preorder f)) (sym e) (rising_lower (number t + 1) 0 (preorder t.kids) (omega arith) (rising_from t h).1)
 
 pub if_some : {X : Type 0} (o : Option X) (P Q : X → Type 0) → ((x : X) → P x → Q x) → IfSome o P → IfSome o Q
-if_some None P Q f h = tt
-if_some (Some x) P Q f h = f x h
+if_some o P Q f h = grind arith
 
 none_ahead : (p : ℕ → ℕ → Tree → Bool) (m n a i : ℕ) (xs : List Tree) (x : Tree) (rest : List Tree) → IsKey p m → Rising 0 (preorder (forest xs)) → drop i xs ≡ x ∷ rest → (0 < i → begins_past m (forest (drop i xs)) ≡ false) → first_at p n a (preorder (forest (take i xs))) ≡ None
 none_ahead p m n a zero xs x rest key h row e = refl

@@ -1,5 +1,6 @@
 -- Children that stand side by side.
-use Rattle.std.proofs.Common.{◌≡◌, Bool, ℕ, zero, suc, ◌+◌, ◌-◌, ◌<◌, ◌≤◌, ◌^◌, List, [], ◌∷◌, ◌++◌, length, take, drop, Some, None, refl, ap, sym, subst, ◌∙◌, arith, append-nil, length-append, get_or, inl, inr}
+use Rattle.std.proofs.lemmas.Grind.{common_steps}
+use Rattle.std.proofs.Common.{◌≡◌, Bool, ℕ, zero, suc, ◌+◌, ◌-◌, ◌<◌, ◌≤◌, ◌^◌, List, ◌∷◌, ◌++◌, length, take, drop, Some, None, refl, ap, sym, subst, ◌∙◌, arith, append-nil, length-append, get_or, rules, []}
 use Rattle.std.specs.Prelude.{slice_get}
 use Rattle.std.proofs.lemmas.Bool.{cases_lt}
 use Rattle.std.proofs.lemmas.Option.{same_Some, none-some, slice_get_read}
@@ -30,8 +31,7 @@ row_within o n b m c i xs e number offset =
 
 -- and stand behind those before them
 pub row_stands : (root o : Tree) (n b i : ℕ) (xs : List Tree) → forest xs ≡ o.kids → Stands (places root) n b (places o) → Stands (places root) (n + 1 + count (forest (take i xs))) (saturated (b + length o.head.text + length (joined (forest (take i xs))))) (preorder (forest (drop i xs)))
-row_stands root o n b i xs e s =
-    stands_row _ _ _ _ _ _ _ s (row_within o n b _ _ i xs e refl refl)
+row_stands root o n b i xs e s = search (rules, stands_row, row_within)
 
 -- the row from a tree on, of which it is the first
 pub record First (xs : List Tree) (i : ℕ) (x : Tree) (ys : List Tree) : Type 0 where
@@ -45,29 +45,8 @@ pub record First (xs : List Tree) (i : ℕ) (x : Tree) (ys : List Tree) : Type 0
 pub first_of_row : (xs : List Tree) (i : ℕ) (x : Tree) (ys : List Tree) → drop i xs ≡ x ∷ ys → First xs i x ys
 first_of_row [] zero x ys e = absurd (omega (arith, ap length e))
 first_of_row [] (suc i) x ys e = absurd (omega (arith, ap length e))
-first_of_row (z ∷ xs) zero x ys e =
-    let same : z ≡ x = cc in
-    let others : xs ≡ ys = cc in
-    record {
-      here = ap (λ u. Some u) same;
-      rest = others;
-      counted = omega (arith, ap nodes same);
-      long = omega (arith, ap (λ u. length (text_of u)) same, length-append z.head.text (joined z.kids ++ []), length-append z.head.text (joined z.kids), ap length (append-nil (joined z.kids)));
-      within = omega arith;
-      all = omega arith;
-    }
-first_of_row (z ∷ xs) (suc i) x ys e =
-    let w = first_of_row xs i x ys e in
-    let next : suc i + 1 ≡ suc (i + 1) = omega arith in
-    let more : take (suc i + 1) (z ∷ xs) ≡ z ∷ take (i + 1) xs = ap (λ k. take k (z ∷ xs)) next in
-    record {
-      here = w.here;
-      rest = ap (λ k. drop k (z ∷ xs)) next ∙ w.rest;
-      counted = omega (arith, w.counted, ap (λ us. count (forest us)) more);
-      long = omega (arith, w.long, ap (λ us. length (joined (forest us))) more, length-append z.head.text (joined z.kids ++ joined (forest (take (i + 1) xs))), length-append (joined z.kids) (joined (forest (take (i + 1) xs))), length-append z.head.text (joined z.kids ++ joined (forest (take i xs))), length-append (joined z.kids) (joined (forest (take i xs))));
-      within = omega (arith, w.within);
-      all = omega (arith, w.all, ap (λ us. count (forest us)) more);
-    }
+first_of_row (z ∷ xs) zero x ys e = grind (arith, length-append, append-nil)
+first_of_row (z ∷ xs) (suc i) x ys e = let w = first_of_row xs i x ys e in grind (arith, length-append)
 
 -- the tree that a loop over a row stands at
 pub tree_at : (xs : List Tree) (i : ℕ) (x : Tree) → x ≡ get_or xs i x → i < length xs → First xs i x (drop (i + 1) xs)
@@ -105,16 +84,9 @@ pub record Over (o : Tree) (n b : ℕ) (xs : List Tree) (i m c : ℕ) (x : Tree)
 pub over_at : (o : Tree) (n b : ℕ) (xs : List Tree) (i m c : ℕ) (x : Tree) → forest xs ≡ o.kids → slice_get xs i ≡ Some x → IsPassed xs (n + 1) (saturated (b + length o.head.text)) i m c → Over o n b xs i m c x
 over_at o n b xs i m c x e here w =
     let row : drop i xs ≡ x ∷ drop (i + 1) xs = row_from xs i x here in
-    let f = first_of_row xs i x (drop (i + 1) xs) row in
-    let child = child_in o n x m i xs e here w.number in
     let behind : Within n b (places o) m c (preorder (forest (drop i xs))) = row_within o n b m c i xs e w.number (omega (arith, w.offset)) in
     let begins : Within n b (places o) m c (preorder (forest (x ∷ drop (i + 1) xs))) = subst (λ ys. Within n b (places o) m c (preorder (forest ys))) row behind in
-    record {
-      child = child;
-      inside = within_in _ _ _ _ _ _ _ _ _ begins (within_first m c x (drop (i + 1) xs) (omega (arith, w.offset)));
-      fits = omega (arith, child.number, count_split o.kids i x child.here);
-      next = record { within = omega (arith, f.within); number = omega (arith, w.number, f.counted); offset = omega (arith, w.offset, f.long) };
-    }
+    grind (arith, first_of_row xs i x (drop (i + 1) xs) row, child_in o n x m i xs e here w.number, within_in, within_first, count_split)
 
 pub over : (o : Tree) (n b : ℕ) (xs : List Tree) (i m c : ℕ) (x : Tree) → forest xs ≡ o.kids → x ≡ get_or xs i x → i < length xs → IsPassed xs (n + 1) (saturated (b + length o.head.text)) i m c → Over o n b xs i m c x
 over o n b xs i m c x e g l w = over_at o n b xs i m c x e (slice_get_read xs (length xs) i x refl l g) w
@@ -151,13 +123,7 @@ pub record Prior (xs : List Tree) (i : ℕ) (x : Tree) : Type 0 where
   pub longs : length (joined (forest (take i xs))) ≡ length (joined (forest (take (i - 1) xs))) + length (text_of x)
 
 pub prior : (xs : List Tree) (i : ℕ) (x : Tree) → 0 < i → i ≤ length xs → x ≡ get_or xs (i - 1) x → Prior xs i x
-prior xs i x low high g =
-    let w = tree_at xs (i - 1) x g (omega (arith, low, high)) in
-    let next : i - 1 + 1 ≡ i = omega (arith, low) in
-    record {
-      counts = ap (λ j. count (forest (take j xs))) (sym next) ∙ w.counted;
-      longs = ap (λ j. length (joined (forest (take j xs)))) (sym next) ∙ w.long;
-    }
+prior xs i x low high g = grind (arith, tree_at)
 
 -- a loop from the back over the children of a node goes on to the one before
 pub record StepBack (root o : Tree) (n b i : ℕ) (xs : List Tree) (x : Tree) (k p : ℕ) : Type 0 where
@@ -189,12 +155,8 @@ passed_front p n a i m c xs number offset nothing =
     ∙ rw (nothing, first) (first_same p m (a + length (texts (preorder (forest (take i xs))))) c (preorder (forest (drop i xs))) (omega (arith, offset, ap length (texts_preorder (forest (take i xs)))))))
 
 pub all_counted : (xs : List Tree) (i : ℕ) → length xs ≤ i → count (forest (take i xs)) ≡ count (forest xs)
-all_counted [] zero h = refl
-all_counted [] (suc i) h = refl
-all_counted (x ∷ xs) zero h = absurd (omega (arith, h))
-all_counted (x ∷ xs) (suc i) h = ap (λ k. 1 + (count x.kids + k)) (all_counted xs i (omega (arith, h)))
+all_counted xs i h = grind (arith, common_steps)
 
 -- a tree that begins by a number of its parent's nodes is one of the row
 pub passed_inside : (o : Tree) (n a i m c k : ℕ) (xs : List Tree) → forest xs ≡ o.kids → IsPassed xs (n + 1) a i m c → m ≤ k → k < n + nodes o → i < length xs
-passed_inside o n a i m c k xs e w l h =
-    elim (cases_lt i (length xs)) [ inl short ↦ short | inr long ↦ absurd (omega (arith, w.number, all_counted xs i long, ap count e, l, h)) ]
+passed_inside o n a i m c k xs e w l h = grind (arith, cases_lt, all_counted)

@@ -1,8 +1,8 @@
 -- `same_tree` is the test of `bare t ≡ bare u`.
-use Rattle.std.proofs.Common.{◌≡◌, ℕ, ◌+◌, ◌<◌, ◌≤◌, Bool, true, false, ◌&&◌, IsTrue, List, [], ◌∷◌, length, drop, get_or, refl, ap, subst, arith}
+use Rattle.std.proofs.Common.{◌≡◌, ℕ, ◌+◌, ◌<◌, ◌≤◌, Bool, true, false, ◌&&◌, IsTrue, List, ◌∷◌, length, drop, get_or, refl, ap, subst, arith, []}
 use Rattle.std.proofs.lemmas.Bool.Decides.{nat_tests}
 use Rattle.std.proofs.lemmas.List.{drop_more, drop_all}
-use Rattle.std.proofs.Common.{zero, suc, min}
+use Rattle.std.proofs.Common.{min}
 use base.Stored.{Gv, gnil, gnum, gcons}
 use Rattle.typst_tree.specs.Tree.{Tree, tree_code, bare}
 use Rattle.typst_tree.specs.Same.{same_code, same_tree, front}
@@ -56,7 +56,4 @@ front_right [] = refl
 front_right (x ∷ xs) = refl
 
 pub front_end : (xs ys : List Tree) (i : ℕ) → min (length xs) (length ys) ≤ i → front (drop i xs) (drop i ys) ≡ 0
-front_end [] ys i h = rw (drop_all {X = Tree} i [] (omega arith)) refl
-front_end (x ∷ xs) [] i h = rw (drop_all {X = Tree} i [] (omega arith)) (front_right (drop i (x ∷ xs)))
-front_end (x ∷ xs) (y ∷ ys) zero h = absurd (omega arith)
-front_end (x ∷ xs) (y ∷ ys) (suc i) h = front_end xs ys i (omega arith)
+front_end xs ys i h = grind (arith, drop_all, front_right)

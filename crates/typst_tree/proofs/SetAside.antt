@@ -1,5 +1,5 @@
 -- The trees that are set aside at the front and at the end.
-use Rattle.std.proofs.Common.{◌≡◌, ℕ, ◌+◌, ◌-◌, ◌≤◌, Bool, true, false, List, [], ◌∷◌, ◌++◌, length, take, drop, map, reverse, refl, ap, sym, ◌∙◌, arith, append_assoc, add-one, if◌then◌else◌}
+use Rattle.std.proofs.Common.{◌≡◌, ℕ, ◌+◌, ◌-◌, ◌≤◌, Bool, true, false, List, ◌∷◌, ◌++◌, length, take, drop, map, reverse, refl, ap, sym, ◌∙◌, arith, append_assoc, add-one, if◌then◌else◌, []}
 use Rattle.std.specs.Prelude.{slice_range}
 use Rattle.std.proofs.lemmas.List.{take-append-drop, take-take, drop-drop, drop-take, take_at, length-take, length-drop, length-reverse, reverse-append, reverse-reverse, map-append}
 use Rattle.std.proofs.lemmas.List.Folds.{drop_split}
@@ -64,9 +64,7 @@ glue p q a a' m c c' e f = simp (map-append, append_assoc, e, f)
 
 -- the rest of a list, without a at its front and b at its end
 pub rest_parts : (ys : List Tree) (a b : ℕ) → a + b ≤ length ys → ys ≡ take a ys ++ (middle a b ys ++ drop (length (drop a ys) - b) (drop a ys))
-rest_parts ys a b h =
-    let n : length ys - a - b ≡ length (drop a ys) - b = omega (arith, length-drop a ys) in
-    sym (take-append-drop a ys) ∙ ap (λ zs. take a ys ++ zs) (sym (take-append-drop (length ys - a - b) (drop a ys)) ∙ rw n refl)
+rest_parts ys a b h = grind (arith, length-drop, take-append-drop)
 
 -- the last b of the part from..to of xs, without its first a
 last_part : (xs : List Tree) (from to a b : ℕ) → from + a + b ≤ to → to ≤ length xs → slice_range xs (to - b) to ≡ drop (length (drop a (slice_range xs from to)) - b) (drop a (slice_range xs from to))
@@ -74,15 +72,7 @@ last_part xs from to a b h w =
     let m = to - from - b in
     let long : length (slice_range xs from to) ≡ to - from = omega (arith, length-take (to - from) (drop from xs), length-drop from xs) in
     let n : a + (length (drop a (slice_range xs from to)) - b) ≡ m = omega (arith, length-drop a (slice_range xs from to), long) in
-    let whole : m + b ≡ to - from = omega arith in
-    let start : from + m ≡ to - b = omega arith in
-    let size : to - (to - b) ≡ b = omega arith in
-    let right : drop (length (drop a (slice_range xs from to)) - b) (drop a (slice_range xs from to)) ≡ drop m (slice_range xs from to) =
-    drop-drop (length (drop a (slice_range xs from to)) - b) a (slice_range xs from to) ∙ ap (λ k. drop k (slice_range xs from to)) n in
-    let cut : drop m (take (m + b) (drop from xs)) ≡ take b (drop m (drop from xs)) = drop-take m b (drop from xs) in
-    let moved : drop m (drop from xs) ≡ drop (to - b) xs = drop-drop m from xs ∙ ap (λ k. drop k xs) start in
-    let left : slice_range xs (to - b) to ≡ take b (drop (to - b) xs) = ap (λ k. take k (drop (to - b) xs)) size in
-    left ∙ (ap (take b) (sym moved) ∙ (sym cut ∙ (ap (λ k. drop m (take k (drop from xs))) whole ∙ sym right)))
+    grind (arith, drop-drop, drop-take)
 
 -- what is left to exchange where a are set aside at the front and b at the end
 pub record Aside (xs new : List Tree) (from to a b : ℕ) : Type 0 where
@@ -100,14 +90,9 @@ aside xs new from to a b order within p q =
     let b-new : a + b ≤ length new =
     omega (arith, q, a-new, front_le-right (reverse (drop a (slice_range xs from to))) (reverse (drop a new)), length-reverse (drop a new), length-drop a new) in
     let fronts : map bare (take a (slice_range xs from to)) ≡ map bare (take a new) = rw p (front_same (slice_range xs from to) new) in
-    let tails = tails_same (drop a (slice_range xs from to)) (drop a new) b q in
     let first : take (from + a) xs ≡ take from xs ++ take a (slice_range xs from to) =
     take-add from a xs ∙ ap (λ zs. take from xs ++ zs) (sym (take-take a (to - from) (drop from xs) (omega (arith, long, a-old)))) in
     let last : drop (to - b) xs ≡ drop (length (drop a (slice_range xs from to)) - b) (drop a (slice_range xs from to)) ++ drop to xs =
     drop_split xs (to - b) to (omega arith) ∙ ap (λ zs. zs ++ drop to xs) (last_part xs from to a b (omega (arith, long, b-old)) within) in
     let all : new ≡ take a new ++ (middle a b new ++ drop (length (drop a new) - b) (drop a new)) = rest_parts new a b b-new in
-    record {
-      order = omega (arith, long, b-old);
-      within = omega arith;
-      same = ap (map bare) (λ i. first i ++ (middle a b new ++ last i)) ∙ (glue (take from xs) (drop to xs) (take a (slice_range xs from to)) (take a new) (middle a b new) (drop (length (drop a (slice_range xs from to)) - b) (drop a (slice_range xs from to))) (drop (length (drop a new) - b) (drop a new)) fronts tails ∙ ap (λ zs. map bare (take from xs ++ (zs ++ drop to xs))) (sym all));
-    }
+    grind (arith, tails_same (drop a (slice_range xs from to)) (drop a new) b q, glue)

@@ -1,7 +1,6 @@
 -- The laws of siblings.
-use Rattle.std.proofs.Common.{◌≡◌, ℕ, zero, suc, ◌+◌, ◌≤◌, List, [], ◌∷◌, Some, true, false, Bool, refl, ap, sym, ◌∙◌, arith, map, take, drop}
-use Rattle.std.specs.Prelude.{find, nat_lt}
-use Rattle.std.proofs.lemmas.Bool.Decides.{nat_tests}
+use Rattle.std.proofs.Common.{◌≡◌, ℕ, zero, suc, ◌+◌, ◌≤◌, List, ◌∷◌, Some, true, false, Bool, refl, ap, sym, ◌∙◌, arith, map, take, drop, []}
+use Rattle.std.specs.Prelude.{find}
 use Rattle.typst_tree.specs.Tree.{Tree, forest, count}
 use Rattle.typst_tree.specs.Walks.{numbers}
 use Rattle.typst_tree.specs.Steps.{At, at, is_sibling_after}
@@ -13,9 +12,7 @@ pub find_here : (p : At → Bool) (x : At) (xs ys : List At) → ys ≡ x ∷ xs
 find_here p x xs ys e holds = ap (find p) e ∙ rw (sym holds) refl
 
 none_first : (a : At) (root : Tree) (n : ℕ) → n ≤ a.number → is_sibling_after a (at root n) ≡ false
-none_first a root n h =
-    let fails : nat_lt a.number n ≡ false = grind (arith, nat_tests, h) in
-    rw fails refl
+none_first a root n h = grind arith
 
 -- children up to a node itself aren't behind it
 pub find_behind : (a : At) (root : Tree) (n i : ℕ) (xs : List Tree) → n + count (forest (take i xs)) ≤ a.number → find (is_sibling_after a) (map (at root) (numbers n (forest xs))) ≡ find (is_sibling_after a) (drop i (map (at root) (numbers n (forest xs))))

@@ -1,5 +1,5 @@
 -- Equations of single nodes: children, and spans.
-use Rattle.std.proofs.Common.{◌≡◌, ℕ, suc, ◌==◌, Bool, true, false, ◌&&◌, List, [], ◌∷◌, length, Option, None, Some, refl, ap, sym, subst, arith, IsTrue, ◌↔◌, eq-eqb}
+use Rattle.std.proofs.Common.{◌≡◌, ℕ, suc, ◌==◌, Bool, true, false, List, ◌∷◌, length, Option, refl, sym, subst, arith, IsTrue, ◌↔◌, []}
 use Rattle.std.proofs.lemmas.Bool.Decides.{nat_tests}
 use Rattle.typst_tree.specs.Tree.{Tree, forest}
 use Rattle.typst_tree.specs.Walks.{is_childless, same_place}
@@ -15,20 +15,10 @@ same_bool false true f g = g refl
 same_bool false false f g = refl
 
 pub place_self : (p : Option (ℕ × ℕ)) → IsTrue (same_place p p)
-place_self None = refl
-place_self (Some p) = rw (eq-eqb p.0 p.0 refl, eq-eqb p.1 p.1 refl) refl
-
-place_pair : (p q : ℕ × ℕ) → IsTrue ((p.0 == q.0) && (p.1 == q.1)) → p ≡ q
-place_pair p q h =
-    let file : p.0 ≡ q.0 = grind (arith, nat_tests, h) in
-    let number : p.1 ≡ q.1 = grind (arith, nat_tests, h) in
-    λ i. (file i, number i)
+place_self p = grind arith
 
 pub place_same : (p q : Option (ℕ × ℕ)) → IsTrue (same_place p q) → p ≡ q
-place_same None None h = refl
-place_same None (Some q) h = cc
-place_same (Some p) None h = cc
-place_same (Some p) (Some q) h = ap (λ r. Some r) (place_pair p q h)
+place_same p q h = grind arith
 
 -- the test of two spans is `==`
 pub same_span : (b : Bool) (p q : Option (ℕ × ℕ)) → IsTrue b ↔ (p ≡ q) → b ≡ same_place p q

@@ -1,5 +1,6 @@
 -- What it is for two trees to be the same, spans aside.
-use Rattle.std.proofs.Common.{◌≡◌, ◌≢◌, ℕ, zero, suc, List, [], ◌∷◌, map, refl, ap, sym, ◌∙◌, ◌<◌, length, get_or, arith}
+use Rattle.std.proofs.lemmas.Grind.{common_steps}
+use Rattle.std.proofs.Common.{◌≡◌, ◌≢◌, ℕ, zero, suc, List, ◌∷◌, map, refl, ap, sym, ◌∙◌, ◌<◌, length, get_or, arith, []}
 use Rattle.std.proofs.lemmas.List.{length-map}
 use Rattle.typst_kinds.specs.Head.{Head, bare_head}
 use Rattle.typst_tree.specs.Tree.{Forest, none, more, Tree, forest, trees, bare, bare_forest}
@@ -59,7 +60,4 @@ same_but (x ∷ xs) (y ∷ ys) (suc last) e f g = λ i.
 
 -- trees that are the same, by whatever default
 pub same_in : (xs ys : List Tree) (i : ℕ) (d x y : Tree) → x ≡ get_or xs i x → y ≡ get_or ys i y → bare x ≡ bare y → i < length xs → i < length ys → bare (get_or xs i d) ≡ bare (get_or ys i d)
-same_in [] ys i d x y p q e h k = absurd (omega (arith, h))
-same_in (a ∷ xs) [] i d x y p q e h k = absurd (omega (arith, k))
-same_in (a ∷ xs) (b ∷ ys) zero d x y p q e h k = cc
-same_in (a ∷ xs) (b ∷ ys) (suc i) d x y p q e h k = same_in xs ys i d x y p q e (omega (arith, h)) (omega (arith, k))
+same_in xs ys i d x y p q e h k = grind (arith, common_steps)

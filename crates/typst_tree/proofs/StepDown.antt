@@ -1,5 +1,5 @@
 -- One step down a path.
-use Rattle.std.proofs.Common.{◌≡◌, ℕ, zero, suc, ◌<◌, List, [], ◌∷◌, length, get_or, Some, None, refl, ap, sym, ◌∙◌, arith}
+use Rattle.std.proofs.Common.{◌≡◌, ℕ, zero, suc, ◌<◌, List, ◌∷◌, length, get_or, Some, None, refl, ap, ◌∙◌, arith, []}
 use Rattle.std.specs.Prelude.{option_map, slice_get, slice_range}
 use Rattle.std.proofs.Math.ListN.{set}
 use Rattle.typst_kinds.specs.Span.{SpanValue}
@@ -23,25 +23,17 @@ slice_get_is (x ∷ xs) zero d h = refl
 slice_get_is (x ∷ xs) (suc i) d h = slice_get_is xs i d (omega arith)
 
 pub reached : (path rest : List ℕ) (i a b : ℕ) (t : Tree) (h : Head) (xs : List Tree) → over h xs ≡ t → path ≡ i ∷ rest → Reaches path a b t → Reached i rest a b xs
-reached path rest i a b t h xs e p r =
-    let s : At (Reaches rest a b) (slice_get (trees (forest xs)) i) = rw (p, ← e) at r in
-    let q = at_slice_get (Reaches rest a b) xs i (rw trees_forest at s) in
-    record { within = q.0; on = q.1 }
+reached path rest i a b t h xs e p r = let s : At (Reaches rest a b) (slice_get (trees (forest xs)) i) = rw (p, ← e) at r in grind (arith, at_slice_get, trees_forest)
 
 pub replaced_on : (path rest : List ℕ) (i a b : ℕ) (ns : List Tree) (t k k' : Tree) (h : Head) (xs : List Tree) → over h xs ≡ t → path ≡ i ∷ rest → i < length xs → k ≡ get_or xs i k → replaced_at rest a b ns k ≡ Some k' → replaced_at path a b ns t ≡ Some (over h (set xs i k'))
-replaced_on path rest i a b ns t k k' h xs e p n q r =
-    let got : slice_get xs i ≡ Some k = slice_get_is xs i k n ∙ ap Some (sym q) in
-    rw (p, ← e, trees_forest, got, r) refl
+replaced_on path rest i a b ns t k k' h xs e p n q r = grind (arith, slice_get_is, trees_forest)
 
 -- a node in a file swaps its children
 pub in_file_some : (sp : SpanValue) (file : ℕ) (h : Head) (xs : List Tree) (from to : ℕ) (ms : List Tree) → option_map (λ p. p.0) sp ≡ Some file → in_file sp h xs from to ms ≡ swapped file h xs from to (slice_range xs from to) ms
-in_file_some None file h xs from to ms e = absurd (cc)
-in_file_some (Some p) file h xs from to ms e =
-    let same : p.0 ≡ file = cc in ap (λ f. swapped f h xs from to (slice_range xs from to) ms) same
+in_file_some sp file h xs from to ms e = grind arith
 
 pub replaced_by : (t : Tree) (h : Head) (xs ms : List Tree) (file from to : ℕ) → over h xs ≡ t → option_map (λ p. p.0) h.span ≡ Some file → replaced from to ms t ≡ option_map (over h) (swapped file h xs from to (slice_range xs from to) ms)
-replaced_by t h xs ms file from to e p =
-    ap (replaced from to ms) (sym e) ∙ (ap (λ ys. option_map (over h) (in_file h.span h ys from to ms)) (trees_forest xs) ∙ ap (option_map (over h)) (in_file_some h.span file h xs from to ms p))
+replaced_by t h xs ms file from to e p = grind (arith, trees_forest, in_file_some)
 
 pub replaced_is : (t : Tree) (h : Head) (xs ns ms : List Tree) (file from to : ℕ) → over h xs ≡ t → option_map (λ p. p.0) h.span ≡ Some file → swapped file h xs from to (slice_range xs from to) ms ≡ Some ns → replaced from to ms t ≡ Some (over h ns)
 replaced_is t h xs ns ms file from to e p f = replaced_by t h xs ms file from to e p ∙ ap (option_map (over h)) f
@@ -50,6 +42,4 @@ pub replaced_not : (t : Tree) (h : Head) (xs ms : List Tree) (file from to : ℕ
 replaced_not t h xs ms file from to e p f = replaced_by t h xs ms file from to e p ∙ ap (option_map (over h)) f
 
 pub replaced_at_not : (path rest : List ℕ) (i a b : ℕ) (ns : List Tree) (t k : Tree) (h : Head) (xs : List Tree) → over h xs ≡ t → path ≡ i ∷ rest → i < length xs → k ≡ get_or xs i k → replaced_at rest a b ns k ≡ None → replaced_at path a b ns t ≡ None
-replaced_at_not path rest i a b ns t k h xs e p n q r =
-    let got : slice_get xs i ≡ Some k = slice_get_is xs i k n ∙ ap Some (sym q) in
-    rw (p, ← e, trees_forest, got, r) refl
+replaced_at_not path rest i a b ns t k h xs e p n q r = grind (arith, slice_get_is, trees_forest)

@@ -1,6 +1,6 @@
--- The children after a replacement, cut where those that are numbered anew begin and end.
-use Rattle.std.proofs.Common.{◌≡◌, ℕ, ◌+◌, ◌-◌, ◌*◌, ◌<◌, ◌≤◌, Bool, true, false, List, [], ◌∷◌, ◌++◌, length, take, drop, Some, None, refl, ap, sym, subst, ◌∙◌, arith, append_assoc, if◌then◌else◌}
-use Rattle.std.specs.Prelude.{slice_range, option_map, nat_le}
+-- The children after a replacement, cut where those that are renumbered begin and end.
+use Rattle.std.proofs.Common.{◌≡◌, ℕ, ◌+◌, ◌-◌, ◌*◌, ◌<◌, ◌≤◌, Bool, true, false, List, ◌∷◌, ◌++◌, length, take, drop, Some, None, refl, ap, sym, subst, ◌∙◌, arith, append_assoc, if◌then◌else◌, []}
+use Rattle.std.specs.Prelude.{slice_range, nat_le}
 use Rattle.std.proofs.lemmas.List.{take-append-drop, take-take, drop-take, take_at, drop_at, length-take, length-drop, length-append, length-take-le}
 use Rattle.std.proofs.lemmas.List.Folds.{drop_split}
 use Rattle.std.proofs.lemmas.Bool.Decides.{nat_tests}
@@ -8,7 +8,7 @@ use Rattle.typst_tree.specs.declared.replace.Stretch.{Stretch}
 use Rattle.typst_kinds.specs.Head.{Head}
 use Rattle.typst_tree.specs.Tree.{Tree, forest, count}
 use Rattle.typst_tree.specs.Replace.{has_room, is_all, growth, fit, renumbered, exchanged}
-use Rattle.std.specs.Prelude.{zero, suc, max, Result, Ok, Err, OnOk, is_err}
+use Rattle.std.specs.Prelude.{zero, suc, max, Result, OnOk, is_err}
 
 pub take_split : {X : Type 0} (xs : List X) (l f : ℕ) → l ≤ f → take f xs ≡ take l xs ++ slice_range xs l f
 take_split xs l f h =
@@ -46,8 +46,7 @@ count-append [] ys = omega arith
 count-append (x ∷ xs) ys = omega (arith, count-append xs ys)
 
 pub exchanged_some : (file : ℕ) (h : Head) (xs : List Tree) (from to : ℕ) (ns zs : List Tree) (w : Stretch) → 0 < length ns → fit h xs from to (count (forest ns)) ≡ Some w → renumbered file xs from to ns w ≡ zs → exchanged file h xs from to ns ≡ Some zs
-exchanged_some file h xs from to [] zs w some e p = absurd (omega arith)
-exchanged_some file h xs from to (n ∷ ns) zs w some e p = ap (option_map (renumbered file xs from to (n ∷ ns))) e ∙ ap Some p
+exchanged_some file h xs from to ns zs w some e p = grind arith
 
 -- where the stretch stops growing there is room
 pub growth_has_room : (h : Head) (xs : List Tree) (from to n tries k by : ℕ) → growth h xs from to n tries k ≡ Some by → has_room h xs from to n by ≡ true
@@ -68,5 +67,4 @@ le_from a b e = grind (arith, nat_tests)
 
 -- what holds on `Ok` holds where it is no `Err`
 pub from_ok : {A E : Type 0} (r : Result A E) (P : Type 0) → OnOk r P → is_err r ≡ false → P
-from_ok (Ok x) P h e = h
-from_ok (Err x) P h e = absurd (cc)
+from_ok r P h e = grind arith

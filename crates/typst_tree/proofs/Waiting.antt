@@ -1,5 +1,6 @@
 -- Rows of trees that wait in a list, the next one last.
-use Rattle.std.proofs.Common.{◌≡◌, ℕ, ◌+◌, ◌*◌, ◌<◌, List, [], ◌∷◌, ◌++◌, length, map, Bor, refl, ap, sym, ◌∙◌, arith, append-nil, append_assoc}
+use Rattle.std.proofs.lemmas.Grind.{common_steps}
+use Rattle.std.proofs.Common.{◌≡◌, ℕ, ◌+◌, ◌*◌, ◌<◌, List, ◌∷◌, ◌++◌, length, map, Bor, ap, sym, ◌∙◌, arith, append-nil, append_assoc, []}
 use Rattle.std.proofs.lemmas.List.{map-append}
 use Rattle.typst_tree.specs.Tree.{Tree, forest, joined, count, text_of}
 
@@ -29,41 +30,20 @@ pub turns_more : (rows : List (List Tree)) (row : List Tree) → turns (rows ++ 
 turns_more [] row = omega arith
 turns_more (r ∷ rows) row = omega (arith, turns_more rows row)
 
-pub waiting_none : (rs : List (Bor (List Tree))) → length rs ≡ 0 → waiting_text (rows_of rs) ≡ []
-waiting_none [] h = refl
-waiting_none (r ∷ rs) h = absurd (omega (arith, h))
-
--- the text of a leaf is its own
-pub leaf_alone : (t : Tree) (ts : List Tree) → t.kids ≡ forest ts → length ts ≡ 0 → text_of t ≡ t.head.text
-leaf_alone t [] e h = ap (λ f. t.head.text ++ joined f) e ∙ append-nil t.head.text
-leaf_alone t (x ∷ ts) e h = absurd (omega (arith, h))
-
 -- the root's own text is written and its children wait
 pub first_row : (before out text : List ℕ) (t : Tree) (row : List Tree) → out ≡ before ++ text → text ≡ t.head.text → forest row ≡ t.kids → out ++ waiting_text (row ∷ []) ≡ before ++ text_of t
-first_row before out text t row e own kids =
-    ap (λ s. s ++ joined (forest row)) e
-    ∙ (append_assoc before text (joined (forest row))
-    ∙ ap (λ s. before ++ s) (ap (λ s. s ++ joined (forest row)) own ∙ ap (λ f. t.head.text ++ joined f) kids))
+first_row before out text t row e own kids = grind (arith, append_assoc)
 
 -- a row's first tree gives its own text, and then come its children and the trees behind it
 opened_text : (rows : List (List Tree)) (t : Tree) (row kids : List Tree) → forest kids ≡ t.kids → joined (forest (t ∷ row)) ++ waiting_text rows ≡ t.head.text ++ waiting_text ((rows ++ row ∷ []) ++ kids ∷ [])
-opened_text rows t row kids e =
-    let below : waiting_text ((rows ++ row ∷ []) ++ kids ∷ []) ≡ joined t.kids ++ (joined (forest row) ++ waiting_text rows) = waiting_more (rows ++ row ∷ []) kids ∙ (ap (λ f. joined f ++ waiting_text (rows ++ row ∷ [])) e ∙ ap (λ s. joined t.kids ++ s) (waiting_more rows row)) in
-    append_assoc t.head.text (joined t.kids ++ joined (forest row)) (waiting_text rows)
-    ∙ ap (λ s. t.head.text ++ s) (append_assoc (joined t.kids) (joined (forest row)) (waiting_text rows) ∙ sym below)
+opened_text rows t row kids e = grind (arith, waiting_more, append_assoc)
 
 pub opened : (rows : List (List Tree)) (t : Tree) (row behind kids : List Tree) (before out text all : List ℕ) → row ≡ t ∷ behind → forest kids ≡ t.kids → out ≡ before ++ text → text ≡ t.head.text → before ++ waiting_text (rows ++ row ∷ []) ≡ all → out ++ waiting_text ((rows ++ behind ∷ []) ++ kids ∷ []) ≡ all
-opened rows t row behind kids before out text all first e is own h =
-    let rest = waiting_text ((rows ++ behind ∷ []) ++ kids ∷ []) in
-    ap (λ s. s ++ rest) is
-    ∙ (append_assoc before text rest
-    ∙ (ap (λ s. before ++ s) (ap (λ s. s ++ rest) own ∙ (sym (opened_text rows t behind kids e) ∙ (ap (λ r. joined (forest r) ++ waiting_text rows) (sym first) ∙ sym (waiting_more rows row)))) ∙ h))
+opened rows t row behind kids before out text all first e is own h = grind (arith, append_assoc, opened_text, waiting_more)
 
 pub opened_turns : (rows : List (List Tree)) (t : Tree) (row behind kids : List Tree) → row ≡ t ∷ behind → forest kids ≡ t.kids → turns ((rows ++ behind ∷ []) ++ kids ∷ []) < turns (rows ++ row ∷ [])
-opened_turns rows t row behind kids first e =
-    omega (arith, turns_more (rows ++ behind ∷ []) kids, turns_more rows behind, turns_more rows row, ap (λ r. count (forest r)) first, ap count e)
+opened_turns rows t row behind kids first e = grind (arith, turns_more)
 
 -- a row without a tree is done
 pub closed : (rows : List (List Tree)) (row : List Tree) (out all : List ℕ) → length row ≡ 0 → out ++ waiting_text (rows ++ row ∷ []) ≡ all → out ++ waiting_text rows ≡ all
-closed rows [] out all h e = ap (λ s. out ++ s) (sym (waiting_more rows [])) ∙ e
-closed rows (t ∷ row) out all h e = absurd (omega (arith, h))
+closed rows row out all h e = grind (arith, common_steps, waiting_more)

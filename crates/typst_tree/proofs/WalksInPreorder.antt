@@ -1,5 +1,5 @@
 -- The laws of walks in preorder.
-use Rattle.std.proofs.Common.{◌≡◌, ℕ, suc, ◌+◌, ◌<◌, ◌≤◌, ◌^◌, Bool, true, false, cond, List, [], ◌∷◌, ◌++◌, length, drop, Some, None, refl, ap, sym, subst, ◌∙◌, arith, length-append, append_assoc, append-nil, get_or}
+use Rattle.std.proofs.Common.{◌≡◌, ℕ, ◌+◌, ◌<◌, ◌≤◌, ◌^◌, Bool, true, false, cond, List, ◌∷◌, ◌++◌, length, drop, Some, None, refl, ap, sym, subst, ◌∙◌, arith, length-append, append_assoc, append-nil, get_or, []}
 use Rattle.std.proofs.lemmas.List.{drop_more}
 use native.Mathlib.Numerals.{unary_clauses}
 use Rattle.typst_tree.specs.Tree.{Forest, none, more, Tree, forest, count, nodes, joined, text_of, preorder, places, saturated}
@@ -34,9 +34,7 @@ pub first_append : (p : ℕ → ℕ → Tree → Bool) (n a : ℕ) (xs ys : List
 first_append p n a [] ys = simp unary_clauses refl
 first_append p n a (x ∷ xs) ys =
     let next : first_at p (n + 1) (a + length x.head.text) (xs ++ ys) ≡ if_none (first_at p (n + 1) (a + length x.head.text) xs) (first_at p (n + 1 + length xs) (a + length x.head.text + length (texts xs)) ys) = first_append p (n + 1) (a + length x.head.text) xs ys in
-    let number : n + 1 + length xs ≡ n + suc (length xs) = omega arith in
-    let offset : a + length x.head.text + length (texts xs) ≡ a + length (x.head.text ++ texts xs) = omega (arith, length-append x.head.text (texts xs)) in
-    elim (p n (saturated a) x) as (λ b. cond b (Some n) (first_at p (n + 1) (a + length x.head.text) (xs ++ ys)) ≡ if_none (cond b (Some n) (first_at p (n + 1) (a + length x.head.text) xs)) (first_at p (n + suc (length xs)) (a + length (x.head.text ++ texts xs)) ys)) [ true ↦ refl | false ↦ rw (number, offset) at next ]
+    grind (arith, length-append, cond)
 
 -- what the walk through a first tree and those after it finds
 pub first_of_more : (p : ℕ → ℕ → Tree → Bool) (n a : ℕ) (t : Tree) (ts : List Tree) → first_at p n a (preorder (forest (t ∷ ts))) ≡ if_none (first_at p n a (places t)) (first_at p (n + nodes t) (a + length (text_of t)) (preorder (forest ts)))
@@ -78,8 +76,7 @@ within_rest k b m c x rest e f =
 
 -- where the walk through a first tree finds nothing, the walk goes on behind it
 pub found_next : (p : ℕ → ℕ → Tree → Bool) (k b m c : ℕ) (x : Tree) (rest : List Tree) → m ≡ k + nodes x → c ≡ saturated (b + length (text_of x)) → first_at p k b (places x) ≡ None → first_at p k b (preorder (forest (x ∷ rest))) ≡ first_at p m c (preorder (forest rest))
-found_next p k b m c x rest e f nothing =
-    first_of_more p k b x rest ∙ rw (nothing, e) (first_same p (k + nodes x) (b + length (text_of x)) c (preorder (forest rest)) (omega (arith, f)))
+found_next p k b m c x rest e f nothing = grind (arith, first_of_more, first_same)
 
 pub found_here : (p : ℕ → ℕ → Tree → Bool) (k b i : ℕ) (x : Tree) (rest : List Tree) → Some i ≡ first_at p k b (places x) → Some i ≡ first_at p k b (preorder (forest (x ∷ rest)))
 found_here p k b i x rest e = sym (first_of_more p k b x rest ∙ rw (sym e) refl)
@@ -90,18 +87,14 @@ pub record Turn (xs : List Tree) (i : ℕ) (x : Tree) : Type 0 where
   pub rest : nodes x + count (forest (drop (i + 1) xs)) ≡ count (forest (drop i xs))
 
 pub turn : (xs : List Tree) (i : ℕ) (x : Tree) → x ≡ get_or xs i x → i < length xs → Turn xs i x
-turn xs i x e h =
-    let first : drop i xs ≡ x ∷ drop (i + 1) xs = drop_more xs i x h ∙ ap (λ y. y ∷ drop (i + 1) xs) (sym e) in
-    record { first = first; rest = rw first (omega arith) }
+turn xs i x e h = grind (arith, drop_more)
 
 pub found_self : (p : ℕ → ℕ → Tree → Bool) (n a : ℕ) (t : Tree) → true ≡ p n (saturated a) t → first_at p n a (places t) ≡ Some n
 found_self p n a t holds = rw (sym holds) refl
 
 -- where a node itself doesn't pass the test, the walk goes on with its children
 pub found_below : (p : ℕ → ℕ → Tree → Bool) (n a c : ℕ) (t : Tree) (ts : List Tree) → a < 2 ^ 64 → false ≡ p n a t → forest ts ≡ t.kids → c ≡ saturated (a + length t.head.text) → first_at p n a (places t) ≡ first_at p (n + 1) c (preorder (forest ts))
-found_below p n a c t ts h fails e f =
-    let falls : p n (saturated a) t ≡ false = ap (λ b. p n b t) (usize_saturated a h) ∙ sym fails in
-    rw (falls, e) (first_same p (n + 1) (a + length t.head.text) c (preorder t.kids) (omega (arith, f)))
+found_below p n a c t ts h fails e f = grind (arith, usize_saturated, first_same)
 
 pub within_children : (n a c : ℕ) (t : Tree) (ts : List Tree) → forest ts ≡ t.kids → c ≡ saturated (a + length t.head.text) → Within n a (places t) (n + 1) c (preorder (forest ts))
 within_children n a c t ts e f = rw e (record { front = t ∷ []; back = []; whole = ap (λ ys. t ∷ ys) (sym (append-nil (preorder t.kids))); number = refl; offset = rw append-nil f })

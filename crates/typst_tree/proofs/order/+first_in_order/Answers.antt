@@ -13,8 +13,7 @@ returns-then-key-number_or_zero-clause-first t c =
     sym (none_past (wanted c.args.search.now) c.args.key c.args.number c.args.offset c.args.node.now c.requires.keyed (omega (arith, c.if-key-number_or_zero.true, c.number_or_zero.ensures.value, ap number_of c.span.ensures)) c.requires.in_order)
 
 pub returns-then-wants-clause-spot : goal.returns-then-wants-clause-spot
-returns-then-wants-clause-spot t c =
-    within_self c.args.number c.args.offset (places c.args.node.now) (omega (arith, c.ranges.offset))
+returns-then-wants-clause-spot t c = grind (arith, within_self)
 
 pub first_in_order-requires : goal.first_in_order-requires
 first_in_order-requires t c =

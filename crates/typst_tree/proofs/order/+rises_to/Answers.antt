@@ -8,14 +8,10 @@ use Rattle.typst_tree.proofs.OrderBelow.{nodes_within, order_own, order_child, o
 use Rattle.typst_tree.proofs.order.+rises_to.Goals as goal
 
 pub returns-then-not-is_before : goal.returns-then-not-is_before
-returns-then-not-is_before t c = (
-  λ h. absurd (cc),
-  λ e. c.if-not-is_before.ensures.1 (rw c.number_at.ensures (order_own c.loop-node.node.now c.children-row.result.now c.loop-node.limit c.children-row.ensures (c.loop-node.invariant.there e))),
-)
+returns-then-not-is_before t c = grind (arith, order_own)
 
 pub rises_to-requires : goal.rises_to-requires
-rises_to-requires t c =
-    omega (arith, c.decreases, nodes_within c.children-row.result.now c.loop-i.i _ c.index-row-i.is (omega arith), ap count c.children-row.ensures, c.loop-node.invariant.size)
+rises_to-requires t c = grind (arith, nodes_within)
 
 pub returns-then-not-rises_to : goal.returns-then-not-rises_to
 returns-then-not-rises_to t c = (
@@ -47,8 +43,7 @@ returns-then-last-row t c = (
 )
 
 pub loop-node-smaller : goal.loop-node-smaller
-loop-node-smaller t c =
-    omega (arith, nodes_within c.children-row.result.now c.last_to_go-last.result _ c.index-row-last.is (omega arith), ap count c.children-row.ensures)
+loop-node-smaller t c = grind (arith, nodes_within)
 
 pub loop-node-preserved : goal.loop-node-preserved
 loop-node-preserved t c =

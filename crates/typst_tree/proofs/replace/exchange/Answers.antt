@@ -1,7 +1,8 @@
-use Rattle.std.proofs.Common.{◌≡◌, ◌<◌, ◌+◌, ◌-◌, Some, length, arith, refl, sym, ◌∙◌, rules}
+use Rattle.std.proofs.lemmas.Grind.{common_steps}
+use Rattle.std.proofs.Common.{◌+◌, ◌-◌, arith, sym, ◌∙◌, rules}
 use Rattle.std.proofs.lemmas.Bool.Decides.{nat_tests}
 use Rattle.typst_tree.specs.Tree.{forest, count}
-use Rattle.typst_tree.specs.Replace.{IsFit, fit}
+use Rattle.typst_tree.specs.Replace.{IsFit}
 use Rattle.typst_tree.proofs.Stretches.{cut, count-append, exchanged_some, from_ok}
 use Rattle.typst_tree.proofs.replace.exchange.Goals as goal
 
@@ -21,9 +22,7 @@ returns-clause-ok c =
     cut c.args.kids.now.items c.splice.new.all.items c.args.fresh.items c.in-Some.stretch.left c.args.from c.args.to c.in-Some.stretch.right (c.args.from + c.len.result + (c.in-Some.stretch.right - c.args.to)) f.before c.requires.order f.behind f.within
     (from_ok c.splice.result _ c.splice.ensures.ok (sym c.is_err.ensures.value ∙ c.if-is_err.false))
     (omega (arith, c.len.ensures, c.args.fresh.ok.0)) in
-    let some : 0 < length c.args.fresh.items = grind (arith, nat_tests, c.if-is_empty.ensures, c.args.fresh.ok.0) in
-    let is : fit c.args.own.now.head c.args.kids.now.items c.args.from c.args.to (count (forest c.args.fresh.items)) ≡ Some c.in-Some.stretch = rw (c.as_slice.ensures.value, c.as_slice-2.ensures.value) at (sym c.in-Some.ensures.value) in
-    exchanged_some c.args.id.now c.args.own.now.head c.args.kids.now.items c.args.from c.args.to c.args.fresh.items c.number_part.new.kids.items c.in-Some.stretch some is (sym (c.number_part.ensures ∙ rw (k.before, k.part, k.behind) refl))
+    grind (arith, common_steps, nat_tests, exchanged_some)
 
 pub returns-in_default-clause-err : goal.returns-in_default-clause-err
 returns-in_default-clause-err c = search rules

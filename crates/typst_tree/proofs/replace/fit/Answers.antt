@@ -1,3 +1,4 @@
+use Rattle.std.proofs.lemmas.Grind.{common_steps}
 use Rattle.std.proofs.Common.{arith, sym}
 use Rattle.typst_tree.specs.Tree.{forest, count}
 use Rattle.typst_tree.proofs.Numbering.{some_nodes}
@@ -9,5 +10,4 @@ stride-requires-clause-some c = omega (arith, c.wanted-count.ensures, some_nodes
 
 pub stride-requires-clause-room : goal.stride-requires-clause-room
 stride-requires-clause-room c =
-    let r = growth_has_room c.args.own.now.head c.args.kids.now c.args.from c.args.to (count (forest c.args.fresh.now)) _ 0 c.in_ok-by.by (sym c.in_ok-by.ensures) in
-    omega (arith, c.wanted-count.ensures, c.room-numbers.ensures.value, le_from _ _ r)
+    grind (arith, common_steps, growth_has_room c.args.own.now.head c.args.kids.now c.args.from c.args.to (count (forest c.args.fresh.now)) _ 0 c.in_ok-by.by (sym c.in_ok-by.ensures), le_from)

@@ -8,13 +8,7 @@ use Rattle.typst_tree.proofs.search.child_at.Goals as goal
 use Rattle.typst_tree.proofs.search.child_at.Goals.{After-index-row-at}
 
 pub loop-at-init : goal.loop-at-init
-loop-at-init c =
-    let r = c.passed_by_turns-at.result in
-    let p = c.passed_by_turns-at.ensures.passed in
-    record {
-      found = passed_front (holds_byte c.args.byte) (c.args.over.number + 1) _ r.index r.number r.offset c.children-row.result.now p.number p.offset c.passed_by_turns-at.ensures.nothing;
-      passed = p;
-    }
+loop-at-init c = grind (arith, passed_front)
 
 -- the child that is looked at
 here : (c : After-index-row-at) → Over c.args.over.node.now c.args.over.number c.args.over.offset c.children-row.result.now c.loop-at.at.index c.loop-at.at.number c.loop-at.at.offset c.index-row-at.result
@@ -47,7 +41,4 @@ loop-at-preserved c =
     }
 
 pub returns-clause-none : goal.returns-clause-none
-returns-clause-none c = λ _.
-    let at = c.loop-at.at in
-    byte_none c.args.byte c.args.over.number c.args.over.offset c.args.over.node.now c.children-row.result.now c.children-row.ensures (omega arith)
-    (c.loop-at.invariant.found ∙ ap (λ ys. first_at (holds_byte c.args.byte) at.number at.offset (preorder (forest ys))) (drop_of_length-le c.children-row.result.now c.loop-at-test.false))
+returns-clause-none c = grind (arith, byte_none, drop_of_length-le)

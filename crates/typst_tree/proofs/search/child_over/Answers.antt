@@ -1,3 +1,4 @@
+use Rattle.std.proofs.lemmas.Grind.{common_steps}
 use Rattle.std.proofs.Common.{ap, arith}
 use Rattle.typst_tree.specs.Tree.{nodes}
 use Rattle.typst_tree.proofs.Rows.{Over, over, passed_inside, passed_none}
@@ -5,13 +6,10 @@ use Rattle.typst_tree.proofs.search.child_over.Goals as goal
 use Rattle.typst_tree.proofs.search.child_over.Goals.{After-index-row-at}
 
 pub loop-at-init : goal.loop-at-init
-loop-at-init c =
-    let f = c.front-at.ensures in
-    record { passed = passed_none c.children-row.result.now _ _ _ _ _ f.index f.number f.offset; before = omega (arith, f.number, c.requires.from) }
+loop-at-init c = grind (arith, passed_none)
 
 pub bounds-row-at : goal.bounds-row-at
-bounds-row-at c =
-    passed_inside c.args.over.node.now c.args.over.number _ _ _ _ c.args.wanted _ c.children-row.ensures c.loop-at.invariant.passed c.loop-at.invariant.before c.requires.to
+bounds-row-at c = grind (arith, common_steps)
 
 -- the child that is looked at
 here : (c : After-index-row-at) → Over c.args.over.node.now c.args.over.number c.args.over.offset c.children-row.result.now c.loop-at.at.index c.loop-at.at.number c.loop-at.at.offset c.index-row-at.result

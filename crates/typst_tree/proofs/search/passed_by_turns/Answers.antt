@@ -12,8 +12,7 @@ pub returns-then-byte-next-clause-nothing : goal.returns-then-byte-next-clause-n
 returns-then-byte-next-clause-nothing c = rw (sym c.front-front.ensures.offset) c.loop-tree.invariant.nothing
 
 pub returns-then-begin-byte-clause-nothing : goal.returns-then-begin-byte-clause-nothing
-returns-then-begin-byte-clause-nothing c =
-    rw (sym c.front-front.ensures.offset) (no_byte_above c.args.byte (c.args.over.number + 1) c.front-front.result.offset (forest (take c.loop-tree.index c.args.row.now)) (omega (arith, c.saturating_add-begin.ensures, c.loop-tree.invariant.offset, c.if-begin-byte.true)))
+returns-then-begin-byte-clause-nothing c = grind (arith, no_byte_above)
 
 -- the last child that is left
 here : (c : After-index-row-index) → Prior c.args.row.now c.loop-tree.index c.index-row-index.result

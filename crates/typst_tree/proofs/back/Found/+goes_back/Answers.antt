@@ -1,4 +1,4 @@
-use Rattle.std.proofs.Common.{◌≡◌, ℕ, ◌-◌, None, Some, ap, sym, ◌∙◌, arith, refl, subst}
+use Rattle.std.proofs.Common.{◌≡◌, ℕ, ◌-◌, None, Some, ap, sym, ◌∙◌, arith, refl}
 use Rattle.typst_tree.specs.Tree.{nodes, places}
 use Rattle.typst_tree.specs.Walks.{last_leaf}
 use Rattle.typst_tree.specs.Found.{IsBelow}
@@ -8,9 +8,7 @@ use Rattle.typst_tree.proofs.back.Found.+goes_back.Goals as goal
 use Rattle.typst_tree.proofs.back.Found.+goes_back.Goals.{After-descendants-end}
 
 pub returns-then-before-number-clause-none : goal.returns-then-before-number-clause-none
-returns-then-before-number-clause-none t c = λ _.
-    let s = c.args.self.now in
-    last_none c.args.before s.number (places s.node.now) (omega (arith, c.if-before-number.true))
+returns-then-before-number-clause-none t c = grind (arith, last_none)
 
 -- the child that is looked at
 here : (t : ℕ) (c : After-descendants-end t) → Back c.args.before c.args.self.now.number c.args.self.now.node.now c.children-row.result.now c.loop-index.index c.loop-index.end c.descendants-end.result c.index-row-index.result
@@ -52,8 +50,7 @@ returns-then-goes_back-clause-found t c = λ _.
     c.loop-index.invariant.last ∙ (w.last ∙ rw found (ap (λ k. Some k) (sym c.below.ensures.number)))
 
 pub returns-then-goes_back-clause-below : goal.returns-then-goes_back-clause-below
-returns-then-goes_back-clause-below t c = λ _.
-    subst (λ o. IsBelow c.args.self.now.node.now c.args.self.now.number o c.below.result) (c.goes_back.ensures.below c.if-goes_back.true).order c.below.ensures.below
+returns-then-goes_back-clause-below t c = grind arith
 
 pub loop-index-preserved : goal.loop-index-preserved
 loop-index-preserved t c =
@@ -69,11 +66,7 @@ loop-index-preserved t c =
     }
 
 pub returns-clause-found : goal.returns-clause-found
-returns-clause-found t c = λ is.
-    let s = c.args.self.now in
-    c.loop-index.invariant.last ∙ (last_alone c.args.before s.number s.node.now c.children-row.result.now c.loop-index.index (omega (arith, c.if-before-number.false)) (omega (arith, c.loop-index-test.false)) ∙ rw (sym c.is_leaf.ensures, is) (ap (λ k. Some k) (sym c.itself-2.ensures.number)))
+returns-clause-found t c = grind (arith, last_alone)
 
 pub returns-clause-none : goal.returns-clause-none
-returns-clause-none t c = λ is.
-    let s = c.args.self.now in
-    c.loop-index.invariant.last ∙ (last_alone c.args.before s.number s.node.now c.children-row.result.now c.loop-index.index (omega (arith, c.if-before-number.false)) (omega (arith, c.loop-index-test.false)) ∙ rw (sym c.is_leaf.ensures, is) refl)
+returns-clause-none t c = grind (arith, last_alone)

@@ -1,6 +1,6 @@
-use Rattle.std.proofs.Common.{◌≡◌, ◌+◌, ◌-◌, min, None, Some, ap, sym, subst, ◌∙◌, arith, refl}
-use Rattle.typst_tree.specs.Tree.{nodes, places}
-use Rattle.typst_tree.specs.Walks.{last_leaf}
+use Rattle.std.proofs.lemmas.Grind.{common_steps}
+use Rattle.std.proofs.Common.{◌≡◌, ◌+◌, ◌-◌, min, Some, ap, sym, ◌∙◌, arith}
+use Rattle.typst_tree.specs.Tree.{nodes}
 use Rattle.typst_tree.specs.Follows.{in_order_of}
 use Rattle.typst_tree.specs.Found.{IsBelow, last_of}
 use Rattle.typst_tree.proofs.FoundBelow.{inside, under}
@@ -9,17 +9,7 @@ use Rattle.typst_tree.proofs.LastFrom.{finds_same, last_end, last_first, last_he
 use Rattle.typst_tree.proofs.back.Found.+last_leaf.Goals as goal
 
 pub last_leaf-loop-found-init : goal.last_leaf-loop-found-init
-last_leaf-loop-found-init t c =
-    let o = c.args.self in
-    let a = c.itself-way.ensures in
-    let end : c.descendants.result ≡ nodes o.node.now = omega (arith, c.descendants.ensures, c.requires.counted) in
-    record {
-      below = subst (λ q. IsBelow o.node.now o.number q c.itself-way.result) c.in_order.ensures a.below;
-      begun = omega (arith, a.number, c.min-until.ensures, c.requires.from, end);
-      ends = omega (arith, a.number, ap nodes a.node, c.min-until.ensures, end);
-      same = last_end c.args.before (o.number + c.descendants.result) o (omega (arith, end)) ∙ ap (λ k. last_of k o) (sym c.min-until.ensures);
-      size = omega (arith, ap nodes a.node);
-    }
+last_leaf-loop-found-init t c = grind (arith, last_end)
 
 pub last_leaf-look_back-requires : goal.last_leaf-look_back-requires
 last_leaf-look_back-requires t c =
@@ -45,11 +35,7 @@ last_leaf-last_before-requires t c =
     (omega (arith, c.decreases), (c.requires.counted, (n.from, omega (arith, n.to))))
 
 pub last_leaf-returns-in-Nothing : goal.last_leaf-returns-in-Nothing
-last_leaf-returns-in-Nothing t c =
-    let o = c.args.self in
-    let f = c.loop-found.way in
-    let i = c.loop-found.invariant in
-    finds_same c.args.before f.number o c.last_before.result (i.same ∙ last_past c.loop-found.until o f i.below (omega (arith, i.begun)) i.ends c.in-Nothing.ensures) c.last_before.ensures
+last_leaf-returns-in-Nothing t c = grind (arith, finds_same, last_past)
 
 pub last_leaf-loop-found-preserved : goal.last_leaf-loop-found-preserved
 last_leaf-loop-found-preserved t c =
@@ -96,28 +82,16 @@ last_before-returns-in-Some t c =
     (c.loop-left.invariant.same ∙ (last_in c.loop-left.until c.in-Some.found.number o b e.below (omega (arith, e.to)) c.in-Some.ensures.0 ∙ ap (λ k. Some k) (sym c.with.ensures.number)), c.with.ensures.below o.node.now o.number _ e.below)
 
 pub last_before-loop-left-preserved : goal.last_before-loop-left-preserved
-last_before-loop-left-preserved t c =
-    let o = c.args.self in
-    let b = c.towards-below.result in
-    let e = c.towards-below.ensures in
-    let n = inside o.number 0 o.node.now b.number b.begins b.node.now e.below.within in
-    record {
-      begun = n.from;
-      ends = omega (arith, n.to);
-      same = c.loop-left.invariant.same ∙ last_past c.loop-left.until o b e.below (omega (arith, e.from)) (omega (arith, e.to)) (rw c.in_default.is at c.last_before.ensures);
-    }
+last_before-loop-left-preserved t c = grind (arith, last_past)
 
 pub last_before-returns-then-until-self-2 : goal.last_before-returns-then-until-self-2
-last_before-returns-then-until-self-2 t c =
-    c.loop-left.invariant.same ∙ last_first c.loop-left.until c.args.self (omega arith)
+last_before-returns-then-until-self-2 t c = grind (arith, last_first)
 
 pub last_before-returns-in-Leaf : goal.last_before-returns-in-Leaf
-last_before-returns-in-Leaf t c =
-    finds_same c.args.before c.loop-left.until c.args.self (Some c.in-Leaf.found) c.loop-left.invariant.same c.in-Leaf.ensures
+last_before-returns-in-Leaf t c = grind (arith, finds_same)
 
 pub last_before-returns : goal.last_before-returns
-last_before-returns t c =
-    c.loop-left.invariant.same ∙ looks_all c.loop-left.until _ c.args.self c.look_back.result (omega (arith, c.requires.counted)) c.in_default-look_back.not-Leaf c.look_back.ensures
+last_before-returns t c = grind (arith, looks_all)
 
 pub look_back-overflow_sub-end : goal.look_back-overflow_sub-end
 look_back-overflow_sub-end t c =
@@ -131,13 +105,7 @@ look_back-loop-index-preserved-then-before-end t c =
     let o = c.args.self in
     let i = c.loop-index.invariant in
     let w = back c.args.before o.number o.node.now c.children-row.result.now c.loop-index.index c.loop-index.end _ _ c.loop-index-test.true i.bounded c.index-row-index.is i.end_is c.descendants-end.ensures i.counted in
-    record {
-      bounded = omega (arith, i.bounded);
-      last = i.last ∙ (w.last ∙ rw (last_none c.args.before (c.loop-index.end - c.descendants-end.result) (places c.index-row-index.result) (omega (arith, c.if-before-end.true))) refl);
-      end_is = w.number;
-      counted = omega (arith, w.counted, i.counted);
-      smaller = omega (arith, w.counted, i.smaller);
-    }
+    grind (arith, common_steps, last_none)
 
 pub look_back-below-requires-clause-child : goal.look_back-below-requires-clause-child
 look_back-below-requires-clause-child t c =
@@ -151,15 +119,7 @@ look_back-returns-then-descendants-heavy t c =
     let o = c.args.self in
     let i = c.loop-index.invariant in
     let w = back c.args.before o.number o.node.now c.children-row.result.now c.loop-index.index c.loop-index.end _ _ c.loop-index-test.true i.bounded c.index-row-index.is i.end_is c.descendants-end.ensures i.counted in
-    let k = c.itself-kid.ensures in
-    let b = c.below.ensures in
-    let end : c.loop-index.end ≡ c.below.result.number + nodes c.below.result.node.now = omega (arith, i.end_is, w.number, w.counted, b.number, k.number, ap nodes b.node, ap nodes k.node) in (
-      subst (λ e. last_of c.args.before o ≡ last_of (min c.args.before e) o) end (last_heavy c.args.before o.number c.loop-index.end c.loop-index.index o.node.now c.children-row.result.now c.children-row.ensures i.end_is i.last),
-      subst (λ q. IsBelow o.node.now o.number q c.below.result) (k.below.order ∙ c.in_order-in_order.ensures) b.below,
-      omega (arith, b.number, k.number, c.if-before-end.false),
-      omega (arith, ap nodes b.node, ap nodes k.node, w.counted, i.smaller),
-      omega (arith, ap nodes b.node, ap nodes k.node, c.descendants-in-loop-index.ensures, c.if-descendants-heavy.true),
-    )
+    grind (arith, common_steps, last_heavy)
 
 pub look_back-last_leaf-requires : goal.look_back-last_leaf-requires
 look_back-last_leaf-requires t c =
@@ -184,33 +144,17 @@ look_back-returns-in-Some t c =
     let o = c.args.self in
     let i = c.loop-index.invariant in
     let w = back c.args.before o.number o.node.now c.children-row.result.now c.loop-index.index c.loop-index.end _ _ c.loop-index-test.true i.bounded c.index-row-index.is i.end_is c.descendants-end.ensures i.counted in
-    let k = c.itself-kid.ensures in
-    let b = c.below-in-Some.ensures in
-    let found : last_leaf c.args.before (c.loop-index.end - c.descendants-end.result) (places c.index-row-index.result) ≡ Some c.in-Some.found.number = rw (sym k.node, sym k.number) c.in-Some.ensures.0 in
-    (i.last ∙ (w.last ∙ rw found (ap (λ n. Some n) (sym b.number))), subst (λ q. IsBelow o.node.now o.number q c.below-in-Some.result) (c.in-Some.ensures.1.order ∙ (k.below.order ∙ c.in_order-in_order.ensures)) b.below)
+    grind (arith, common_steps)
 
 pub look_back-loop-index-preserved : goal.look_back-loop-index-preserved
 look_back-loop-index-preserved t c =
     let o = c.args.self in
     let i = c.loop-index.invariant in
     let w = back c.args.before o.number o.node.now c.children-row.result.now c.loop-index.index c.loop-index.end _ _ c.loop-index-test.true i.bounded c.index-row-index.is i.end_is c.descendants-end.ensures i.counted in
-    let k = c.itself-kid.ensures in
-    let none = rw c.in_default.is at c.last_leaf.ensures in
-    let nothing : last_leaf c.args.before (c.loop-index.end - c.descendants-end.result) (places c.index-row-index.result) ≡ None = rw (sym k.node, sym k.number) none in
-    record {
-      bounded = omega (arith, i.bounded);
-      last = i.last ∙ (w.last ∙ rw nothing refl);
-      end_is = w.number;
-      counted = omega (arith, w.counted, i.counted);
-      smaller = omega (arith, w.counted, i.smaller);
-    }
+    grind (arith, common_steps)
 
 pub look_back-returns-then-is_leaf : goal.look_back-returns-then-is_leaf
-look_back-returns-then-is_leaf t c =
-    let o = c.args.self in
-    (c.loop-index.invariant.last ∙ (last_alone c.args.before o.number o.node.now c.children-row.result.now c.loop-index.index c.requires.from (omega (arith, c.loop-index-test.false)) ∙ rw (sym c.if-is_leaf.ensures) (ap (λ k. Some k) (sym c.itself.ensures.number))), subst (λ q. IsBelow o.node.now o.number q c.itself.result) c.in_order-in_order.ensures c.itself.ensures.below)
+look_back-returns-then-is_leaf t c = grind (arith, last_alone)
 
 pub look_back-returns : goal.look_back-returns
-look_back-returns t c =
-    let o = c.args.self in
-    c.loop-index.invariant.last ∙ (last_alone c.args.before o.number o.node.now c.children-row.result.now c.loop-index.index c.requires.from (omega (arith, c.loop-index-test.false)) ∙ rw (sym c.if-is_leaf.ensures) refl)
+look_back-returns t c = grind (arith, last_alone)

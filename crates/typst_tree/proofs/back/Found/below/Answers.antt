@@ -1,6 +1,5 @@
 use Rattle.std.proofs.Common.{ap, arith, refl, sym, ◌∙◌}
 use Rattle.std.specs.Prelude.{nat_lt}
-use Rattle.typst_tree.specs.Tree.{trees}
 use Rattle.typst_tree.specs.Rows.{long}
 use Rattle.typst_tree.proofs.FoundBelow.{above, seen}
 use Rattle.typst_tree.proofs.Rows.{length_row}
@@ -8,8 +7,7 @@ use Rattle.typst_tree.proofs.StepDown.{at_slice_get}
 use Rattle.typst_tree.proofs.back.Found.below.Goals as goal
 
 pub before_index-at-requires-clause-within : goal.before_index-at-requires-clause-within
-before_index-at-requires-clause-within c =
-    omega (arith, (at_slice_get _ (trees c.args.over.now.kids) c.args.index c.requires.child).0, length_row c.children-row.result.now _ c.children-row.ensures)
+before_index-at-requires-clause-within c = grind (arith, at_slice_get, length_row)
 
 pub overflow_sub-self : goal.overflow_sub-self
 overflow_sub-self c =

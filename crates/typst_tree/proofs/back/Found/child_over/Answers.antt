@@ -1,16 +1,12 @@
-use Rattle.std.proofs.Common.{◌-◌, arith, ap, subst, ◌∙◌}
-use Rattle.typst_tree.specs.Tree.{nodes}
-use Rattle.typst_tree.specs.Found.{IsBelow}
+use Rattle.std.proofs.lemmas.Grind.{common_steps}
+use Rattle.std.proofs.Common.{◌-◌, arith}
 use Rattle.typst_tree.proofs.FoundBelow.{under}
 use Rattle.typst_tree.proofs.LastLeaf.{back}
 use Rattle.typst_tree.proofs.LastFrom.{some_left}
 use Rattle.typst_tree.proofs.back.Found.child_over.Goals as goal
 
 pub overflow_sub-index : goal.overflow_sub-index
-overflow_sub-index c =
-    let o = c.args.self in
-    let i = c.loop-end.invariant in
-    omega (arith, some_left c.loop-end.index o.number c.loop-end.end c.args.wanted c.children-row.result.now i.end_is c.requires.from i.after)
+overflow_sub-index c = grind (arith, some_left)
 
 pub overflow_sub-end : goal.overflow_sub-end
 overflow_sub-end c =
@@ -31,22 +27,10 @@ loop-end-preserved c =
     let o = c.args.self in
     let i = c.loop-end.invariant in
     let w = back 0 o.number o.node.now c.children-row.result.now c.loop-end.index c.loop-end.end _ _ (some_left c.loop-end.index o.number c.loop-end.end c.args.wanted c.children-row.result.now i.end_is c.requires.from i.after) i.bounded c.index-row-index.is i.end_is c.descendants-end.ensures i.counted in
-    record {
-      bounded = omega (arith, i.bounded);
-      end_is = w.number;
-      counted = omega (arith, w.counted, i.counted);
-      after = omega (arith, c.if-end-wanted.false);
-    }
+    grind (arith, common_steps)
 
 pub returns-then-end-wanted-clause-below : goal.returns-then-end-wanted-clause-below
-returns-then-end-wanted-clause-below c =
-    subst (λ q. IsBelow c.args.self.node.now c.args.self.number q c.below.result) (c.itself-itself.ensures.below.order ∙ c.in_order.ensures) c.below.ensures.below
+returns-then-end-wanted-clause-below c = grind arith
 
 pub returns-then-end-wanted-clause-to : goal.returns-then-end-wanted-clause-to
-returns-then-end-wanted-clause-to c =
-    let o = c.args.self in
-    let i = c.loop-end.invariant in
-    let w = back 0 o.number o.node.now c.children-row.result.now c.loop-end.index c.loop-end.end _ _ (some_left c.loop-end.index o.number c.loop-end.end c.args.wanted c.children-row.result.now i.end_is c.requires.from i.after) i.bounded c.index-row-index.is i.end_is c.descendants-end.ensures i.counted in
-    let k = c.itself-itself.ensures in
-    let b = c.below.ensures in
-    omega (arith, b.number, k.number, ap nodes b.node, ap nodes k.node, w.number, w.counted, i.end_is, i.after)
+returns-then-end-wanted-clause-to c = grind (arith, some_left)

@@ -1,17 +1,10 @@
-use Rattle.std.proofs.Common.{arith, ap, subst}
+use Rattle.std.proofs.Common.{arith, ap}
 use Rattle.typst_tree.specs.Tree.{nodes}
-use Rattle.typst_tree.specs.Found.{IsBelow}
 use Rattle.typst_tree.proofs.FoundBelow.{inside}
 use Rattle.typst_tree.proofs.back.Found.towards.Goals as goal
 
 pub loop-init : goal.loop-init
-loop-init c =
-    let o = c.args.self in
-    record {
-      below = subst (λ q. IsBelow o.node.now o.number q c.itself-way.result) c.in_order.ensures c.itself-way.ensures.below;
-      begun = omega (arith, c.itself-way.ensures.number, c.requires.from);
-      ends = omega (arith, c.itself-way.ensures.number, ap nodes c.itself-way.ensures.node, c.requires.to);
-    }
+loop-init c = grind arith
 
 pub child_over-requires-clause-counted : goal.child_over-requires-clause-counted
 child_over-requires-clause-counted c =

@@ -1,10 +1,9 @@
-use Rattle.std.proofs.Common.{refl}
-use Rattle.typst_tree.proofs.FoundBelow.{inside, joined}
+use Rattle.std.proofs.Common.{refl, arith}
+use Rattle.typst_tree.proofs.FoundBelow.{joined}
 use Rattle.typst_tree.proofs.back.Found.with.Goals as goal
 
 pub overflow_sub-inner : goal.overflow_sub-inner
-overflow_sub-inner c =
-    (inside c.args.self.number 0 c.args.self.node.now c.args.inner.number c.args.inner.begins c.args.inner.node.now c.requires.within).from
+overflow_sub-inner c = grind arith
 
 pub returns-clause-below : goal.returns-clause-below
 returns-clause-below c = λ o n in_order w.

@@ -1,3 +1,4 @@
+use Rattle.std.proofs.lemmas.Grind.{common_steps}
 use Rattle.std.proofs.Common.{◌≡◌, ◌+◌, ◌∷◌, ap, sym, ◌∙◌, arith, length, map, refl}
 use Rattle.typst_tree.specs.Tree.{forest, places, count, nodes, trees, saturated, text_of}
 use Rattle.typst_tree.specs.Steps.{at}
@@ -11,16 +12,10 @@ use Rattle.typst_tree.proofs.linked.LinkedChildrenIterator.next.Goals as goal
 use Rattle.typst_tree.proofs.linked.LinkedChildrenIterator.next.Goals.{After-saturating_add}
 
 pub overflow_add-self : goal.overflow_add-self
-overflow_add-self c =
-    let s = c.args.self.now in
-    let r = row (places s.root.now) s.number s.offset c.in_ok-node.node.now c.in_ok-node.rest.now _ _ _ (omega (arith, length_places s.root.now, s.counted)) (stands_same _ _ _ _ _ c.in_ok-node.ensures.cases.0 s.stands) c.descendants.ensures refl refl in
-    omega (arith, r.exact, r.others.within, length_places s.root.now, s.counted)
+overflow_add-self c = grind (arith, common_steps, length_places, stands_same)
 
 pub overflow_add-self-2 : goal.overflow_add-self-2
-overflow_add-self-2 c =
-    let s = c.args.self.now in
-    let w = first_of_row (trees s.parent.node.now.kids) s.index _ _ (sym s.row ∙ c.in_ok-node.ensures.cases.0) in
-    omega (arith, index_counted s.parent.node.now.kids (s.index + 1) (omega (arith, w.within)), s.node.within, length_places s.parent.node.now, length_places s.root.now, s.counted)
+overflow_add-self-2 c = grind (arith, first_of_row, index_counted, length_places)
 
 pub known_of-requires : goal.known_of-requires
 known_of-requires c =
@@ -34,12 +29,7 @@ invariant_of-child c =
     let r = row (places s.root.now) s.number s.offset t c.in_ok-node.rest.now (saturated (nodes t)) (saturated (length (text_of t))) (saturated (s.offset + saturated (length (text_of t)))) (omega (arith, length_places s.root.now, s.counted)) (stands_same _ _ _ _ _ c.in_ok-node.ensures.cases.0 s.stands) refl refl refl in
     let w = first_of_row (trees p.node.now.kids) s.index t c.in_ok-node.rest.now (sym s.row ∙ c.in_ok-node.ensures.cases.0) in
     let child : IsChild p.node.now p.number t s.number s.index = record { here = w.here; number = s.before } in
-    record {
-      counted = s.counted;
-      stands = r.first;
-      ordered = λ e. s.ordered (sym c.known_of.ensures.in_order ∙ e);
-      holds = holds_child s.root.now p.node.now p.number p.offset p.known p.is_long t s.number s.offset s.index c.known_of.result p.many s.node r.first child s.holds c.known_of.ensures.follows;
-    }
+    grind (arith, common_steps, holds_child)
 
 here : (c : After-saturating_add) → Row (places c.args.self.now.root.now) c.args.self.now.number c.args.self.now.offset c.in_ok-node.node.now c.in_ok-node.rest.now c.descendants.result c.len.result c.saturating_add.result
 here c =
@@ -51,8 +41,7 @@ steps : (c : After-saturating_add) → map (at c.args.self.now.root.now) (number
 steps c =
     let s = c.args.self.now in
     let next : s.number + 1 + count c.in_ok-node.node.now.kids ≡ s.number + c.descendants.result = omega (arith, (here c).exact) in
-    ap (λ ts. map (at s.root.now) (numbers s.number (forest ts))) c.in_ok-node.ensures.cases.0
-    ∙ ap (λ m. at s.root.now s.number ∷ map (at s.root.now) (numbers m (forest c.in_ok-node.rest.now))) next
+    grind (arith, common_steps)
 
 pub invariant_of-self-2 : goal.invariant_of-self-2
 invariant_of-self-2 c =

@@ -1,5 +1,6 @@
-use Rattle.std.proofs.Common.{◌≡◌, ap, arith, sym, ◌∙◌}
-use Rattle.typst_tree.specs.Tree.{nodes, places}
+use Rattle.std.proofs.lemmas.Grind.{common_steps}
+use Rattle.std.proofs.Common.{◌≡◌, arith}
+use Rattle.typst_tree.specs.Tree.{places}
 use Rattle.typst_tree.proofs.Parents.{nested}
 use Rattle.typst_tree.proofs.linked.LinkedNode.branch.Goals as goal
 
@@ -11,13 +12,4 @@ returns c =
     let number : t.number ≡ kid.result.spot.number = c.child.ensures.number in
     let node : t.node.now ≡ kid.result.spot.node.now = c.child.ensures.node in
     let to = nested (places a.root.now) _ _ _ _ kid.result.spot.node.now a.node.now kid.ensures.stands a.stands kid.ensures.from kid.ensures.to in
-    record {
-      root = c.child.ensures.root ∙ c.in_ok-owner.ensures.0;
-      above = record {
-        root = sym c.child.ensures.root;
-        child = rw (number, node) kid.ensures.child;
-      };
-      fork = c.in_ok-owner.ensures.1;
-      from = omega (arith, number, kid.ensures.from);
-      to = omega (arith, to, number, ap nodes node);
-    }
+    grind (arith, common_steps)

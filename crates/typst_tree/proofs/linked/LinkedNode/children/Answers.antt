@@ -1,8 +1,6 @@
-use Rattle.std.proofs.Common.{◌≡◌, ◌+◌, ap, sym, ◌∙◌, arith, length, map}
+use Rattle.std.proofs.Common.{◌≡◌, ◌+◌, ap, sym, ◌∙◌, arith, length}
 use Rattle.typst_tree.specs.Tree.{places, saturated, trees}
 use Rattle.typst_tree.proofs.SpansAside.{trees_forest}
-use Rattle.typst_tree.specs.Steps.{at}
-use Rattle.typst_tree.specs.Walks.{numbers}
 use Rattle.typst_tree.specs.Follows.{in_order_of}
 use Rattle.typst_tree.proofs.Branches.{room}
 use Rattle.typst_tree.proofs.NodesOfStretch.{node_here, stands_row}
@@ -27,6 +25,4 @@ invariant_of-result c =
     }
 
 pub returns : goal.returns
-returns c =
-    ap (λ f. map (at c.args.self.root.now) (numbers (c.args.self.number + 1) f))
-    (c.children.ensures ∙ ap (λ t. t.kids) (sym (node_here c.args.self.root.now c.args.self.number c.args.self.offset c.args.self.node.now c.args.self.stands)))
+returns c = grind (arith, node_here)

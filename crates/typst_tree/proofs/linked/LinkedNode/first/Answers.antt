@@ -1,7 +1,4 @@
-use Rattle.std.proofs.Common.{ap, ◌∙◌, arith, Some, sym}
-use Rattle.std.specs.Option.{option_map}
-use Rattle.typst_tree.specs.Steps.{at}
-use Rattle.typst_tree.specs.Wanted.{wanted}
+use Rattle.std.proofs.Common.{◌∙◌, arith, sym}
 use Rattle.typst_tree.proofs.Branches.{room}
 use Rattle.typst_tree.proofs.NodesOfStretch.{first_here}
 use Rattle.typst_tree.proofs.RisingNumbers.{in_order_here}
@@ -15,9 +12,7 @@ find_in-requires-clause-ordered c = λ e.
     in_order_here c.args.self.root.now c.args.self.number c.args.self.offset c.args.self.node.now c.args.self.stands (c.args.self.ordered (sym c.in_order-in_order.ensures ∙ e))
 
 pub returns-in_err-spot : goal.returns-in_err-spot
-returns-in_err-spot c =
-    rw c.from_residual.ensures (ap (option_map (at c.args.self.root.now)) c.in_err-spot.ensures.first ∙ first_here (wanted c.args.search.now) c.args.self.root.now c.args.self.number c.args.self.offset c.args.self.node.now c.args.self.stands)
+returns-in_err-spot c = grind (arith, first_here)
 
 pub returns : goal.returns
-returns c =
-    ap (λ a. Some a) c.below.ensures ∙ (ap (option_map (at c.args.self.root.now)) c.in_ok-spot.ensures.first ∙ first_here (wanted c.args.search.now) c.args.self.root.now c.args.self.number c.args.self.offset c.args.self.node.now c.args.self.stands)
+returns c = grind (arith, first_here)

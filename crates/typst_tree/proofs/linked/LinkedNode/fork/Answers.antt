@@ -1,4 +1,4 @@
-use Rattle.std.proofs.Common.{◌≡◌, ◌∙◌, ap, arith, subst, sym}
+use Rattle.std.proofs.Common.{◌∙◌, ap, arith, subst, sym}
 use Rattle.typst_tree.specs.Tree.{nodes}
 use Rattle.typst_tree.proofs.Rows.{length_row}
 use Rattle.typst_tree.specs.Rows.{IsChild, IsOpen}
@@ -19,17 +19,7 @@ loop-over-init c =
     }
 
 pub returns-then-children-gt-LONG : goal.returns-then-children-gt-LONG
-returns-then-children-gt-LONG c =
-    let i = c.loop-over.invariant in (
-      i.root,
-      record {
-        here = stands_get _ _ _ c.loop-over.over.node.now (stands_in c.loop-over.over i.root);
-        first = i.clear;
-        many = omega (arith, c.if-children-gt-LONG.true, length_row _ _ c.children.ensures);
-        from = omega (arith, c.loop-over-test.true);
-        to = i.to;
-      },
-    )
+returns-then-children-gt-LONG c = grind (arith, stands_get, stands_in, length_row)
 
 pub returns-then-end-least : goal.returns-then-end-least
 returns-then-end-least c =
@@ -38,9 +28,7 @@ returns-then-end-least c =
     ends_by c.args.self.root.now c.args.self.number c.args.least over.node.now over.number over.offset (stands_in over i.root) i.clear i.from i.to (omega (arith, c.if-end-least.true, c.end.ensures))
 
 pub returns : goal.returns
-returns c =
-    let same : c.loop-over.over.number ≡ c.args.self.number = omega (arith, c.loop-over-test.false, c.loop-over.invariant.from) in
-    ends_open c.args.self.root.now c.args.self.number c.args.least (subst (IsOpen c.args.self.root.now) same c.loop-over.invariant.clear)
+returns c = grind (arith, ends_open)
 
 pub loop-over-preserved : goal.loop-over-preserved
 loop-over-preserved c =

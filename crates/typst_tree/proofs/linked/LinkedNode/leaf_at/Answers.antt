@@ -1,3 +1,4 @@
+use Rattle.std.proofs.lemmas.Grind.{common_steps}
 use Rattle.std.proofs.Common.{◌≡◌, None, Some, ap, arith, sym, ◌∙◌}
 use Rattle.std.specs.Prelude.{if◌then◌else◌}
 use Rattle.std.specs.Option.{option_map}
@@ -29,9 +30,7 @@ child-over-requires-clause-stands c =
     (rw (c.spot.ensures.number, c.spot.ensures.offset, c.spot.ensures.node) c.loop-kid.over.stands) c.in-Some.ensures.kid.within
 
 pub loop-kid-smaller : goal.loop-kid-smaller
-loop-kid-smaller c =
-    let bounds = child_bounds _ _ _ _ _ c.in-Some.ensures.kid.child in
-    omega (arith, bounds.from, bounds.to, ap nodes c.spot.ensures.node, ap nodes c.child-over.ensures.node)
+loop-kid-smaller c = grind (arith, common_steps, child_bounds _ _ _ _ _ c.in-Some.ensures.kid.child)
 
 -- the last node is the one that may hold it
 own : (c : In_default) → first_at (holds_byte c.args.byte) c.args.self.number c.args.self.offset (places c.args.self.node.now) ≡ (if holds_byte c.args.byte 0 c.loop-kid.over.offset c.loop-kid.over.node.now then Some c.loop-kid.over.number else None)

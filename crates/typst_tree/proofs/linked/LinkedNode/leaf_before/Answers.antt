@@ -1,8 +1,7 @@
+use Rattle.std.proofs.lemmas.Grind.{common_steps}
 use Rattle.std.proofs.Common.{◌≡◌, ◌+◌, ap, arith, refl, subst, sym, take, ◌∙◌}
-use Rattle.std.specs.Option.{option_map, option_or}
-use Rattle.typst_tree.specs.Tree.{count, forest, nodes}
+use Rattle.typst_tree.specs.Tree.{count, forest}
 use Rattle.typst_tree.specs.Branches.{leaf_until}
-use Rattle.typst_tree.specs.Linked.{linked}
 use Rattle.typst_tree.proofs.Branches.{beside_of, none_alone, until_here, until_row}
 use Rattle.typst_tree.proofs.Parents.{child_bounds}
 use Rattle.typst_tree.proofs.Rows.{StepBack, step_back}
@@ -10,25 +9,13 @@ use Rattle.typst_tree.proofs.linked.LinkedNode.leaf_before.Goals as goal
 use Rattle.typst_tree.proofs.linked.LinkedNode.leaf_before.Goals.{After-index-row-at}
 
 pub last_leaf-requires : goal.last_leaf-requires
-last_leaf-requires c =
-    let bounds = child_bounds _ _ _ _ _ c.requires.child in
-    record { from = omega (arith, bounds.from); to = omega (arith, bounds.to) }
+last_leaf-requires c = grind (arith, common_steps, child_bounds _ _ _ _ _ c.requires.child)
 
 pub returns-then-self-eq18446744073709551615 : goal.returns-then-self-eq18446744073709551615
-returns-then-self-eq18446744073709551615 c =
-    subst (λ r. leaf_until r c.args.self.number ≡ option_or (option_map linked c.last_leaf.result) (leaf_until r c.args.above.parent.number)) c.requires.root c.last_leaf.ensures
+returns-then-self-eq18446744073709551615 c = grind arith
 
 pub loop-at-init : goal.loop-at-init
-loop-at-init c =
-    let b = beside_of c.args.self c.args.above c.children-row.result.now c.requires c.children-row.ensures in
-    let f = c.passed-at.ensures in
-    record {
-      within = omega (arith, f.index, b.within);
-      found = ap (leaf_until c.args.self.root.now) (sym f.number);
-      number = rw (f.number, f.index) b.number;
-      offset = rw (f.offset, f.index) (omega (arith, b.start, c.if-self-eq18446744073709551615.false));
-      small = omega (arith, f.offset, c.args.self.stands.begins);
-    }
+loop-at-init c = let b = beside_of c.args.self c.args.above c.children-row.result.now c.requires c.children-row.ensures in grind (arith, common_steps)
 
 -- the child that is looked at
 here : (c : After-index-row-at) → StepBack c.args.above.parent.root.now c.args.above.parent.node.now c.args.above.parent.number c.args.above.parent.offset c.loop-at.at.index c.children-row.result.now c.index-row-at.result c.loop-at.at.number c.loop-at.at.offset
@@ -52,15 +39,10 @@ child-kid-requires c =
     }
 
 pub last_leaf-requires-in-loop-at : goal.last_leaf-requires-in-loop-at
-last_leaf-requires-in-loop-at c =
-    let s = here (goal.at.last_leaf-requires-in-loop-at c).After-index-row-at in
-    let number = c.child-kid.ensures.number ∙ (c.tree.ensures.number ∙ c.before-at.ensures.number) in
-    record { from = omega (arith, number); to = omega (arith, number, s.counts, ap nodes (c.child-kid.ensures.node ∙ c.tree.ensures.node)) }
+last_leaf-requires-in-loop-at c = grind arith
 
 pub returns-in-Some : goal.returns-in-Some
-returns-in-Some c =
-    let root : c.child-kid.result.root.now ≡ c.args.self.root.now = c.child-kid.ensures.root ∙ c.requires.root in
-    c.loop-at.invariant.found ∙ (ap (λ r. leaf_until r c.loop-at.at.number) (sym root) ∙ c.in-Some.ensures)
+returns-in-Some c = grind arith
 
 pub loop-at-preserved : goal.loop-at-preserved
 loop-at-preserved c =

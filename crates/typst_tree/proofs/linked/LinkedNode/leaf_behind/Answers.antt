@@ -1,5 +1,6 @@
+use Rattle.std.proofs.lemmas.Grind.{common_steps}
 use Rattle.std.proofs.Common.{◌≡◌, ◌+◌, ap, arith, sym, ◌∙◌}
-use Rattle.typst_tree.specs.Tree.{count, nodes}
+use Rattle.typst_tree.specs.Tree.{nodes}
 use Rattle.typst_tree.specs.Branches.{leaf_after}
 use Rattle.typst_tree.specs.Linked.{linked}
 use Rattle.typst_tree.proofs.Branches.{leaf_found, leaf_not_found, over_above, room}
@@ -15,14 +16,7 @@ behind-at-requires c =
     record { index = omega (arith, p.index, o.next.within); counted = omega (arith, p.number, room c.args.self) }
 
 pub loop-at-init : goal.loop-at-init
-loop-at-init c =
-    let o = over_above c.args.self c.args.above c.children-row.result.now c.requires c.children-row.ensures in
-    let b = c.behind-at.ensures in
-    let p = c.passed.ensures in
-    record {
-      passed = rw (b.index, b.number, b.offset, p.index, p.number, p.offset) o.next;
-      found = ap (leaf_after c.args.self.root.now) (sym (b.number ∙ ap (λ m. m + nodes c.args.self.node.now) p.number));
-    }
+loop-at-init c = let o = over_above c.args.self c.args.above c.children-row.result.now c.requires c.children-row.ensures in grind (arith, common_steps)
 
 -- the child that is looked at
 here : (c : After-index-row-at) → Over c.args.above.parent.node.now c.args.above.parent.number c.args.above.parent.offset c.children-row.result.now c.loop-at.at.index c.loop-at.at.number c.loop-at.at.offset c.index-row-at.result
@@ -62,6 +56,4 @@ loop-at-preserved c =
     }
 
 pub returns : goal.returns
-returns c =
-    let end : c.loop-at.at.number ≡ c.args.above.parent.number + nodes c.args.above.parent.node.now = omega (arith, c.loop-at.invariant.passed.number, all_counted c.children-row.result.now c.loop-at.at.index (omega (arith, c.loop-at-test.false)), ap count c.children-row.ensures) in
-    c.loop-at.invariant.found ∙ ap (leaf_after c.args.self.root.now) end
+returns c = grind (arith, all_counted)

@@ -1,3 +1,4 @@
+use Rattle.std.proofs.lemmas.Grind.{common_steps}
 use Rattle.std.proofs.Common.{◌≤◌, ap, sym, ◌∙◌, arith}
 use Rattle.typst_tree.specs.Tree.{nodes}
 use Rattle.typst_tree.specs.Branches.{leaf_after}
@@ -24,12 +25,7 @@ returns-in-Some c =
     sym (next_is c.args.self k c.end-end.ensures ∙ (ap (λ r. leaf_after r k) (sym w.root) ∙ found))
 
 pub returns-in-Some-leaf_behind : goal.returns-in-Some-leaf_behind
-returns-in-Some-leaf_behind c =
-    let t = c.in_Some-branch.branch.tree in
-    let w = c.in_Some-branch.ensures in
-    let k = c.end-end.result in
-    let none = leaf_not_found t k (omega (arith, w.from, c.end-end.ensures)) (omega (arith, c.end-end.ensures, w.to)) c.in_default.ensures in
-    sym (next_is c.args.self k c.end-end.ensures ∙ (ap (λ r. leaf_after r k) (sym w.root) ∙ (none ∙ c.in-Some-leaf_behind.ensures)))
+returns-in-Some-leaf_behind c = grind (arith, leaf_not_found, next_is)
 
 pub returns : goal.returns
 returns c =
@@ -42,6 +38,4 @@ returns c =
     let j = c.end.result in
     let none = leaf_not_found t k (omega (arith, w.from, c.end-end.ensures)) (omega (arith, c.end-end.ensures, w.to)) c.in_default.ensures in
     let inside : c.end.result ≤ nodes c.args.self.root.now = omega (arith, c.end.ensures, o.stands.within, length_places o.node.now, length_places o.root.now, ap nodes root) in
-    c.first-3.ensures ∙ (ap (first_below (is_leaf_from j)) c.top-2.ensures
-    ∙ (leaf_from_root a.root.now j inside
-    ∙ sym (next_is a k c.end-end.ensures ∙ (ap (λ r. leaf_after r k) (sym w.root) ∙ (none ∙ (c.in_default-leaf_behind.ensures ∙ (ap (leaf_after t.root.now) (sym c.end.ensures) ∙ ap (λ r. leaf_after r j) w.root)))))))
+    grind (arith, common_steps, leaf_from_root, next_is)

@@ -1,9 +1,8 @@
-use Rattle.std.proofs.Common.{◌≡◌, ◌+◌, ap, sym, ◌∙◌, arith, drop, map, subst, take}
+use Rattle.std.proofs.lemmas.Grind.{common_steps}
+use Rattle.std.proofs.Common.{◌≡◌, ◌+◌, ap, sym, ◌∙◌, arith, drop, subst, take}
 use Rattle.typst_tree.specs.Tree.{forest, trees, count, nodes}
 use Rattle.typst_tree.specs.Order.{AreInOrder, numbers_of}
 use Rattle.typst_tree.proofs.SpansAside.{trees_forest}
-use Rattle.typst_tree.specs.Steps.{at}
-use Rattle.typst_tree.specs.Walks.{numbers}
 use Rattle.typst_tree.proofs.Branches.{beside_of, stands_in}
 use Rattle.typst_tree.specs.Rows.{Holds}
 use Rattle.typst_tree.specs.Follows.{in_order_of}
@@ -13,9 +12,7 @@ use Rattle.typst_tree.proofs.Siblings.{drop_numbers}
 use Rattle.typst_tree.proofs.linked.LinkedNode.row.Goals as goal
 
 pub from_index-requires : goal.from_index-requires
-from_index-requires c =
-    let b = beside_of c.args.self c.args.above c.children.result.now c.requires c.children.ensures in
-    omega (arith, b.within)
+from_index-requires c = grind (arith, common_steps, beside_of c.args.self c.args.above c.children.result.now c.requires c.children.ensures)
 
 pub invariant_of-result : goal.invariant_of-result
 invariant_of-result c =
@@ -34,10 +31,4 @@ invariant_of-result c =
     }
 
 pub returns : goal.returns
-returns c =
-    let b = beside_of c.args.self c.args.above c.children.result.now c.requires c.children.ensures in
-    sym (ap (λ f. drop c.args.above.index (map (at c.args.above.parent.root.now) (numbers (c.args.above.parent.number + 1) f))) (ap (λ t. t.kids) (node_here c.args.above.parent.root.now c.args.above.parent.number c.args.above.parent.offset c.args.above.parent.node.now c.args.above.parent.stands) ∙ sym c.children.ensures)
-    ∙ (drop_numbers c.args.above.parent.root.now (c.args.above.parent.number + 1) c.args.above.index c.children.result.now
-    ∙ (ap (λ m. map (at c.args.above.parent.root.now) (numbers m (forest (drop c.args.above.index c.children.result.now)))) (sym b.number)
-    ∙ (ap (λ r. map (at r) (numbers c.args.self.number (forest (drop c.args.above.index c.children.result.now)))) c.requires.root
-    ∙ ap (λ ys. map (at c.args.self.root.now) (numbers c.args.self.number (forest ys))) (sym c.from_index.ensures)))))
+returns c = grind (arith, beside_of, node_here, drop_numbers)

@@ -1,14 +1,12 @@
-use Rattle.std.proofs.Common.{ap, arith, get_or, subst, sym, ◌∙◌}
-use Rattle.typst_tree.specs.Tree.{nodes, places}
-use Rattle.typst_tree.specs.Walks.{Stands}
+use Rattle.std.proofs.Common.{ap, arith, get_or, sym, ◌∙◌}
+use Rattle.typst_tree.specs.Tree.{nodes}
 use Rattle.typst_tree.proofs.Branches.{tops_of}
 use Rattle.typst_tree.proofs.Forks.{Tops, index_within}
 use Rattle.typst_tree.proofs.linked.LinkedNode.tree_of.Goals as goal
 use Rattle.typst_tree.proofs.linked.LinkedNode.tree_of.Goals.{After-index-children-index}
 
 pub bounds-children-index : goal.bounds-children-index
-bounds-children-index c =
-    omega (arith, c.index-index.ensures, index_within _ _ _ _ _ _ _ c.children.result.now c.args.self.holds (sym c.reach.ensures ∙ c.in-Placed.is) c.requires.fork c.children.ensures)
+bounds-children-index c = grind (arith, index_within)
 
 -- the tree at the known index
 here : (c : After-index-children-index) → Tops c.args.self.root.now c.args.owner.node.now c.args.owner.number c.args.self.number c.args.self.offset (nodes c.args.self.node.now) c.args.self.known c.index-children-index.result
@@ -34,6 +32,4 @@ returns c =
     }
 
 pub returns-2-clause-stands : goal.returns-2-clause-stands
-returns-2-clause-stands c =
-    let kid = c.child_over.result.spot in
-    subst (λ r. Stands (places r) kid.number kid.offset (places kid.node.now)) c.requires.root c.child_over.ensures.stands
+returns-2-clause-stands c = grind arith

@@ -1,3 +1,4 @@
+use Rattle.std.proofs.lemmas.Grind.{common_steps}
 use Rattle.std.proofs.Common.{◌≡◌, ◌+◌, ◌*◌, ◌<◌, ◌≤◌, length, arith, refl, ap, sym, ◌∙◌}
 use Rattle.std.proofs.Math.ListN.{set}
 use Rattle.typst_tree.specs.Tree.{Tree, nodes, forest, count}
@@ -55,10 +56,7 @@ pub overflow_mul-share-then-last-len : goal.overflow_mul-share-then-last-len
 overflow_mul-share-then-last-len t c = let n = last_next t c in rw n.counted (omega (arith, n.fits, c.requires.fits))
 
 pub number-requires-then-last-len : goal.number-requires-then-last-len
-number-requires-then-last-len t c =
-    let n = last_next t c in
-    let place = c.loop-i.invariant.last_place (omega (arith, c.self.inside.kids.ok.0, c.loop-i.invariant.many)) in
-    (omega (arith, c.decreases, n.below, ap nodes c.self.view_is), (omega (arith, place, c.requires.low), (rw n.counted n.enough, rw n.counted (omega (arith, n.fits, c.requires.fits)))))
+number-requires-then-last-len t c = let n = last_next t c in grind (arith, common_steps)
 
 pub loop-i-preserved : goal.loop-i-preserved
 loop-i-preserved t c =
@@ -91,23 +89,11 @@ loop-i-preserved t c =
 
 -- the children where one was left to the end
 all_kids : (t : _) (c : After-number-then-last-len t) (n : Next c.stride-step.result (c.args.start + c.args.room) c.loop-i.start_of_last c.descendants-then-last-len.result c.last_to_go-last.result c.self.inside.kids.items c.index_mut-kid-then-last-len.result.now) → set c.loop-i.self-inside.kids.items c.last_to_go-last.result c.number-then-last-len.new.self ≡ numbered_list c.args.id.now c.stride-step.result (c.args.start + c.stride-step.result) c.self.inside.kids.items
-all_kids t c n =
-    let xs = c.self.inside.kids.items in
-    let ys = c.loop-i.self-inside.kids.items in
-    let last = c.last_to_go-last.result in
-    let passed : length xs ≤ c.loop-i.i = omega (arith, c.self.inside.kids.ok.0) in
-    let within : last < length xs = omega (arith, c.self.inside.kids.ok.0, c.loop-i.invariant.many) in
-    let place = c.loop-i.invariant.last_place (omega (arith, within, passed)) in
-    ap (λ (u : Tree). set ys last u) c.number-then-last-len.ensures
-    ∙ rw n.counted (counted_all c.args.id.now c.stride-step.result (c.args.start + c.stride-step.result) c.loop-i.start_of_last ys xs last c.loop-i.i c.index_mut-kid-then-last-len.result.now c.loop-i.invariant.done passed within c.index_mut-kid-then-last-len.ensures.value place)
+all_kids t c n = grind (arith, counted_all)
 
 -- and where none was
 none_left : (t : _) (c : Else-last-len t) → c.loop-i.self-inside.kids.items ≡ numbered_list c.args.id.now c.stride-step.result (c.args.start + c.stride-step.result) c.self.inside.kids.items
-none_left t c =
-    let xs = c.self.inside.kids.items in
-    let passed : length xs ≤ c.loop-i.i = omega (arith, c.self.inside.kids.ok.0) in
-    let past : length xs ≤ c.last_to_go-last.result = omega (arith, c.self.inside.kids.ok.0, c.loop-i.invariant.many) in
-    counted_none c.args.id.now c.stride-step.result (c.args.start + c.stride-step.result) c.loop-i.self-inside.kids.items xs c.last_to_go-last.result c.loop-i.i c.args.self.now c.loop-i.invariant.done passed past
+none_left t c = grind (arith, counted_none)
 
 pub invariant_of-self : goal.invariant_of-self
 invariant_of-self t c =

@@ -1,4 +1,5 @@
-use Rattle.std.proofs.Common.{◌≡◌, ◌+◌, ◌*◌, ◌≤◌, get_or, arith, refl, ap, sym, ◌∙◌}
+use Rattle.std.proofs.lemmas.Grind.{common_steps}
+use Rattle.std.proofs.Common.{◌≡◌, ◌+◌, ◌*◌, ◌≤◌, get_or, arith, ap, sym, ◌∙◌}
 use Rattle.std.proofs.Math.ListN.{length-set}
 use Rattle.typst_tree.specs.Tree.{Tree, nodes, forest, count}
 use Rattle.typst_tree.proofs.Numbering.{Next, next_fits, numbered_more, numbered_vec, forest_numbered, nodes_numbered, text_numbered, numbered_bare, later}
@@ -10,9 +11,7 @@ use Rattle.typst_tree.proofs.node.SyntaxNode.+number_small.Goals.{number_kids-Af
 
 -- the children's share of the stretch
 below : (t : _) (c : number_kids-After-descendants-in-loop-kid t) → c.args.start + c.stride-step.result + count (forest c.self.inside.kids.items) * c.stride-step.result ≤ c.args.start + c.args.room
-below t c =
-    let all : c.descendants.result ≡ 1 + count (forest c.self.inside.kids.items) = omega (arith, c.descendants.ensures, ap nodes c.self.view_is, c.requires.room, c.requires.fits) in
-    let w = rw all at c.stride-step.ensures.within in omega (arith, w)
+below t c = grind arith
 
 next : (t : _) (c : number_kids-After-descendants-in-loop-kid t) → Next c.stride-step.result (c.args.start + c.args.room) c.loop-kid.at c.descendants-in-loop-kid.result c.loop-kid.kid-index c.deref_mut-kid-items.result.now (get_or c.loop-kid.kid-items c.loop-kid.kid-index c.kid-item.result)
 next t c =
@@ -23,9 +22,7 @@ pub number_kids-overflow_mul-share : goal.number_kids-overflow_mul-share
 number_kids-overflow_mul-share t c = let n = next t c in rw n.counted (omega (arith, n.fits, c.requires.fits))
 
 pub number_kids-number_small-requires : goal.number_kids-number_small-requires
-number_kids-number_small-requires t c =
-    let n = next t c in
-    (omega (arith, c.decreases, n.below, ap nodes c.self.view_is, ap (λ l. count (forest l)) c.deref_mut-kid-items.ensures.value), (omega (arith, c.loop-kid.invariant.place, c.requires.low), (rw n.counted n.enough, rw n.counted (omega (arith, n.fits, c.requires.fits)))))
+number_kids-number_small-requires t c = grind (arith, common_steps, next t c)
 
 pub number_kids-overflow_add-at-in-loop-kid : goal.number_kids-overflow_add-at-in-loop-kid
 number_kids-overflow_add-at-in-loop-kid t c = let n = next t c.before in rw n.counted (omega (arith, n.fits, c.requires.fits))
@@ -51,7 +48,4 @@ number_kids-invariant_of-self t c =
     (c.self.invariant.0, c.self.invariant.1, whole_same_tree (numbered c.args.id.now c.args.start c.args.room one) one (numbered_bare c.args.id.now c.args.start c.args.room one) c.self.invariant.2, c.self.invariant.3 ∙ sym (has_same (numbered c.args.id.now c.args.start c.args.room one) one (numbered_bare c.args.id.now c.args.start c.args.room one)))
 
 pub number_kids-returns : goal.number_kids-returns
-number_kids-returns t c =
-    let all : c.descendants.result ≡ 1 + count (forest c.self.inside.kids.items) = omega (arith, c.descendants.ensures, ap nodes c.self.view_is, c.requires.room, c.requires.fits) in
-    let is = numbered_vec c.args.id.now c.stride-step.result (c.args.start + c.stride-step.result) c.self.inside.kids _ c.loop-kid.kid-items _ c.deref_mut-kid-items.ensures.value c.loop-kid.invariant.done (omega arith) in
-    rw (is, c.place.ensures, forest_numbered, c.stride-step.ensures.value, all, ← c.self.view_is) refl
+number_kids-returns t c = grind (arith, common_steps, numbered_vec, forest_numbered)

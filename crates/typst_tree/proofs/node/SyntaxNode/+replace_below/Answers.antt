@@ -1,6 +1,6 @@
-use Rattle.std.proofs.Common.{ℕ, [], ◌∷◌, arith, refl, ap}
+use Rattle.std.proofs.lemmas.Grind.{common_steps}
+use Rattle.std.proofs.Common.{ℕ, [], ◌∷◌, arith}
 use Rattle.std.proofs.Math.ListN.{set}
-use Rattle.typst_tree.specs.Tree.{count}
 use Rattle.typst_tree.proofs.Numbering.{some_nodes}
 use Rattle.typst_tree.proofs.StepDown.{reached, replaced_on, replaced_at_not}
 use Rattle.typst_tree.proofs.MovedCounts.{Recounted, set_moved, one_total, recounted}
@@ -27,9 +27,7 @@ counted t c =
     (one_total c.replace_below.new.self c.counts-come.result c.counts-come.ensures.len c.counts-come.ensures.nodes))
 
 pub recount-requires-clause-inner : goal.recount-requires-clause-inner
-recount-requires-clause-inner t c = λ _.
-    let r = reached c.args.path.now c.in-Some.rest.now c.in-Some.first.now c.args.from c.args.to c.args.self.now c.self-2.inside.own.head c.self-2.inside.kids.items c.self-2.view_is c.in-Some.ensures.cases.0 c.requires.reaches in
-    omega (arith, c.self-2.invariant.1, some_nodes c.self-2.inside.kids.items (omega (arith, r.within)))
+recount-requires-clause-inner t c = grind (arith, common_steps)
 
 pub recount-requires-clause-shorter : goal.recount-requires-clause-shorter
 recount-requires-clause-shorter t c = (counted t c).shorter
@@ -43,8 +41,7 @@ recount-requires-clause-len t c = (counted t c).len
 marks : (t : ℕ) (c : goal.After-as_slice t) → Marks c.self-2.inside.own c.as_slice.result.now c.counts-gone.result c.counts-come.result
 marks t c =
     let r = reached c.args.path.now c.in-Some.rest.now c.in-Some.first.now c.args.from c.args.to c.args.self.now c.self-2.inside.own.head c.self-2.inside.kids.items c.self-2.view_is c.in-Some.ensures.cases.0 c.requires.reaches in
-    rw c.as_slice.ensures.value
-    (set_marks c.self-2.inside.own c.self-2.inside.kids.items c.in-Some.first.now c.index_mut-kid.result.now c.replace_below.new.self c.counts-gone.result c.counts-come.result r.within c.index_mut-kid.ensures.value c.self-2.invariant.3 c.counts-gone.ensures.mark c.counts-come.ensures.mark)
+    grind (arith, common_steps, set_marks)
 
 pub recount-requires-clause-mark : goal.recount-requires-clause-mark
 recount-requires-clause-mark t c = marks t c
@@ -53,12 +50,7 @@ pub recount-requires-clause-nodes : goal.recount-requires-clause-nodes
 recount-requires-clause-nodes t c = (counted t c).nodes
 
 pub invariant_of-self-2 : goal.invariant_of-self-2
-invariant_of-self-2 t c =
-    let r = reached c.args.path.now c.in-Some.rest.now c.in-Some.first.now c.args.from c.args.to c.args.self.now c.self-2.inside.own.head c.self-2.inside.kids.items c.self-2.view_is c.in-Some.ensures.cases.0 c.requires.reaches in
-    let m = set_moved c.self-2.inside.kids.items c.in-Some.first.now c.index_mut-kid.result.now c.replace_below.new.self r.within c.index_mut-kid.ensures.value in
-    let w = c.counts-come.ensures.whole in
-    rw (c.recount.ensures, c.as_slice.ensures.value)
-    (refl, refl, (λ q. absurd (omega (arith, ap count (c.self-2.invariant.2.0 q), some_nodes c.self-2.inside.kids.items (omega (arith, r.within)))), m.whole c.self-2.invariant.2.1 (w.0, w.1, tt)), refl)
+invariant_of-self-2 t c = grind (arith, common_steps, reached, set_moved, some_nodes)
 
 pub returns-clause-ok : goal.returns-clause-ok
 returns-clause-ok t c =

@@ -16,14 +16,10 @@ there : (t : ℕ) (c : After-leaves_are_bare t) → (x : Tree) × (node_at c.arg
 there t c = at_some (λ x. ComesTo x c.args.swap.now.gone) (node_at c.args.path.now c.args.self.now) c.requires.gone
 
 pub overflow_sub-len : goal.overflow_sub-len
-overflow_sub-len t c =
-    let x = there t (goal.at.overflow_sub-len t c).After-leaves_are_bare in
-    omega (arith, (smaller c.args.path.now x.0 c.args.self.now x.1).0, x.2.len, c.requires.short, c.self.invariant.0, ap (λ u. length (text_of u)) c.self.view_is)
+overflow_sub-len t c = grind (arith, smaller)
 
 pub overflow_sub-nodes : goal.overflow_sub-nodes
-overflow_sub-nodes t c =
-    let x = there t (goal.at.overflow_sub-nodes t c).After-leaves_are_bare in
-    omega (arith, (smaller c.args.path.now x.0 c.args.self.now x.1).1, x.2.nodes, c.requires.few, c.self.invariant.1, ap nodes c.self.view_is)
+overflow_sub-nodes t c = grind (arith, smaller)
 
 pub index_mut-kid-requires : goal.index_mut-kid-requires
 index_mut-kid-requires t c =

@@ -65,11 +65,7 @@ all t c =
 
 -- and where none was
 none_left : (t : _) (c : Else-last-len t) → c.loop-i.self-inside.kids.items ≡ map (synthesized c.args.span.now) c.self.inside.kids.items
-none_left t c =
-    let xs = c.self.inside.kids.items in
-    let passed : length xs ≤ c.loop-i.i = omega (arith, c.self.inside.kids.ok.0) in
-    let past : length xs ≤ c.last_to_go-last.result = omega (arith, c.self.inside.kids.ok.0, c.loop-i.invariant.many) in
-    mapped_none (synthesized c.args.span.now) c.loop-i.self-inside.kids.items xs c.last_to_go-last.result c.loop-i.i c.args.self.now c.loop-i.invariant.done passed past
+none_left t c = grind (arith, mapped_none)
 
 pub invariant_of-self : goal.invariant_of-self
 invariant_of-self t c =

@@ -17,6 +17,4 @@ returns c =
     refl
 
 pub returns-then-i-len : goal.returns-then-i-len
-returns-then-i-len c =
-    rw (← c.self.view_is, at_tree_past (with_kind c.args.kind) c.args.i c.self.inside.kids.items (omega (arith, c.self.inside.kids.ok.0)))
-    refl
+returns-then-i-len c = grind (arith, at_tree_past)

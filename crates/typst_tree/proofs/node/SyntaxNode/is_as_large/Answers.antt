@@ -1,13 +1,11 @@
-use Rattle.std.proofs.Common.{◌≡◌, ap, sym, ◌∙◌, arith, eq-eqb, length}
-use Rattle.typst_tree.specs.Tree.{nodes, text_of}
+use Rattle.std.proofs.Common.{ap, sym, ◌∙◌, arith, eq-eqb, length}
+use Rattle.typst_tree.specs.Tree.{text_of}
 use Rattle.typst_tree.proofs.Numbering.{count_bare}
 use Rattle.typst_tree.proofs.ReplacesChildren.{text_bare}
 use Rattle.typst_tree.proofs.node.SyntaxNode.is_as_large.Goals as goal
 
 pub returns-then-len : goal.returns-then-len
-returns-then-len c = λ e.
-    let same : nodes c.args.self.now ≡ nodes c.args.other.now = omega (arith, count_bare c.args.self.now.kids, count_bare c.args.other.now.kids, ap nodes e) in
-    eq-eqb c.descendants.result c.descendants-then-len.result (omega (arith, c.descendants.ensures, c.descendants-then-len.ensures, c.self.invariant.1, c.other.invariant.1, ap nodes c.self.view_is, ap nodes c.other.view_is, same))
+returns-then-len c = grind (arith, count_bare, eq-eqb)
 
 pub returns-else-len : goal.returns-else-len
 returns-else-len c = λ e.

@@ -1,4 +1,5 @@
-use Rattle.std.proofs.Common.{◌+◌, ◌≤◌, Some, length, drop, get_or, if◌then◌else◌, ap, sym, ◌∙◌, arith}
+use Rattle.std.proofs.lemmas.Grind.{common_steps}
+use Rattle.std.proofs.Common.{◌+◌, ◌≤◌, Some, length, drop, get_or, ap, sym, ◌∙◌, arith}
 use Rattle.std.proofs.lemmas.Bool.Decides.{nat_tests}
 use Rattle.std.proofs.lemmas.List.{drop_all}
 use Rattle.typst_tree.specs.Replace.{marked_levels}
@@ -19,24 +20,10 @@ loop-at-preserved c =
     let found = rw c.deref.ensures.value at c.in-Some.ensures.lookup in
     let got = slice_get_is xs (get_or path j 0) k found.3.0 ∙ ap Some (sym found.1) in
     let step = level_on path j c.loop-at.node.now k c.node.inside.own.head xs levels c.has_elsewhere.result c.loop-at-test.true c.node.view_is got c.has_elsewhere.ensures in
-    elim c.if-has_elsewhere.branch [
-      | then-has_elsewhere w ↦
-          rw (w.levels-is, w.node-is)
-          (record {
-            depth = omega (arith, c.loop-at.invariant.depth);
-            levels = ap (λ n. all_levels (j + 1) (n + 1) m) c.loop-at.invariant.depth ∙ sym (step ∙ ap (λ b. all_levels (j + 1) (if b then j + 1 else levels) m) w.if-has_elsewhere.true) ∙ c.loop-at.invariant.levels;
-          })
-      | else-has_elsewhere w ↦
-          rw (w.levels-is, w.node-is)
-          (record {
-            depth = omega (arith, c.loop-at.invariant.depth);
-            levels = sym (step ∙ ap (λ b. all_levels (j + 1) (if b then j + 1 else levels) m) w.if-has_elsewhere.false) ∙ c.loop-at.invariant.levels;
-          })
-    ]
+    grind (arith, common_steps, then-has_elsewhere, else-has_elsewhere)
 
 pub has_elsewhere-requires : goal.has_elsewhere-requires
-has_elsewhere-requires c =
-    let found = rw c.deref.ensures.value at c.in-Some.ensures.lookup in rw (← c.node.view_is, trees_forest) found.3.0
+has_elsewhere-requires c = grind (arith, trees_forest)
 
 pub returns-in_default : goal.returns-in_default
 returns-in_default c =
@@ -49,6 +36,4 @@ returns-in_default c =
     ∙ c.loop-at.invariant.levels
 
 pub returns : goal.returns
-returns c =
-    sym (ap (λ p. all_levels c.loop-at.at-index c.loop-at.levels (marked_levels p c.loop-at.node.now)) (drop_all c.loop-at.at-index c.args.path.now (omega arith)))
-    ∙ c.loop-at.invariant.levels
+returns c = grind (arith, drop_all)

@@ -1,5 +1,5 @@
-use Rattle.std.proofs.Common.{arith, sym, ◌∙◌, IsTrue, refl}
-use Rattle.std.specs.Prelude.{slice_range}
+use Rattle.std.proofs.lemmas.Grind.{common_steps}
+use Rattle.std.proofs.Common.{arith}
 use Rattle.typst_tree.proofs.SpansAside.{trees_forest}
 use Rattle.typst_tree.proofs.StepDown.{replaced_is, replaced_not}
 use Rattle.typst_tree.proofs.MovedCounts.{Recounted, swapped_moved, recounted}
@@ -16,10 +16,7 @@ counted : (c : goal.After-as_slice-3) → Recounted c.self.inside.own c.as_slice
 counted c =
     let m =
     swapped_moved c.args.self.now c.in-Some.id c.self.inside.own.head c.self.inside.kids.items c.args.from c.args.to c.args.nodes.items c.swap_children.new.kids.items c.self.view_is c.requires.order c.requires.within c.in_default-swap_children.ensures.ok in
-    rw c.as_slice-3.ensures.value
-    (recounted c.self.inside.own c.self.inside.kids.items c.swap_children.new.kids.items (slice_range c.self.inside.kids.items c.args.from c.args.to) c.args.nodes.items c.totals_within-gone.result c.totals-come.result m c.self.invariant.0 c.self.invariant.1
-    (record { len = rw c.as_slice.ensures.value at c.totals_within-gone.ensures.len; nodes = rw c.as_slice.ensures.value at c.totals_within-gone.ensures.nodes })
-    (record { len = rw c.as_slice-2.ensures.value at c.totals-come.ensures.len; nodes = rw c.as_slice-2.ensures.value at c.totals-come.ensures.nodes }))
+    grind (arith, common_steps, recounted)
 
 pub recount-requires-clause-shorter : goal.recount-requires-clause-shorter
 recount-requires-clause-shorter c = (counted c).shorter
@@ -31,10 +28,7 @@ pub recount-requires-clause-len : goal.recount-requires-clause-len
 recount-requires-clause-len c = (counted c).len
 
 marks : (c : goal.After-as_slice-3) → Marks c.self.inside.own c.as_slice-3.result.now c.totals_within-gone.result c.totals-come.result
-marks c =
-    rw c.as_slice-3.ensures.value
-    (swapped_marks c.args.self.now c.in-Some.id c.self.inside.own c.self.inside.kids.items c.args.from c.args.to c.args.nodes.items c.swap_children.new.kids.items c.totals_within-gone.result c.totals-come.result c.self.view_is c.requires.order c.requires.within c.in_default-swap_children.ensures.ok c.self.invariant.3
-    (rw c.as_slice.ensures.value at c.totals_within-gone.ensures.mark) (rw c.as_slice-2.ensures.value at c.totals-come.ensures.mark))
+marks c = grind (arith, swapped_marks)
 
 pub recount-requires-clause-mark : goal.recount-requires-clause-mark
 recount-requires-clause-mark c = marks c
@@ -43,22 +37,10 @@ pub recount-requires-clause-nodes : goal.recount-requires-clause-nodes
 recount-requires-clause-nodes c = (counted c).nodes
 
 pub invariant_of-self-2 : goal.invariant_of-self-2
-invariant_of-self-2 c =
-    let m =
-    swapped_moved c.args.self.now c.in-Some.id c.self.inside.own.head c.self.inside.kids.items c.args.from c.args.to c.args.nodes.items c.swap_children.new.kids.items c.self.view_is c.requires.order c.requires.within c.in_default-swap_children.ensures.ok in
-    let inner : IsTrue c.self.inside.own.head.is_inner = rw (← c.self.view_is) at c.requires.inner in
-    rw (c.recount.ensures, c.as_slice-3.ensures.value)
-    (refl, refl, (λ q. absurd (cc), m.whole c.self.invariant.2.1 (rw c.as_slice-2.ensures.value at c.totals-come.ensures.whole)), refl)
+invariant_of-self-2 c = grind (arith, common_steps, swapped_moved)
 
 pub returns-in-Err-clause-refused : goal.returns-in-Err-clause-refused
-returns-in-Err-clause-refused c = λ e.
-    replaced_not c.args.self.now c.self.inside.own.head c.self.inside.kids.items c.args.nodes.items c.in-Some.id c.args.from c.args.to c.self.view_is
-    (rw c.span.ensures at (sym c.id.ensures ∙ c.in-Some.is))
-    (c.in-Err.ensures.refused e)
+returns-in-Err-clause-refused c = grind (arith, replaced_not)
 
 pub returns-clause-ok : goal.returns-clause-ok
-returns-clause-ok c =
-    rw c.recount.ensures
-    (replaced_is c.args.self.now c.self.inside.own.head c.self.inside.kids.items c.swap_children.new.kids.items c.args.nodes.items c.in-Some.id c.args.from c.args.to c.self.view_is
-    (rw c.span.ensures at (sym c.id.ensures ∙ c.in-Some.is))
-    c.in_default-swap_children.ensures.ok)
+returns-clause-ok c = grind (arith, replaced_is)

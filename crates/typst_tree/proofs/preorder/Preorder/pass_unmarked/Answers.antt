@@ -1,7 +1,8 @@
-use Rattle.std.proofs.Common.{◌≡◌, ◌++◌, length, ap, sym, ◌∙◌, arith}
-use Rattle.typst_tree.specs.Preorder.{visited, below, marked}
+use Rattle.std.proofs.lemmas.Grind.{common_steps}
+use Rattle.std.proofs.Common.{ap, sym, ◌∙◌, arith}
+use Rattle.typst_tree.specs.Preorder.{visited, marked}
 use Rattle.typst_tree.specs.LeftRows.{left, left_above}
-use Rattle.typst_tree.proofs.LeftRows.{at_end, at_marked, passed_unmarked, passed_fewer}
+use Rattle.typst_tree.proofs.LeftRows.{at_end, at_marked, passed_unmarked}
 use Rattle.typst_tree.proofs.preorder.Preorder.pass_unmarked.Goals as goal
 
 pub loop-visit-preserved : goal.loop-visit-preserved
@@ -10,23 +11,16 @@ loop-visit-preserved c =
     let behind = left c.in-Some.behind in
     let above = left_above c.loop-visit.self-inside.above.items in
     let passed = passed_unmarked (visited c.in-Some.visit) here behind above c.in-Some.ensures (sym c.has_diagnostics.ensures ∙ c.if-has_diagnostics.false) in
-    record {
-      ready = c.or_above-self-inside.ensures.ready;
-      kept = ap marked c.or_above-self-inside.ensures.left ∙ sym passed ∙ c.loop-visit.invariant.kept;
-    }
+    grind (arith, common_steps)
 
 pub loop-visit-smaller : goal.loop-visit-smaller
-loop-visit-smaller c =
-    let v = visited c.in-Some.visit in
-    omega (arith, ap length c.or_above-self-inside.ensures.left, passed_fewer v (left c.loop-visit.self-inside.here) (left c.in-Some.behind) (left_above c.loop-visit.self-inside.above.items) c.in-Some.ensures)
+loop-visit-smaller c = grind (arith, common_steps)
 
 pub returns-then-has_diagnostics-clause-kept : goal.returns-then-has_diagnostics-clause-kept
 returns-then-has_diagnostics-clause-kept c = c.loop-visit.invariant.kept ∙ ap marked c.self.view_is
 
 pub returns-then-has_diagnostics-clause-next : goal.returns-then-has_diagnostics-clause-next
-returns-then-has_diagnostics-clause-next c =
-    let v = visited c.in-Some.visit in
-    at_marked v (left c.loop-visit.self-inside.here) (below v ++ left c.in-Some.behind) (left_above c.loop-visit.self-inside.above.items) c.in-Some.ensures (sym c.has_diagnostics.ensures ∙ c.if-has_diagnostics.true)
+returns-then-has_diagnostics-clause-next c = grind (arith, at_marked)
 
 pub returns-clause-kept : goal.returns-clause-kept
 returns-clause-kept c = c.loop-visit.invariant.kept ∙ ap marked c.self.view_is

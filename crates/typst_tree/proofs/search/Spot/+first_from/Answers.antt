@@ -1,21 +1,15 @@
-use Rattle.std.proofs.Common.{◌≡◌, ◌+◌, None, ap, arith}
-use Rattle.typst_tree.specs.Tree.{count, nodes, places, saturated}
+use Rattle.std.proofs.lemmas.Grind.{common_steps}
+use Rattle.std.proofs.Common.{◌≡◌, None, ap, arith}
+use Rattle.typst_tree.specs.Tree.{nodes, saturated}
 use Rattle.typst_tree.specs.Looked.{IsIn, FoundFrom, first_of}
 use Rattle.typst_tree.specs.Wanted.{wanted}
-use Rattle.typst_tree.proofs.Rows.{all_counted, over, passed_none}
+use Rattle.typst_tree.proofs.Rows.{all_counted, over}
 use Rattle.typst_tree.proofs.WalksInPreorder.{found_self, within_self, within_in}
 use Rattle.typst_tree.proofs.FoundFrom.{among, found_in, from_below, from_either, from_less, from_none, from_on, from_own, from_past, from_past_own, looks_all}
 use Rattle.typst_tree.proofs.search.Spot.+first_from.Goals as goal
 
 pub first_from-loop-spot-init : goal.first_from-loop-spot-init
-first_from-loop-spot-init t c =
-    let o = c.args.self.now in
-    record {
-      inside = within_self o.number o.offset (places o.node.now) (omega arith);
-      begun = c.requires.from;
-      found = c.requires.least;
-      size = omega arith;
-    }
+first_from-loop-spot-init t c = grind (arith, within_self)
 
 pub first_from-wants-requires : goal.first_from-wants-requires
 first_from-wants-requires t c =
@@ -68,12 +62,7 @@ first_from-loop-spot-preserved t c =
     let h = c.in-Heavy.ensures in
     let on : FoundFrom p c.max-from.result o = from_past_own p c.loop-spot.from c.max-from.result o s i.inside i.begun i.found c.if-wants.ensures (omega (arith, c.max-from.ensures)) in
     let kid : FoundFrom p k.number o = from_on p k.number o s i.inside (from_less p c.loop-spot.from s.number o i.begun i.found) h.0 (omega (arith, (among s k h.1).1)) in
-    record {
-      inside = within_in _ _ _ _ _ _ _ _ _ i.inside h.1;
-      begun = omega (arith, c.max-from-in-Heavy.ensures);
-      found = from_either p c.max-from.result k.number c.max-from-in-Heavy.result o (omega (arith, c.max-from-in-Heavy.ensures)) on kid;
-      size = omega (arith, i.size, h.2);
-    }
+    grind (arith, common_steps, within_in, from_either)
 
 pub first_behind-first_behind-requires : goal.first_behind-first_behind-requires
 first_behind-first_behind-requires t c =
@@ -105,28 +94,21 @@ first_behind-loop-left-preserved t c =
     }
 
 pub first_behind-returns-then-end-from : goal.first_behind-returns-then-end-from
-first_behind-returns-then-end-from t c =
-    from_past (wanted c.args.search.now) c.loop-left.from c.args.self.now (omega (arith, c.if-end-from.true, c.end-end.ensures)) c.loop-left.invariant.found
+first_behind-returns-then-end-from t c = grind (arith, from_past)
 
 pub first_behind-end-from-requires : goal.first_behind-end-from-requires
 first_behind-end-from-requires t c =
     omega (arith, (among c.args.self.now c.towards-below.result c.towards-below.ensures.spot).1, c.requires.counted)
 
 pub first_behind-returns : goal.first_behind-returns
-first_behind-returns t c =
-    looks_all (wanted c.args.search.now) _ c.args.self.now c.look.result (omega (arith, c.requires.counted)) c.in_default-look.not-Found c.look.ensures
+first_behind-returns t c = grind (arith, looks_all)
 
 pub first_from-overflow_add-spot : goal.first_from-overflow_add-spot
 first_from-overflow_add-spot t c =
     omega (arith, (among c.args.self.now c.loop-spot.spot c.loop-spot.invariant.inside).1, c.requires.counted)
 
 pub look-loop-at-init : goal.look-loop-at-init
-look-loop-at-init t c =
-    let f = c.front-at.ensures in
-    record {
-      passed = passed_none c.children-row.result.now (c.args.self.now.number + 1) _ _ _ _ f.index f.number f.offset;
-      found = from_less (wanted c.args.search.now) c.args.least c.front-at.result.number c.args.self.now (omega (arith, f.number, c.requires.from)) c.requires.least;
-    }
+look-loop-at-init t c = grind (arith, common_steps)
 
 pub look-behind-at-requires-clause-counted : goal.look-behind-at-requires-clause-counted
 look-behind-at-requires-clause-counted t c =
@@ -139,14 +121,7 @@ look-loop-at-preserved-then-at-least t c =
     let p = wanted c.args.search.now in
     let o = c.args.self.now in
     let w = over o.node.now o.number _ _ _ _ _ _ c.children-row.ensures c.index-row-at.is c.loop-at-test.true c.loop-at.invariant.passed in
-    let e = c.tree.ensures in
-    let n = c.behind-at.ensures in
-    let k = c.tree.result.spot in
-    let inside : IsIn o k = rw (e.node, e.number, e.offset) w.inside in
-    record {
-      passed = rw (n.index, n.number, n.offset) w.next;
-      found = from_on p c.behind-at.result.number o k inside (from_less p c.loop-at.at.number k.number o (omega (arith, e.number)) c.loop-at.invariant.found) (from_less p c.args.least c.behind-at.result.number k (omega (arith, c.if-at-least.true)) (from_below p c.args.least o k inside c.requires.least)) (omega (arith, n.number, e.number, ap nodes e.node));
-    }
+    grind (arith, common_steps, from_on, from_less, from_below)
 
 pub look-passes_over-requires : goal.look-passes_over-requires
 look-passes_over-requires t c =
@@ -174,10 +149,7 @@ look-returns-then-descendants-heavy t c =
     let p = wanted c.args.search.now in
     let o = c.args.self.now in
     let w = over o.node.now o.number _ _ _ _ _ _ c.children-row.ensures c.index-row-at.is c.loop-at-test.true c.loop-at.invariant.passed in
-    let e = c.tree.ensures in
-    let k = c.tree.result.spot in
-    let inside : IsIn o k = rw (e.node, e.number, e.offset) w.inside in
-    (from_less p c.loop-at.at.number k.number o (omega (arith, e.number)) c.loop-at.invariant.found, inside, omega (arith, w.fits, c.loop-at.invariant.passed.number, ap nodes e.node), omega (arith, c.descendants.ensures, c.if-descendants-heavy.true, ap nodes e.node))
+    grind (arith, common_steps, from_less)
 
 pub look-first_from-requires : goal.look-first_from-requires
 look-first_from-requires t c =
@@ -214,6 +186,4 @@ look-loop-at-preserved t c =
     }
 
 pub look-returns : goal.look-returns
-look-returns t c =
-    let o = c.args.self.now in
-    from_past (wanted c.args.search.now) c.loop-at.at.number o (omega (arith, c.loop-at.invariant.passed.number, all_counted c.children-row.result.now c.loop-at.at.index c.loop-at-test.false, ap count c.children-row.ensures)) c.loop-at.invariant.found
+look-returns t c = grind (arith, from_past, all_counted)

@@ -1,5 +1,6 @@
-use Rattle.std.proofs.Common.{◌≡◌, ℕ, ◌+◌, Some, ap, sym, ◌∙◌, arith, drop, drop_of_length-le, None}
-use Rattle.typst_tree.specs.Tree.{forest, nodes, places, preorder, saturated}
+use Rattle.std.proofs.lemmas.Grind.{common_steps}
+use Rattle.std.proofs.Common.{◌≡◌, ℕ, ◌+◌, Some, ap, sym, ◌∙◌, arith, drop, None}
+use Rattle.typst_tree.specs.Tree.{forest, nodes, places, preorder}
 use Rattle.typst_tree.specs.Walks.{first_at}
 use Rattle.typst_tree.specs.Wanted.{wanted}
 use Rattle.typst_tree.proofs.Parents.{child_bounds}
@@ -9,22 +10,13 @@ use Rattle.typst_tree.proofs.search.Spot.+goes_to.Goals as goal
 use Rattle.typst_tree.proofs.search.Spot.+goes_to.Goals.{After-index-row-at, then-not-passes_over+else-goes_to, else-not-passes_over}
 
 pub returns-then-wants-clause-spot : goal.returns-then-wants-clause-spot
-returns-then-wants-clause-spot t c = λ _.
-    within_self c.args.self.now.number c.args.self.now.offset (places c.args.self.now.node.now) (omega (arith, c.fits-self))
+returns-then-wants-clause-spot t c = grind (arith, within_self)
 
 pub returns-then-wants-clause-first : goal.returns-then-wants-clause-first
-returns-then-wants-clause-first t c = λ _.
-    let s = c.args.self.now in
-    found_self (wanted c.args.search.now) s.number s.offset s.node.now (c.if-wants.ensures (saturated s.offset))
+returns-then-wants-clause-first t c = grind (arith, found_self)
 
 pub loop-at-init : goal.loop-at-init
-loop-at-init t c =
-    let s = c.args.self.now in
-    let f = c.front-at.ensures in
-    record {
-      found = rw (f.index, f.number) (found_below (wanted c.args.search.now) s.number s.offset c.front-at.result.offset s.node.now c.children-row.result.now (omega (arith, c.fits-self)) (c.if-wants.ensures s.offset) c.children-row.ensures f.offset);
-      passed = passed_none c.children-row.result.now (s.number + 1) _ _ _ _ f.index f.number f.offset;
-    }
+loop-at-init t c = grind (arith, found_below, passed_none)
 
 -- the child that is looked at
 here : (t : ℕ) (c : After-index-row-at t) → Over c.args.self.now.node.now c.args.self.now.number c.args.self.now.offset c.children-row.result.now c.loop-at.at.index c.loop-at.at.number c.loop-at.at.offset c.index-row-at.result
@@ -78,7 +70,4 @@ loop-at-preserved t c =
     }
 
 pub returns-clause-none : goal.returns-clause-none
-returns-clause-none t c = λ _.
-    let at = c.loop-at.at in
-    let row = c.children-row.result.now in
-    c.loop-at.invariant.found ∙ ap (λ ys. first_at (wanted c.args.search.now) at.number at.offset (preorder (forest ys))) (drop_of_length-le row c.loop-at-test.false)
+returns-clause-none t c = grind (arith, common_steps)
