@@ -1,4 +1,4 @@
--- The test of a candidate of an edit, and what takes its place if it passes.
+-- The test of a candidate of an edit, and what takes its place if it passes. (The frame law is `Framed` of Sound.antt of `typst_language`.)
 use Rattle.std.specs.Prelude.{◌≡◌, ◌↔◌, ℕ, suc, ◌+◌, ◌-◌, ◌<◌, ◌==◌, Bool, true, false, if◌then◌else◌, List, [], ◌∷◌, ◌++◌, length, take, drop, Some}
 use Rattle.typst_lines.specs.Place.{Place}
 use Rattle.typst_lines.specs.Classes.{CharClasses}

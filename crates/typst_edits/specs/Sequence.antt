@@ -1,4 +1,4 @@
--- The pieces of any run, as Runs.antt has those of a text's.
+-- The pieces of any run of markup, as Runs.antt has those of a text's.
 use Rattle.std.specs.Prelude.{ℕ, ◌+◌, Bool, true, List, [], ◌++◌, length}
 use Rattle.typst_kinds.specs.declared.kind.SyntaxKind.{SyntaxKind}
 use Rattle.typst_lines.specs.Place.{Place, moved}
@@ -10,7 +10,7 @@ use Rattle.typst_grammar.specs.Markup.{markup_turn}
 use Rattle.typst_grammar.specs.Pieces.{given}
 use Rattle.typst_edits.specs.Runs.{made, End, end_of, chain}
 
--- where the pieces of a run are read: how deep, where they stop, and the place and the point at the first of them
+-- where the pieces of a run of markup are read: how deep, where they stop, and the place and the point at the first of them
 pub record Sequence : Type 0 where
   pub level : Level
   pub stops : SyntaxKind → Bool

@@ -62,12 +62,11 @@ ghost use Rattle.typst_edits.specs.SpliceExamples.{Splices};
 ghost use Rattle.typst_edits.specs.Unique.{OneAnswerLaw, UniqueLaw};
 ghost use Rattle.typst_edits.specs.Walk.{WalkLaw};
 
-/// An edit inside a block of a text: where all that was looked at before the block ends at the
-/// replaced stretch or before it, all that was looked at after the block begins at the stretch's
-/// end or after it, and the block, read on the new text from its state, ends at the shifted end,
-/// the block leaves the state that it left and gives one node of its kind, and the reading of the new text is the old one with the block's node and its part of the log
-/// exchanged. Each block is read as its name, its level and its state say, and its two marks
-/// stand in the log directly around what it asked.
+/// An edit inside a block of a text passes if all looks before the block end by the start of the replaced bytes, all
+/// looks after it begin at their end or later, and the block, read on the new text from its state, ends at the shifted
+/// end. Then it ends in the same state and gives one node of its kind, and the reading of the new text is the old one
+/// with the block's node and its part of the log exchanged. Each block is read as its name, its level and its state
+/// say, and its two marks stand in the log directly around what it asked.
 pub fn block_law()
     ensures edit { BlockLaw }
     ensures names { NamesLaw }

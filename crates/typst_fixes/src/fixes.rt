@@ -33,7 +33,7 @@ pub enum FixKind {
     NodeEnd,
     /// It puts a backslash before what is no syntax.
     Escape,
-    /// It makes a content block of code and the label behind it.
+    /// It makes a content block of code and the label after it.
     Wrap,
     /// It does what another hint says.
     Rewrite,
@@ -57,11 +57,11 @@ pub struct Fix<'a> {
     /// The bytes of the error or the warning.
     pub problem: Range<usize>,
     pub edit: Edit<'a>,
-    /// An edit behind the bytes of the first one.
+    /// An edit after the bytes of the first one.
     pub further: Option<Edit<'a>>,
 }
 
-/// A node with what is around it: its parent, if it has one, and in its row the node before it and all behind it.
+/// A node with what is around it: its parent, if it has one, and in its row the node before it and all after it.
 #[derive(Clone, Copy)]
 struct Site<'a> {
     node: Placed<'a>,
@@ -96,7 +96,7 @@ struct Found<'a, 't> {
 /// The edits that remove errors and warnings which touch a range of bytes, those of a node before those of its
 /// children: they add a missing closing delimiter, or do what a hint says. It looks at the nodes that have errors
 /// and warnings, at them or below them, and at their children; for a closing delimiter also at those around its
-/// place, and at their children; for a label behind code at the first and the last nodes within the two.
+/// place, and at their children; for a label after code at the first and the last nodes within the two.
 pub fn quick_fixes<'a>(
     alloc: Global,
     root: &'a SyntaxNode,
@@ -348,7 +348,7 @@ impl<'a> Fault<'a> {
         !is_kept(parent, self.problem.start, "\\")
     }
 
-    /// A fix that makes a content block of the code before a missing end of a statement, and of the label behind
+    /// A fix that makes a content block of the code before a missing end of a statement, and of the label after
     /// it.
     fn wrap(&self) -> Option<Fix<'a>>
         ensures { spec.stated_of result ≡ spec.wraps (around self.now.site) self.now.problem }
@@ -446,7 +446,7 @@ impl<'a> Fault<'a> {
         Some(self.close(FixKind::NodeEnd, closer, gap, text))
     }
 
-    /// A fix that puts a closing delimiter into a gap. A star and a slash behind it would be one sign.
+    /// A fix that puts a closing delimiter into a gap. A star and a slash after it would be one sign.
     fn close(&self, kind: FixKind, closer: &'static str, gap: Gap, text: &str) -> Fix<'a>
         ensures { result.kind ≡ kind }
     {

@@ -5,7 +5,7 @@ ghost use Rattle.typst_fixes.specs.Fixes as spec;
 
 use std::ops::Range;
 
-/// Whether a hint proposes to wrap code in a content block, for a label behind it.
+/// Whether a hint proposes to wrap code in a content block, for a label after it.
 pub fn wants_block(message: &str) -> bool
     ensures { result ≡ spec.wants_block message.now }
 {

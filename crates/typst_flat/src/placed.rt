@@ -66,7 +66,7 @@ pub fn is_plain(node: &SyntaxNode) -> bool
     is_childless(node)
 }
 
-/// The record of a node of which that is told.
+/// The record of a node, with what is said of it.
 #[inline(always)]
 fn record_of(placed: &PlacedNode, told: Told, is_small: bool) -> Node
     requires small { is_small ≡ true → IsNarrow placed.now }
@@ -89,7 +89,7 @@ fn record_of(placed: &PlacedNode, told: Told, is_small: bool) -> Node
     }
 }
 
-/// How many nodes there are of a node and below it, and what is told of it by single bits.
+/// How many nodes there are of a node and below it, and what single bits say of it.
 #[derive(Clone, Copy)]
 struct Told {
     nodes: usize,

@@ -236,7 +236,7 @@ root_context = record { parent = None; outer = None; offset = 0; trail = record 
 pub record Outlet (S : Type 0) : Type 0 where
   -- at the beginning of a span
   pub begun : S → Option Tag → S
-  -- what the end of the span is told
+  -- what is kept for the end of the span
   pub kept : S → Option Tag → Option Tag
   -- by a node's own text
   pub given : S → List ℕ → S

@@ -85,7 +85,7 @@ ends_if is_edited ends = if is_edited then shortened 0 0 ends else ends
 abbrev pub ends_by : List ℕ → Bool → Last → Option Ends
 ends_by name is_edited last = if bytes_eq (string_bytes last.name) name then Some (ends_if is_edited last.ends) else None
 
--- it is told how a document's tokens stand to these
+-- what is known of how a document's tokens stand to these
 abbrev pub TellsSince : Opened → Option Sent → Option Ends → Type 0
 TellsSince now None ends = ends ≡ None
 TellsSince now (Some sent) None = ⊥

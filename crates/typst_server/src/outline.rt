@@ -6,7 +6,7 @@ use typst_features::SymbolKind;
 use typst_protocol::values::{FlatSymbol, Location, Symbol};
 use typst_protocol::{Refusal, json_of};
 
-/// How many levels an outline has at most: what is deeper stands on the last one.
+/// How deep a symbol stands in an outline at most, counted from 0: what is deeper stands there.
 const MOST_LEVELS: usize = 32;
 
 /// What stands for a name that is empty.

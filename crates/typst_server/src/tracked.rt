@@ -351,7 +351,7 @@ fn after_edits(
     let text = document.text();
     let window = token_window(root, text, read, document.boundary());
     let outside = tokens_outside(text, &window, &was, was_len);
-    // The first token after the window is told from the one before it, which may be another one now.
+    // The first token after the window is encoded relative to the one before it, which may be another one now.
     let back = outside.back.saturating_sub(1);
     Carried {
         kept: renewed(alloc, document, &window, was, was_len),

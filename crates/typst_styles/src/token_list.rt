@@ -9,7 +9,7 @@ use crate::tokens::Token;
 use std::alloc::AllocError;
 use std::marker::Model;
 
-/// Tokens of a text, in order. Those behind the last edit stand where they were before it, and are moved when they
+/// Tokens of a text, in order. Those after the last edit stand where they were before it, and are moved when they
 /// are read: so an edit changes one distance, and not each of them.
 #[derive(Drop)]
 pub struct TokenList {
@@ -141,8 +141,8 @@ fn count_moved(tokens: &[Token], distance: usize, byte: usize) -> usize
     tokens.partition_point(|token| token.start.wrapping_add(distance) < byte)
 }
 
-/// Puts the tokens before an index in their places, and answers by how far those behind it have to be moved then.
-/// Where the last edit was behind the index, all are put there.
+/// Puts the tokens before an index in their places, and answers by how far those after it have to be moved then.
+/// Where the last edit was after the index, all are put there.
 fn settle(tokens: &mut [Token], settled: usize, distance: usize, index: usize) -> usize
     requires settled { settled ≤ length tokens.old }
     requires within { index ≤ length tokens.old }
