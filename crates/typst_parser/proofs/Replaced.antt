@@ -158,5 +158,3 @@ count-within a e (more h ks r) o =
 -- so a numbered tree has fewer nodes than there are numbers
 pub few-nodes : (t : Tree) → IsNumbered t → 1 ≤ number_of t.head.span → upper_at t.head ≤ 2 ^ 47 → nodes t < 2 ^ 47
 few-nodes t o low high = omega (arith, low, high, count-within (number_of t.head.span + 1) (upper_at t.head) t.kids o)
-
--- ---- the root of a tree that was numbered over all numbers
