@@ -107,15 +107,10 @@ impl<'a> Edit<'a> {
         alloc: Global,
         text: &str,
         classes: C,
-    ) -> Result<(Source<C>, Made), SourceError> {
-        let Ok(text) = String::from_str(alloc, text) else {
-            return Err(SourceError::OutOfMemory);
-        };
-        let mut source = Source::detached(alloc, text, classes)?;
-        match self.make(&mut source) {
-            Ok(made) => Ok((source, made)),
-            Err(AllocError) => Err(SourceError::OutOfMemory),
-        }
+    ) -> Result<(Source<C>, Made), AllocError> {
+        let mut source = source_of(alloc, text, classes)?;
+        let made = self.make(&mut source)?;
+        Ok((source, made))
     }
 }
 
@@ -138,6 +133,19 @@ impl Made {
             }
             Made::Fault(fault) => writeln!(printed, "{fault}"),
         }
+    }
+}
+
+/// A source of a text. One with more nodes than there are numbers is refused as if memory were.
+pub fn source_of<C: Classes + Drop>(
+    alloc: Global,
+    text: &str,
+    classes: C,
+) -> Result<Source<C>, AllocError> {
+    let text = String::from_str(alloc, text)?;
+    match Source::detached(alloc, text, classes) {
+        Ok(source) => Ok(source),
+        Err(_) => Err(AllocError),
     }
 }
 

@@ -53,6 +53,7 @@ tree_word_named name =
     else (if bytes_eq name (codes "tagged") then Some tree_word.Tagged
     else (if bytes_eq name (codes "candidates") then Some tree_word.Candidates
     else (if bytes_eq name (codes "spans") then Some tree_word.Spans
+    else (if bytes_eq name (codes "ranges") then Some tree_word.Ranges
     else (if bytes_eq name (codes "depths") then Some tree_word.Depths
     else (if bytes_eq name (codes "size") then Some tree_word.Size
     else (if bytes_eq name (codes "asked") then Some tree_word.Asked
@@ -60,7 +61,7 @@ tree_word_named name =
     else (if bytes_eq name (codes "leaves") then Some tree_word.Leaves
     else (if bytes_eq name (codes "kinds") then Some tree_word.Kinds
     else (if bytes_eq name (codes "tag-list") then Some tree_word.TagList
-    else None)))))))))))))
+    else None))))))))))))))
 
 -- the word that a name stands for, of those for what edits answer
 abbrev pub edit_word_named : List ℕ → Option EditWord
@@ -71,22 +72,28 @@ edit_word_named name =
     else (if bytes_eq name (codes "edit-spans") then Some edit_word.EditSpans
     else (if bytes_eq name (codes "edits") then Some edit_word.Edits
     else (if bytes_eq name (codes "in-a-row") then Some edit_word.InARow
+    else (if bytes_eq name (codes "handed") then Some edit_word.Handed
+    else (if bytes_eq name (codes "example") then Some edit_word.Example
     else (if bytes_eq name (codes "calls") then Some edit_word.Calls
     else (if bytes_eq name (codes "everywhere") then Some edit_word.Everywhere
     else (if bytes_eq name (codes "everywhere-in-turn") then Some edit_word.EverywhereInTurn
     else (if bytes_eq name (codes "everywhere-at") then Some edit_word.EverywhereAt
     else (if bytes_eq name (codes "edit-lines") then Some edit_word.EditLines
     else (if bytes_eq name (codes "chain") then Some edit_word.Chain
-    else None)))))))))))
+    else None)))))))))))))
 
 -- the word that a name stands for, of those for what programs and calls answer
 abbrev pub program_word_named : List ℕ → Option ProgramWord
 program_word_named name =
     if bytes_eq name (codes "runs") then Some program_word.Runs
     else (if bytes_eq name (codes "run") then Some program_word.Run
+    else (if bytes_eq name (codes "run-cut") then Some program_word.RunCut
+    else (if bytes_eq name (codes "failures") then Some program_word.Failures
     else (if bytes_eq name (codes "check") then Some program_word.Check
+    else (if bytes_eq name (codes "check-run") then Some program_word.CheckRun
+    else (if bytes_eq name (codes "file-names") then Some program_word.FileNames
     else (if bytes_eq name (codes "call") then Some program_word.Call
-    else None)))
+    else None)))))))
 
 -- the first word that there is
 abbrev pub first_word : Option Word → Option Word → Option Word

@@ -1,9 +1,8 @@
 //! The word `edits`.
 
-use crate::spans::print_refusal;
 use std::alloc::{AllocError, Global};
 use typst_edited::cli::{Source, UnicodeClasses};
-use typst_edited::{Edit, Made, Wanted, are_same, edit_of, fault};
+use typst_edited::{Edit, Made, Wanted, are_same, edit_of, fault, source_of};
 use typst_rows::with_line_feeds;
 
 /// Prints what edits of a text answer that are made one after the other: they stand on the first lines, and the
@@ -13,10 +12,7 @@ pub fn print(alloc: Global, printed: &mut String, text: &str) -> Result<(), Allo
     let Some((edits, text)) = text.split_once("\n\n") else {
         return printed.push_str("no text\n");
     };
-    let mut source = match Source::detached(alloc, String::from_str(alloc, text)?, UnicodeClasses) {
-        Ok(source) => source,
-        Err(error) => return print_refusal(printed, error),
-    };
+    let mut source = source_of(alloc, text, UnicodeClasses)?;
     for line in edits.split('\n') {
         print_line(alloc, printed, &mut source, line)?;
     }
@@ -24,7 +20,7 @@ pub fn print(alloc: Global, printed: &mut String, text: &str) -> Result<(), Allo
 }
 
 /// Prints what the edit of a line answers.
-fn print_line(
+pub fn print_line(
     alloc: Global,
     printed: &mut String,
     source: &mut Source<UnicodeClasses>,

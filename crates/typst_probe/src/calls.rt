@@ -1,9 +1,7 @@
 //! The word `calls`.
 
-use crate::spans::print_refusal;
 use std::alloc::{AllocError, Global};
 use std::cell::Cell;
-use typst_edited::cli::SourceError;
 use typst_edited::{Edit, Made, edit_of};
 use typst_fakes::Counting;
 
@@ -17,10 +15,7 @@ pub fn print(alloc: Global, printed: &mut String, text: &str) -> Result<(), Allo
     let Some((least, most, edit)) = limits_of(line) else {
         return printed.push_str("no edit\n");
     };
-    let (whole, part, made) = match calls(alloc, text, edit) {
-        Ok(calls) => calls,
-        Err(error) => return print_refusal(printed, error),
-    };
+    let (whole, part, made) = calls(alloc, text, edit)?;
     made.print(printed)?;
     if whole < least || most < part {
         writeln!(printed, "{whole} calls for the source, {part} for the edit")?;
@@ -36,14 +31,14 @@ fn limits_of(line: &str) -> Option<(usize, usize, Edit<'_>)> {
 }
 
 /// How often classes are asked for a source, and for an edit of it, with what came of that.
-fn calls(alloc: Global, text: &str, edit: Edit<'_>) -> Result<(usize, usize, Made), SourceError> {
+fn calls(alloc: Global, text: &str, edit: Edit<'_>) -> Result<(usize, usize, Made), AllocError> {
     let (whole, _) = all_calls(alloc, text, Edit::REFUSED)?;
     let (all, made) = all_calls(alloc, text, edit)?;
     Ok((whole, all.saturating_sub(whole), made))
 }
 
 /// How often classes are asked for a source and an edit of it, with what came of that.
-fn all_calls(alloc: Global, text: &str, edit: Edit<'_>) -> Result<(usize, Made), SourceError> {
+fn all_calls(alloc: Global, text: &str, edit: Edit<'_>) -> Result<(usize, Made), AllocError> {
     let calls = Cell::new(0usize);
     let (_source, made) = edit.source(alloc, text, Counting { calls: &calls })?;
     Ok((calls.get(), made))

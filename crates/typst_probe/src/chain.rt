@@ -1,10 +1,9 @@
 //! The word `chain`.
 
 use crate::everywhere::fault_of_turn;
-use crate::spans::print_refusal;
 use std::alloc::{AllocError, Global};
 use typst_edited::cli::{Command, Source, UnicodeClasses};
-use typst_edited::{Edit, Wanted};
+use typst_edited::{Edit, Wanted, source_of};
 
 /// The name of a chain, what stands before its links, a link, and what stands after them.
 type Parts = (&'static str, &'static str, &'static str, &'static str);
@@ -90,10 +89,7 @@ fn print_edits(
     text: &str,
     chain: Chain,
 ) -> Result<(), AllocError> {
-    let mut source = match Source::detached(alloc, String::from_str(alloc, text)?, UnicodeClasses) {
-        Ok(source) => source,
-        Err(error) => return print_refusal(printed, error),
-    };
+    let mut source = source_of(alloc, text, UnicodeClasses)?;
     let nodes = source.root().descendants();
     writeln!(printed, "nodes {nodes}")?;
     print_keystrokes(alloc, printed, &mut source, text, chain)

@@ -33,10 +33,10 @@ fn print_after<C: Classes + Drop>(
     edit: Edit<'_>,
     classes: C,
 ) -> Result<(), AllocError> {
-    match edit.source(alloc, text, classes) {
-        Ok((source, Made::Read(_))) => print_source(alloc, printed, &source),
-        Ok((_, Made::Fault(_))) => printed.push_str("bad range\n"),
-        Err(error) => spans::print_refusal(printed, error),
+    let (source, made) = edit.source(alloc, text, classes)?;
+    match made {
+        Made::Read(_) => print_source(alloc, printed, &source),
+        Made::Fault(_) => printed.push_str("bad range\n"),
     }
 }
 
@@ -72,14 +72,10 @@ pub fn print_spans_after(
     text: &str,
     edit: Edit<'_>,
 ) -> Result<(), AllocError> {
-    match edit.source(alloc, text, UnicodeClasses) {
-        Ok((source, made)) => {
-            made.print(printed)?;
-            match made {
-                Made::Read(_) => spans::print_tree(alloc, printed, source.root()),
-                Made::Fault(_) => Ok(()),
-            }
-        }
-        Err(error) => spans::print_refusal(printed, error),
+    let (source, made) = edit.source(alloc, text, UnicodeClasses)?;
+    made.print(printed)?;
+    match made {
+        Made::Read(_) => spans::print_tree(alloc, printed, source.root()),
+        Made::Fault(_) => Ok(()),
     }
 }

@@ -1,9 +1,8 @@
 //! The words `everywhere`, `everywhere-in-turn` and `everywhere-at`.
 
-use crate::spans;
 use std::alloc::{AllocError, Global};
-use typst_edited::cli::{Classes, Source, SourceError, UnicodeClasses};
-use typst_edited::{Edit, Made, Wanted, fault};
+use typst_edited::cli::{Classes, Source, UnicodeClasses};
+use typst_edited::{Edit, Made, Wanted, fault, source_of};
 use typst_fakes::{Narrow, Wide};
 
 /// What is put in at each place.
@@ -128,13 +127,8 @@ impl Tally {
         if self.is_wrong {
             return Ok(());
         }
-        match Trial::new(alloc, text, classes, self.is_in_a_row) {
-            Ok(mut trial) => self.go(alloc, printed, &mut trial, edits, makes_all),
-            Err(error) => {
-                self.is_wrong = true;
-                spans::print_refusal(printed, error)
-            }
-        }
+        let mut trial = Trial::new(alloc, text, classes, self.is_in_a_row)?;
+        self.go(alloc, printed, &mut trial, edits, makes_all)
     }
 
     fn go<C: Classes + Copy + Drop>(
@@ -181,17 +175,10 @@ impl<'a, C: Classes + Copy + Drop> Trial<'a, C> {
         text: &'a str,
         classes: C,
         is_in_a_row: bool,
-    ) -> Result<Trial<'a, C>, SourceError> {
-        let Ok(owned) = String::from_str(alloc, text) else {
-            return Err(SourceError::OutOfMemory);
-        };
-        let Ok(wanted) = Wanted::of(alloc, text, &classes) else {
-            return Err(SourceError::OutOfMemory);
-        };
-        let fresh = Source::detached(alloc, owned, classes)?;
-        let Ok(used) = fresh.try_clone() else {
-            return Err(SourceError::OutOfMemory);
-        };
+    ) -> Result<Trial<'a, C>, AllocError> {
+        let wanted = Wanted::of(alloc, text, &classes)?;
+        let fresh = source_of(alloc, text, classes)?;
+        let used = fresh.try_clone()?;
         Ok(Trial {
             text,
             classes,

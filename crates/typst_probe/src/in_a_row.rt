@@ -1,9 +1,8 @@
 //! The word `in-a-row`.
 
-use crate::spans::print_refusal;
 use std::alloc::{AllocError, Global};
-use typst_edited::cli::{Source, SourceError, UnicodeClasses};
-use typst_edited::{Draws, Edit, Made, Wanted, fault};
+use typst_edited::cli::{Source, UnicodeClasses};
+use typst_edited::{Draws, Edit, Made, Wanted, fault, source_of};
 use typst_rows::with_line_feeds;
 
 /// Prints how many edits agree that are drawn and made of one source, one after the other. The first line has
@@ -17,10 +16,8 @@ pub fn print(alloc: Global, printed: &mut String, text: &str) -> Result<(), Allo
         return printed.push_str("no pieces\n");
     };
     let pieces = with_line_feeds(alloc, pieces)?;
-    match Source::detached(alloc, String::from_str(alloc, text)?, UnicodeClasses) {
-        Ok(mut source) => numbers.go(alloc, printed, &mut source, pieces.as_str()),
-        Err(error) => print_refusal(printed, error),
-    }
+    let mut source = source_of(alloc, text, UnicodeClasses)?;
+    numbers.go(alloc, printed, &mut source, pieces.as_str())
 }
 
 /// What edits are drawn.
@@ -105,11 +102,8 @@ fn fault_of_edit(
     text: &str,
     edit: Edit<'_>,
 ) -> Result<Option<&'static str>, AllocError> {
-    match edit.source(alloc, text, UnicodeClasses) {
-        Ok((fresh, answer)) => unlike_fresh(alloc, source, text, edit, &fresh, &answer),
-        Err(SourceError::OutOfMemory) => Err(AllocError),
-        Err(SourceError::SpanNumbers) => Ok(Some("out of span numbers")),
-    }
+    let (fresh, answer) = edit.source(alloc, text, UnicodeClasses)?;
+    unlike_fresh(alloc, source, text, edit, &fresh, &answer)
 }
 
 /// What isn't as it has to be, by the edited source that was newly made, and what it answered.

@@ -3,6 +3,7 @@
 #![tactic(auto)]
 
 mod answers;
+mod bytes;
 mod calls;
 mod candidates;
 mod chain;
@@ -11,6 +12,9 @@ mod compared;
 mod edit_lines;
 mod edits;
 mod everywhere;
+mod example;
+mod failures;
+mod handed;
 mod in_a_row;
 mod library_call;
 mod links;
@@ -21,6 +25,7 @@ mod notes;
 mod one_call;
 mod one_run;
 mod query;
+mod ranges;
 mod runs;
 mod spans;
 mod stretches;
@@ -42,10 +47,10 @@ use word::Word;
 const USAGE: &str =
     "usage: typst_probe rows FILE.. | tree | tree-wide | tree-narrow | tree-code | tree-math | tree-math-wide |
     tree-math-narrow | tokens | tokens-wide | tokens-narrow | tokens-code | tokens-math | lines | link |
-    look | stretches | notes | tags | tagged | html | spans | depths | size | asked | again | leaves | kinds |
-    tag-list | edit | edit-wide | edit-narrow | edit-spans | edits | edit-lines | in-a-row | calls | runs | run |
-    chain | check | call | candidates | candidates START END | edit-spans START END TEXT | everywhere |
-    everywhere-in-turn | everywhere-at";
+    look | stretches | notes | tags | tagged | html | spans | ranges | depths | size | asked | again | leaves |
+    kinds | tag-list | edit | edit-wide | edit-narrow | edit-spans | edits | edit-lines | in-a-row | handed |
+    example | calls | runs | run | run-cut | failures | chain | check | check-run | file-names | call | candidates |
+    candidates START END | edit-spans START END TEXT | everywhere | everywhere-in-turn | everywhere-at";
 
 /// `rows FILE..` compares all rows of the files, and any other word answers about the text on
 /// standard input. Ends with status 1 where a row disagrees or something fails, and with status 2

@@ -1,7 +1,7 @@
 //! The word `runs`.
 
 use std::alloc::{AllocError, Global};
-use typst_edited::cli::{Command, SourceError, UnicodeClasses, run, tree};
+use typst_edited::cli::{Command, UnicodeClasses, run, tree};
 use typst_edited::{Edit, boundary};
 
 static WORDS: [(&str, Command); 3] = [
@@ -57,23 +57,10 @@ fn agrees(alloc: Global, text: &str, words: &[&str], wanted: &str) -> Result<boo
 fn edited(alloc: Global, text: &str, at: usize) -> Result<String, AllocError> {
     let edit = Edit::new(at, at, "a");
     let mut printed = String::new(alloc);
-    print_read(alloc, &mut printed, text, edit)?;
+    let (_, made) = edit.source(alloc, text, UnicodeClasses)?;
+    made.print(&mut printed)?;
     print_tree(alloc, &mut printed, text, edit)?;
     Ok(printed)
-}
-
-/// Prints which bytes a source of a text reads in an edit.
-fn print_read(
-    alloc: Global,
-    printed: &mut String,
-    text: &str,
-    edit: Edit<'_>,
-) -> Result<(), AllocError> {
-    match edit.source(alloc, text, UnicodeClasses) {
-        Ok((_, made)) => made.print(printed),
-        Err(SourceError::OutOfMemory) => Err(AllocError),
-        Err(SourceError::SpanNumbers) => Ok(()),
-    }
 }
 
 /// Prints the tree of a text after an edit.

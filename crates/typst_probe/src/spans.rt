@@ -2,23 +2,14 @@
 
 use std::alloc::{AllocError, Global};
 use typst_edited::cli::tree::{print_errors, print_remarks};
-use typst_edited::cli::{Source, SourceError, SyntaxNode, UnicodeClasses};
+use typst_edited::cli::{SyntaxNode, UnicodeClasses};
+use typst_edited::source_of;
 
 /// Prints the syntax tree of the text as markup, as a source holds it: as a tree, with `@` and the number of
-/// each node after its range. Where no source can be made, nothing but the reason.
+/// each node after its range.
 pub fn print(alloc: Global, printed: &mut String, text: &str) -> Result<(), AllocError> {
-    match Source::detached(alloc, String::from_str(alloc, text)?, UnicodeClasses) {
-        Ok(source) => print_tree(alloc, printed, source.root()),
-        Err(error) => print_refusal(printed, error),
-    }
-}
-
-/// Prints why a source can't be made or edited, unless memory was refused.
-pub fn print_refusal(printed: &mut String, error: SourceError) -> Result<(), AllocError> {
-    match error {
-        SourceError::OutOfMemory => Err(AllocError),
-        SourceError::SpanNumbers => printed.push_str("out of span numbers\n"),
-    }
+    let source = source_of(alloc, text, UnicodeClasses)?;
+    print_tree(alloc, printed, source.root())
 }
 
 /// Prints a tree with the number of each node.

@@ -5,7 +5,7 @@ use crate::{compared, query, written};
 use std::alloc::{AllocError, Global};
 use std::ops::Range;
 use typst_edited::{
-    Draws, Edit, Made, Wanted, are_alike, are_same, are_same_lines, boundary, fault,
+    Draws, Edit, Made, Wanted, are_alike, are_same, are_same_lines, boundary, fault, source_of,
 };
 use typst_lexer::raw_node;
 use typst_lines::split_newlines;
@@ -114,15 +114,9 @@ fn unless_refused<T>(answer: Result<T, SourceError>) -> Result<T, AllocError> {
     }
 }
 
-/// A source of a text that is of no file.
-fn detached(alloc: Global, text: &str) -> Result<Source<UnicodeClasses>, AllocError> {
-    let text = String::from_str(alloc, text)?;
-    unless_refused(Source::detached(alloc, text, UnicodeClasses))
-}
-
 /// A source after edits that are drawn from a number.
 fn edited_source(alloc: Global, first: u32) -> Result<Source<UnicodeClasses>, AllocError> {
-    let mut source = detached(alloc, TEXT)?;
+    let mut source = source_of(alloc, TEXT, UnicodeClasses)?;
     let mut draws = Draws::new(first);
     for _ in 0..EDITS {
         edit_drawn(&mut source, &mut draws)?;
@@ -260,7 +254,9 @@ impl Subject {
             }
             SourceCall::TryClone => self.source = self.source.try_clone()?,
             SourceCall::New => self.source = self.made_source(alloc)?,
-            SourceCall::Detached => self.source = detached(alloc, self.kept.other.as_str())?,
+            SourceCall::Detached => {
+                self.source = source_of(alloc, self.kept.other.as_str(), UnicodeClasses)?;
+            }
             SourceCall::WithRoot => self.source = self.source_with_root(alloc)?,
         }
         Ok(0..self.source.text().len())

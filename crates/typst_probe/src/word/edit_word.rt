@@ -3,7 +3,7 @@
 ghost use Rattle.std.specs.Prelude.{◌≡◌};
 ghost use Rattle.typst_probe.specs.Words.{edit_word_named};
 
-use crate::{answers, calls, chain, edit_lines, edits, everywhere, in_a_row};
+use crate::{answers, calls, chain, edit_lines, edits, everywhere, example, handed, in_a_row};
 use std::alloc::{AllocError, Global};
 use typst_edited::cli::UnicodeClasses;
 use typst_fakes::{Narrow, Wide};
@@ -23,6 +23,10 @@ pub enum EditWord {
     Edits,
     /// Edits of a text that are drawn, one after the other.
     InARow,
+    /// What edits answer of a source that was handed a tree.
+    Handed,
+    /// What an editor does with a text that it holds.
+    Example,
     /// How often classes are asked for an edit.
     Calls,
     /// Edits of a text at each of its places.
@@ -49,6 +53,8 @@ impl EditWord {
             "edit-spans" => Some(EditWord::EditSpans),
             "edits" => Some(EditWord::Edits),
             "in-a-row" => Some(EditWord::InARow),
+            "handed" => Some(EditWord::Handed),
+            "example" => Some(EditWord::Example),
             "calls" => Some(EditWord::Calls),
             "everywhere" => Some(EditWord::Everywhere),
             "everywhere-in-turn" => Some(EditWord::EverywhereInTurn),
@@ -68,6 +74,8 @@ impl EditWord {
             EditWord::EditSpans => edits::print_spans(alloc, printed, text),
             EditWord::Edits => answers::print(alloc, printed, text),
             EditWord::InARow => in_a_row::print(alloc, printed, text),
+            EditWord::Handed => handed::print(alloc, printed, text),
+            EditWord::Example => example::print(alloc, printed, text),
             EditWord::Calls => calls::print(alloc, printed, text),
             EditWord::Everywhere => everywhere::print(alloc, printed, text),
             EditWord::EverywhereInTurn => everywhere::print_in_turn(alloc, printed, text),

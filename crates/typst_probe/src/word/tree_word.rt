@@ -3,7 +3,7 @@
 ghost use Rattle.std.specs.Prelude.{◌≡◌};
 ghost use Rattle.typst_probe.specs.Words.{tree_word_named};
 
-use crate::{candidates, links, modes, names, notes, spans, stretches, tagged, tags};
+use crate::{candidates, links, modes, names, notes, ranges, spans, stretches, tagged, tags};
 use std::alloc::{AllocError, Global};
 
 /// What is printed of a tree.
@@ -23,6 +23,8 @@ pub enum TreeWord {
     Candidates,
     /// The syntax tree of the text as markup, with the number of each node.
     Spans,
+    /// Which bytes are those within nodes.
+    Ranges,
     /// How deep the tree of a text in a mode goes.
     Depths,
     /// How many nodes the tree of a text in a mode has.
@@ -52,6 +54,7 @@ impl TreeWord {
             "tagged" => Some(TreeWord::Tagged),
             "candidates" => Some(TreeWord::Candidates),
             "spans" => Some(TreeWord::Spans),
+            "ranges" => Some(TreeWord::Ranges),
             "depths" => Some(TreeWord::Depths),
             "size" => Some(TreeWord::Size),
             "asked" => Some(TreeWord::Asked),
@@ -73,6 +76,7 @@ impl TreeWord {
             TreeWord::Tagged => tagged::print(alloc, printed, text),
             TreeWord::Candidates => candidates::print(alloc, printed, text),
             TreeWord::Spans => spans::print(alloc, printed, text),
+            TreeWord::Ranges => ranges::print(alloc, printed, text),
             TreeWord::Depths => modes::print_depths(alloc, printed, text),
             TreeWord::Size => modes::print_size(alloc, printed, text),
             TreeWord::Asked => modes::print_asked(alloc, printed, text),

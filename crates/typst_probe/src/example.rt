@@ -1,50 +1,32 @@
 //! What an editor does with a text that it holds: edits it, finds a node by its span, walks the leaves,
-//! and prints where each error stands, by line and UTF-16 column.
-//!
-//! A program names `typst_parser` where this names `typst_edited::cli`, which passes the same names on.
+//! and prints where each error stands, by line and UTF-16 column. The word `example` shows it.
 
 use std::alloc::{AllocError, Global};
 use std::ops::Range;
-use typst_edited::cli::{Severity, Source, SyntaxNode, UnicodeClasses};
+use typst_parser::{Severity, Source, SyntaxNode, UnicodeClasses};
 
-/// What is printed of the text below.
-const PRINTED: &str = r#"parsed anew: 0..12
-heading 0..4
-heading marker "="
-space " "
-text "Hi"
-space "\n"
-text "💛"
-space " "
-syntax error "*"
-1:3: error: unclosed delimiter
-text "a"
-"#;
-
-#[test]
-fn an_editor_holds_a_text(rt: HostRuntime) {
-    assert!(rt; printed(rt.alloc()).as_deref() == Some(PRINTED));
-}
-
-/// Makes a source, replaces its text, and prints what became of it; nothing where memory was refused.
-fn printed(alloc: Global) -> Option<String> {
-    let text = String::from_str(alloc, "= Hi\n").ok()?;
-    let mut source = Source::detached(alloc, text, UnicodeClasses).ok()?;
-    let parsed = source.replace("= Hi\n💛 *a").ok()?;
-    tell_source(alloc, &source, parsed).ok()
+/// Makes a source of the first line of a text, replaces its text by the whole, and prints what became of it.
+pub fn print(alloc: Global, printed: &mut String, text: &str) -> Result<(), AllocError> {
+    let (line, _) = text.split_once('\n').unwrap_or((text, ""));
+    let line = format!(in alloc; "{line}\n")?;
+    let Ok(mut source) = Source::detached(alloc, line, UnicodeClasses) else {
+        return Err(AllocError);
+    };
+    let Ok(parsed) = source.replace(text) else {
+        return Err(AllocError);
+    };
+    tell_source(printed, &source, parsed)
 }
 
 /// Tells which bytes were parsed again, where the heading is, and the leaves and errors.
 fn tell_source(
-    alloc: Global,
+    printed: &mut String,
     source: &Source<UnicodeClasses>,
     parsed: Range<usize>,
-) -> Result<String, AllocError> {
-    let mut printed = String::new(alloc);
-    write!(printed, "parsed anew: {}..{}\n", parsed.start, parsed.end)?;
-    print_heading(&mut printed, source)?;
-    print_node(&mut printed, source, source.root())?;
-    Ok(printed)
+) -> Result<(), AllocError> {
+    writeln!(printed, "parsed anew: {}..{}", parsed.start, parsed.end)?;
+    print_heading(printed, source)?;
+    print_node(printed, source, source.root())
 }
 
 /// Finds the first node by its span, and prints where it is.
@@ -56,7 +38,7 @@ fn print_heading(printed: &mut String, source: &Source<UnicodeClasses>) -> Resul
         return Ok(());
     };
     let (name, range) = (found.kind().name(), found.range());
-    write!(printed, "{name} {}..{}\n", range.start, range.end)
+    writeln!(printed, "{name} {}..{}", range.start, range.end)
 }
 
 /// Tells the leaves of a node and its errors.
@@ -66,16 +48,12 @@ fn print_node(
     node: &SyntaxNode,
 ) -> Result<(), AllocError> {
     if !node.leaf_text().is_empty() {
-        write!(printed, "{} {:?}\n", node.kind().name(), node.leaf_text())?;
+        writeln!(printed, "{} {:?}", node.kind().name(), node.leaf_text())?;
     }
     for diagnostic in node.diagnostics() {
         if diagnostic.severity() == Severity::Error {
             let (line, column) = place_of(source, node).unwrap_or((0, 0));
-            write!(
-                printed,
-                "{line}:{column}: error: {}\n",
-                diagnostic.message()
-            )?;
+            writeln!(printed, "{line}:{column}: error: {}", diagnostic.message())?;
         }
     }
     for kid in node.children() {

@@ -1,6 +1,6 @@
 use Rattle.std.proofs.Common.{◌<◌, drop}
 use Rattle.typst_edited.specs.Tree.{forest, count, nodes}
-use Rattle.typst_parser_tests.proofs.example.+print_node.Given as goal
+use Rattle.typst_probe.proofs.example.+print_node.Given as goal
 
 abbrev pub decreases-print_node : goal.decreases-print_node
 decreases-print_node l = nodes l.node.now
